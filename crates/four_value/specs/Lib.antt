@@ -1,0 +1,5 @@
+pub mod Bits
+pub mod Values
+pub mod Planes
+pub mod PlanesLaws
+pub mod Operators
