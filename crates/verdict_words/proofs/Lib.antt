@@ -4,3 +4,4 @@ pub mod Steps
 pub mod Told
 pub mod OneMoves
 pub mod JobSteps
+pub mod OneFault

@@ -16,8 +16,8 @@ mod board;
 mod code;
 mod jobs;
 mod rule;
-//#[cfg(test)]
-//mod tests;
+#[cfg(test)]
+mod tests;
 mod view;
 
 pub use board::{Board, Closed, Seat, Settled};

@@ -32,10 +32,8 @@ fn copy_words(
     faults: u32,
 ) -> Result<Vec<u64>, AllocError>
     requires { IsFull closed.now.words × (slots_len closed.now.words ≡ faults + 1) }
-    ensures {
-        IfOk result (λ words. (length words.items ≡ faults)
-            × ((f : ℕ) → f < faults → slice_index words.items f ≡ slice_index (slots_items closed.now.words) (f + 1)))
-    }
+    ensures { IfOk result (λ words. (length words.items ≡ faults)
+        × ((f : ℕ) → f < faults → slice_index words.items f ≡ slice_index (slots_items closed.now.words) (f + 1))) }
 {
     let mut words = Vec::with_capacity(alloc, faults as usize)?;
     for i in 0..faults as usize {
@@ -52,10 +50,8 @@ impl<N: World> Board<N> {
     pub fn close(self, alloc: Global, seat: Seat<N>) -> Result<Closed<N>, NoMemory>
         requires own { IsSeatOf self seat }
         requires whole { (view seat).share ≡ 2 ^ 62 }
-        ensures {
-            IfOk result (λ closed. (sizes_of closed ≡ self.sizes) × (last_view closed ≡ view seat)
-                × Closing (codes_of N.design N.plan) (sizes_of closed) (words_of closed) (last_view closed))
-        }
+        ensures { IfOk result (λ closed. (sizes_of closed ≡ self.sizes) × (last_view closed ≡ view seat)
+            × Closing (codes_of N.design N.plan) (sizes_of closed) (words_of closed) (last_view closed)) }
     {
         let Board { table, sizes } = self;
         let Seat { seat, world: _ } = seat;
