@@ -1,6 +1,7 @@
 -- What clauses say of the jobs and of their seats (nothing of the language).
 use Rattle.std.specs.Prelude.{◌≡◌, ℕ, ◌<◌, Option, [], ◌∷◌}
 use Rattle.verdict_words.specs.declared.jobs.rule.Hold.TheVariants.{Free, Slot}
+use Rattle.verdict_words.specs.Slots.{refusals}
 use Rattle.verdict_words.specs.declared.jobs.Jobs.{Jobs}
 use Rattle.verdict_words.specs.declared.jobs.JobSeat.{JobSeat}
 use Rattle.verdict_words.specs.declared.jobs.Taken.{Taken}
@@ -15,13 +16,17 @@ module _ {J : Type 0} where
   abbrev pub slots_of : Jobs J → ℕ
   slots_of jobs = jobs.slots
 
+  -- how many times `take` found a slot held, in the calls of the seat and of those that were joined into it
+  abbrev pub refusals_of : JobSeat J → ℕ
+  refusals_of s = refusals s.seat.me.0
+
   -- the seat holds no slot
   abbrev pub IsFree : JobSeat J → Type 0
-  IsFree s = s.seat.me ≡ (Free, [])
+  IsFree s = s.seat.me ≡ (Free (refusals_of s), [])
 
   -- the seat holds this slot of the jobs, with some value
   abbrev pub HoldsSlot : Jobs J → JobSeat J → ℕ → Type 0
-  HoldsSlot jobs s slot = (slot < jobs.slots) × ((value : Option J) × (s.seat.me ≡ (Slot slot, (slot, value) ∷ [])))
+  HoldsSlot jobs s slot = (slot < jobs.slots) × ((value : Option J) × (s.seat.me ≡ (Slot slot (refusals_of s), (slot, value) ∷ [])))
 
   -- the first fact where the answer is Got, and the second where it is Held
   abbrev pub MatchTaken : Taken J → Type 0 → Type 0 → Type 0

@@ -1,6 +1,6 @@
 // Slots in which threads leave jobs for one another.
 
-ghost use Rattle.std.specs.Prelude.{◌≡◌, ◌<◌, IfOk};
+ghost use Rattle.std.specs.Prelude.{◌≡◌, ◌+◌, ◌<◌, IfOk};
 
 use atomic_table::{Seat, Table};
 use std::alloc::Global;
@@ -37,12 +37,12 @@ pub enum Taken<J> {
 }
 
 impl<J: Drop> Jobs<J> {
-    ghost use Rattle.verdict_words.specs.JobSeats.{IsJobSeatOf, slots_of, IsFree, HoldsSlot, MatchTaken};
+    ghost use Rattle.verdict_words.specs.JobSeats.{IsJobSeatOf, slots_of, refusals_of, IsFree, HoldsSlot, MatchTaken};
 
     /// So many slots that all hold `None`, and a seat that holds no slot.
     pub fn new(alloc: Global, slots: u32) -> Result<(Jobs<J>, JobSeat<J>), NoMemory>
         requires { 0 < slots }
-        ensures { IfOk result (λ made. (slots_of made.0 ≡ slots) × IsJobSeatOf made.0 made.1 × IsFree made.1) }
+        ensures { IfOk result (λ made. (slots_of made.0 ≡ slots) × IsJobSeatOf made.0 made.1 × IsFree made.1 × (refusals_of made.1 ≡ 0)) }
     {
         let words = vec![in alloc; 1; slots as usize]?;
         let count = u64::from(slots);
@@ -57,6 +57,7 @@ impl<J: Drop> Jobs<J> {
         requires free { IsFree seat }
         ensures own { IsJobSeatOf self.now result.0 × IsJobSeatOf self.now result.1 }
         ensures free { IsFree result.0 × IsFree result.1 }
+        ensures refused { (refusals_of result.0 ≡ refusals_of seat) × (refusals_of result.1 ≡ 0) }
     {
         let JobSeat { seat: mut old } = seat;
         let new = self.table.shared.split_seat::<Halves>(&mut old);
@@ -70,6 +71,7 @@ impl<J: Drop> Jobs<J> {
         requires free { IsFree one × IsFree other }
         ensures own { IsJobSeatOf self.now result }
         ensures free { IsFree result }
+        ensures refused { refusals_of result ≡ refusals_of one + refusals_of other }
     {
         let JobSeat { mut seat } = one;
         let JobSeat { seat: other } = other;
@@ -77,13 +79,16 @@ impl<J: Drop> Jobs<J> {
         JobSeat { seat }
     }
 
-    /// Takes the slot and what lies in it, unless a seat holds it. It takes no memory.
+    /// Takes the slot and what lies in it, or answers `Held` exactly where a seat held the slot at that step. It takes no memory.
+    ///
+    /// Contracts count the times that the slot's word was found at 0, and so `Held` is answered after such a step alone.
     pub fn take(&self, seat: JobSeat<J>, slot: u32) -> (JobSeat<J>, Taken<J>)
         requires own { IsJobSeatOf self.now seat }
         requires slot { slot < slots_of self.now }
         requires free { IsFree seat }
         ensures own { IsJobSeatOf self.now result.0 }
         ensures told { MatchTaken result.1 (HoldsSlot self.now result.0 slot) (IsFree result.0) }
+        ensures refused { MatchTaken result.1 (refusals_of result.0 ≡ refusals_of seat) (refusals_of result.0 ≡ refusals_of seat + 1) }
     {
         let JobSeat { mut seat } = seat;
         let shared = &self.table.shared;
@@ -101,6 +106,7 @@ impl<J: Drop> Jobs<J> {
         requires holds { HoldsSlot self.now seat slot }
         ensures own { IsJobSeatOf self.now result }
         ensures free { IsFree result }
+        ensures refused { refusals_of result ≡ refusals_of seat }
     {
         let JobSeat { mut seat } = seat;
         let shared = &self.table.shared;

@@ -6,10 +6,10 @@ use atomic_table::{Join, Play, Split, TableRule};
 pub enum Hold {
     /// The seat was joined into another.
     Spent,
-    /// It holds no slot.
-    Free,
-    /// It holds the slot of this number.
-    Slot(u64),
+    /// It holds no slot, and `take` found a slot held so many times.
+    Free(u64),
+    /// It holds the slot of this number, and `take` found a slot held so many times.
+    Slot(u64, u64),
 }
 
 /// A slot's word is 1 where the slot is at home, and 0 where exactly one seat holds it.
@@ -21,7 +21,7 @@ impl<S> TableRule<S, Hold, u64> for Shelf {
 
     ghost holds = { Shelved };
 
-    ghost first = { λ _. Free };
+    ghost first = { λ _. Free 0 };
 }
 
 /// What `take` is told.
@@ -50,13 +50,14 @@ impl Split<Hold> for Halves {
 
     ghost left = { λ v. v };
 
-    ghost right = { λ _. Free };
+    ghost right = { λ _. Free 0 };
 }
 
 impl Join<Hold> for Halves {
+    ghost use Rattle.verdict_words.specs.Slots.{joined_hold};
     ghost use Rattle.verdict_words.specs.declared.jobs.rule.Hold.TheVariants.{Spent};
 
-    ghost both = { λ v _. v };
+    ghost both = { joined_hold };
 
     ghost spent = { Spent };
 }
