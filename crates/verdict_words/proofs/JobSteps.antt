@@ -6,11 +6,11 @@ use native.Mathlib.Decide.{ℕ_discrete}
 use prog.Atomic.{either}
 use mathlib.Core.Option.{some, none}
 use lib.ListN.{get_elem?}
-use Rattle.atomic_table.proofs.Lists.{exchanged, set_again, set_here, set_else, some_there}
+use Rattle.atomic_table.proofs.Lists.{exchanged, set_here, set_else, some_there}
 use Rattle.atomic_table.specs.Table.{State, step, keeps, takes, gives, opening, Allows, Splits, Joins}
 use Rattle.verdict_words.specs.declared.jobs.rule.Hold.{Hold}
 use Rattle.verdict_words.specs.declared.jobs.rule.Hold.TheVariants.{Spent, Free, Slot}
-use Rattle.verdict_words.specs.Slots.{holds_slot, refusals, with_refusal, Placed, Shelved, Takes, Puts}
+use Rattle.verdict_words.specs.Slots.{holds_slot, Placed, Shelved, Takes, Puts}
 use Rattle.verdict_words.proofs.Sums.{sum_set, part_le}
 
 -- a view that holds a slot counts for it once

@@ -12,9 +12,11 @@ use Rattle.verdict_words.specs.Rule.{marks, Closing}
 use Rattle.verdict_words.specs.Settled.{Told, OneMoved}
 use Rattle.verdict_words.proofs.Parts.{marks_push, marks-append}
 
+-- a list that was empty has the fault once after a push
 one_here : (f : ℕ) (ms : List Mark) → ms ≡ [] → marks f ms + cond (f == f) 1 0 ≡ 1
 one_here f ms nil = let a : marks f ms ≡ 0 = ap (marks f) nil in let b : cond {A = ℕ} (f == f) 1 0 ≡ 1 = ap (λ (b : Bool). cond {A = ℕ} b 1 0) (eq-eqb f f refl) in omega arith
 
+-- neither both answers are Moved, nor both are Was
 pub one_moved : (codes : List ℕ) (sizes : Sizes) (words : List ℕ) (f c : ℕ) (v w v' w' : View) (first second : Settled) → v.moved ≡ [] → w.moved ≡ [] → Told f c v first v' → Told f c w second w'
     → Closing codes sizes words (joined v' w') → OneMoved c first second
 one_moved codes sizes words f c v w v' w' DidMove (Was d) nil nil' t t' k = t'.0

@@ -15,27 +15,34 @@ use Rattle.vf_base.specs.Base.{fault_number}
 use Rattle.verdict_words.specs.Views.{mark, spent_view}
 use Rattle.verdict_words.specs.Rule.{times, marks, marks_with, once_below, Within, EachView}
 
+-- what holds of each view still does where one is changed to a view of which it holds
 pub each_set : (P : View → Type 0) (views : List View) (id : ℕ) (w : View) → EachView P views → P w → EachView P (set views id w)
 each_set P views id w all here j u e = ⊎_elim (λ (t : (j ≡ id) × (w ≡ u)). subst P t.1 here) (λ (t : (j ≢ id) × (get_elem? views j ≡ some u)). all j u t.1) (at_set views id j w u e)
 
+-- and where one more comes
 pub each_push : (P : View → Type 0) (views : List View) (w : View) → EachView P views → P w → EachView P (views ++ w ∷ [])
 each_push P views w all here j u e = ⊎_elim (λ t. all j u t) (λ (t : w ≡ u). subst P t here) (at_snoc views w u j e)
 
+-- and of a weaker fact
 pub each_weaker : (P Q : View → Type 0) (views : List View) → ((v : View) → P v → Q v) → EachView P views → EachView Q views
 each_weaker P Q views f all j u e = f u (all j u e)
 
+-- counts in a list that grew by one, or of two lists
 pub times_push : (x y : ℕ) (xs : List ℕ) → times x (xs ++ y ∷ []) ≡ times x xs + cond (y == x) 1 0
 times_push x y xs = sum_by_push (λ (z : ℕ). cond (z == x) 1 0) xs y
 
 pub times-append : (x : ℕ) (xs ys : List ℕ) → times x (xs ++ ys) ≡ times x xs + times x ys
 times-append x xs ys = sum_by-append (λ (z : ℕ). cond (z == x) 1 0) xs ys
 
+-- a claim that is drawn is the one number that is new below the counter
 pub once_more : (x n claims : ℕ) → n < claims → once_below x (min n claims) + cond (n == x) 1 0 ≡ once_below x (min (n + 1) claims)
 once_more x n claims h = grind (arith, nat_tests)
 
+-- past the claims no number is new
 pub once_no_more : (x n claims : ℕ) → claims ≤ n → once_below x (min n claims) ≡ once_below x (min (n + 1) claims)
 once_no_more x n claims h = grind (arith, nat_tests)
 
+-- what is at most so much in each view is so in the sum
 pub sum_le : (f g : View → ℕ) (views : List View) → EachView (λ (v : View). f v ≤ g v) views → sum_by f views ≤ sum_by g views
 sum_le f g [] all = omega arith
 sum_le f g (x ∷ xs) all = let here : f x ≤ g x = all 0 x refl in let r = sum_le f g xs (λ j u e. all (suc j) u e) in omega (arith, sum_by-cons f x xs, sum_by-cons g x xs)
@@ -66,11 +73,13 @@ marks_with_push f d g c ms = sum_by_push (λ (m : Mark). cond ((fault_number m.f
 pub marks_with-append : (f d : ℕ) (ms ns : List Mark) → marks_with f d (ms ++ ns) ≡ marks_with f d ms + marks_with f d ns
 marks_with-append f d ms ns = sum_by-append (λ (m : Mark). cond ((fault_number m.fault == f) && (m.code == d)) 1 0) ms ns
 
+-- a fault stands in a list at least as often as with one code
 pub marks_with_le : (f d : ℕ) (ms : List Mark) → marks_with f d ms ≤ marks f ms
 marks_with_le f d [] = omega arith
 marks_with_le f d (m ∷ ms) = let r = marks_with_le f d ms in let h : cond ((fault_number m.fault == f) && (m.code == d)) 1 0 ≤ cond (fault_number m.fault == f) 1 0 = grind (arith, nat_tests) in
     omega (arith, sum_by-cons (λ (m : Mark). cond ((fault_number m.fault == f) && (m.code == d)) 1 0) m ms, sum_by-cons (λ (m : Mark). cond (fault_number m.fault == f) 1 0) m ms)
 
+-- an element of a list of numbers, read by both words
 pub read_at : (l : List ℕ) (i a : ℕ) → get_elem? l i ≡ some a → slice_index l i ≡ a
 read_at [] i a e = absurd (some-ne-none a (sym e))
 read_at (x ∷ xs) zero a e = some-injective x a e

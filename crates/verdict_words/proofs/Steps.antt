@@ -18,7 +18,7 @@ use Rattle.verdict_words.specs.declared.rule.Sizes.{Sizes}
 use Rattle.vf_base.specs.Base.{fault_number}
 use Rattle.verdict_words.specs.Codes.{code_of}
 use Rattle.verdict_words.specs.Views.{mark, spent_view, with_claim, with_none, with_seen, with_moved, lent_share, without_lent, newcomer, joined}
-use Rattle.verdict_words.specs.Rule.{times, marks, marks_with, once_below, counter, word_of, EachView, Moved, Seen, Within, Kept, Holds, Closing}
+use Rattle.verdict_words.specs.Rule.{times, marks, marks_with, moves_of, moves_with, once_below, counter, word_of, EachView, Moved, Seen, Within, Kept, Holds, Closing}
 use Rattle.verdict_words.specs.Plays.{Found, Claimed, Settles, Looks}
 use Rattle.verdict_words.proofs.Sums.{sum_set, part_le}
 use Rattle.verdict_words.proofs.Parts.{sum_le, alone, marks_push, marks-append, marks_with_push, marks_with-append, marks_with_le, each_set, each_push, each_weaker, times_push, times-append, once_more, once_no_more}
@@ -37,12 +37,13 @@ module _ (codes : List ℕ) (sizes : Sizes) (words : List ℕ) (views : List Vie
   seen_counted : (ms : List Mark) → Seen words ms → Seen counted ms
   seen_counted ms all k d short = let h = all k d short in (counted_word _ ∙ h.0, h.1)
 
-  moved_counted : (w : View) → w.moved ≡ v.moved → (f : ℕ) → Moved codes f (word_of counted f) (sum_by (λ (u : View). marks f u.moved) (set views id w)) (sum_by (λ (u : View). marks_with f (code_of codes f) u.moved) (set views id w))
+  moved_counted : (w : View) → w.moved ≡ v.moved → (f : ℕ) → Moved codes f (word_of counted f) (moves_of f (set views id w)) (moves_with f (code_of codes f) (set views id w))
   moved_counted w same f =
-      let here : sum_by (λ (u : View). marks f u.moved) (set views id w) ≡ sum_by (λ (u : View). marks f u.moved) views = let e = sum_set (λ (u : View). marks f u.moved) views id v w at in let q : marks f w.moved ≡ marks f v.moved = ap (marks f) same in omega arith in
-      let with' : sum_by (λ (u : View). marks_with f (code_of codes f) u.moved) (set views id w) ≡ sum_by (λ (u : View). marks_with f (code_of codes f) u.moved) views = let e = sum_set (λ (u : View). marks_with f (code_of codes f) u.moved) views id v w at in let q : marks_with f (code_of codes f) w.moved ≡ marks_with f (code_of codes f) v.moved = ap (marks_with f (code_of codes f)) same in omega arith in
+      let here : moves_of f (set views id w) ≡ moves_of f views = let e = sum_set (λ (u : View). marks f u.moved) views id v w at in let q : marks f w.moved ≡ marks f v.moved = ap (marks f) same in omega arith in
+      let with' : moves_with f (code_of codes f) (set views id w) ≡ moves_with f (code_of codes f) views = let e = sum_set (λ (u : View). marks_with f (code_of codes f) u.moved) views id v w at in let q : marks_with f (code_of codes f) w.moved ≡ marks_with f (code_of codes f) v.moved = ap (marks_with f (code_of codes f)) same in omega arith in
       rw (counted_word f, here, with') (r.moved f)
 
+  -- after a call of `claim`
   claims_kept : (w : View) → v.calls < v.share → w.calls ≡ v.calls + 1 → w.share ≡ v.share → w.moved ≡ v.moved → w.seen ≡ v.seen
       → (IsTrue w.dry → sizes.claims ≤ counter words + 1)
       → ((x : ℕ) → times x w.claimed + once_below x (min (counter words) sizes.claims) ≡ times x v.claimed + once_below x (min (counter words + 1) sizes.claims))
@@ -58,6 +59,7 @@ module _ (codes : List ℕ) (sizes : Sizes) (words : List ℕ) (views : List Vie
     dry = each_set (λ (u : View). IsTrue u.dry → sizes.claims ≤ counter counted) views id w (λ j u e t. (let h = r.dry j u e t in rw c (omega arith))) (λ t. rw c (dry t));
   }
 
+  -- the counter doesn't wrap, since the calls are within the shares
   fits : (counter words + 1) % 2 ^ 64 ≡ counter words + 1
   fits = let a = sum_le (λ (u : View). u.calls) (λ (u : View). u.share) views (λ j u e. (r.within j u e).0) in let b = r.calls in let d = r.shares in omega arith
 
@@ -68,8 +70,8 @@ module _ (codes : List ℕ) (sizes : Sizes) (words : List ℕ) (views : List Vie
     claimed = λ x. (let e = sum_set (λ (u : View). times x u.claimed) views id v w at in let p = r.claimed x in let q : times x w.claimed ≡ times x v.claimed = ap (times x) claimed in omega arith);
     moved = λ f. (let e = sum_set (λ (u : View). marks f u.moved) views id v w at in let q : marks f w.moved ≡ marks f v.moved = ap (marks f) moved in
         let e' = sum_set (λ (u : View). marks_with f (code_of codes f) u.moved) views id v w at in let q' : marks_with f (code_of codes f) w.moved ≡ marks_with f (code_of codes f) v.moved = ap (marks_with f (code_of codes f)) moved in
-        let here : sum_by (λ (u : View). marks f u.moved) (set views id w) ≡ sum_by (λ (u : View). marks f u.moved) views = omega arith in
-        let with' : sum_by (λ (u : View). marks_with f (code_of codes f) u.moved) (set views id w) ≡ sum_by (λ (u : View). marks_with f (code_of codes f) u.moved) views = omega arith in
+        let here : moves_of f (set views id w) ≡ moves_of f views = omega arith in
+        let with' : moves_with f (code_of codes f) (set views id w) ≡ moves_with f (code_of codes f) views = omega arith in
         rw (here, with') (r.moved f));
     seen = each_set (λ (u : View). Seen words u.seen) views id w r.seen seen;
     shares = (let e = sum_set (λ (u : View). u.share) views id v w at in let p = r.shares in omega arith);
@@ -85,6 +87,7 @@ module _ (codes : List ℕ) (sizes : Sizes) (words : List ℕ) (views : List Vie
     again = λ c known. (All-contains (λ (m : Mark). (word_of words (fault_number m.fault) ≡ m.code) × (m.code ≢ 0)) v.seen (mark f c) (r.seen id v at) known);
   }
 
+  -- the word was found moved
   sees : (f : ℕ) → 0 < v.share → word_of words f ≢ 0 → Kept codes sizes words (set views id (with_seen f (word_of words f) v))
   sees f some_share moved = same_words (with_seen f (word_of words f) v) refl refl refl refl refl some_share
       (All-push (λ (m : Mark). (word_of words (fault_number m.fault) ≡ m.code) × (m.code ≢ 0)) v.seen (mark f (word_of words f)) (r.seen id v at) (refl, moved))
@@ -105,27 +108,28 @@ module _ (codes : List ℕ) (sizes : Sizes) (words : List ℕ) (views : List Vie
     seen_written : (ms : List Mark) → Seen words ms → Seen written ms
     seen_written ms all k d short = let h = all k d short in (written_else _ (λ e. h.1 (sym h.0 ∙ ap (word_of words) e ∙ unmoved)) ∙ h.0, h.1)
 
-    moved_here : Moved codes f (word_of written f) (sum_by (λ (u : View). marks f u.moved) (set views id (with_moved f c v))) (sum_by (λ (u : View). marks_with f (code_of codes f) u.moved) (set views id (with_moved f c v)))
+    moved_here : Moved codes f (word_of written f) (moves_of f (set views id (with_moved f c v))) (moves_with f (code_of codes f) (set views id (with_moved f c v)))
     moved_here =
         let p = sum_set (λ (u : View). marks f u.moved) views id v (with_moved f c v) at in let q = marks_push f f c v.moved in
         let p' = sum_set (λ (u : View). marks_with f (code_of codes f) u.moved) views id v (with_moved f c v) at in let q' = marks_with_push f (code_of codes f) f c v.moved in
         let on : (f == f) ≡ true = eq-eqb f f refl in let same : (c == code_of codes f) ≡ true = eq-eqb c (code_of codes f) is in
         let one : cond {A = ℕ} (f == f) 1 0 ≡ 1 = ap (λ (b : Bool). cond {A = ℕ} b 1 0) on in
         let one' : cond {A = ℕ} ((f == f) && (c == code_of codes f)) 1 0 ≡ 1 = ap (λ (b : Bool). cond {A = ℕ} (b && (c == code_of codes f)) 1 0) on ∙ ap (λ (b : Bool). cond {A = ℕ} b 1 0) same in
-        let none_yet : sum_by (λ (u : View). marks f u.moved) views ≡ 0 = ⊎_elim (λ h. h.1) (λ h. absurd (h.0 unmoved)) (r.moved f) in
+        let none_yet : moves_of f views ≡ 0 = ⊎_elim (λ h. h.1) (λ h. absurd (h.0 unmoved)) (r.moved f) in
         let fewer = sum_le (λ (u : View). marks_with f (code_of codes f) u.moved) (λ (u : View). marks f u.moved) views (λ j u e. marks_with_le f (code_of codes f) u.moved) in
         inr ((λ z. graded (sym written_here ∙ z)), written_here ∙ is, omega arith, omega arith)
 
-    moved_written : (g : ℕ) → Dec (g ≡ f) → Moved codes g (word_of written g) (sum_by (λ (u : View). marks g u.moved) (set views id (with_moved f c v))) (sum_by (λ (u : View). marks_with g (code_of codes g) u.moved) (set views id (with_moved f c v)))
-    moved_written g (yes e) = subst (λ (k : ℕ). Moved codes k (word_of written k) (sum_by (λ (u : View). marks k u.moved) (set views id (with_moved f c v))) (sum_by (λ (u : View). marks_with k (code_of codes k) u.moved) (set views id (with_moved f c v)))) (sym e) moved_here
+    moved_written : (g : ℕ) → Dec (g ≡ f) → Moved codes g (word_of written g) (moves_of g (set views id (with_moved f c v))) (moves_with g (code_of codes g) (set views id (with_moved f c v)))
+    moved_written g (yes e) = subst (λ (k : ℕ). Moved codes k (word_of written k) (moves_of k (set views id (with_moved f c v))) (moves_with k (code_of codes k) (set views id (with_moved f c v)))) (sym e) moved_here
     moved_written g (no n) =
         let p = sum_set (λ (u : View). marks g u.moved) views id v (with_moved f c v) at in let q = marks_push g f c v.moved in
         let p' = sum_set (λ (u : View). marks_with g (code_of codes g) u.moved) views id v (with_moved f c v) at in let q' = marks_with_push g (code_of codes g) f c v.moved in
         let off : (f == g) ≡ false = ne_eqb f g (λ e. n (sym e)) in
-        let here : sum_by (λ (u : View). marks g u.moved) (set views id (with_moved f c v)) ≡ sum_by (λ (u : View). marks g u.moved) views = let z : cond {A = ℕ} (f == g) 1 0 ≡ 0 = ap (λ (b : Bool). cond {A = ℕ} b 1 0) off in omega arith in
-        let with' : sum_by (λ (u : View). marks_with g (code_of codes g) u.moved) (set views id (with_moved f c v)) ≡ sum_by (λ (u : View). marks_with g (code_of codes g) u.moved) views = let z : cond {A = ℕ} ((f == g) && (c == code_of codes g)) 1 0 ≡ 0 = ap (λ (b : Bool). cond {A = ℕ} (b && (c == code_of codes g)) 1 0) off in omega arith in
+        let here : moves_of g (set views id (with_moved f c v)) ≡ moves_of g views = let z : cond {A = ℕ} (f == g) 1 0 ≡ 0 = ap (λ (b : Bool). cond {A = ℕ} b 1 0) off in omega arith in
+        let with' : moves_with g (code_of codes g) (set views id (with_moved f c v)) ≡ moves_with g (code_of codes g) views = let z : cond {A = ℕ} ((f == g) && (c == code_of codes g)) 1 0 ≡ 0 = ap (λ (b : Bool). cond {A = ℕ} (b && (c == code_of codes g)) 1 0) off in omega arith in
         rw (written_else g n, here, with') (r.moved g)
 
+    -- after the word was moved
     writes : Kept codes sizes written (set views id (with_moved f c v))
     writes = let w : View = with_moved f c v in record {
       one_each = length-set words (f + 1) c ∙ r.one_each;
@@ -139,14 +143,15 @@ module _ (codes : List ℕ) (sizes : Sizes) (words : List ℕ) (views : List Vie
       dry = each_set (λ (u : View). IsTrue u.dry → sizes.claims ≤ counter written) views id w (λ j u e t. (let h = r.dry j u e t in rw written_counter h)) (λ t. (let h = r.dry id v at t in rw written_counter h));
     }
 
+  -- after a new seat was split off
   splits : v.calls + lent_share < v.share → Kept codes sizes words (set views id (without_lent v) ++ newcomer v ∷ [])
   splits room = let a : View = without_lent v in let b : View = newcomer v in record {
     one_each = r.one_each;
     claimed = λ x. (let e = sum_set (λ (u : View). times x u.claimed) views id v a at in let p = r.claimed x in let s = sum_by_push (λ (u : View). times x u.claimed) (set views id a) b in omega arith);
     moved = λ f. (let e = sum_set (λ (u : View). marks f u.moved) views id v a at in let s = sum_by_push (λ (u : View). marks f u.moved) (set views id a) b in
         let e' = sum_set (λ (u : View). marks_with f (code_of codes f) u.moved) views id v a at in let s' = sum_by_push (λ (u : View). marks_with f (code_of codes f) u.moved) (set views id a) b in
-        let here : sum_by (λ (u : View). marks f u.moved) (set views id a ++ b ∷ []) ≡ sum_by (λ (u : View). marks f u.moved) views = omega arith in
-        let with' : sum_by (λ (u : View). marks_with f (code_of codes f) u.moved) (set views id a ++ b ∷ []) ≡ sum_by (λ (u : View). marks_with f (code_of codes f) u.moved) views = omega arith in
+        let here : moves_of f (set views id a ++ b ∷ []) ≡ moves_of f views = omega arith in
+        let with' : moves_with f (code_of codes f) (set views id a ++ b ∷ []) ≡ moves_with f (code_of codes f) views = omega arith in
         rw (here, with') (r.moved f));
     seen = each_push (λ (u : View). Seen words u.seen) (set views id a) b (each_set (λ (u : View). Seen words u.seen) views id a r.seen (r.seen id v at)) (r.seen id v at);
     shares = (let e = sum_set (λ (u : View). u.share) views id v a at in let p = r.shares in let s = sum_by_push (λ (u : View). u.share) (set views id a) b in omega arith);
@@ -155,6 +160,7 @@ module _ (codes : List ℕ) (sizes : Sizes) (words : List ℕ) (views : List Vie
     dry = each_push (λ (u : View). IsTrue u.dry → sizes.claims ≤ counter words) (set views id a) b (each_set (λ (u : View). IsTrue u.dry → sizes.claims ≤ counter words) views id a r.dry (λ t. r.dry id v at t)) (λ t. absurd (true≢false (sym t)));
   }
 
+-- of two views one is dry
 joined_dry : (a b : Bool) (P : Type 0) → (IsTrue a → P) → (IsTrue b → P) → IsTrue (a || b) → P
 joined_dry true b P f g t = f refl
 joined_dry false b P f g t = g t
@@ -173,6 +179,7 @@ module _ (codes : List ℕ) (sizes : Sizes) (words : List ℕ) (views : List Vie
   each_joined : (P : View → Type 0) → EachView P views → P (joined v w) → P spent_view → EachView P after
   each_joined P all both spent = each_set P (set views id (joined v w)) other spent_view (each_set P views id (joined v w) all both) spent
 
+  -- after two seats were joined
   joins : Kept codes sizes words after
   joins = record {
     one_each = r.one_each;
@@ -258,9 +265,11 @@ module _ (codes : List ℕ) (sizes : Sizes) (slots id : ℕ) (me : Me (Unit {0})
     )
   ]
 
+  -- where a seat is split
   pub split_allowed : me.0.calls + lent_share < me.0.share → Splits (Holds codes sizes) id me.0 (without_lent me.0) (newcomer me.0)
   split_allowed room s r at = splits codes sizes s.words s.views r id me.0 at room
 
+  -- where two are joined
   pub join_allowed : (other : ℕ) (w : View) → 0 < me.0.share → Joins (Holds codes sizes) id me.0 other w (joined me.0 w) spent_view
   join_allowed other w some_share s r at apart there = joins codes sizes s.words s.views r id me.0 at other w apart there some_share
 

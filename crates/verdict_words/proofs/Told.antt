@@ -1,8 +1,7 @@
 -- What a board's steps told, by the number that was found.
-use Rattle.std.proofs.Common.{◌≡◌, ◌≢◌, ℕ, Bool, List, cond, Option, Some, IfSome, sym, ap, subst, ◌∙◌, eq-eqb, ne_eqb}
+use Rattle.std.proofs.Common.{◌≡◌, ◌≢◌, ℕ, Bool, List, cond, sym, ap, subst, ◌∙◌, eq-eqb, ne_eqb}
 use Rattle.v_design.specs.Designs.{FlatDesign, TestPlan}
 use Rattle.atomic_table.specs.Table.{Step}
-use Rattle.verdict_words.specs.declared.view.View.{View}
 use Rattle.verdict_words.specs.declared.board.steps.Settled.{Settled}
 use Rattle.verdict_words.specs.declared.board.steps.Settled.TheVariants.{Moved, Was}
 use Rattle.verdict_words.specs.Codes.{code_of, codes_of, IsCode}

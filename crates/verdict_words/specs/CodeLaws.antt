@@ -1,5 +1,5 @@
 -- A code isn't 0, fits 64 bits where its time is below 2^61, and is that of the listed fault's grade (nothing of the language).
-use Rattle.std.proofs.Common.{◌≡◌, ◌≢◌, ℕ, zero, suc, ◌+◌, ◌*◌, ◌^◌, ◌<◌, ◌↔◌, List, [], ◌∷◌, map, Option, Some, None, slice_get, slice_index, IsSomeAnd, refl, ap, sym, ◌∙◌, subst, arith}
+use Rattle.std.proofs.Common.{◌≡◌, ◌≢◌, ℕ, zero, suc, ◌^◌, ◌<◌, ◌↔◌, List, [], ◌∷◌, map, Option, Some, None, slice_get, slice_index, IsSomeAnd, refl, ap, sym, ◌∙◌, subst, arith}
 use Rattle.vf_base.specs.declared.finding.Side.TheVariants.{Good, Faulty}
 use Rattle.v_design.specs.Designs.{FlatDesign, StuckAt, TestPlan}
 use Rattle.v_design.specs.Grades.{Detected, Possible, Undetected, FaultGrade, Judged, Raced, Looped, grade}
@@ -35,10 +35,12 @@ pub code_of-codes_of : (design : FlatDesign) (plan : TestPlan) (f : ℕ) → cod
 unfolding codes_of listed_grade
 code_of-codes_of design plan f = code_at (grade design plan) plan.faults f
 
+-- by the grade, if there is one: its code is what stands in the list, and isn't 0
 is_code : (o : Option FaultGrade) (c n : ℕ) → n ≡ code_if_graded o → IsSomeAnd o (λ g. c ≡ code_of_grade g) → (c ≡ n) × (c ≢ 0)
 is_code None c n same h = absurd h
 is_code (Some g) c n same h = (h ∙ sym same, λ z. (let p = code_of_grade-positive g in omega arith))
 
+-- and the other way round
 code_is : (o : Option FaultGrade) (c n : ℕ) → n ≡ code_if_graded o → c ≡ n → c ≢ 0 → IsSomeAnd o (λ g. c ≡ code_of_grade g)
 code_is None c n same h positive = absurd (positive (h ∙ same))
 code_is (Some g) c n same h positive = h ∙ same
@@ -51,6 +53,7 @@ IsCode-code_of design plan f c h = is_code (listed_grade design plan f) c (code_
 pub code_of-IsCode : (design : FlatDesign) (plan : TestPlan) (f c : ℕ) → c ≡ code_of (codes_of design plan) f → c ≢ 0 → IsCode design plan f c
 code_of-IsCode design plan f c h positive = code_is (listed_grade design plan f) c (code_of (codes_of design plan) f) (code_of-codes_of design plan f) h positive
 
+-- a grade that is there has its code
 has_code : (o : Option FaultGrade) (g : FaultGrade) → o ≡ Some g → IsSomeAnd o (λ h. code_of_grade g ≡ code_of_grade h)
 has_code o g graded = subst (λ (p : Option FaultGrade). IsSomeAnd p (λ h. code_of_grade g ≡ code_of_grade h)) (sym graded) refl
 

@@ -1,6 +1,6 @@
 -- The code of a grade, which a fault's word holds (nothing of the language): a kind from 1 to 6, and eight times a time.
 use Rattle.std.specs.Prelude.{◌≡◌, ℕ, ◌+◌, ◌*◌, List, map, Option, Some, None, slice_get, slice_index, IsSomeAnd}
-use Rattle.vf_base.specs.Base.{ReportedPair, reported_pair}
+use Rattle.vf_base.specs.Base.{reported_pair}
 use Rattle.vf_base.specs.declared.finding.End.{End}
 use Rattle.vf_base.specs.declared.finding.End.TheVariants as ending
 use Rattle.vf_base.specs.declared.finding.Side.{Side}

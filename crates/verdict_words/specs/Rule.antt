@@ -22,6 +22,14 @@ marks fault list = count_by (λ (m : Mark). fault_number m.fault == fault) list
 abbrev pub marks_with : ℕ → ℕ → List Mark → ℕ
 marks_with fault code list = count_by (λ (m : Mark). (fault_number m.fault == fault) && (m.code == code)) list
 
+-- how often a fault stands in the `moved` lists of all views
+abbrev pub moves_of : ℕ → List View → ℕ
+moves_of fault views = sum_by (λ (v : View). marks fault v.moved) views
+
+-- how often a fault stands there with this code
+abbrev pub moves_with : ℕ → ℕ → List View → ℕ
+moves_with fault code views = sum_by (λ (v : View). marks_with fault code v.moved) views
+
 -- 1 below a bound, and else 0
 abbrev pub once_below : ℕ → ℕ → ℕ
 once_below x bound = if nat_lt x bound then 1 else 0
@@ -57,8 +65,7 @@ pub record Kept (codes : List ℕ) (sizes : Sizes) (words : List ℕ) (views : L
   pub one_each : length words ≡ sizes.faults + 1
   -- the `claimed` lists together have each number below both the counter and the claims once, and no other
   pub claimed : (x : ℕ) → sum_by (λ (v : View). times x v.claimed) views ≡ once_below x (min (counter words) sizes.claims)
-  pub moved : (f : ℕ) →
-      Moved codes f (word_of words f) (sum_by (λ (v : View). marks f v.moved) views) (sum_by (λ (v : View). marks_with f (code_of codes f) v.moved) views)
+  pub moved : (f : ℕ) → Moved codes f (word_of words f) (moves_of f views) (moves_with f (code_of codes f) views)
   pub seen : EachView (λ (v : View). Seen words v.seen) views
   pub shares : sum_by (λ (v : View). v.share) views ≡ 2 ^ 62
   pub calls : sum_by (λ (v : View). v.calls) views ≡ counter words

@@ -1,6 +1,5 @@
 -- What a seat of a board knows, and what its calls change of that (nothing of the language).
-use Rattle.std.specs.Prelude.{ℕ, ◌+◌, ◌-◌, ◌^◌, Bool, true, false, ◌||◌, List, [], ◌∷◌, ◌++◌}
-use Rattle.vf_base.specs.declared.ids.FaultId.{FaultId}
+use Rattle.std.specs.Prelude.{ℕ, ◌+◌, ◌-◌, ◌^◌, true, false, ◌||◌, [], ◌∷◌, ◌++◌}
 use Rattle.verdict_words.specs.declared.view.View.{View}
 use Rattle.verdict_words.specs.declared.view.Mark.{Mark}
 

@@ -8,7 +8,9 @@ use v_design::World;
 /// The number of faults and the number of claims of a board.
 #[derive(Clone, Copy, Drop)]
 pub struct Sizes {
+    /// How many faults have a word.
     pub faults: u32,
+    /// How many claims are drawn in all.
     pub claims: u32,
 }
 

@@ -2,11 +2,12 @@
 
 ghost use Rattle.std.specs.Prelude.{◌≡◌, ◌<◌, ◌≤◌, IfOk};
 ghost use Rattle.verdict_words.specs.Codes.{IsCode};
+ghost use Rattle.verdict_words.specs.JobSeats.{IsJobSeatOf, slots_of, IsFree};
 ghost use Rattle.verdict_words.specs.Seats.{view, IsSeatOf, faults_of, claims_of};
 ghost use Rattle.verdict_words.specs.Settled.{Told, OneMoved};
 ghost use Rattle.verdict_words.specs.Views.{lent_share};
 
-use crate::{Board, Closed, Jobs, Seat, Settled, Taken, verdict_code};
+use crate::{Board, Closed, JobSeat, Jobs, Seat, Settled, Taken, verdict_code};
 use std::alloc::Global;
 use std::marker::Brand;
 use std::test::Fail;
@@ -147,6 +148,68 @@ fn a_slot_is_held_until_it_is_given_back(rt: HostRuntime) -> Result<(), Fail> {
     };
     let other = jobs.put(other, 1, None);
     let _seat = jobs.join(one, other);
+    Ok(())
+}
+
+// Leaves the job in the slot, where no other seat holds it.
+fn leave<J: Drop>(jobs: &Jobs<J>, seat: JobSeat<J>, slot: u32, job: J) -> JobSeat<J>
+    requires own { IsJobSeatOf jobs.now seat }
+    requires slot { slot < slots_of jobs.now }
+    requires free { IsFree seat }
+    ensures own { IsJobSeatOf jobs.now result }
+    ensures free { IsFree result }
+{
+    let (seat, taken) = jobs.take(seat, slot);
+    match taken {
+        Taken::Got(_) => jobs.put(seat, slot, Some(job)),
+        Taken::Held => seat,
+    }
+}
+
+// Two threads leave a job each, in a slot of its own.
+fn left_by_two<J: Drop + Send, R: Threads>(
+    rt: &R,
+    jobs: &Jobs<J>,
+    seats: (JobSeat<J>, JobSeat<J>),
+    first: J,
+    second: J,
+) -> JobSeat<J>
+    requires own { IsJobSeatOf jobs.now seats.0 × IsJobSeatOf jobs.now seats.1 }
+    requires free { IsFree seats.0 × IsFree seats.1 }
+    requires slots { 1 < slots_of jobs.now }
+    ensures own { IsJobSeatOf jobs.now result }
+    ensures free { IsFree result }
+{
+    let (one, other) = seats;
+    let (one, other) = join(
+        rt,
+        || -> JobSeat<J>
+            requires own { IsJobSeatOf jobs.now one }
+            requires slot { 0 < slots_of jobs.now }
+            requires free { IsFree one }
+            ensures own { IsJobSeatOf jobs.entry.now result }
+            ensures free { IsFree result }
+        { leave(jobs, one, 0, first) },
+        || -> JobSeat<J>
+            requires own { IsJobSeatOf jobs.now other }
+            requires slot { 1 < slots_of jobs.now }
+            requires free { IsFree other }
+            ensures own { IsJobSeatOf jobs.entry.now result }
+            ensures free { IsFree result }
+        { leave(jobs, other, 1, second) },
+    );
+    jobs.join(one, other)
+}
+
+#[test]
+fn jobs_cross_from_thread_to_thread(rt: HostRuntime) -> Result<(), Fail> {
+    let (jobs, seat) = Jobs::<u32>::new(rt.alloc(), 2)?;
+    let seats = jobs.split(seat);
+    let seat = left_by_two(&rt, &jobs, seats, 5, 6);
+    let (one, other) = jobs.split(seat);
+    let (_one, first) = jobs.take(one, 0);
+    let (_other, second) = jobs.take(other, 1);
+    assert!(rt; matches!((first, second), (Taken::Got(Some(5)), Taken::Got(Some(6)))));
     Ok(())
 }
 

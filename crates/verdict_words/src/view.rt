@@ -5,7 +5,9 @@ use vf_base::FaultId;
 
 /// A fault and the code in its word.
 pub struct Mark {
+    /// The fault.
     pub fault: FaultId,
+    /// The code, which isn't 0.
     pub code: u64,
 }
 

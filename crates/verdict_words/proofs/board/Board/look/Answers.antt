@@ -1,7 +1,5 @@
-use Rattle.std.proofs.Common.{rules, arith, sym, subst, ◌≡◌, ◌-◌, ◌+◌, ap, ◌∙◌, ℕ, Option, Some, IfSome}
+use Rattle.std.proofs.Common.{rules, arith, sym, ◌≡◌, ◌-◌, ◌+◌, ap, ◌∙◌, Some}
 use Rattle.vf_base.specs.Base.{fault_number}
-use Rattle.verdict_words.specs.Codes.{IsCode}
-use Rattle.verdict_words.specs.Views.{with_seen}
 use Rattle.verdict_words.proofs.Steps.{look_allowed}
 use Rattle.verdict_words.proofs.Told.{told_code}
 use Rattle.verdict_words.proofs.board.Board.look.Goals as goal
