@@ -22,3 +22,4 @@ pub mod Laws
 pub mod Plain
 pub mod PlainDesigns
 pub mod Views
+pub mod PlainLemmas
