@@ -23,3 +23,4 @@ pub mod Plain
 pub mod PlainDesigns
 pub mod Views
 pub mod PlainLemmas
+pub mod RulesHold
