@@ -42,7 +42,8 @@ impl<J: Drop> Jobs<J> {
     /// So many slots that all hold `None`, and a seat that holds no slot.
     pub fn new(alloc: Global, slots: u32) -> Result<(Jobs<J>, JobSeat<J>), NoMemory>
         requires { 0 < slots }
-        ensures { IfOk result (λ made. (slots_of made.0 ≡ slots) × IsJobSeatOf made.0 made.1 × IsFree made.1 × (refusals_of made.1 ≡ 0)) }
+        ensures { IfOk result (λ made. (slots_of made.0 ≡ slots) × IsJobSeatOf made.0 made.1
+            × IsFree made.1 × (refusals_of made.1 ≡ 0)) }
     {
         let words = vec![in alloc; 1; slots as usize]?;
         let count = u64::from(slots);

@@ -30,7 +30,8 @@ impl<N: World> Board<N> {
     ///
     /// The seat has the whole share, 2^62 calls of `claim`.
     pub fn new(alloc: Global, faults: u32, claims: u32) -> Result<(Board<N>, Seat<N>), NoMemory>
-        ensures { IfOk result (λ made. (faults_of made.0 ≡ faults) × (claims_of made.0 ≡ claims) × IsSeatOf made.0 made.1 × (view made.1 ≡ first_view)) }
+        ensures { IfOk result (λ made. (faults_of made.0 ≡ faults) × (claims_of made.0 ≡ claims)
+            × IsSeatOf made.0 made.1 × (view made.1 ≡ first_view)) }
     {
         let sizes = Sizes { faults, claims };
         let words = vec![in alloc; 0; faults as usize + 1]?;
@@ -97,7 +98,8 @@ impl<N: World> Board<N> {
         requires own { IsSeatOf self.now seat }
         requires share { (view seat).calls < (view seat).share }
         ensures own { IsSeatOf self.now result.0 }
-        ensures some { IfSome result.1 (λ n. (n < claims_of self.now) × ((view seat).calls ≤ n) × (view result.0 ≡ with_claim n (view seat))) }
+        ensures some { IfSome result.1 (λ n. (n < claims_of self.now) × ((view seat).calls ≤ n)
+            × (view result.0 ≡ with_claim n (view seat))) }
         ensures none { IfNone result.1 (view result.0 ≡ with_none (view seat)) }
     {
         let Seat { mut seat, world: _ } = seat;
@@ -152,9 +154,10 @@ impl<N: World> Board<N> {
         requires own { IsSeatOf self.now seat }
         requires fault { fault_number fault < faults_of self.now }
         ensures own { IsSeatOf self.now result.0 }
-        ensures some { IfSome result.1 (λ c. IsCode N.design N.plan (fault_number fault) c × (view result.0 ≡ with_seen (fault_number fault) c (view seat))) }
+        ensures some { IfSome result.1 (λ code. IsCode N.design N.plan (fault_number fault) code
+            × (view result.0 ≡ with_seen (fault_number fault) code (view seat))) }
         ensures none { IfNone result.1 (view result.0 ≡ view seat) }
-        ensures again { (c : ℕ) → Contains (view seat).seen (mark (fault_number fault) c) → result.1 ≡ Some c }
+        ensures again { (code : ℕ) → Contains (view seat).seen (mark (fault_number fault) code) → result.1 ≡ Some code }
     {
         let Seat { mut seat, world: _ } = seat;
         let found = self
