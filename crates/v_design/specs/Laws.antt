@@ -1,5 +1,5 @@
 -- The laws of settling nets and of exchanging events, and the headline: what a report says of every legal order (IEEE 1364-2001, clause 5).
-use Rattle.std.specs.Prelude.{◌≡◌, ◌≢◌, ℕ, ◌+◌, ◌<◌, ◌≤◌, Bool, true, false, not, ◌&&◌, ◌||◌, List, [], ◌∷◌, ◌++◌, map, filter, length, Option, Some, None, IsTrue, slice_get, nat_eq, nat_le}
+use Rattle.std.specs.Prelude.{◌≡◌, ◌≢◌, ℕ, ◌+◌, ◌<◌, ◌≤◌, Bool, true, false, not, ◌&&◌, ◌||◌, List, [], ◌∷◌, ◌++◌, map, filter, length, Option, Some, None, IsTrue, slice_get, nat_eq, nat_le, sum_by}
 use Rattle.std.specs.List.{AllZip, list_any}
 use Rattle.v_design.specs.Lists.{has}
 use Rattle.four_value.specs.Values.{LogicValue, same_value}
@@ -9,9 +9,9 @@ use Rattle.v_design.specs.Writers.{WriteVariables}
 use Rattle.v_design.specs.WellFormed.{IsPlan, KeepsRules}
 use Rattle.v_design.specs.Sites.{AreOneClass}
 use Rattle.v_design.specs.Assignments.{AreSettled, value_at, node_outputs, with_outputs}
-use Rattle.v_design.specs.States.{is_process_event, State, Event, Step, LaneStep, Evaluation, NetUpdate, start, possible, after, has_work, some_in, is_quiescent}
-use Rattle.v_design.specs.Runs.{Move, Turns, Leads, IsLegal, IsPhase, happened, first_event, FirstSlot, first_run, slot_end, is_hyper, ends_by}
-use Rattle.v_design.specs.Paths.{Clean, net_class}
+use Rattle.v_design.specs.States.{is_process_event, State, Event, Step, LaneStep, Evaluation, NetUpdate, TurnKind, start, possible, after, turned, has_work, some_in, is_quiescent}
+use Rattle.v_design.specs.Runs.{Move, Turns, Leads, IsLegal, IsPhase, all_possible, happened, first_event, FirstSlot, first_run, slot_end, is_hyper, ends_by}
+use Rattle.v_design.specs.Paths.{Clean, net_class, paths}
 use Rattle.v_design.specs.Accesses.{ObjectAccess, accesses_of}
 use Rattle.v_design.specs.Logs.{LoggedEvent, LoggedPhase, PhaseAccess, phase_changes, counted_accesses, log_accesses, orders, conflict}
 use Rattle.v_design.specs.PhaseLogs.{NotedEvent, cause_of, note_of, noted_events, log_of, phase_race}
@@ -183,6 +183,24 @@ abbrev pub CleanNetsChangeOnce : Type 0
 CleanNetsChangeOnce =
     (machine : Machine) (state : State) (first events : List Event) (net : ℕ) → RunsBeside machine state first events →
     net_class machine.design (phase_changes machine.design (log_of machine state first)) net ≡ Clean → ChangesAlike machine state first events net
+
+-- every legal order of a phase ends with its nets settled
+abbrev pub PhasesSettle : Type 0
+PhasesSettle =
+    (machine : Machine) (state : State) (events : List Event) → KeepsRules machine.design → BeginsPhase machine state → IsPhase machine state events →
+    AreSettled machine (happened machine state events).values
+
+-- at each moment an object has changed at most as often as there are paths to it from the changes made so far: a quiet net never, a clean one once at most
+abbrev pub ChangesHaveBounds : Type 0
+ChangesHaveBounds =
+    (machine : Machine) (state : State) (events : List Event) (object : ℕ) → KeepsRules machine.design → BeginsPhase machine state → IsTrue (all_possible machine state events) →
+    length (changes_at machine state events object) ≤ sum_by (λ source. paths machine.design source object) (phase_changes machine.design (log_of machine state events))
+
+-- the first phase of a run begins as the laws ask, and so does each phase that a turn leads to
+pub record PhasesBegin : Type 0 where
+  pub first : (machine : Machine) → KeepsRules machine.design → BeginsPhase machine (start machine)
+  pub next : (machine : Machine) (state : State) (events : List Event) (turn : TurnKind) → KeepsRules machine.design → BeginsPhase machine state → IsPhase machine state events →
+      BeginsPhase machine (turned turn (happened machine state events))
 
 -- the place of the n-th event that is the given one; a process's steps are told apart by their number
 abbrev pub same_event : Event → Event → Bool
