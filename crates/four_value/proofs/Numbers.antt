@@ -18,7 +18,7 @@ use Rattle.four_value.proofs.Words.{one_if-lt}
 use Rattle.four_value.proofs.Planes.{plane_of-lt}
 use Rattle.four_value.proofs.Parts.{mod_step}
 use Rattle.four_value.proofs.Places.{mod_narrower}
-use Rattle.four_value.proofs.Tests.{number_of-known, number_of-unknown}
+use Rattle.four_value.proofs.Readings.{number_of-known, number_of-unknown}
 
 -- only the low digits count
 pub bits_of-mod : (w n : ℕ) → bits_of w (n % 2 ^ w) ≡ bits_of w n

@@ -9,6 +9,7 @@ use Rattle.std.proofs.lemmas.List.{length-drop, length-append, length-take, leng
 use mir.Val.{bool_byte}
 use Rattle.four_value.specs.Bits.{is_unknown}
 use Rattle.four_value.specs.Planes.{is_one_or_z, one_if, plane_of}
+use Rattle.four_value.specs.ValueLaws.{length-with_part}
 use Rattle.four_value.specs.Values.{LogicValue, bit_at, part_of, with_part, resized, fill_bit, top_bit}
 use Rattle.four_value.specs.declared.logic.Bit.{Bit}
 use Rattle.four_value.specs.declared.logic.Bit.TheVariants.{Zero, One, X, Z}
@@ -99,12 +100,6 @@ plane_of-with_part test (b ∷ bits) zero (p ∷ part) (suc k) h =
     ap₂ bit_or left right
     ∙ or_step (test b && false) (test p && true) (bit_and (plane_of test bits) (2 ^ k - 1 - H)) (bit_and (plane_of test part * 2 ^ 0) H)
     ∙ ap₂ (λ x n. one_if x + 2 * n) (put (test b) (test p)) (plane_of-with_part test bits zero part k within)
-
-pub length-with_part : (bits : LogicValue) (low : ℕ) (part : LogicValue) → length (with_part bits low part) ≡ length bits
-length-with_part [] low part = refl
-length-with_part (b ∷ bits) (suc low) part = ap suc (length-with_part bits low part)
-length-with_part (b ∷ bits) zero [] = refl
-length-with_part (b ∷ bits) zero (p ∷ part) = ap suc (length-with_part bits zero part)
 
 -- past the end nothing is put in
 pub with_part-past : (bits : LogicValue) (low : ℕ) (part : LogicValue) → length bits ≤ low → bits ≡ with_part bits low part

@@ -1,4 +1,4 @@
--- What a plane that is 0 says of a value, and equal planes of two values.
+-- What the fields of a value tell: tests, numbers, equality, labels of a case, reductions.
 use Rattle.std.proofs.Common.{◌≡◌, ℕ, zero, suc, ◌+◌, ◌-◌, ◌*◌, ◌%◌, ◌^◌, ◌<◌, ◌≤◌, Bool, true, false, not, ◌&&◌, ◌||◌, List, [], ◌∷◌, map, length, refl, ap, ap₂, sym, ◌∙◌, arith, Option, Some, None}
 use Rattle.std.specs.Prelude.{nat_eq}
 use Rattle.std.specs.Int.Bits.{bit_and, bit_or, bit_xor}
@@ -8,6 +8,7 @@ use Rattle.std.proofs.Math.Dec.{eqb-suc-zero}
 use Rattle.std.proofs.lemmas.Nat.{le_or_l, le_or_r, ones_cat}
 use Rattle.four_value.specs.Bits.{is_z, is_one, is_unknown, same_bit, differ, bit_of, not_bit, known_or_x, and_bit, or_bit, xor_bit}
 use Rattle.four_value.specs.Planes.{is_one_or_z, one_if, plane_of}
+use Rattle.four_value.specs.ValueLaws.{same_value-refl, from_same_value}
 use Rattle.four_value.specs.Values.{LogicValue, some_bit, some_place, each_place, number_of, with_low_bit, equality_of, logical_equality, same_value, truth_by, truth_of, truth_bit, reduced, not_value}
 use Rattle.four_value.specs.Operators.{is_ignored, label_bit_matches, label_matches}
 use Rattle.four_value.specs.declared.operator.CaseKind.{CaseKind}
@@ -127,16 +128,6 @@ module _ (a b : LogicValue) (w v o₁ u₁ o₂ u₂ : ℕ) (f : AreFields a w o
       let d : (some_bit is_unknown a || some_bit is_unknown b) ≡ false = some_unknown-false a b u₁ u₂ f.in_unknowns g.in_unknowns s in
       rw (e, d)
 
-same_bit-refl : (b : Bit) → same_bit b b ≡ true
-same_bit-refl Zero = refl
-same_bit-refl One = refl
-same_bit-refl X = refl
-same_bit-refl Z = refl
-
-pub same_value-refl : (a : LogicValue) → same_value a a ≡ true
-same_value-refl [] = refl
-same_value-refl (b ∷ a) = rw (same_bit-refl b, same_value-refl a)
-
 -- values with equal fields are the same, and others are not
 pub same_fields : (a b : LogicValue) (w v o₁ u₁ o₂ u₂ : ℕ) → AreFields a w o₁ u₁ → AreFields b v o₂ u₂ → length a ≡ length b → o₁ ≡ o₂ → u₁ ≡ u₂ → true ≡ same_value a b
 same_fields a b w v o₁ u₁ o₂ u₂ f g h p q =
@@ -144,36 +135,6 @@ same_fields a b w v o₁ u₁ o₂ u₂ f g h p q =
     let unknowns : plane_of is_unknown a ≡ plane_of is_unknown b = sym f.in_unknowns ∙ q ∙ g.in_unknowns in
     let e : a ≡ b = sym (bits_in_planes-plane_of a) ∙ rw (h, ones, unknowns) (bits_in_planes-plane_of b) in
     rw (e, same_value-refl b)
-
-from_same_bit : (x y : Bit) → same_bit x y ≡ true → x ≡ y
-from_same_bit Zero Zero h = refl
-from_same_bit Zero One h = cc
-from_same_bit Zero X h = cc
-from_same_bit Zero Z h = cc
-from_same_bit One Zero h = cc
-from_same_bit One One h = refl
-from_same_bit One X h = cc
-from_same_bit One Z h = cc
-from_same_bit X Zero h = cc
-from_same_bit X One h = cc
-from_same_bit X X h = refl
-from_same_bit X Z h = cc
-from_same_bit Z Zero h = cc
-from_same_bit Z One h = cc
-from_same_bit Z X h = cc
-from_same_bit Z Z h = refl
-
-both_true : (x y : Bool) → (x && y) ≡ true → (x ≡ true) × (y ≡ true)
-both_true true y h = (refl, h)
-both_true false y h = cc
-
-pub from_same_value : (a b : LogicValue) → same_value a b ≡ true → a ≡ b
-from_same_value [] [] h = refl
-from_same_value [] (y ∷ b) h = cc
-from_same_value (x ∷ a) [] h = cc
-from_same_value (x ∷ a) (y ∷ b) h =
-    let parts : (same_bit x y ≡ true) × (same_value a b ≡ true) = both_true (same_bit x y) (same_value a b) h in
-    ap₂ (λ c cs. c ∷ cs) (from_same_bit x y parts.0) (from_same_value a b parts.1)
 
 false_unless : (x : Bool) → (x ≡ true → ⊥) → false ≡ x
 false_unless true h = absurd (h refl)
