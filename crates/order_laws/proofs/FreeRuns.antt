@@ -170,7 +170,7 @@ orders_itself log w k none h = elim (chain log w (length log.events) (Some k) h)
 abbrev pub Closed : LoggedPhase → List ℕ → Type 0
 Closed log done = (n c : ℕ) → has done n ≡ true → cause_at log n ≡ Some c → has done c ≡ true
 
-in_chain : (log : LoggedPhase) (done : List ℕ) → Closed log done → (w depth : ℕ) (start : Option ℕ) → ((c : ℕ) → start ≡ Some c → has done c ≡ true) → has (causes_from depth log start) w ≡ true → has done w ≡ true
+pub in_chain : (log : LoggedPhase) (done : List ℕ) → Closed log done → (w depth : ℕ) (start : Option ℕ) → ((c : ℕ) → start ≡ Some c → has done c ≡ true) → has (causes_from depth log start) w ≡ true → has done w ≡ true
 in_chain log done closed w zero None s h = cc
 in_chain log done closed w (suc depth) None s h = cc
 in_chain log done closed w zero (Some c) s h = elim (or-either (nat_eq c w) false h) [ inl e ↦ subst (λ n. has done n ≡ true) (eqb-true c w e) (s c refl) | inr nothing ↦ true-false false nothing refl ]
@@ -252,7 +252,7 @@ none-changed : (before next : State) (objects : List ℕ) → ((x : ℕ) → val
 none-changed before next [] h = refl
 none-changed before next (x ∷ objects) h = λ i. unchanged_in before next x (h x) i || none-changed before next objects h i
 
-ready_waits_not : (act : Activity) (entry : Entry) → is_ready act ≡ true → In entry (waiting_entries act) → ⊥
+pub ready_waits_not : (act : Activity) (entry : Entry) → is_ready act ≡ true → In entry (waiting_entries act) → ⊥
 ready_waits_not (Ready tasks operands) entry r i = absurd i
 ready_waits_not (Waiting place entries tasks) entry r i = cc
 ready_waits_not (Asleep time tasks) entry r i = absurd i
