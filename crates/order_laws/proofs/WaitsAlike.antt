@@ -116,7 +116,7 @@ wild_first machine state first events n matched done i object event y r run c o 
 
 -- Waits
 
-tests-same : (one other : Entry → Bool) (entries : List Entry) → ((entry : Entry) → one entry ≡ other entry) → some_entry one entries ≡ some_entry other entries
+pub tests-same : (one other : Entry → Bool) (entries : List Entry) → ((entry : Entry) → one entry ≡ other entry) → some_entry one entries ≡ some_entry other entries
 tests-same one other entries h = λ i. some_entry (λ entry. h entry i) entries
 
 -- two changes match the same entries
