@@ -100,7 +100,7 @@ sum-some f (x ∷ xs) h = sum-step f x xs h (f x) refl (λ g. sum-some f xs g)
         let r = rest (omega (arith, s, h, e)) in (r.0, inr r.1, r.2)
     sum-step f x xs h (suc n) e rest = (x, inl refl, omega (arith, e))
 
-in_joined_back : {A B : Type 0} (f : A → List B) (xs : List A) (y : B) → In y (joined (map f xs)) → (x : A) × In x xs × In y (f x)
+pub in_joined_back : {A B : Type 0} (f : A → List B) (xs : List A) (y : B) → In y (joined (map f xs)) → (x : A) × In x xs × In y (f x)
 in_joined_back f [] y i = absurd i
 in_joined_back f (x ∷ xs) y i = elim (In-append y (f x) (joined (map f xs)) i) [
   | inl j ↦ (x, inl refl, j)
@@ -224,7 +224,7 @@ clash_with machine state first done i k x y r o d a b same clash =
 
 -- No process waits on a wild net
 
-awaits-no-changes : (design : FlatDesign) (p l : ℕ) (entries : List Entry) →
+pub awaits-no-changes : (design : FlatDesign) (p l : ℕ) (entries : List Entry) →
     joined (map (λ (access : ObjectAccess). change_of design access.act access.object) (map (λ (entry : Entry). let a : ObjectAccess = record { act = Awaiting entry; object = entry.object; process = p; line = l } in a) entries)) ≡ []
 awaits-no-changes design p l [] = refl
 awaits-no-changes design p l (entry ∷ entries) = awaits-no-changes design p l entries

@@ -110,13 +110,13 @@ length-change_if : (b : Bool) (old new : LogicValue) (rest : List (LogicValue ×
 length-change_if true old new rest = omega arith
 length-change_if false old new rest = omega arith
 
-count-step : (machine : Machine) (state : State) (event : Event) (events : List Event) (object : ℕ) →
+pub count-step : (machine : Machine) (state : State) (event : Event) (events : List Event) (object : ℕ) →
     change_count machine state (event ∷ events) object ≡ one_if (changed_in state (after machine state event) object) + change_count machine (after machine state event) events object
 count-step machine state event events object =
     length-change_if (changed_in state (after machine state event) object) (value_at state.values object) (value_at (after machine state event).values object) (changes_at machine (after machine state event) events object)
 
 -- where an object never changes it has its first value
-unchanged-value : (machine : Machine) (state : State) (events : List Event) (object place : ℕ) → change_count machine state events object ≡ 0 → value_at (state_at machine state events place).values object ≡ value_at state.values object
+pub unchanged-value : (machine : Machine) (state : State) (events : List Event) (object place : ℕ) → change_count machine state events object ≡ 0 → value_at (state_at machine state events place).values object ≡ value_at state.values object
 unchanged-value machine state [] object place e = refl
 unchanged-value machine state (event ∷ events) object zero e = refl
 unchanged-value machine state (event ∷ events) object (suc place) e =

@@ -52,7 +52,7 @@ abbrev WriteOf : Machine → State → Event → State → ℕ → Type 0
 WriteOf machine state event next object =
     (u : ValueUpdate) × (write_by machine state event ≡ Some u) × (u.object ≡ object) × (value_at next.values object ≡ value_written machine state u)
 
-changed-write : (machine : Machine) (state : State) (q : ℕ) (own : ProcessState → ProcessState) (write : Option ValueUpdate) (object : ℕ) →
+pub changed-write : (machine : Machine) (state : State) (q : ℕ) (own : ProcessState → ProcessState) (write : Option ValueUpdate) (object : ℕ) →
     changed_in state (written_if machine write (with_process q own state)) object ≡ true →
     (u : ValueUpdate) × (write ≡ Some u) × (u.object ≡ object) × (value_at (written_if machine write (with_process q own state)).values object ≡ value_written machine state u)
 changed-write machine state q own None object t = true-false (changed_in state (with_process q own state) object) t (unchanged_in state (with_process q own state) object refl)

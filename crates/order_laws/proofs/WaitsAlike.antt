@@ -35,7 +35,7 @@ use Rattle.order_laws.proofs.FreeRuns.{IsFree, wild_in, counted, CountedWrite, o
 use Rattle.order_laws.proofs.DoneChanges.{done_reach, done_none}
 use Rattle.order_laws.proofs.Comparison.{process_there, ProcessPart, process_part, process_stays, value_stays, there-how, wakes_there, woken_at, Compared, part_through}
 
-changes-where : (machine : Machine) (state : State) (first : List Event) (object k : ℕ) → changes_there machine state first object k ≡ true → (event : Event) × (slice_get first k ≡ Some event)
+pub changes-where : (machine : Machine) (state : State) (first : List Event) (object k : ℕ) → changes_there machine state first object k ≡ true → (event : Event) × (slice_get first k ≡ Some event)
 changes-where machine state first object k t = go (slice_get first k) refl
   where
     go : (found : Option Event) → slice_get first k ≡ found → (event : Event) × (slice_get first k ≡ Some event)
