@@ -135,7 +135,7 @@ event-variables machine state event c i =
     one (Holding entry) object j = absurd j
     one Settling object j = absurd j
 
-run-variables : (machine : Machine) (state : State) (events : List Event) (c : ℕ) → In c (run_changes machine state events) → has (net_pieces machine.design) c ≡ false
+pub run-variables : (machine : Machine) (state : State) (events : List Event) (c : ℕ) → In c (run_changes machine state events) → has (net_pieces machine.design) c ≡ false
 run-variables machine state [] c i = absurd i
 run-variables machine state (event ∷ events) c i = elim (In-append c (event_changes machine state event) (run_changes machine (after machine state event) events) i) [
   | inl j ↦ event-variables machine state event c j
@@ -232,7 +232,7 @@ module _ (machine : Machine) (state : State) (first events : List Event) (n m : 
       go true h = absurd (omega (arith, h))
       go false h = refl
 
-  given : map (value_at (state_at machine state events (suc n)).values) node.outputs ≡ node_outputs machine m node (state_at machine state events n).values
+  pub given : map (value_at (state_at machine state events (suc n)).values) node.outputs ≡ node_outputs machine m node (state_at machine state events n).values
   given =
       ap (λ s. map (value_at s.values) node.outputs) (at_next machine state events n (NetUpdate m) stands)
       ∙ ap (λ f. map (value_at (nets_updated machine m f (node_at (state_at machine state events n) m).pending (state_at machine state events n)).values) node.outputs) found

@@ -39,7 +39,7 @@ use Rattle.order_laws.proofs.StepsMeet.{closed_done}
 use Rattle.order_laws.proofs.CleanUpdates as clean
 
 -- What changes a net is an update of its node
-net_changer : (machine : Machine) (state : State) (events : List Event) (k m : ℕ) (node : FlatNode) (object : ℕ) (event : Event) → IsRun machine state events → slice_get events k ≡ Some event →
+pub net_changer : (machine : Machine) (state : State) (events : List Event) (k m : ℕ) (node : FlatNode) (object : ℕ) (event : Event) → IsRun machine state events → slice_get events k ≡ Some event →
     slice_get machine.design.nodes m ≡ Some node → has node.outputs object ≡ true → changes_there machine state events object k ≡ true → event ≡ NetUpdate m
 net_changer machine state events k m node object event r e found out t = by event e (ap (λ s. changed_in (state_at machine state events k) s object) (sym (at_next machine state events k event e)) ∙ t)
   where
@@ -69,7 +69,7 @@ net_changer machine state events k m node object event r e found out t = by even
         ]
 
 -- The changes of a run's beginning reach no more than all
-prefix_reach : (machine : Machine) (state : State) (events : List Event) (n object : ℕ) → reached machine.design (run_changes machine state (first_of n events)) object ≤ reached machine.design (run_changes machine state events) object
+pub prefix_reach : (machine : Machine) (state : State) (events : List Event) (n object : ℕ) → reached machine.design (run_changes machine state (first_of n events)) object ≤ reached machine.design (run_changes machine state events) object
 prefix_reach machine state events zero object = omega arith
 prefix_reach machine state [] (suc n) object = omega arith
 prefix_reach machine state (event ∷ events) (suc n) object =
