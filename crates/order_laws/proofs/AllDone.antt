@@ -46,7 +46,7 @@ far : (machine : Machine) (state : State) (events : List Event) (k : ℕ) → le
 far machine state events k h = at_past machine state events k (none_past events k h)
 
 -- a part that nothing touches from a place on is as at the end
-last-part : {X : Type 0} (touches : ℕ → Bool) (content : ℕ → X) (end place : ℕ) → Stays touches content → ((k : ℕ) → end ≤ k → content k ≡ content end) → ((k : ℕ) → place ≤ k → touches k ≡ false) → content place ≡ content end
+pub last-part : {X : Type 0} (touches : ℕ → Bool) (content : ℕ → X) (end place : ℕ) → Stays touches content → ((k : ℕ) → end ≤ k → content k ≡ content end) → ((k : ℕ) → place ≤ k → touches k ≡ false) → content place ≡ content end
 last-part touches content end place stays past none = elim (le_or place end) [
   | inl le ↦ sym (stays_between touches content stays place end le (λ k a b. none k a))
   | inr gt ↦ past place (omega (arith, gt))
@@ -56,7 +56,7 @@ pub first_of-all : {A : Type 0} (xs : List A) → first_of (length xs) xs ≡ xs
 first_of-all [] = refl
 first_of-all (x ∷ xs) = ap (λ ys. x ∷ ys) (first_of-all xs)
 
-first_of-past-all : {A : Type 0} (xs : List A) (k : ℕ) → length xs ≤ k → first_of k xs ≡ xs
+pub first_of-past-all : {A : Type 0} (xs : List A) (k : ℕ) → length xs ≤ k → first_of k xs ≡ xs
 first_of-past-all [] zero h = refl
 first_of-past-all [] (suc k) h = refl
 first_of-past-all (x ∷ xs) zero h = absurd (omega (arith, h))
@@ -274,7 +274,7 @@ module _ (machine : Machine) (state : State) (first events : List Event) (matche
 
   -- Both end alike
 
-  past-place : {X : Type 0} (touches : ℕ → Bool) (content : ℕ → X) (x : X) → (cell : Cell touches content done x) → ((k : ℕ) → touches k ≡ true → has done k ≡ true) → (k : ℕ) → cell.place ≤ k → touches k ≡ false
+  pub past-place : {X : Type 0} (touches : ℕ → Bool) (content : ℕ → X) (x : X) → (cell : Cell touches content done x) → ((k : ℕ) → touches k ≡ true → has done k ≡ true) → (k : ℕ) → cell.place ≤ k → touches k ≡ false
   past-place touches content x cell h k le = elim (decided (touches k)) [
     | inl t ↦ (let z : k < cell.place = cell.before k t (h k t) in absurd (omega (arith, z, le)))
     | inr f ↦ f
