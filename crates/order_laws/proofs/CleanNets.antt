@@ -64,7 +64,7 @@ changes-once machine state (event ∷ events) object h =
 
 -- The log's changes are the run's
 
-same-changes : (machine : Machine) (state : State) (event : Event) (writer line : ℕ) → changes_of machine.design (accesses_of machine writer line state event) ≡ event_changes machine state event
+pub same-changes : (machine : Machine) (state : State) (event : Event) (writer line : ℕ) → changes_of machine.design (accesses_of machine writer line state event) ≡ event_changes machine state event
 same-changes machine state (Step process) writer line = refl
 same-changes machine state (LaneStep process) writer line = refl
 same-changes machine state (Evaluation number) writer line = refl

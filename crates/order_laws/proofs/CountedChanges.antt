@@ -32,7 +32,7 @@ sum-plus f g (x ∷ xs) =
     let h : sum_by (λ y. f y + g y) xs ≡ sum_by f xs + sum_by g xs = sum-plus f g xs in
     omega (arith, a, b, c, h)
 
-sum-none : (f : ℕ → ℕ) (xs : List ℕ) → ((x : ℕ) → f x ≡ 0) → sum_by f xs ≡ 0
+pub sum-none : (f : ℕ → ℕ) (xs : List ℕ) → ((x : ℕ) → f x ≡ 0) → sum_by f xs ≡ 0
 sum-none f [] h = refl
 sum-none f (x ∷ xs) h =
     let a : sum_by f (x ∷ xs) ≡ f x + sum_by f xs = sum_by-cons f x xs in
@@ -40,7 +40,7 @@ sum-none f (x ∷ xs) h =
     let c : sum_by f xs ≡ 0 = sum-none f xs h in
     omega (arith, a, b, c)
 
-sum-below-in : (f g : ℕ → ℕ) (xs : List ℕ) → ((x : ℕ) → has xs x ≡ true → f x ≤ g x) → sum_by f xs ≤ sum_by g xs
+pub sum-below-in : (f g : ℕ → ℕ) (xs : List ℕ) → ((x : ℕ) → has xs x ≡ true → f x ≤ g x) → sum_by f xs ≤ sum_by g xs
 sum-below-in f g [] h = omega arith
 sum-below-in f g (x ∷ xs) h =
     let a : sum_by f (x ∷ xs) ≡ f x + sum_by f xs = sum_by-cons f x xs in
@@ -66,7 +66,7 @@ sum-more f g (y ∷ xs) x h i m =
     ]
 
 -- the paths to a node's inputs are no more than those to its output
-reached-inputs : (design : FlatDesign) → KeepsRules design → (changes : List ℕ) (object number : ℕ) (node : FlatNode) → slice_get design.nodes number ≡ Some node → has node.outputs object ≡ true →
+pub reached-inputs : (design : FlatDesign) → KeepsRules design → (changes : List ℕ) (object number : ℕ) (node : FlatNode) → slice_get design.nodes number ≡ Some node → has node.outputs object ≡ true →
     sum_by (reached design changes) (without_repeats [] node.inputs) ≤ reached design changes object
 reached-inputs design rules [] object number node e h =
     let z : sum_by (reached design []) (without_repeats [] node.inputs) ≡ 0 = sum-none (reached design []) (without_repeats [] node.inputs) (λ x. refl) in
@@ -340,7 +340,7 @@ counts-nets machine number (Some node) (Some values) state changes more count ru
     ]
 
 -- each event keeps the counts
-counts-after : (machine : Machine) (state : State) (changes : List ℕ) (count : ℕ → ℕ) (event : Event) → KeepsRules machine.design → AreClear (NotNet machine) state → Follows machine Everywhere state →
+pub counts-after : (machine : Machine) (state : State) (changes : List ℕ) (count : ℕ → ℕ) (event : Event) → KeepsRules machine.design → AreClear (NotNet machine) state → Follows machine Everywhere state →
     IsTrue (possible state event) → Counts machine state changes count →
     Counts machine (after machine state event) (changes ++ event_changes machine state event) (next_count state (after machine state event) count)
 counts-after machine state changes count (Step number) rules clear f p c =
@@ -363,7 +363,7 @@ counts-after machine state changes count (NetUpdate number) rules clear f p c =
 
 -- What a count says
 
-count-below : (machine : Machine) (state : State) (changes : List ℕ) (count : ℕ → ℕ) → KeepsRules machine.design → Counts machine state changes count → (level bound : ℕ) → level ≤ bound → (object : ℕ) →
+pub count-below : (machine : Machine) (state : State) (changes : List ℕ) (count : ℕ → ℕ) → KeepsRules machine.design → Counts machine state changes count → (level bound : ℕ) → level ≤ bound → (object : ℕ) →
     IsBelow machine.design.nodes level object → count object ≤ reached machine.design changes object
 count-below machine state changes count rules c level zero l object below =
     c.others object (λ number node e. elim (decided (has node.outputs object)) [

@@ -154,7 +154,7 @@ input_below nodes ranked number node e object i other driver f h = elim (le-or-b
 abbrev pub chosen : Bool → ℕ → ℕ
 chosen b n = elim b [ true ↦ n | false ↦ 0 ]
 
-through-not : (f : ℕ → ℕ) (object : ℕ) (node : FlatNode) → has node.outputs object ≡ false → paths_through f object node ≡ 0
+pub through-not : (f : ℕ → ℕ) (object : ℕ) (node : FlatNode) → has node.outputs object ≡ false → paths_through f object node ≡ 0
 through-not f object node h = ap (λ b. chosen b (path_weight node.kind * sum_by f (without_repeats [] node.inputs))) h
 
 through-writes : (f : ℕ → ℕ) (object : ℕ) (node : FlatNode) → has node.outputs object ≡ true → paths_through f object node ≡ path_weight node.kind * sum_by f (without_repeats [] node.inputs)

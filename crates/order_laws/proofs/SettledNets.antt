@@ -569,7 +569,7 @@ driver_of (first ∷ nodes) object = elim (decided (has first.outputs object)) [
     later h none zero node e = subst (λ (n : FlatNode). has n.outputs object ≡ false) (ap (found_or first) e) h
     later h none (suc number) node e = none number node e
 
-values-in : (one other : List LogicValue) (objects : List ℕ) → map (value_at one) objects ≡ map (value_at other) objects → (x : ℕ) → has objects x ≡ true → value_at one x ≡ value_at other x
+pub values-in : (one other : List LogicValue) (objects : List ℕ) → map (value_at one) objects ≡ map (value_at other) objects → (x : ℕ) → has objects x ≡ true → value_at one x ≡ value_at other x
 values-in one other [] e x h = cc
 values-in one other (y ∷ objects) e x h = elim (or-either (nat_eq y x) (has objects x) h) [
   | inl same ↦ subst (λ z. value_at one z ≡ value_at other z) (eqb-true y x same) (ap (first_or []) e)

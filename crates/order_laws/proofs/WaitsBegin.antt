@@ -74,7 +74,7 @@ step-waits process now (Turns place count body ∷ tasks) operands = turns-waits
 step-waits process now (Writes place updates ∷ tasks) operands = write-waits place updates tasks
 step-waits process now (Appends place delay updates ∷ tasks) operands = append-waits place delay updates tasks
 
-activity-waits : (machine : Machine) (state : State) (number : ℕ) (activity : Activity) → WaitsOrTouches (activity_step machine state number activity)
+pub activity-waits : (machine : Machine) (state : State) (number : ℕ) (activity : Activity) → WaitsOrTouches (activity_step machine state number activity)
 activity-waits machine state number (Ready tasks operands) = step-waits (source_at machine number) state.time tasks operands
 activity-waits machine state number (Waiting place entries tasks) = inr refl
 activity-waits machine state number (Asleep time tasks) = inr refl

@@ -10,7 +10,7 @@ use Rattle.v_design.specs.WellFormed.{IsPlan, KeepsRules}
 use Rattle.v_design.specs.Sites.{AreOneClass}
 use Rattle.v_design.specs.Assignments.{AreSettled, value_at, node_outputs, with_outputs}
 use Rattle.v_design.specs.States.{is_process_event, State, Event, Step, LaneStep, Evaluation, NetUpdate, TurnKind, start, possible, after, turned, has_work, some_in, is_quiescent}
-use Rattle.v_design.specs.Runs.{Move, Turns, Leads, IsLegal, IsPhase, all_possible, happened, first_event, FirstSlot, first_run, slot_end, is_hyper, ends_by}
+use Rattle.v_design.specs.Runs.{Move, Turns, Leads, IsLegal, IsPhase, all_possible, happened, FirstSlot, first_run, slot_end, is_hyper, ends_by}
 use Rattle.v_design.specs.Paths.{Clean, net_class, paths}
 use Rattle.v_design.specs.Accesses.{ObjectAccess, accesses_of}
 use Rattle.v_design.specs.Logs.{LoggedEvent, LoggedPhase, PhaseAccess, phase_changes, counted_accesses, log_accesses, orders, conflict}
@@ -43,11 +43,6 @@ pub record BeginsPhase (machine : Machine) (state : State) : Type 0 where
 -- a phase without two conflicting accesses
 abbrev pub HasNoConflict : Machine → State → List Event → Type 0
 HasNoConflict machine state events = phase_race machine state events ≡ None
-
--- each event is the one that the first order takes, to the phase's end
-abbrev pub IsFirstPhase : Machine → State → List Event → Type 0
-IsFirstPhase machine state [] = IsTrue (is_quiescent state)
-IsFirstPhase machine state (event ∷ events) = (first_event state ≡ Some event) × IsFirstPhase machine (after machine state event) events
 
 -- the accesses of each event of a phase
 abbrev pub accesses_by_event : Machine → State → List Event → List (List ObjectAccess)
@@ -165,20 +160,20 @@ changes_at machine state (event ∷ events) object =
     (value_at state.values object) (value_at (after machine state event).values object)
     (changes_at machine (after machine state event) events object)
 
--- a phase's first run without conflict, and any legal run of it from the same state
+-- two legal runs of a phase from one state, the first of them without conflict
 pub record RunsBeside (machine : Machine) (state : State) (first events : List Event) : Type 0 where
   pub rules : KeepsRules machine.design
   pub begins : BeginsPhase machine state
-  pub is_first : IsFirstPhase machine state first
+  pub first_legal : IsPhase machine state first
   pub no_conflict : HasNoConflict machine state first
   pub legal : IsPhase machine state events
 
--- each clean net piece changes as in the first run: once or never
+-- a net piece changes alike in two runs: once or never
 pub record ChangesAlike (machine : Machine) (state : State) (first events : List Event) (net : ℕ) : Type 0 where
   pub alike : changes_at machine state events net ≡ changes_at machine state first net
   pub at_most_once : length (changes_at machine state first net) ≤ 1
 
--- each clean net piece changes in every legal run of a phase as in the first one, where that has no conflict
+-- each clean net piece changes in every legal run of a phase as in one without conflict
 abbrev pub CleanNetsChangeOnce : Type 0
 CleanNetsChangeOnce =
     (machine : Machine) (state : State) (first events : List Event) (net : ℕ) → RunsBeside machine state first events →
@@ -248,14 +243,14 @@ abbrev pub steps_ordered : Machine → State → List Event → Event → ℕ �
 steps_ordered machine state events one m other n =
     orders_if_there (log_of machine state events) (slice_get (places_of one 0 events) m) (slice_get (places_of other 0 events) n)
 
--- the process and lane steps are those of the first run, with the same accesses and the same orders, and the end is the same
+-- the process and lane steps are those of the run without conflict, with the same accesses and the same orders, and the end is the same
 pub record StepsAlike (machine : Machine) (state : State) (first events : List Event) : Type 0 where
   pub accesses : (event : Event) → IsTrue (is_process_event event) → steps_accesses machine state events event ≡ steps_accesses machine state first event
   pub same_orders : (one other : Event) (m n : ℕ) → IsTrue (is_process_event one) → IsTrue (is_process_event other) →
       steps_ordered machine state events one m other n ≡ steps_ordered machine state first one m other n
   pub same_end : happened machine state events ≡ happened machine state first
 
--- every legal run of a phase has the steps of the first run, where that has no conflict
+-- every legal run of a phase has the steps of each run of it without conflict
 abbrev pub RunsProject : Type 0
 RunsProject = (machine : Machine) (state : State) (first events : List Event) → RunsBeside machine state first events → StepsAlike machine state first events
 
