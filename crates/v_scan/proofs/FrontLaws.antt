@@ -1,14 +1,14 @@
 -- What stands at the front of a text is the only thing that can stand there.
-use Rattle.std.proofs.Common.{◌≡◌, ℕ, ◌<◌, Bool, true, false, ◌&&◌, ◌||◌, not, List, [], ◌∷◌, ◌++◌, length, drop, Option, Some, None, refl, sym, ◌∙◌, ap, subst, arith, append_assoc, inl, inr, ◌⊎◌, eqb-true, eq-eqb}
+use Rattle.std.proofs.Common.{◌≡◌, ℕ, Bool, true, false, ◌||◌, not, List, [], ◌∷◌, ◌++◌, drop, Option, Some, None, refl, sym, ◌∙◌, ap, subst, arith, append_assoc, inl, inr, ◌⊎◌, eqb-true}
 use Rattle.std.proofs.lemmas.Bool.Decides.{nat_tests}
 use Rattle.std.specs.Prelude.{◌==◌, codes, if◌then◌else◌}
 use Rattle.v_tree.specs.declared.token.TokenKind.{TokenKind}
-use Rattle.v_scan.specs.Bytes.{is_blank, is_digit, goes_in_name, goes_in_line, goes_in_directive, each, Stops}
-use Rattle.v_scan.specs.Numbers.{Number, number_bytes, IsNumber, value_of, Written}
+use Rattle.v_scan.specs.Bytes.{is_blank, is_digit, goes_in_name, goes_in_line, goes_in_directive, Stops}
+use Rattle.v_scan.specs.Numbers.{value_of, Written}
 use Rattle.v_scan.specs.Words.{Word, Named, System, Quoted, Marked, Numeral, word_bytes, IsWord, IsLongest, is_inside, number_kind, kind_of}
 use Rattle.v_scan.specs.Texts.{Piece, Blank, LineComment, BlockComment, Timescale, Token, piece_bytes, IsPiece, has_no_close, begins_comment, BeginsRefused, BeginsOpenString, BeginsUnclosed, BeginsNothing}
 use Rattle.v_scan.specs.Reading.{front_while, back_while, starts, up_to_quote, after_quote, up_to_close, after_close, word_at, Front, Stands, Refused, Open, Nothing, block_of, comment_at, goes_no_further, directive_behind, directive_at, token_if, word_front, front_at, quoted_of, sort_of, Sort, AsString, AsNumber, AsMark, word_by}
-use Rattle.v_scan.proofs.Spans.{and-true, or-true, or-false, true-false, heads, tails, no_cons, cancel, none_some, some_same, starts-rest, while-whole, while-each, while-stops, while-exact}
+use Rattle.v_scan.proofs.Spans.{and-true, or-true, true-false, heads, tails, none_some, starts-rest, while-whole, while-each, while-stops, while-exact}
 use Rattle.v_scan.proofs.QuoteLaws.{quote-read, quote, close-read, close-none, close}
 use Rattle.v_scan.proofs.WordLaws.{first-byte, first-of, word-stands, word-longest, word-only, StandsIn}
 
@@ -196,7 +196,7 @@ quoted-none : (o : Option (List ℕ)) → quoted_of o ≡ None → o ≡ None
 quoted-none None e = refl
 quoted-none (Some inside) e = absurd (let q : ◌≡◌ {A = Option Word} (quoted_of (Some inside)) None = e in cc)
 
-string-none : (b : ℕ) (rest : List ℕ) → (b == 34) ≡ true → word_at b rest ≡ None → BeginsUnclosed (b ∷ rest)
+pub string-none : (b : ℕ) (rest : List ℕ) → (b == 34) ≡ true → word_at b rest ≡ None → BeginsUnclosed (b ∷ rest)
 unfolding word_at
 string-none b rest q e =
     let is : b ≡ 34 = eqb-true b 34 q in

@@ -5,3 +5,6 @@ pub mod NumberLaws
 pub mod WordLaws
 pub mod FrontLaws
 pub mod TextLaws
+pub mod PieceLaws
+pub mod ValueLaws
+pub mod NumberReads

@@ -2,13 +2,13 @@
 use Rattle.std.proofs.Common.{◌≡◌, ℕ, suc, ◌+◌, ◌≤◌, Bool, true, false, ◌&&◌, ◌||◌, List, [], ◌∷◌, ◌++◌, length, Option, Some, None, refl, sym, ◌∙◌, ap, subst, arith, append_assoc, length-append, inl, inr, ◌⊎◌, eqb-true, eq-eqb}
 use Rattle.std.proofs.lemmas.Bool.Decides.{nat_tests}
 use Rattle.std.proofs.lemmas.List.{append-nil}
-use Rattle.std.specs.Prelude.{◌==◌, nat_le, if◌then◌else◌}
+use Rattle.std.specs.Prelude.{◌==◌, if◌then◌else◌}
 use Rattle.v_scan.specs.declared.bytes.Base.{Base}
 use Rattle.v_scan.specs.declared.bytes.Base.TheVariants.{Binary, Octal, Decimal, Hexadecimal}
 use Rattle.v_scan.specs.Bytes.{is_blank, is_digit, goes_in_decimal, each, begins_and_goes_on, Stops}
 use Rattle.v_scan.specs.Numbers.{Number, Plain_decimal, Unfinished, Based, base_of, is_digit_of, is_digits, goes_in_digits, stands_alone, is_empty, is_sign, is_unknown_digit, number_bytes, IsSize, IsNumber}
 use Rattle.v_scan.specs.Reading.{front_while, back_while, is_sign_byte, sign_at, behind_sign, digits_at, behind_digits, Tail, NoDigits, Digits, tail_with, tail_behind, tail_from, tail_at, Numbered, number_with, number_behind, number_after, number_at}
-use Rattle.v_scan.proofs.Spans.{and-true, or-true, or-false, true-false, heads, tails, no_cons, while-whole, while-each, while-stops, while-longest, while-exact, while-behind, while-all, while-rest}
+use Rattle.v_scan.proofs.Spans.{and-true, or-true, true-false, heads, tails, no_cons, while-whole, while-each, while-longest, while-exact, while-behind, while-all, while-rest}
 
 -- Bytes
 
@@ -175,7 +175,7 @@ pub record FineTail (tail sign : List ℕ) (letter : ℕ) (base : Base) (space d
   pub fine : is_digits base digits ≡ true
   pub whole : tail ≡ sign ++ letter ∷ (space ++ (digits ++ back))
 
-abbrev TailIs : List ℕ → Tail → Type 0
+abbrev pub TailIs : List ℕ → Tail → Type 0
 TailIs tail NoDigits = Unit {0}
 TailIs tail (Digits sign letter base space digits back) = FineTail tail sign letter base space digits back
 

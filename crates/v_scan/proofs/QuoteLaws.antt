@@ -4,7 +4,7 @@ use Rattle.std.specs.Prelude.{◌==◌, if◌then◌else◌}
 use Rattle.v_scan.specs.Words.{is_inside}
 use Rattle.v_scan.specs.Texts.{closes, has_no_close}
 use Rattle.v_scan.specs.Reading.{with_first, up_to_quote, after_quote, up_to_close, after_close, behind_two}
-use Rattle.v_scan.proofs.Spans.{and-true, not-true, some_same, none_some}
+use Rattle.v_scan.proofs.Spans.{and-true, not-true}
 
 -- Strings
 

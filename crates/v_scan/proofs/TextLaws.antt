@@ -1,8 +1,7 @@
 -- A text falls into pieces in one way, and stops in one way.
-use Rattle.std.proofs.Common.{◌≡◌, ℕ, suc, ◌<◌, ◌≤◌, Bool, true, false, List, [], ◌∷◌, ◌++◌, length, refl, sym, ◌∙◌, ap, subst, arith, append_assoc, length-append, inl, inr, ◌⊎◌, Result, Ok, Err, MatchResult, IfOk, IfErr, Vec, Global}
+use Rattle.std.proofs.Common.{◌≡◌, ℕ, Bool, true, false, List, [], ◌∷◌, ◌++◌, refl, sym, ◌∙◌, ap, subst, arith, append_assoc, inl, inr, ◌⊎◌, Result, Ok, Err, MatchResult, IfOk, IfErr, Vec, Global}
 use Rattle.std.proofs.lemmas.List.{append-nil}
 use Rattle.vf_base.specs.declared.ids.Place.{Place}
-use Rattle.v_tree.specs.declared.token.TokenKind.{TokenKind}
 use Rattle.v_tree.specs.Tokens.{SourceToken}
 use Rattle.v_scan.specs.declared.fault.ScanFault.{ScanFault}
 use Rattle.v_scan.specs.declared.fault.ScanFault.TheVariants.{BadByte, BadNumber, Unclosed, TooLong, NoMemory}

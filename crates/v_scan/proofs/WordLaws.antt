@@ -1,13 +1,13 @@
 -- The word at the front of a text is the longest, and the only one.
-use Rattle.std.proofs.Common.{◌≡◌, ℕ, suc, ◌+◌, ◌≤◌, Bool, true, false, ◌&&◌, ◌||◌, List, [], ◌∷◌, ◌++◌, length, Option, Some, None, refl, sym, ◌∙◌, ap, subst, arith, append_assoc, length-append, inl, inr, ◌⊎◌, eqb-true, eq-eqb}
+use Rattle.std.proofs.Common.{◌≡◌, ℕ, ◌≤◌, Bool, true, false, ◌||◌, List, [], ◌∷◌, ◌++◌, length, Option, Some, None, refl, sym, ◌∙◌, ap, subst, arith, append_assoc, inl, inr, ◌⊎◌, eqb-true}
 use Rattle.std.proofs.lemmas.Bool.Decides.{nat_tests}
-use Rattle.std.specs.Prelude.{◌==◌, nat_le, if◌then◌else◌}
+use Rattle.std.specs.Prelude.{◌==◌, if◌then◌else◌}
 use Rattle.v_tree.specs.declared.token.Mark.{Mark}
 use Rattle.v_scan.specs.Bytes.{is_blank, is_letter, is_digit, goes_in_name, goes_in_decimal, each, begins_and_goes_on}
-use Rattle.v_scan.specs.Numbers.{Number, Plain_decimal, Unfinished, Based, number_bytes, IsSize, IsNumber}
-use Rattle.v_scan.specs.Words.{Word, Named, System, Quoted, Marked, Numeral, word_bytes, mark_bytes, IsWord, IsLongest, is_inside}
+use Rattle.v_scan.specs.Numbers.{Number, Plain_decimal, Unfinished, Based, number_bytes}
+use Rattle.v_scan.specs.Words.{Word, Named, System, Quoted, Marked, Numeral, word_bytes, IsWord, IsLongest, is_inside}
 use Rattle.v_scan.specs.Reading.{front_while, back_while, up_to_quote, after_quote, marks, first_mark, number_at, Sort, AsName, AsSystem, AsString, AsNumber, AsMark, sort_of, system_of, quoted_of, marked_of, word_by, word_at}
-use Rattle.v_scan.proofs.Spans.{and-true, or-true, true-false, heads, tails, no_cons, prefix-one, some_same, none_some, while-whole, while-each, while-longest, while-all}
+use Rattle.v_scan.proofs.Spans.{and-true, or-true, heads, tails, no_cons, prefix-one, while-whole, while-each, while-longest, while-all}
 use Rattle.v_scan.proofs.MarkLaws.{mark-first, mark-alone, mark-found, mark-longest}
 use Rattle.v_scan.proofs.QuoteLaws.{quote-read, quote}
 use Rattle.v_scan.proofs.NumberLaws.{Begins, number-found, number-longest, number-alone}
@@ -42,7 +42,7 @@ digit-dollar b h = grind (arith, nat_tests)
 digit-quote : (b : ℕ) → is_digit b ≡ true → (b == 34) ≡ false
 digit-quote b h = grind (arith, nat_tests)
 
-digit-sort : (b : ℕ) → is_digit b ≡ true → sort_of b ≡ AsNumber
+pub digit-sort : (b : ℕ) → is_digit b ≡ true → sort_of b ≡ AsNumber
 digit-sort b h = rw (digit-letter b h, digit-dollar b h, digit-quote b h, h) refl
 
 -- a word's first byte tells its sort

@@ -1,5 +1,5 @@
 -- The bytes of a source text by what they are for (IEEE 1364-2001, clauses 2.2 to 2.7).
-use Rattle.std.specs.Prelude.{◌≡◌, ℕ, ◌-◌, ◌==◌, nat_le, Bool, true, false, ◌&&◌, ◌||◌, not, List, [], ◌∷◌}
+use Rattle.std.specs.Prelude.{◌≡◌, ℕ, ◌==◌, nat_le, Bool, true, false, ◌&&◌, ◌||◌, not, List, [], ◌∷◌}
 
 -- space, tab, line feed, carriage return, form feed
 abbrev pub is_blank : ℕ → Bool

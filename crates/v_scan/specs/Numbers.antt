@@ -1,8 +1,8 @@
 -- How a number is spelled, and what value it has (IEEE 1364-2001, clause 2.5).
-use Rattle.std.specs.Prelude.{◌≡◌, ℕ, ◌+◌, ◌-◌, ◌*◌, ◌^◌, ◌==◌, nat_le, Bool, true, false, ◌&&◌, ◌||◌, List, [], ◌∷◌, ◌++◌, length, take, replicate, Option, Some, None, if◌then◌else◌}
+use Rattle.std.specs.Prelude.{◌≡◌, ℕ, ◌+◌, ◌-◌, ◌*◌, ◌^◌, ◌==◌, nat_le, Bool, true, false, ◌&&◌, ◌||◌, not, List, [], ◌∷◌, ◌++◌, length, take, replicate, Option, Some, None, if◌then◌else◌}
 use Rattle.four_value.specs.declared.logic.Bit.{Bit}
-use Rattle.four_value.specs.declared.logic.Bit.TheVariants.{Zero, One, X, Z}
-use Rattle.four_value.specs.Values.{LogicValue, top_bit, bits_of}
+use Rattle.four_value.specs.declared.logic.Bit.TheVariants.{Zero, X, Z}
+use Rattle.four_value.specs.Values.{LogicValue, bits_of}
 use Rattle.v_tree.specs.declared.token.NumberForm.{NumberForm}
 use Rattle.v_tree.specs.declared.token.NumberForm.TheVariants.{Plain, Unsized, Sized, UnsizedSigned, SizedSigned}
 use Rattle.v_scan.specs.declared.bytes.Base.{Base}
@@ -116,16 +116,14 @@ abbrev pub digits_bits : Base → List ℕ → LogicValue
 digits_bits base [] = []
 digits_bits base (b ∷ bs) = digits_bits base bs ++ digit_bits base b
 
--- what a number with this bit on its left is extended by
-abbrev pub extension : Bit → Bit
-extension Zero = Zero
-extension One = Zero
-extension X = X
-extension Z = Z
+-- what digits are extended by on the left: x or z where the leftmost digit is unknown, else 0
+abbrev pub fill_of : List ℕ → Bit
+fill_of [] = Zero
+fill_of (b ∷ bs) = if is_unknown_digit b then unknown_bit b else Zero
 
 -- the bits at a width: extended on the left, or without the surplus bits on the left
-abbrev pub at_width : ℕ → LogicValue → LogicValue
-at_width width bits = take width (bits ++ replicate width (extension (top_bit bits)))
+abbrev pub at_width : ℕ → Bit → LogicValue → LogicValue
+at_width width fill bits = take width (bits ++ replicate width fill)
 
 -- the size that is spelled, 1 to 128; 32 where there is none
 abbrev pub width_of : List ℕ → Option ℕ
@@ -141,7 +139,7 @@ decimal_value width (b ∷ bs) =
 
 -- the value of digits that spell at most 256 bits
 abbrev pub coded_value : Base → ℕ → List ℕ → Option LogicValue
-coded_value base width digits = let bits = digits_bits base digits in if nat_le (length bits) 256 then Some (at_width width bits) else None
+coded_value base width digits = let bits = digits_bits base digits in if nat_le (length bits) 256 then Some (at_width width (fill_of digits) bits) else None
 
 abbrev pub digits_value : Base → ℕ → List ℕ → Option LogicValue
 digits_value Binary width digits = coded_value Binary width digits
@@ -150,11 +148,11 @@ digits_value Decimal width digits = decimal_value width digits
 digits_value Hexadecimal width digits = coded_value Hexadecimal width digits
 
 -- how a number with a base is written
-abbrev pub form_of : (size sign : List ℕ) → NumberForm
-form_of [] [] = Unsized
-form_of [] (s ∷ sign) = UnsizedSigned
-form_of (b ∷ size) [] = Sized
-form_of (b ∷ size) (s ∷ sign) = SizedSigned
+abbrev pub form_of : (size : List ℕ) (signed : Bool) → NumberForm
+form_of [] false = Unsized
+form_of [] true = UnsizedSigned
+form_of (b ∷ size) false = Sized
+form_of (b ∷ size) true = SizedSigned
 
 abbrev pub value_in : Option ℕ → Base → List ℕ → Option LogicValue
 value_in None base digits = None
@@ -176,4 +174,4 @@ plain_value digits = let n = decimal_number digits in if nat_le n 4294967295 the
 abbrev pub value_of : Number → Option Written
 value_of (Plain_decimal digits) = plain_value digits
 value_of (Unfinished size gap) = None
-value_of (Based size gap sign letter base space digits) = written_as (form_of size sign) (value_in (width_of size) base digits)
+value_of (Based size gap sign letter base space digits) = written_as (form_of size (not (is_empty sign))) (value_in (width_of size) base digits)

@@ -1,5 +1,6 @@
 -- What stands at the front of a text, read from the left.
 use Rattle.std.specs.Prelude.{◌≡◌, ℕ, ◌==◌, Bool, true, false, ◌&&◌, ◌||◌, not, List, [], ◌∷◌, ◌++◌, drop, codes, Option, Some, None, if◌then◌else◌}
+use Rattle.std.specs.Borrow.{Bor}
 use Rattle.vf_base.specs.declared.ids.Place.{Place}
 use Rattle.v_tree.specs.declared.token.TokenKind.{TokenKind}
 use Rattle.v_tree.specs.declared.token.Mark.{Mark}
@@ -11,9 +12,9 @@ use Rattle.v_scan.specs.declared.pieces.Part.TheVariants as parts
 use Rattle.v_scan.specs.declared.fault.ScanFault.{ScanFault}
 use Rattle.v_scan.specs.declared.fault.ScanFault.TheVariants.{BadByte, BadNumber, Unclosed, TooLong, NoMemory}
 use Rattle.v_scan.specs.Bytes.{is_blank, is_letter, is_digit, goes_in_name, goes_in_decimal, goes_in_line, goes_in_directive}
-use Rattle.v_scan.specs.Numbers.{Number, Plain_decimal, Unfinished, Based, base_of, is_digit_of, goes_in_digits, stands_alone, is_empty}
-use Rattle.v_scan.specs.Words.{Word, Named, System, Quoted, Marked, Numeral, mark_bytes, kind_of}
-use Rattle.v_scan.specs.Texts.{Piece, Blank, LineComment, BlockComment, Timescale, Token, piece_bytes, IsPiece, ArePieces, spelled, leads_behind, leads_after, place_behind, tokens_from, closes, begins_comment, BeginsRefused, BeginsUnclosed, BeginsNothing}
+use Rattle.v_scan.specs.Numbers.{Number, Plain_decimal, Unfinished, Based, base_of, is_digit_of, goes_in_digits, stands_alone, is_empty, Written, value_of}
+use Rattle.v_scan.specs.Words.{Word, Named, System, Quoted, Marked, Numeral, word_bytes, mark_bytes, kind_of}
+use Rattle.v_scan.specs.Texts.{Piece, Blank, LineComment, BlockComment, Timescale, Token, piece_bytes, IsPiece, ArePieces, spelled, leads_after, place_behind, tokens_from, closes, begins_comment, BeginsRefused, BeginsUnclosed, BeginsNothing}
 
 -- the bytes at the front that pass a test
 abbrev pub front_while : (ℕ → Bool) → List ℕ → List ℕ
@@ -240,6 +241,21 @@ part_of (BlockComment body) = parts.Gap
 part_of (Timescale body) = parts.Directive
 part_of (Token word kind) = parts.Token kind
 
+-- the word at the front is a token, and the bytes behind it
+pub record ReadsWord (b : ℕ) (rest : List ℕ) (kind : TokenKind) (back : List ℕ) : Type 0 where
+  pub word : Word
+  pub found : word_at b rest ≡ Some word
+  pub whole : b ∷ rest ≡ word_bytes word ++ back
+  pub kinded : kind_of word ≡ Some kind
+
+-- no token is the word at the front
+abbrev pub NoWord : Place → ℕ → List ℕ → ScanFault → Type 0
+NoWord here b rest (BadByte place) = (place ≡ here) × ((b == 34) ≡ false) × (word_at b rest ≡ None)
+NoWord here b rest (BadNumber place) = (place ≡ here) × (number : Number) × (word_at b rest ≡ Some (Numeral number)) × (value_of number ≡ None)
+NoWord here b rest (Unclosed place) = (place ≡ here) × ((b == 34) ≡ true) × (word_at b rest ≡ None)
+NoWord here b rest TooLong = ⊥
+NoWord here b rest NoMemory = Unit {0}
+
 -- a piece at the front, and the bytes behind it
 pub record IsFront (leading : Bool) (text : List ℕ) (part : Part) (back : List ℕ) : Type 0 where
   pub piece : Piece
@@ -263,3 +279,12 @@ pub record IsRead (start : Place) (text rest : List ℕ) (leading : Bool) (place
   pub leads : leading ≡ leads_after true pieces
   pub reached : place ≡ place_behind start (spelled pieces)
   pub found : tokens ≡ tokens_from start pieces
+
+-- a comment with the bytes behind it, or none
+abbrev pub TellsComment : List ℕ → Option (Bor (List ℕ)) → Type 0
+TellsComment text None = begins_comment text ≡ false
+TellsComment text (Some back) = (leading : Bool) → IsFront leading text parts.Gap back.now
+
+-- what the code says of a number, and the bytes behind it
+abbrev pub TellsNumber : Numbered → Option Written → List ℕ → Type 0
+TellsNumber n value back = (value ≡ value_of n.0) × (back ≡ n.1)

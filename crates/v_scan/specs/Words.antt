@@ -4,7 +4,7 @@ use Rattle.v_tree.specs.declared.token.TokenKind.{TokenKind}
 use Rattle.v_tree.specs.declared.token.TokenKind.TheVariants as kinds
 use Rattle.v_tree.specs.declared.token.Mark.{Mark}
 use Rattle.v_tree.specs.declared.token.Mark.TheVariants.{CaseEqual, CaseNotEqual, ArithmeticShiftLeft, ArithmeticShiftRight, LogicalAnd, LogicalOr, Equal, NotEqual, LessEqual, GreaterEqual, ShiftLeft, ShiftRight, Nand, Nor, TildeCaret, CaretTilde, Plus, Minus, Star, Slash, Percent, Bang, Tilde, And, Or, Caret, Less, Greater, Assign, Question, Colon, Semicolon, Comma, Dot, LeftParen, RightParen, LeftBracket, RightBracket, LeftBrace, RightBrace, Hash, At}
-use Rattle.v_scan.specs.Bytes.{is_letter, goes_in_name, each, begins_and_goes_on}
+use Rattle.v_scan.specs.Bytes.{is_letter, goes_in_name, begins_and_goes_on}
 use Rattle.v_scan.specs.Numbers.{Number, number_bytes, IsNumber, Written, value_of}
 
 -- the bytes of a mark

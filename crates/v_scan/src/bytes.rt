@@ -1,6 +1,6 @@
 // The bytes of a text by what they are for (IEEE 1364-2001, clauses 2.2 to 2.7).
 
-ghost use Rattle.std.specs.Prelude.{◌≡◌, ◌++◌};
+ghost use Rattle.std.specs.Prelude.{◌≡◌, ◌≢◌, ◌≤◌, ◌∷◌, ◌++◌, ℕ, List, IfSome, IfNone, length, drop};
 ghost use Rattle.v_scan.specs.Bytes as bytes;
 ghost use Rattle.v_scan.specs.Numbers as numbers;
 ghost use Rattle.v_scan.specs.Classes.{in_class, IsRest};
@@ -55,7 +55,10 @@ impl Base {
             Base::Octal => b'0' <= b && b <= b'7' || is_unknown_digit(b),
             Base::Decimal => is_digit(b),
             Base::Hexadecimal => {
-                is_digit(b) || b'A' <= b && b <= b'F' || b'a' <= b && b <= b'f' || is_unknown_digit(b)
+                is_digit(b)
+                    || b'A' <= b && b <= b'F'
+                    || b'a' <= b && b <= b'f'
+                    || is_unknown_digit(b)
             }
         }
     }
@@ -153,4 +156,23 @@ pub fn before<'t>(text: &'t [u8], back: &[u8]) -> &'t [u8]
     ensures { text.now ≡ result.now ++ back.now }
 {
     &text[..text.len() - back.len()]
+}
+
+/// The bytes of a text behind the first `len`.
+pub fn without(text: &[u8], len: usize) -> &[u8]
+    requires { len ≤ length text.now }
+    ensures { result.now ≡ drop len text.now }
+{
+    &text[len..]
+}
+
+/// The bytes behind one at the front, if it stands there.
+pub fn after_byte(byte: u8, text: &[u8]) -> Option<&[u8]>
+    ensures found { IfSome result (λ rest. text.now ≡ byte ∷ rest.now) }
+    ensures none { IfNone result ((rest : List ℕ) → text.now ≢ byte ∷ rest) }
+{
+    match text {
+        [b, rest @ ..] => { if *b == byte { Some(rest) } else { None } }
+        [] => None,
+    }
 }

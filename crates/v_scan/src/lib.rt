@@ -4,6 +4,11 @@
 mod bytes;
 mod fault;
 mod marks;
+mod number;
 mod pieces;
+mod tokens;
+mod value;
+mod words;
 
 pub use fault::ScanFault;
+pub use tokens::scan;

@@ -1,6 +1,6 @@
 use Rattle.std.proofs.Common.{ap, sym, ◌∙◌, ◌++◌}
 use Rattle.v_scan.specs.Classes.{in_class}
-use Rattle.v_scan.specs.Reading.{front_while, back_while}
+use Rattle.v_scan.specs.Reading.{front_while}
 use Rattle.v_scan.proofs.Spans.{while-whole, cancel_back}
 use Rattle.v_scan.proofs.bytes.split.Goals as goal
 
