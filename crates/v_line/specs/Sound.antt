@@ -25,4 +25,5 @@ pub record IsStatement (count : ℕ) (statement : LineStep) : Type 0 where
 pub record IsSoundLine (line : Line) : Type 0 where
   pub contents : length line.first ≡ length line.names
   pub apart : AreApart line.names
+  pub few : length line.names ≤ 65536
   pub statements : All (IsStatement (length line.names)) line.steps

@@ -13,6 +13,7 @@ returns-clause-sound c =
     (record {
       contents = AreVariables-lengths (flat_map variables_of d.declarations) c.read_declarations.new.names c.read_declarations.new.first.items d.are;
       apart = c.in_ok-after_declarations.ensures.names.apart;
+      few = c.in_ok-after_declarations.ensures.names.few;
       statements = c.in_ok-after_steps.ensures.sound;
     })
 
