@@ -1,0 +1,4 @@
+pub mod Rests
+pub mod RestsLaws
+pub mod Positions
+pub mod Compiling
