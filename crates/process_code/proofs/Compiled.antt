@@ -18,7 +18,7 @@ use Rattle.v_design.specs.declared.tree.FlatStmt.{FlatStmt}
 use Rattle.v_design.specs.Sized.{levels_of_statement, levels_of_statements, levels_of_items}
 use Rattle.process_code.specs.declared.code.Head.{Head}
 use Rattle.process_code.specs.declared.code.Ways.{Ways}
-use Rattle.process_code.specs.declared.compile.Builder.{Builder}
+use Rattle.process_code.specs.declared.builder.Builder.{Builder}
 
 -- The rests stay
 

@@ -12,7 +12,7 @@ use Rattle.process_code.specs.Compiling.{Leads, rests_in, IsInStep, Grows, Place
 use Rattle.process_code.specs.declared.code.Head.{Head}
 use Rattle.process_code.specs.declared.code.Spot.{Spot}
 use Rattle.process_code.specs.declared.code.Ways.{Ways}
-use Rattle.process_code.specs.declared.compile.Builder.{Builder}
+use Rattle.process_code.specs.declared.builder.Builder.{Builder}
 
 -- Lists
 

@@ -6,7 +6,7 @@ use Rattle.process_code.specs.Positions.{part_of_head, rests_of, StandsAt, Items
 use Rattle.process_code.specs.declared.code.Head.{Head}
 use Rattle.process_code.specs.declared.code.Spot.{Spot}
 use Rattle.process_code.specs.declared.code.Ways.{Ways}
-use Rattle.process_code.specs.declared.compile.Builder.{Builder}
+use Rattle.process_code.specs.declared.builder.Builder.{Builder}
 
 -- a spot stands before the rest of an earlier position, and its ways lead where its steps go
 pub record Leads (repeats : ℕ) (rests : List (List Part)) (spot : Spot) (ways : Ways) : Type 0 where

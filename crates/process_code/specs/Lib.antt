@@ -2,3 +2,4 @@ pub mod Rests
 pub mod RestsLaws
 pub mod Positions
 pub mod Compiling
+pub mod Codes

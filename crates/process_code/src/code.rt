@@ -1,6 +1,12 @@
 // Compiled code: the rests that a process can come to, and the ways from each to the next.
 
+ghost use Rattle.std.specs.Prelude.{IfOk};
+ghost use Rattle.process_code.specs.Codes.{IsCodeOf};
+
+use crate::builder::Builder;
+use std::alloc::Global;
 use v_design::{FlatStmt, Process};
+use vf_base::NoMemory;
 
 /// What is first in a rest.
 #[derive(Clone, Copy)]
@@ -42,4 +48,32 @@ pub struct Code<'d> {
     pub repeats: usize,
     pub spots: Vec<Spot<'d>>,
     pub ways: Vec<Ways>,
+}
+
+/// Compiles a process.
+///
+/// # Errors
+///
+/// Want of memory.
+pub fn compile<'d>(alloc: Global, process: &'d Process) -> Result<Code<'d>, NoMemory>
+    ensures { IfOk result (λ code. IsCodeOf process.now code) }
+{
+    let mut builder = Builder {
+        spots: Vec::new(alloc),
+        ways: Vec::new(alloc),
+        repeats: 0,
+    };
+    let start = builder.statement(alloc, &process.body, 0)?;
+    let Builder {
+        spots,
+        ways,
+        repeats,
+    } = builder;
+    Ok(Code {
+        process,
+        start,
+        repeats,
+        spots,
+        ways,
+    })
 }

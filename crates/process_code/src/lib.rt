@@ -2,6 +2,6 @@
 #![tactic(auto)]
 
 mod code;
-mod compile;
+mod builder;
 
-pub use code::Code;
+pub use code::{Code, compile};

@@ -16,8 +16,8 @@ use Rattle.process_code.specs.Compiling.{rests_in, IsInStep, Grows, MayCompile, 
 use Rattle.process_code.proofs.Growing.{grows-refl, grows-trans, grows-keeps, items_lead-more}
 use Rattle.process_code.proofs.Compiled.{may-placed, may-own, may-runs, may-grown, may-entry, may-turns, compiled-own, compiled-body, compiled-loop, compiled-branches, compiled-case, compiled-repeat, compiled-for, counts-more, compiled-leaf, compiled-null, items_lead-push, levels-statement, levels-item, placed-length, grows-longer}
 use Rattle.process_code.specs.declared.code.Head.TheVariants.{Statement, Test, Advance, Turns}
-use Rattle.process_code.specs.declared.compile.Builder.{Builder}
-use Rattle.process_code.proofs.compile.Builder.+compile.Goals as goal
+use Rattle.process_code.specs.declared.builder.Builder.{Builder}
+use Rattle.process_code.proofs.builder.Builder.+compile.Goals as goal
 
 pub block-statements-init : goal.block-statements-init
 block-statements-init t c =

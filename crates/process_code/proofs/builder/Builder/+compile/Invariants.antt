@@ -5,7 +5,7 @@ use Rattle.process_code.specs.Rests.{Part, opened_all_parts}
 use Rattle.process_code.specs.Positions.{StandsAt, ItemsLead}
 use Rattle.v_design.specs.PlainLemmas.{statements_of, items_of}
 use Rattle.process_code.specs.Compiling.{rests_in, IsInStep, Grows}
-use Rattle.process_code.proofs.compile.Builder.+compile.Given as goal
+use Rattle.process_code.proofs.builder.Builder.+compile.Given as goal
 
 -- the statements from `left` on are compiled, and begin at `entry`
 abbrev pub invariant-block-statements : goal.invariant-block-statements

@@ -3,7 +3,7 @@ use Rattle.std.proofs.Common.{◌≡◌, ◌≤◌, ◌+◌, length, ℕ, List, 
 use Rattle.std.proofs.lemmas.Grind.{common_steps}
 use Rattle.process_code.specs.Compiling.{IsInStep, IsBelow, Places, Compiles}
 use Rattle.process_code.specs.declared.code.Ways.{Ways}
-use Rattle.process_code.proofs.compile.Builder.place.Goals as goal
+use Rattle.process_code.proofs.builder.Builder.place.Goals as goal
 
 pub returns : goal.returns
 returns c =

@@ -45,7 +45,7 @@ impl<'d> Builder<'d> {
 
     /// The spots of a statement before the rest of a position. It answers the position at which the statement begins.
     #[cycle(compile)]
-    fn statement(&mut self, alloc: Global, statement: &'d FlatStmt, next: usize) -> Result<usize, NoMemory>
+    pub fn statement(&mut self, alloc: Global, statement: &'d FlatStmt, next: usize) -> Result<usize, NoMemory>
         requires { MayCompile self.old next }
         ensures { IfOk result (λ entry. Compiles self.old self.new (statement_of statement.now) next entry) }
     {
