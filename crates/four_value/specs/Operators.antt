@@ -28,6 +28,16 @@ unary_value ReduceNor a = not_bit (reduced or_bit Zero a) ∷ []
 unary_value ReduceXor a = reduced xor_bit Zero a ∷ []
 unary_value ReduceXnor a = not_bit (reduced xor_bit Zero a) ∷ []
 
+-- the operators whose operands have one width: all but the shifts, && and ||
+abbrev pub NeedsEqualWidths : BinaryOperator → Type 0
+NeedsEqualWidths ShiftLeft = ⊥
+NeedsEqualWidths ShiftRight = ⊥
+NeedsEqualWidths ArithmeticShiftLeft = ⊥
+NeedsEqualWidths ArithmeticShiftRight = ⊥
+NeedsEqualWidths LogicalAnd = ⊥
+NeedsEqualWidths LogicalOr = ⊥
+NeedsEqualWidths _ = Unit {0}
+
 -- the sign is that of the left operand
 abbrev pub binary_value : BinaryOperator → Bool → LogicValue → LogicValue → LogicValue
 binary_value Multiply signed a b = product_of a b
@@ -54,12 +64,16 @@ binary_value BitwiseOr signed a b = or_value a b
 binary_value LogicalAnd signed a b = and_bit (truth_as_bit a) (truth_as_bit b) ∷ []
 binary_value LogicalOr signed a b = or_bit (truth_as_bit a) (truth_as_bit b) ∷ []
 
+-- whether a case doesn't look at a place with these bits: casez where either is z, casex where either is x or z
+abbrev pub is_ignored : CaseKind → Bit → Bit → Bool
+is_ignored Exact a b = false
+is_ignored IgnoreZ a b = is_z a || is_z b
+is_ignored IgnoreXz a b = is_unknown a || is_unknown b
+
 -- whether one place of a case's value matches that of a label
 abbrev pub label_bit_matches : CaseKind → Bit → Bit → Bool
-label_bit_matches Exact a b = same_bit a b
-label_bit_matches IgnoreZ a b = is_z a || is_z b || same_bit a b
-label_bit_matches IgnoreXz a b = is_unknown a || is_unknown b || same_bit a b
+label_bit_matches kind a b = is_ignored kind a b || same_bit a b
 
--- whether a case's value matches a label: casez doesn't look at places with z on either side, casex at none with x or z
+-- whether a case's value matches a label, place by place
 abbrev pub label_matches : CaseKind → LogicValue → LogicValue → Bool
 label_matches kind a b = each_place (label_bit_matches kind) a b

@@ -1,0 +1,8 @@
+use Rattle.std.proofs.Common.{arith, ◌<◌, ◌^◌, length, ◌∙◌}
+use Rattle.four_value.proofs.Numbers.{sum_bits}
+use Rattle.four_value.proofs.value.Vec4.add.Goals as goal
+
+pub returns : goal.returns
+returns c =
+    c.from_number.ensures
+    ∙ sum_bits c.args.self c.args.other c.width-2.result c.in-Some.left c.in-Some-as_number.right c.width-2.ensures.bits (omega arith) c.in-Some.ensures c.in-Some-as_number.ensures

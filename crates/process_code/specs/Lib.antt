@@ -1,0 +1,5 @@
+pub mod Rests
+pub mod RestsLaws
+pub mod Positions
+pub mod Compiling
+pub mod Codes

@@ -1,0 +1,7 @@
+//! Compiled processes: one call of `step` is one step of a process (IEEE 1364-2001, clause 9).
+#![tactic(auto)]
+
+mod code;
+mod builder;
+
+pub use code::{Code, compile};
