@@ -1,14 +1,14 @@
 -- A legal run of a phase leaves out no event of the run without conflict, and ends where that one does.
-use Rattle.std.proofs.Common.{◌≡◌, ℕ, zero, suc, ◌+◌, ◌*◌, ◌<◌, ◌≤◌, List, [], ◌∷◌, ◌++◌, map, length, Bool, true, false, not, ◌&&◌, ◌||◌, refl, sym, ap, subst, ◌∙◌, ◌⊎◌, inl, inr, arith, le_trans, sum_by}
+use Rattle.std.proofs.Common.{◌≡◌, ℕ, zero, suc, ◌+◌, ◌*◌, ◌<◌, ◌≤◌, List, [], ◌∷◌, length, Bool, true, false, ◌||◌, refl, sym, ap, subst, ◌∙◌, ◌⊎◌, inl, inr, arith, le_trans, sum_by}
 use Rattle.std.specs.Prelude.{◌≢◌, Option, Some, None, slice_get, nat_eq, is_some}
 use Rattle.std.proofs.lemmas.Bool.{eqb-true, eq-eqb}
 use Rattle.std.proofs.lemmas.List.Sums.{sum_by-cons}
 use Rattle.v_design.specs.Lists.{has, without_repeats}
 use Rattle.four_value.specs.Values.{LogicValue, same_value}
-use Rattle.v_design.specs.Designs.{FlatDesign, FlatNode, Machine}
-use Rattle.v_design.specs.Assignments.{ValueUpdate, value_at, AreSettled}
-use Rattle.v_design.specs.States.{State, ProcessState, NodeState, Event, Step, LaneStep, Evaluation, NetUpdate, after, found_or, idle_process, is_process_event, process_at, is_ready, is_any, is_quiescent, has_event, has_work, some_in, write_of, step_of, first_update, after_lane_step}
-use Rattle.v_design.specs.Runs.{happened, IsPhase}
+use Rattle.v_design.specs.Designs.{FlatNode, Machine}
+use Rattle.v_design.specs.Assignments.{value_at}
+use Rattle.v_design.specs.States.{State, ProcessState, NodeState, Event, Step, LaneStep, Evaluation, NetUpdate, found_or, idle_process, is_process_event, process_at, is_ready, is_any, is_quiescent, has_event, has_work, some_in}
+use Rattle.v_design.specs.Runs.{happened}
 use Rattle.v_design.specs.Paths.{one_if, path_weight, paths_through, paths, net_pieces}
 use Rattle.v_design.specs.Laws.{IsStateOf}
 use Rattle.order_laws.proofs.Rules.{outputs_are_nets}
@@ -18,26 +18,25 @@ use Rattle.order_laws.proofs.Clash.{some_entry-true, and-left}
 use Rattle.order_laws.proofs.Notes.{new_notes}
 use Rattle.order_laws.proofs.Effects.{same_state}
 use Rattle.order_laws.proofs.MayCause.{activity_at}
-use Rattle.order_laws.proofs.PathLaws.{decided, true-false, or-either, or-neither, reached, paths-step, sum-nothing, chosen}
-use Rattle.order_laws.proofs.NetStates.{other_number, same_value-self, same_value-true}
+use Rattle.order_laws.proofs.PathLaws.{decided, true-false, or-neither, reached, paths-step, sum-nothing, chosen}
+use Rattle.order_laws.proofs.NetStates.{other_number}
 use Rattle.order_laws.proofs.QuietNets.{event_changes, run_changes}
 use Rattle.order_laws.proofs.SettledNets.{Fit, values-in, not-both, phase_ends_settled, settled_determined}
 use Rattle.order_laws.proofs.NodeRests.{rest_on_inputs}
 use Rattle.order_laws.proofs.CountedChanges.{changed_in, changes_bounded}
 use Rattle.order_laws.proofs.WorkedNodes.{below_other, values_equal}
-use Rattle.order_laws.proofs.RunStates.{first_of, state_at, at_next, at_past, possible_at, some_below, none_past, found_below}
+use Rattle.order_laws.proofs.RunStates.{first_of, state_at, at_next, at_past, possible_at, none_past}
 use Rattle.order_laws.proofs.Woken.{changed_entry, touches_process, step_touches}
 use Rattle.order_laws.proofs.Touches.{unchanged_in, entry_changed, evaluation-value, changed_output}
-use Rattle.order_laws.proofs.Cells.{Cell, le_or, below_or_same, Stays, NoneBetween, stays_between}
-use Rattle.order_laws.proofs.Runs.{IsRun, follows_at, state_of_at, quiet_at, time_at, changes_there, change_count, unchanged-value, first_or_last, changed_before, changes_twice, past_same}
+use Rattle.order_laws.proofs.Cells.{Cell, le_or, below_or_same, Stays, stays_between}
+use Rattle.order_laws.proofs.Runs.{IsRun, follows_at, state_of_at, quiet_at, time_at, changes_there, change_count, first_or_last, changed_before, changes_twice}
 use Rattle.order_laws.proofs.FreeRuns.{IsFree, wild_in, wild_reached, tame_reached, waits_tame}
-use Rattle.order_laws.proofs.DoneChanges.{done_reach, done_most, done_all}
-use Rattle.order_laws.proofs.Comparison.{on_event, process_there, lane_there, ProcessPart, LanePart, process_part, lane_part, part_through, lane_through, step_there, steps_to, Compared, process_stays, value_stays, there-how}
-use Rattle.order_laws.proofs.Meets.{steps_stay, same_step}
+use Rattle.order_laws.proofs.DoneChanges.{done_most, done_all}
+use Rattle.order_laws.proofs.Comparison.{on_event, process_there, lane_there, ProcessPart, LanePart, process_part, lane_part, Compared, process_stays, value_stays, there-how}
 use Rattle.order_laws.proofs.WaitsAlike.{changes-where}
 use Rattle.order_laws.proofs.StepsMeet.{ended_process, lane_stays}
 use Rattle.order_laws.proofs.CleanUpdates as clean
-use Rattle.order_laws.proofs.NetsMeet.{net_changer, prefix_reach}
+use Rattle.order_laws.proofs.NetsMeet.{prefix_reach}
 use Rattle.order_laws.proofs.RunsGoOn.{node_changes}
 use Rattle.v_design.specs.PhaseLogs.{is_lane_of, cause_of}
 
@@ -87,7 +86,6 @@ processes-same (x ∷ xs) (y ∷ ys) e h = λ i. h 0 i ∷ processes-same xs ys 
 
 module _ (machine : Machine) (state : State) (first events : List Event) (matched : ℕ → Option ℕ) (done : List ℕ) (r : IsFree machine state first) (run : IsRun machine state events)
     (ends : is_quiescent (happened machine state events) ≡ true) (c : Compared machine state first events (length events) matched done) where
-
   -- each step of a process is done
   step_done : (i p : ℕ) → slice_get first i ≡ Some (Step p) → ((k : ℕ) → k < i → process_there machine state first p k ≡ true → has done k ≡ true) → has done i ≡ true
   step_done i p e before = elim (le_or (c.processes p).place i) [

@@ -1,5 +1,5 @@
 -- A part of the state that some events of a run touch: after those that are done, which stand before a place, it is as the run has it at that place.
-use Rattle.std.proofs.Common.{◌≡◌, ℕ, zero, suc, ◌+◌, ◌<◌, ◌≤◌, List, [], ◌∷◌, Bool, true, false, ◌||◌, refl, sym, ap, subst, ◌∙◌, ◌⊎◌, inl, inr, arith}
+use Rattle.std.proofs.Common.{◌≡◌, ℕ, zero, suc, ◌+◌, ◌<◌, ◌≤◌, List, [], ◌∷◌, Bool, true, false, refl, sym, ap, subst, ◌∙◌, ◌⊎◌, inl, inr, arith}
 use Rattle.std.specs.Prelude.{nat_eq}
 use Rattle.std.proofs.lemmas.Bool.{eqb-true}
 use Rattle.v_design.specs.Lists.{has}
@@ -75,8 +75,7 @@ in_order touches content done x i stays c o = elim (le_or c.place i) [
           | inr at ↦ true-false (has done i) (subst (λ n. has done n ≡ true) (sym at) (c.known k t b)) o.open_still
         ]
         | inr f ↦ f
-      ] in
-      (
+      ] in (
         c.same ∙ stays_between touches content stays i c.place (omega (arith, gt)) none,
         λ t. true-false (has done i) (c.known i t gt) o.open_still,
       ))

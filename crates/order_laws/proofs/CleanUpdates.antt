@@ -1,36 +1,35 @@
 -- An update that changes a clean net: its node's outputs have their first values before it and their last ones after it, and one input alone has changed.
-use Rattle.std.proofs.Common.{◌≡◌, ℕ, zero, suc, ◌+◌, ◌*◌, ◌<◌, ◌≤◌, List, [], ◌∷◌, ◌++◌, map, length, Bool, true, false, not, ◌&&◌, ◌||◌, refl, sym, ap, subst, ◌∙◌, ◌⊎◌, inl, inr, arith, sum_by, le_trans}
+use Rattle.std.proofs.Common.{◌≡◌, ℕ, zero, suc, ◌+◌, ◌*◌, ◌≤◌, List, [], ◌∷◌, ◌++◌, map, length, Bool, true, false, not, ◌||◌, refl, sym, ap, subst, ◌∙◌, ◌⊎◌, inl, inr, arith, sum_by, le_trans}
 use Rattle.std.specs.Prelude.{◌≢◌, Option, Some, None, slice_get, nat_eq, is_some}
-use Rattle.std.proofs.lemmas.Bool.{eqb-true, eq-eqb}
+use Rattle.std.proofs.lemmas.Bool.{eqb-true}
 use Rattle.std.proofs.lemmas.List.Sums.{sum_by-cons}
-use Rattle.v_design.specs.Lists.{has, joined, without_repeats}
+use Rattle.v_design.specs.Lists.{has, without_repeats}
 use Rattle.four_value.specs.Values.{LogicValue, same_value}
 use Rattle.v_design.specs.Designs.{FlatDesign, FlatNode, Machine}
 use Rattle.v_design.specs.Assignments.{value_at, node_outputs}
-use Rattle.v_design.specs.States.{State, Event, Step, LaneStep, Evaluation, NetUpdate, after, possible, found_or, node_at, has_work, some_in, with_node, with_values, nets_updated, process_at, write_of, step_of, first_update, is_quiescent}
-use Rattle.v_design.specs.Runs.{happened, all_possible, IsPhase}
+use Rattle.v_design.specs.States.{State, Event, NetUpdate, after, possible, found_or, node_at, with_node, nets_updated, is_quiescent}
+use Rattle.v_design.specs.Runs.{happened, all_possible}
 use Rattle.v_design.specs.Paths.{one_if, path_weight, paths_through, paths, net_pieces}
 use Rattle.v_design.specs.Accesses.{AccessAct, Reading, Writing, Awaiting, Ending, Holding, Settling, ObjectAccess, accesses_of}
-use Rattle.v_design.specs.Logs.{change_of, changes_of}
+use Rattle.v_design.specs.Logs.{change_of}
 use Rattle.v_design.specs.WellFormed.{KeepsRules}
 use Rattle.order_laws.proofs.Rules.{node_rules, outputs_are_nets}
 use Rattle.order_laws.proofs.Conflicts.{In}
 use Rattle.order_laws.proofs.FreeLogs.{In-append}
 use Rattle.order_laws.proofs.FreeRuns.{in_joined_back}
-use Rattle.order_laws.proofs.Unaffected.{own_of, write_by}
 use Rattle.order_laws.proofs.PathLaws.{decided, true-false, or-either, or-second, has-self, sums-same, sum-in, in-repeats, all_below, paths-step, reached, chosen}
-use Rattle.order_laws.proofs.WritersStay.{NotNet, write-clear-of, bodies_clear, writers_clear, AreClear}
-use Rattle.order_laws.proofs.NetStates.{same_value-true, same_value-self, other_number, node-other, all_idle}
-use Rattle.order_laws.proofs.QuietNets.{StaysQuiet, event_changes, run_changes, append_assoc', and-first}
+use Rattle.order_laws.proofs.WritersStay.{NotNet, bodies_clear, writers_clear, AreClear}
+use Rattle.order_laws.proofs.NetStates.{same_value-true, same_value-self, other_number, all_idle}
+use Rattle.order_laws.proofs.QuietNets.{event_changes, run_changes, append_assoc', and-first}
 use Rattle.order_laws.proofs.SettledNets.{Follows, Everywhere, distinct, values-put, values-in, follows-begins, fit-from, Fit, phase_ends_settled}
 use Rattle.order_laws.proofs.NodeRests.{rest_on_inputs}
 use Rattle.order_laws.proofs.CountedChanges.{Counts, work_left, changed_in, next_count, counts-after, count-below, reached-inputs, sum-below-in, changes_bounded}
 use Rattle.order_laws.proofs.WorkedNodes.{below_other}
 use Rattle.order_laws.proofs.WritersStay.{after-clear}
 use Rattle.order_laws.proofs.SettledNets.{follows-after}
-use Rattle.order_laws.proofs.RunStates.{first_of, state_at, at_next, at_past, at_first, none_past, first-state, first-possible, possible_at}
-use Rattle.order_laws.proofs.Touches.{unchanged_in, changed-write, changed_output, evaluation-value}
-use Rattle.order_laws.proofs.Runs.{IsRun, run_first, follows_at, clear_at, quiet_at, changes_there, change_count, count-step, unchanged-value}
+use Rattle.order_laws.proofs.RunStates.{first_of, state_at, at_next, at_past, at_first, none_past, first-state, possible_at}
+use Rattle.order_laws.proofs.Touches.{unchanged_in}
+use Rattle.order_laws.proofs.Runs.{IsRun, run_first, follows_at, quiet_at, changes_there, change_count, count-step, unchanged-value}
 
 -- Counts at a place
 
@@ -53,8 +52,8 @@ counts_to machine state changes count (event ∷ events) rules clear f p c =
       rest.0,
       subst (λ cs. Counts machine (happened machine (after machine state event) events) cs rest.0) (append_assoc' changes (event_changes machine state event) (run_changes machine (after machine state event) events)) rest.1,
       λ x. (let a : rest.0 x ≡ next_count state (after machine state event) count x + change_count machine (after machine state event) events x = rest.2 x in
-      let b : change_count machine state (event ∷ events) x ≡ one_if (changed_in state (after machine state event) x) + change_count machine (after machine state event) events x = count-step machine state event events x in
-      omega (arith, a, b)),
+          let b : change_count machine state (event ∷ events) x ≡ one_if (changed_in state (after machine state event) x) + change_count machine (after machine state event) events x = count-step machine state event events x in
+          omega (arith, a, b)),
     )
 
 counts_at : (machine : Machine) (state : State) (events : List Event) → IsRun machine state events → CountsTo machine state [] (λ x. 0) events
@@ -188,9 +187,8 @@ module _ (machine : Machine) (state : State) (first events : List Event) (n m : 
     (few : reached machine.design (run_changes machine state first) object ≤ 1)
     (below : (x : ℕ) → reached machine.design (run_changes machine state (first_of n events)) x ≤ reached machine.design (run_changes machine state first) x)
     (near : (x : ℕ) → reached machine.design (run_changes machine state first) x ≤ 1 →
-        (value_at (state_at machine state events n).values x ≡ value_at state.values x) ⊎ (value_at (happened machine state first).values x ≡ value_at (state_at machine state events n).values x))
+    (value_at (state_at machine state events n).values x ≡ value_at state.values x) ⊎ (value_at (happened machine state first).values x ≡ value_at (state_at machine state events n).values x))
     (changed : changes_there machine state events object n ≡ true) where
-
   pub few_each : (x : ℕ) → has node.outputs x ≡ true → reached machine.design (run_changes machine state first) x ≤ 1
   few_each x h = subst (λ k. k ≤ 1) (reached-alike machine.design main.rules m node object x (run_changes machine state first) found out h (run-variables machine state first)) few
 

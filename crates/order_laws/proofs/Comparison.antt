@@ -1,30 +1,23 @@
 -- A run beside one without conflict: what a part of it has done stands for events of the other, and each part of the state is as that run has it.
-use Rattle.std.proofs.Common.{◌≡◌, ℕ, zero, suc, ◌+◌, ◌<◌, ◌≤◌, List, [], ◌∷◌, ◌++◌, Bool, true, false, not, ◌&&◌, ◌||◌, refl, sym, ap, subst, ◌∙◌, ◌⊎◌, inl, inr, arith}
-use Rattle.std.specs.Prelude.{◌≢◌, Option, Some, None, slice_get, nat_eq}
-use Rattle.std.proofs.lemmas.Bool.{eqb-true, eq-eqb}
+use Rattle.std.proofs.Common.{◌≡◌, ℕ, zero, suc, ◌<◌, List, [], ◌∷◌, Bool, true, false, refl, sym, ap, subst, ◌∙◌, ◌⊎◌, inl, inr, arith}
+use Rattle.std.specs.Prelude.{◌≢◌, Option, Some, None, slice_get}
 use Rattle.v_design.specs.Lists.{has}
-use Rattle.v_design.specs.Trees.{Entry}
 use Rattle.v_design.specs.Designs.{Machine}
 use Rattle.v_design.specs.Assignments.{ValueUpdate, value_at}
 use Rattle.v_design.specs.Processes.{Activity}
-use Rattle.v_design.specs.States.{State, LaterUpdate, Event, Step, LaneStep, Evaluation, NetUpdate, after, possible, found_or, is_process_event, process_at, is_ready, some_entry, entry_matches}
-use Rattle.v_design.specs.Accesses.{AccessAct, Reading, Writing, Awaiting, Ending, ObjectAccess, waiting_entries, accesses_of}
-use Rattle.v_design.specs.Logs.{acts_clash, cause_at}
-use Rattle.v_design.specs.PhaseLogs.{NotedEvent, log_of, may_cause, cause_of, is_lane_of}
+use Rattle.v_design.specs.States.{State, LaterUpdate, Event, Step, LaneStep, found_or, is_process_event, process_at, some_entry}
+use Rattle.v_design.specs.Accesses.{waiting_entries}
+use Rattle.v_design.specs.PhaseLogs.{may_cause, cause_of, is_lane_of}
 use Rattle.order_laws.proofs.Notes.{new_notes}
 use Rattle.v_design.specs.Laws.{same_event, places_of}
-use Rattle.order_laws.proofs.Conflicts.{In}
-use Rattle.order_laws.proofs.Unaffected.{awaits_by}
-use Rattle.order_laws.proofs.Clash.{await_stands, some_entry-true}
 use Rattle.order_laws.proofs.MayCause.{activity_at}
-use Rattle.order_laws.proofs.PathLaws.{decided, true-false, reached}
+use Rattle.order_laws.proofs.PathLaws.{reached}
 use Rattle.order_laws.proofs.QuietNets.{event_changes, run_changes}
-use Rattle.order_laws.proofs.RunStates.{first_of, state_at, at_next, possible_at, bare, noted, accesses_before, cause_before, cause_at-place, IsCause, cause_found, cause_is, cause_none, none_caused, past_none}
-use Rattle.order_laws.proofs.Woken.{changed_entry, woken_by, woken_by-ready, woken_after, own_waits, touches_process, touches-how, wakes-touches, step_or_not}
-use Rattle.order_laws.proofs.Touches.{entry_changed, wake_access}
-use Rattle.order_laws.proofs.Cells.{Cell, le_or, below_or_same, difference, Stays, NoneBetween, stays_between, IsNext, InOrder, in_order}
-use Rattle.order_laws.proofs.Runs.{IsRun, follows_at, changes_there, same_there, past_same}
-use Rattle.order_laws.proofs.FreeRuns.{IsFree, wild_in, counted, other_counted, change_counted, IsOpen, InOrderWith, clash_with, ready_waits_not, activity-stays, waits_tame}
+use Rattle.order_laws.proofs.RunStates.{first_of, state_at, at_next, bare, noted, accesses_before, cause_before, cause_found, cause_is, cause_none, none_caused}
+use Rattle.order_laws.proofs.Woken.{changed_entry, woken_by, woken_after, touches_process, touches-how, wakes-touches}
+use Rattle.order_laws.proofs.Cells.{Cell, below_or_same, Stays}
+use Rattle.order_laws.proofs.Runs.{IsRun, follows_at, changes_there, same_there}
+use Rattle.order_laws.proofs.FreeRuns.{wild_in, activity-stays}
 use Rattle.order_laws.proofs.DoneChanges.{done_reach}
 
 -- What touches the parts of a state
@@ -206,10 +199,14 @@ there-how machine state first p k r t = go (slice_get first k) refl t
         (event : Event) × (slice_get first k ≡ Some event)
         × ((event ≡ Step p) ⊎ ((Step p ≢ event) × (some_entry (changed_entry (state_at machine state first k) (state_at machine state first (suc k))) (waiting_entries (activity_at (state_at machine state first k) p)) ≡ true)))
     go None e h = cc
-    go (Some event) e h = (event, e, elim (touches-how machine p (state_at machine state first k) event r.rules (follows_at machine state first k r) h) [
-      | inl own ↦ inl own
-      | inr wakes ↦ inr (wakes.0, ap (λ t. some_entry (changed_entry (state_at machine state first k) t) (waiting_entries (activity_at (state_at machine state first k) p))) (at_next machine state first k event e) ∙ wakes.1)
-    ])
+    go (Some event) e h = (
+      event,
+      e,
+      elim (touches-how machine p (state_at machine state first k) event r.rules (follows_at machine state first k r) h) [
+        | inl own ↦ inl own
+        | inr wakes ↦ inr (wakes.0, ap (λ t. some_entry (changed_entry (state_at machine state first k) t) (waiting_entries (activity_at (state_at machine state first k) p))) (at_next machine state first k event e) ∙ wakes.1)
+      ],
+    )
 
 pub wakes_there : (machine : Machine) (state : State) (first : List Event) (p k : ℕ) (event : Event) → IsRun machine state first → slice_get first k ≡ Some event → Step p ≢ event →
     some_entry (changed_entry (state_at machine state first k) (state_at machine state first (suc k))) (waiting_entries (activity_at (state_at machine state first k) p)) ≡ true → process_there machine state first p k ≡ true

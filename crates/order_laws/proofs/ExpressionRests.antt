@@ -11,7 +11,7 @@ use Rattle.v_design.specs.Assignments.{label_values}
 use Rattle.v_design.specs.Reads.{named_in, named_in_parts}
 use Rattle.four_value.specs.declared.logic.Bit.TheVariants.{X}
 use Rattle.order_laws.proofs.Conflicts.{In}
-use Rattle.order_laws.proofs.WritersStay.{Clear, clear-left, clear-right, word_at-clear}
+use Rattle.order_laws.proofs.WritersStay.{Clear, word_at-clear}
 
 -- the pieces have their widths
 abbrev pub PiecesFit : (ℕ → LogicValue) → List Piece → Type 0

@@ -1,38 +1,37 @@
 -- In a run without conflict: clashing accesses are ordered, a change settles the wild nets that it reaches, and no process ever waits on a wild net.
-use Rattle.std.proofs.Common.{◌≡◌, ℕ, zero, suc, ◌+◌, ◌<◌, ◌≤◌, List, [], ◌∷◌, ◌++◌, map, length, Bool, true, false, not, ◌&&◌, ◌||◌, refl, sym, ap, subst, ◌∙◌, ◌⊎◌, inl, inr, arith, sum_by}
+use Rattle.std.proofs.Common.{◌≡◌, ℕ, zero, suc, ◌+◌, ◌<◌, ◌≤◌, List, [], ◌∷◌, ◌++◌, map, length, Bool, true, false, ◌&&◌, ◌||◌, refl, sym, ap, subst, ◌∙◌, ◌⊎◌, inl, inr, arith, sum_by}
 use Rattle.std.specs.Prelude.{◌≢◌, Option, Some, None, slice_get, nat_eq, filter}
-use Rattle.std.proofs.lemmas.Bool.{eqb-true, eq-eqb}
+use Rattle.std.proofs.lemmas.Bool.{eqb-true}
 use Rattle.std.proofs.lemmas.List.Sums.{sum_by-cons}
-use Rattle.v_design.specs.Lists.{has, joined, map_numbered}
+use Rattle.v_design.specs.Lists.{has, joined}
 use Rattle.v_design.specs.Trees.{Entry}
 use Rattle.v_design.specs.Designs.{FlatDesign, FlatNode, Machine}
 use Rattle.v_design.specs.Assignments.{value_at}
-use Rattle.v_design.specs.Processes.{Activity, Ready, Waiting, Asleep, Postponed, Done, Action, ReadsObject, WritesObject, AppendsUpdate, TouchesNothing}
-use Rattle.v_design.specs.States.{State, ProcessState, Event, Step, LaneStep, Evaluation, NetUpdate, after, possible, found_or, is_quiescent, process_at, is_ready, some_entry, step_of, write_of, with_process, after_step, next_activity, appended}
+use Rattle.v_design.specs.Processes.{Activity, Ready, Waiting, Asleep, Postponed, Done, Action, TouchesNothing}
+use Rattle.v_design.specs.States.{State, ProcessState, Event, Step, LaneStep, Evaluation, NetUpdate, after, possible, found_or, is_quiescent, process_at, is_ready, some_entry, step_of, write_of, next_activity, appended}
 use Rattle.v_design.specs.Runs.{happened}
 use Rattle.v_design.specs.Paths.{paths, net_pieces, class_of_paths, is_wild_class, is_wild}
-use Rattle.v_design.specs.Accesses.{AccessAct, Reading, Writing, Awaiting, Ending, Holding, Settling, ObjectAccess, waiting_entries, waiting_line, accesses_of, action_accesses, await_accesses, held_by}
+use Rattle.v_design.specs.Accesses.{Writing, Awaiting, Holding, Settling, ObjectAccess, waiting_entries, waiting_line, action_accesses, await_accesses, held_by}
 use Rattle.v_design.specs.Logs.{LoggedPhase, change_of, changes_of, phase_changes, is_write, orders, causes_from, cause_at, acts_clash, orders_others, least_pair}
 use Rattle.v_design.specs.PhaseLogs.{NotedEvent, log_of, may_cause, changes_input, changes_one}
 use Rattle.v_design.specs.WellFormed.{KeepsRules}
-use Rattle.order_laws.proofs.Conflicts.{In, In-left, In-right, In-map}
+use Rattle.order_laws.proofs.Conflicts.{In, In-map}
 use Rattle.order_laws.proofs.FreeLogs.{In-append}
 use Rattle.order_laws.proofs.SwappedLogs.{accesses_at}
-use Rattle.order_laws.proofs.Unaffected.{own_of, write_by, awaits_by}
+use Rattle.order_laws.proofs.Unaffected.{own_of, awaits_by}
 use Rattle.order_laws.proofs.Clash.{await_stands, In-joined, true_is_false}
 use Rattle.order_laws.proofs.MayCause.{activity_at}
 use Rattle.order_laws.proofs.Notes.{new_notes, length-new_notes, later-orders-not}
 use Rattle.order_laws.proofs.PairsOfRuns.{cause_at-new, backward-log}
 use Rattle.order_laws.proofs.SwappedRuns.{length-map}
 use Rattle.order_laws.proofs.PathLaws.{decided, true-false, or-either, reached}
-use Rattle.order_laws.proofs.NetStates.{same_value-self}
 use Rattle.order_laws.proofs.QuietNets.{event_changes, run_changes}
 use Rattle.order_laws.proofs.CountedChanges.{changed_in}
 use Rattle.order_laws.proofs.CleanNets.{same-changes, phase_changes-run}
 use Rattle.order_laws.proofs.WaitsBegin.{activity-waits}
 use Rattle.order_laws.proofs.RunStates.{state_at, at_start, at_next, possible_at, bare, noted, accesses_before, accesses_at-place, cause_before, cause_at-place, IsCause, cause_found, none_past, past_none}
 use Rattle.order_laws.proofs.Woken.{changed_entry, unchanged_entry, none-passes, woken_by, woken_by-waits, woken_after, own_waits, own_step, woken_if_process, touches_process, touches-how, untouched_process, step_or_not}
-use Rattle.order_laws.proofs.Ordered.{counted_at, events_clash, held_clash, counts_in, counts-other, counts-tame, settles_in, has_in, in-filter}
+use Rattle.order_laws.proofs.Ordered.{counted_at, events_clash, held_clash, counts_in, counts-other, counts-tame, settles_in, in-filter}
 use Rattle.order_laws.proofs.Touches.{unchanged_in, written-other, change_access, in_processes}
 use Rattle.order_laws.proofs.Cells.{difference}
 use Rattle.order_laws.proofs.Runs.{IsRun, follows_at, changes_there, past_same, reached_by}

@@ -1,30 +1,28 @@
 -- Where an event meets its like in a run without conflict, the run that takes it goes on beside that one.
-use Rattle.std.proofs.Common.{◌≡◌, ℕ, zero, suc, ◌+◌, ◌<◌, ◌≤◌, List, [], ◌∷◌, ◌++◌, Bool, true, false, not, ◌&&◌, ◌||◌, refl, sym, ap, subst, ◌∙◌, ◌⊎◌, inl, inr, arith}
+use Rattle.std.proofs.Common.{◌≡◌, ℕ, zero, suc, ◌+◌, ◌<◌, ◌≤◌, List, [], ◌∷◌, ◌++◌, Bool, true, false, refl, sym, ap, subst, ◌∙◌, ◌⊎◌, inl, inr, arith}
 use Rattle.std.specs.Prelude.{◌≢◌, Option, Some, None, slice_get, nat_eq}
 use Rattle.std.proofs.lemmas.Bool.{eqb-true, eq-eqb}
 use Rattle.v_design.specs.Lists.{has}
-use Rattle.four_value.specs.Values.{same_value}
 use Rattle.v_design.specs.Designs.{Machine}
-use Rattle.v_design.specs.Assignments.{ValueUpdate, value_at}
-use Rattle.v_design.specs.States.{State, Event, Step, LaneStep, Evaluation, NetUpdate, after, found_or, is_process_event, process_at, some_entry}
-use Rattle.v_design.specs.Accesses.{waiting_entries, accesses_of}
-use Rattle.v_design.specs.Logs.{changes_of, cause_at}
+use Rattle.v_design.specs.Assignments.{value_at}
+use Rattle.v_design.specs.States.{State, Event, Step, LaneStep, Evaluation, NetUpdate, found_or, is_process_event, process_at, some_entry}
+use Rattle.v_design.specs.Accesses.{waiting_entries}
+use Rattle.v_design.specs.Logs.{changes_of}
 use Rattle.v_design.specs.PhaseLogs.{log_of, may_cause, is_lane_of}
 use Rattle.v_design.specs.Laws.{same_event, place_if, places_of}
 use Rattle.order_laws.proofs.MayCause.{activity_at}
 use Rattle.order_laws.proofs.PathLaws.{decided, true-false, or-either, or-second, has-self, reached}
-use Rattle.order_laws.proofs.NetStates.{other_number, same_value-true}
+use Rattle.order_laws.proofs.NetStates.{other_number}
 use Rattle.order_laws.proofs.QuietNets.{event_changes, run_changes}
-use Rattle.order_laws.proofs.CountedChanges.{changed_in}
 use Rattle.order_laws.proofs.CleanNets.{same-changes}
-use Rattle.order_laws.proofs.RunStates.{first_of, state_at, at_next, bare, noted, accesses_before, cause_before, cause_at-place, IsCause, cause_found}
+use Rattle.order_laws.proofs.RunStates.{first_of, state_at, at_next, bare, noted, accesses_before, cause_before, cause_found}
 use Rattle.order_laws.proofs.Woken.{changed_entry, woken_by, woken_by-none, touches_process, touches-how, step_touches, step_or_not, later_after, lane_after_other}
-use Rattle.order_laws.proofs.Cells.{Cell, le_or, below_or_same, Stays, NoneBetween, IsNext, InOrder, in_order, moved_on, kept, unseen}
+use Rattle.order_laws.proofs.Cells.{Cell, le_or, below_or_same, Stays, IsNext, InOrder, in_order, moved_on, kept}
 use Rattle.order_laws.proofs.Runs.{IsRun, follows_at, changes_there, same_there}
 use Rattle.order_laws.proofs.FreeRuns.{IsFree, wild_in, IsOpen}
 use Rattle.order_laws.proofs.DoneChanges.{done_reach, done_more, run_more}
-use Rattle.order_laws.proofs.Comparison.{on_event, process_there, lane_there, ProcessPart, LanePart, process_part, lane_part, through, part_through, lane_through, CauseSame, Paired, Silent, Maps, step_there, steps_to, History, Compared, cause_past, cause_touched, cause_untouched, process_stays, there-how, wakes_there, woken_at}
-use Rattle.order_laws.proofs.WaitsAlike.{SameTests, WaitsAlike, waits_alike, tests-same}
+use Rattle.order_laws.proofs.Comparison.{on_event, process_there, lane_there, ProcessPart, process_part, lane_part, through, part_through, lane_through, CauseSame, Paired, Maps, step_there, steps_to, History, Compared, cause_touched, cause_untouched, there-how, wakes_there, woken_at}
+use Rattle.order_laws.proofs.WaitsAlike.{SameTests, waits_alike, tests-same}
 
 -- One event more that stands for another
 
@@ -198,7 +196,6 @@ pub record Meets (machine : Machine) (state : State) (first events : List Event)
 
 module _ (machine : Machine) (state : State) (first events : List Event) (n : ℕ) (matched : ℕ → Option ℕ) (done : List ℕ) (i : ℕ) (event : Event)
     (r : IsFree machine state first) (run : IsRun machine state events) (c : Compared machine state first events n matched done) (m : Meets machine state first events n matched done c i event) where
-
   next-matched : ℕ → Option ℕ
   next-matched = extended matched n (Some i)
 

@@ -1,5 +1,5 @@
 -- An update that changes a clean net meets its like in the run without conflict.
-use Rattle.std.proofs.Common.{◌≡◌, ℕ, zero, suc, ◌+◌, ◌<◌, ◌≤◌, List, [], ◌∷◌, ◌++◌, map, length, Bool, true, false, not, ◌&&◌, ◌||◌, refl, sym, ap, subst, ◌∙◌, ◌⊎◌, inl, inr, arith, le_trans, filter}
+use Rattle.std.proofs.Common.{◌≡◌, ℕ, zero, suc, ◌+◌, ◌<◌, ◌≤◌, List, [], ◌∷◌, ◌++◌, map, length, Bool, true, false, not, ◌||◌, refl, sym, ap, subst, ◌∙◌, ◌⊎◌, inl, inr, arith, le_trans, filter}
 use Rattle.std.specs.Prelude.{◌≢◌, Option, Some, None, slice_get, nat_eq, cond}
 use Rattle.std.proofs.lemmas.Bool.{eqb-true, eq-eqb}
 use Rattle.v_design.specs.Lists.{has, joined, map_numbered}
@@ -8,31 +8,29 @@ use Rattle.v_design.specs.Trees.{Entry}
 use Rattle.v_design.specs.Designs.{FlatNode, Machine}
 use Rattle.v_design.specs.Assignments.{ValueUpdate, value_at}
 use Rattle.v_design.specs.Processes.{Activity}
-use Rattle.v_design.specs.States.{State, ProcessState, Event, Step, LaneStep, Evaluation, NetUpdate, after, found_or, idle_process, process_at, some_entry, write_of, step_of, first_update, after_lane_step}
+use Rattle.v_design.specs.States.{State, Event, Step, LaneStep, Evaluation, NetUpdate, after, found_or, idle_process, process_at, some_entry, write_of, step_of, first_update, after_lane_step}
 use Rattle.v_design.specs.Runs.{happened}
 use Rattle.v_design.specs.Paths.{net_pieces}
 use Rattle.v_design.specs.Accesses.{Writing, ObjectAccess, waiting_entries, waiting_line, ended_of, net_write, net_accesses, net_ended_by, some_change_matches}
-use Rattle.v_design.specs.Logs.{cause_at}
-use Rattle.v_design.specs.PhaseLogs.{NotedEvent, log_of, may_cause, changes_input, changes_one, noted_at, note_of, writer_process, writer_line}
-use Rattle.v_design.specs.Laws.{IsStateOf}
+use Rattle.v_design.specs.PhaseLogs.{log_of, changes_input, changes_one, noted_at, note_of, writer_process, writer_line}
 use Rattle.order_laws.proofs.Rules.{outputs_are_nets}
 use Rattle.order_laws.proofs.Unaffected.{own_of, write_by}
 use Rattle.order_laws.proofs.MayCause.{activity_at}
 use Rattle.order_laws.proofs.Notes.{new_notes}
 use Rattle.order_laws.proofs.PathLaws.{decided, true-false, or-either, or-second, reached, reached-append}
 use Rattle.order_laws.proofs.WritersStay.{NotNet, write-clear-of, bodies_clear}
-use Rattle.order_laws.proofs.NetStates.{other_number, same_value-self}
+use Rattle.order_laws.proofs.NetStates.{other_number}
 use Rattle.order_laws.proofs.WorkedNodes.{below_other}
 use Rattle.order_laws.proofs.QuietNets.{event_changes, run_changes}
 use Rattle.order_laws.proofs.CountedChanges.{changed_in, changes_bounded}
-use Rattle.order_laws.proofs.RunStates.{first_of, state_at, at_next, first-get, first-state, bare, noted, note_stands, notes_before, accesses_before, cause_before, cause_at-place, IsCause, cause_is, found_below}
+use Rattle.order_laws.proofs.RunStates.{first_of, state_at, at_next, first-get, first-state, bare, noted, note_stands, notes_before, accesses_before, cause_before, cause_at-place, cause_is}
 use Rattle.order_laws.proofs.Woken.{changed_entry, unchanged_entry}
 use Rattle.order_laws.proofs.Touches.{unchanged_in, changed-write, changed_output, evaluation-value, net_value-other, net-test}
-use Rattle.order_laws.proofs.Cells.{Cell, le_or, stays_between, IsNext}
+use Rattle.order_laws.proofs.Cells.{le_or, stays_between}
 use Rattle.order_laws.proofs.Runs.{IsRun, run_first, clear_at, state_of_at, changes_there, change_count, first_or_last, changed_before, changes_twice, changes_once_there}
 use Rattle.order_laws.proofs.FreeRuns.{IsFree, wild_in, wild_reached, tame_reached, IsOpen}
-use Rattle.order_laws.proofs.DoneChanges.{done_reach, done_most}
-use Rattle.order_laws.proofs.Comparison.{process_there, lane_there, ProcessPart, process_part, lane_part, part_through, lane_through, CauseSame, Paired, Silent, Compared, value_stays, wakes_there}
+use Rattle.order_laws.proofs.DoneChanges.{done_most}
+use Rattle.order_laws.proofs.Comparison.{process_there, ProcessPart, Paired, Compared, value_stays, wakes_there}
 use Rattle.order_laws.proofs.WaitsAlike.{SameTests, waits_alike, changes-where}
 use Rattle.order_laws.proofs.Meets.{ChangesAlike, Meets}
 use Rattle.order_laws.proofs.StepsMeet.{closed_done}
@@ -174,7 +172,6 @@ module _ (machine : Machine) (state : State) (first events : List Event) (n : �
     (r : IsFree machine state first) (run : IsRun machine state events) (c : Compared machine state first events n matched done) (stands : slice_get events n ≡ Some (NetUpdate m))
     (found : slice_get machine.design.nodes m ≡ Some node) (out : has node.outputs object ≡ true) (tame : wild_in machine state first object ≡ false)
     (changed : changes_there machine state events object n ≡ true) where
-
   few : reached machine.design (run_changes machine state first) object ≤ 1
   few = tame_reached machine state first object (outputs_are_nets run.rules m node found object out) tame
 

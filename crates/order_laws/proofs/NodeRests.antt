@@ -14,7 +14,6 @@ use Rattle.v_design.specs.WellFormed.{KeepsRules, IsSizedNode, width_is, has_wid
 use Rattle.v_design.specs.Reads.{node_reads, read_objects, all_read, labels_read, items_read, indexes_objects, named_in, named_in_parts, named_in_target, named_in_targets, named_by, named_by_all, named_by_items, named_by_node}
 use Rattle.v_design.specs.CombinationalForm.{reads_assigned, whole_targets, part_targets_after, assigned_if, assigned_on_both, then_assigned, assigned_by, all_assigned_by, items_assigned_by, all_among, WritesOutputs}
 use Rattle.four_value.specs.declared.logic.Bit.{Bit}
-use Rattle.four_value.specs.declared.logic.Bit.TheVariants.{Zero}
 use Rattle.four_value.specs.declared.operator.CaseKind.{CaseKind}
 use Rattle.order_laws.proofs.Rules.{node_rules}
 use Rattle.order_laws.proofs.ListLaws.{get_or-change_at}

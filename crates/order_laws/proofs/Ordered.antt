@@ -1,13 +1,12 @@
 -- In a log without a least pair two accesses that clash are ordered one way or the other.
-use Rattle.std.proofs.Common.{◌≡◌, ℕ, zero, suc, ◌+◌, ◌<◌, List, [], ◌∷◌, ◌++◌, map, Bool, true, false, not, ◌&&◌, ◌||◌, refl, sym, ap, subst, ◌∙◌, ◌⊎◌, inl, inr, arith, filter}
-use Rattle.std.specs.Prelude.{◌≢◌, Option, Some, None, slice_get, nat_eq, nat_lt, cond}
+use Rattle.std.proofs.Common.{◌≡◌, ℕ, zero, suc, ◌+◌, ◌<◌, List, [], ◌∷◌, map, Bool, true, false, not, ◌&&◌, refl, sym, ap, subst, ◌∙◌, ◌⊎◌, inl, inr, arith, filter}
+use Rattle.std.specs.Prelude.{◌≢◌, Some, None, slice_get, nat_eq, nat_lt, cond}
 use Rattle.std.proofs.lemmas.Bool.{eqb-true, eq-eqb, lt-ltb}
 use Rattle.v_design.specs.Lists.{has, joined, map_numbered}
-use Rattle.four_value.specs.Values.{LogicValue, same_value}
 use Rattle.v_design.specs.Designs.{FlatDesign}
 use Rattle.v_design.specs.Paths.{paths, net_pieces, is_wild}
 use Rattle.v_design.specs.States.{found_or}
-use Rattle.v_design.specs.Accesses.{AccessAct, Reading, Writing, Awaiting, Ending, Holding, Settling, ObjectAccess}
+use Rattle.v_design.specs.Accesses.{Settling, ObjectAccess}
 use Rattle.v_design.specs.Logs.{LoggedEvent, LoggedPhase, PhaseAccess, change_of, phase_changes, is_write, counts, settles_of, counted_accesses, event_accesses, log_accesses, orders, acts_clash, orders_others, access_orders, conflict, least_pair}
 use Rattle.order_laws.proofs.Conflicts.{In, In-left, In-right, In-map}
 use Rattle.order_laws.proofs.SwappedLogs.{accesses_at}
@@ -73,9 +72,9 @@ pub held_clash : (design : FlatDesign) (log : LoggedPhase) → least_pair design
 held_clash design log none n x y i j same clash = elim
     (free_pair design log none (carried x) (tagged n y) (λ e. differ (ap (λ (u : PhaseAccess). u.event) e))
     (In-left (carried x) (map carried log.held) (joined (map_numbered (event_accesses design (phase_changes design log)) 0 log.events)) (In-map carried x log.held i)) (in_log design log n y j) same clash) [
-  | inl o ↦ true_is_false (sym o ∙ falls (orders_others x.act))
-  | inr o ↦ true_is_false (sym o ∙ falls (orders_others y.act))
-]
+      | inl o ↦ true_is_false (sym o ∙ falls (orders_others x.act))
+      | inr o ↦ true_is_false (sym o ∙ falls (orders_others y.act))
+    ]
   where
     falls : (b : Bool) → (b && false) ≡ false
     falls true = refl

@@ -1,10 +1,9 @@
 -- An event of a node that changes nothing but wild nets passes unseen beside a run without conflict.
-use Rattle.std.proofs.Common.{◌≡◌, ℕ, zero, suc, ◌+◌, ◌<◌, ◌≤◌, List, [], ◌∷◌, Bool, true, false, refl, sym, ap, subst, ◌∙◌, ◌⊎◌, inl, inr, arith}
-use Rattle.std.specs.Prelude.{◌≢◌, Option, Some, None, slice_get, nat_eq}
-use Rattle.v_design.specs.Lists.{has}
+use Rattle.std.proofs.Common.{◌≡◌, ℕ, suc, ◌+◌, ◌<◌, List, true, false, refl, sym, ap, subst, ◌∙◌, inl, inr, arith}
+use Rattle.std.specs.Prelude.{◌≢◌, Option, Some, None, slice_get}
 use Rattle.v_design.specs.Designs.{Machine}
 use Rattle.v_design.specs.Assignments.{value_at}
-use Rattle.v_design.specs.States.{State, Event, Step, LaneStep, Evaluation, NetUpdate, after, found_or, is_process_event, process_at}
+use Rattle.v_design.specs.States.{State, Event, Step, LaneStep, Evaluation, NetUpdate, found_or, is_process_event, process_at}
 use Rattle.v_design.specs.PhaseLogs.{is_lane_of}
 use Rattle.v_design.specs.Laws.{same_event}
 use Rattle.order_laws.proofs.MayCause.{activity_at}
@@ -12,16 +11,14 @@ use Rattle.order_laws.proofs.PathLaws.{decided, true-false, reached}
 use Rattle.order_laws.proofs.QuietNets.{event_changes, run_changes}
 use Rattle.order_laws.proofs.RunStates.{first_of, state_at, at_next, cause_before}
 use Rattle.order_laws.proofs.Woken.{untouched_process, lane_after_other}
-use Rattle.order_laws.proofs.Cells.{Cell, below_or_same, unseen}
+use Rattle.order_laws.proofs.Cells.{below_or_same, unseen}
 use Rattle.order_laws.proofs.Runs.{IsRun, follows_at, changes_there, same_there}
-use Rattle.order_laws.proofs.FreeRuns.{wild_in}
 use Rattle.order_laws.proofs.DoneChanges.{done_reach, run_more}
-use Rattle.order_laws.proofs.Comparison.{process_there, lane_there, process_part, lane_part, part_through, lane_through, CauseSame, Paired, Silent, Maps, step_there, steps_to, History, Compared}
-use Rattle.order_laws.proofs.Meets.{extended, ext_below, ext_here, ext_cases, kept-cause, steps-same, maps-ext, same_step}
+use Rattle.order_laws.proofs.Comparison.{process_there, lane_there, process_part, lane_part, part_through, lane_through, CauseSame, Paired, Silent, Maps, steps_to, Compared}
+use Rattle.order_laws.proofs.Meets.{extended, ext_below, ext_cases, kept-cause, steps-same, maps-ext, same_step}
 
 module _ (machine : Machine) (state : State) (first events : List Event) (n : ℕ) (matched : ℕ → Option ℕ) (done : List ℕ) (event : Event)
     (run : IsRun machine state events) (c : Compared machine state first events n matched done) (e : slice_get events n ≡ Some event) (s : Silent machine state first events n event) where
-
   none_some : {A B : Type 0} (x : A) → None ≡ Some x → B
   none_some x e = cc
 

@@ -1,28 +1,27 @@
 -- The process and lane steps of each legal run of a phase are those of the run without conflict, with the same accesses and orders.
-use Rattle.std.proofs.Common.{◌≡◌, ℕ, zero, suc, ◌+◌, ◌<◌, ◌≤◌, List, [], ◌∷◌, ◌++◌, map, length, Bool, true, false, not, ◌&&◌, ◌||◌, refl, sym, ap, subst, ◌∙◌, ◌⊎◌, inl, inr, arith, le_trans, filter, sum_by}
-use Rattle.std.specs.Prelude.{◌≢◌, Option, Some, None, slice_get, nat_eq, nat_lt, IsTrue, cond}
+use Rattle.std.proofs.Common.{◌≡◌, ℕ, zero, suc, ◌+◌, ◌<◌, ◌≤◌, List, [], ◌∷◌, ◌++◌, map, length, Bool, true, false, not, ◌&&◌, ◌||◌, refl, sym, ap, subst, ◌∙◌, ◌⊎◌, inl, inr, arith, le_trans, filter}
+use Rattle.std.specs.Prelude.{Option, Some, None, slice_get, nat_eq, nat_lt, cond}
 use Rattle.std.proofs.lemmas.Bool.{eqb-true, eq-eqb}
 use Rattle.v_design.specs.Lists.{has, joined}
 use Rattle.v_design.specs.Designs.{FlatDesign, Machine}
 use Rattle.v_design.specs.Assignments.{value_at}
-use Rattle.v_design.specs.States.{State, Event, Step, LaneStep, Evaluation, NetUpdate, after, found_or, is_process_event}
+use Rattle.v_design.specs.States.{State, Event, after, found_or, is_process_event}
 use Rattle.v_design.specs.Runs.{happened}
-use Rattle.v_design.specs.Paths.{paths, net_pieces, class_of_paths, Quiet, Clean, Wild, NetClass, is_wild_class, net_class}
+use Rattle.v_design.specs.Paths.{paths, net_pieces, class_of_paths, Clean, is_wild_class}
 use Rattle.v_design.specs.Accesses.{Settling, ObjectAccess, accesses_of}
 use Rattle.v_design.specs.Logs.{LoggedPhase, change_of, phase_changes, is_write, counted_accesses, cause_at, causes_from, orders}
 use Rattle.v_design.specs.PhaseLogs.{NotedEvent, note_of, noted_events, log_of, logged}
-use Rattle.v_design.specs.Laws.{RunsBeside, StepsAlike, RunsProject, ChangesAlike, CleanNetsChangeOnce, same_event, place_if, places_of, steps_accesses, orders_if_there, steps_ordered}
+use Rattle.v_design.specs.Laws.{RunsBeside, StepsAlike, RunsProject, CleanNetsChangeOnce, same_event, place_if, places_of, steps_accesses, orders_if_there}
 use Rattle.order_laws.proofs.PathLaws.{decided, true-false, reached}
 use Rattle.order_laws.proofs.Notes.{new_notes, noted_events-new, length-new_notes}
 use Rattle.order_laws.proofs.SwappedRuns.{length-map}
 use Rattle.order_laws.proofs.QuietNets.{run_changes}
 use Rattle.order_laws.proofs.CountedChanges.{changes_bounded}
 use Rattle.order_laws.proofs.CleanNets.{phase_changes-run, clean_alike}
-use Rattle.order_laws.proofs.RunStates.{first_of, state_at, noted, note_stands, accesses_before, cause_before, cause_at-place, IsCause, cause_found, found_below, some_below}
-use Rattle.order_laws.proofs.Cells.{Cell}
+use Rattle.order_laws.proofs.RunStates.{noted, note_stands, accesses_before, cause_before, cause_at-place, cause_found, found_below}
 use Rattle.order_laws.proofs.Runs.{IsRun}
 use Rattle.order_laws.proofs.FreeRuns.{IsFree}
-use Rattle.order_laws.proofs.Comparison.{on_event, CauseSame, Paired, Maps, step_there, steps_to, History, Compared}
+use Rattle.order_laws.proofs.Comparison.{on_event, CauseSame, Maps, step_there, steps_to, Compared}
 use Rattle.order_laws.proofs.Meets.{steps_stay, same_step}
 use Rattle.order_laws.proofs.RunsGoOn.{whole_compared}
 use Rattle.order_laws.proofs.AllDone.{first_of-all, first_of-past-all, last-part, past-place, steps_done, reach_same, same_end}
@@ -110,7 +109,6 @@ nothing_caused (suc depth) log x = refl
 -- Two runs
 
 module _ (machine : Machine) (state : State) (first events : List Event) (beside : RunsBeside machine state first events) where
-
   run : IsRun machine state events
   run = record { rules = beside.rules; begins = beside.begins; possible = beside.legal.each_possible }
 

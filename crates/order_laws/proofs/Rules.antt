@@ -1,14 +1,13 @@
 -- The rules of a design, node by node and process by process.
-use Rattle.std.proofs.Common.{◌≡◌, ℕ, zero, suc, ◌+◌, ◌≤◌, List, [], ◌∷◌, length, Bool, true, false, subst, ap, ◌⊎◌, inl, inr}
-use Rattle.std.specs.Prelude.{Option, Some, None, slice_get, nat_eq, IsTrue}
+use Rattle.std.proofs.Common.{◌≡◌, ℕ, zero, suc, List, [], ◌∷◌, length, true, false, subst, ap, inl, inr}
+use Rattle.std.specs.Prelude.{Some, slice_get, nat_eq}
 use Rattle.std.proofs.lemmas.Bool.{eqb-true}
-use Rattle.v_design.specs.Lists.{has, without_repeats, AllHold}
+use Rattle.v_design.specs.Lists.{has, AllHold}
 use Rattle.v_design.specs.Designs.{FlatObject, FlatNode, FlatProcess, FlatDesign}
 use Rattle.v_design.specs.Paths.{net_pieces}
-use Rattle.v_design.specs.Reads.{node_reads, named_by_node, written_objects}
-use Rattle.v_design.specs.CombinationalForm.{WritesOutputs}
+use Rattle.v_design.specs.Reads.{written_objects}
 use Rattle.v_design.specs.States.{found_or}
-use Rattle.v_design.specs.WellFormed.{IsSizedObject, IsSizedNode, IsNodeOf, IsProcessOf, KeepsRules, have_widths}
+use Rattle.v_design.specs.WellFormed.{IsSizedObject, IsNodeOf, IsProcessOf, KeepsRules}
 use Rattle.order_laws.proofs.PathLaws.{or-either}
 
 -- what holds of each element holds of the one at a place

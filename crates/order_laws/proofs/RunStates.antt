@@ -1,5 +1,5 @@
 -- A run by places: the state before each event, its note, and its cause.
-use Rattle.std.proofs.Common.{◌≡◌, ℕ, zero, suc, ◌+◌, ◌<◌, ◌≤◌, List, [], ◌∷◌, ◌++◌, length, Bool, true, false, ◌&&◌, refl, sym, ap, subst, ◌∙◌, ◌⊎◌, inl, inr, arith, map}
+use Rattle.std.proofs.Common.{◌≡◌, ℕ, zero, suc, ◌<◌, ◌≤◌, List, [], ◌∷◌, ◌++◌, length, true, false, ◌&&◌, refl, sym, ap, subst, ◌∙◌, arith, map}
 use Rattle.std.specs.Prelude.{Option, Some, None, slice_get}
 use Rattle.v_design.specs.Designs.{FlatNode, Machine}
 use Rattle.v_design.specs.States.{State, Event, Step, LaneStep, Evaluation, NetUpdate, after, possible, found_or}
@@ -12,7 +12,7 @@ use Rattle.order_laws.proofs.SwappedLogs.{accesses_at}
 use Rattle.order_laws.proofs.Notes.{new_notes, length-new_notes}
 use Rattle.order_laws.proofs.PairsOfRuns.{cause_at-new, accesses_at-new}
 use Rattle.order_laws.proofs.QuietNets.{and-first}
-use Rattle.order_laws.proofs.LastPlaces.{LastAt, none_last, last_none, last_found, last_is}
+use Rattle.order_laws.proofs.LastPlaces.{none_last, last_none, last_found, last_is}
 
 -- so many of the first elements
 abbrev pub first_of : {A : Type 0} → ℕ → List A → List A
@@ -204,8 +204,7 @@ pub cause_is : (machine : Machine) (state : State) (events : List Event) (place 
     cause_before machine state events place later ≡ Some k
 cause_is machine state events place later k c =
     let n = note-test machine state events place later k c.event c.earlier c.stands in
-    last_is (may_cause machine later) (notes_before machine state events place) k
-    (
+    last_is (may_cause machine later) (notes_before machine state events place) k (
       noted machine state (first_of place events) k c.event,
       n.0,
       n.1 ∙ c.may,

@@ -1,24 +1,23 @@
 -- What stands at each place of a run from a phase's beginning.
-use Rattle.std.proofs.Common.{◌≡◌, ℕ, zero, suc, ◌+◌, ◌<◌, ◌≤◌, List, [], ◌∷◌, ◌++◌, length, Bool, true, false, not, ◌&&◌, ◌||◌, refl, sym, ap, subst, ◌∙◌, ◌⊎◌, inl, inr, arith, le_trans}
-use Rattle.std.specs.Prelude.{◌≢◌, Option, Some, None, slice_get, nat_eq}
-use Rattle.v_design.specs.Lists.{has}
+use Rattle.std.proofs.Common.{◌≡◌, ℕ, zero, suc, ◌+◌, ◌<◌, ◌≤◌, List, [], ◌∷◌, ◌++◌, length, Bool, true, false, not, refl, sym, ap, subst, ◌∙◌, ◌⊎◌, inl, inr, arith}
+use Rattle.std.specs.Prelude.{Option, Some, None, slice_get}
 use Rattle.four_value.specs.Values.{LogicValue, same_value}
 use Rattle.v_design.specs.Designs.{FlatNode, Machine}
 use Rattle.v_design.specs.Assignments.{ValueUpdate, value_at}
-use Rattle.v_design.specs.States.{State, Event, Step, LaneStep, Evaluation, NetUpdate, after, possible, found_or, written_if, write_of, step_of, with_process, first_update, process_at, with_value, with_values, evaluated, nets_updated}
-use Rattle.v_design.specs.Runs.{happened, all_possible, IsPhase}
+use Rattle.v_design.specs.States.{State, Event, Step, LaneStep, Evaluation, NetUpdate, after, written_if, write_of, step_of, with_process, first_update, process_at, with_value, with_values, evaluated, nets_updated}
+use Rattle.v_design.specs.Runs.{happened, all_possible}
 use Rattle.v_design.specs.Paths.{one_if}
 use Rattle.v_design.specs.WellFormed.{KeepsRules}
-use Rattle.v_design.specs.Laws.{BeginsPhase, IsStateOf, change_if, changes_at, HasNoConflict}
+use Rattle.v_design.specs.Laws.{BeginsPhase, IsStateOf, change_if, changes_at}
 use Rattle.order_laws.proofs.PathLaws.{decided, true-false, reached, reached-append}
 use Rattle.order_laws.proofs.WritersStay.{AreClear, NotNet, writers_clear}
 use Rattle.order_laws.proofs.NetStates.{same_value-true, same_value-self}
 use Rattle.order_laws.proofs.QuietNets.{StaysQuiet, event_changes, run_changes, quiet-begins, quiet-run}
 use Rattle.order_laws.proofs.SettledNets.{Follows, Everywhere, follows-begins, follows-run}
 use Rattle.order_laws.proofs.NodeRests.{rest_on_inputs}
-use Rattle.order_laws.proofs.CountedChanges.{changed_in, changes_bounded}
+use Rattle.order_laws.proofs.CountedChanges.{changed_in}
 use Rattle.order_laws.proofs.PhasesGoOn.{clear-run, state-run}
-use Rattle.order_laws.proofs.RunStates.{first_of, state_at, at_start, at_next, at_past, at_first, first-possible, possible_at}
+use Rattle.order_laws.proofs.RunStates.{first_of, state_at, at_start, at_past, at_first, first-possible}
 use Rattle.order_laws.proofs.Touches.{unchanged_in}
 
 -- a run of possible events from a phase's beginning

@@ -1,14 +1,14 @@
 -- Each run of a phase goes on, event by event, beside a run of it without conflict.
-use Rattle.std.proofs.Common.{◌≡◌, ℕ, zero, suc, ◌+◌, ◌<◌, ◌≤◌, List, [], ◌∷◌, ◌++◌, map, length, Bool, true, false, not, ◌&&◌, ◌||◌, refl, sym, ap, subst, ◌∙◌, ◌⊎◌, inl, inr, arith, filter}
-use Rattle.std.specs.Prelude.{◌≢◌, Option, Some, None, slice_get, nat_eq, cond}
+use Rattle.std.proofs.Common.{◌≡◌, ℕ, zero, suc, ◌≤◌, List, [], ◌∷◌, map, length, Bool, true, false, not, ◌&&◌, ◌||◌, refl, sym, ap, subst, ◌∙◌, ◌⊎◌, inl, inr, arith, filter}
+use Rattle.std.specs.Prelude.{Option, Some, None, slice_get, cond}
 use Rattle.v_design.specs.Lists.{has, joined, map_numbered}
 use Rattle.four_value.specs.Values.{LogicValue, same_value}
 use Rattle.v_design.specs.Trees.{Entry}
 use Rattle.v_design.specs.Designs.{FlatNode, Machine}
 use Rattle.v_design.specs.Assignments.{value_at}
-use Rattle.v_design.specs.States.{State, ProcessState, Event, Step, LaneStep, Evaluation, NetUpdate, after, found_or, is_process_event, process_at, some_entry}
+use Rattle.v_design.specs.States.{State, Event, Step, LaneStep, Evaluation, NetUpdate, after, found_or, is_process_event, process_at, some_entry}
 use Rattle.v_design.specs.Paths.{net_pieces}
-use Rattle.v_design.specs.Accesses.{AccessAct, Reading, Writing, Awaiting, Ending, Holding, Settling, ObjectAccess, waiting_entries, waiting_line, without_first, ended_of, accesses_of, net_write, net_accesses, net_ended_by, some_change_matches}
+use Rattle.v_design.specs.Accesses.{Writing, Ending, ObjectAccess, waiting_entries, waiting_line, without_first, ended_of, net_write, net_accesses, net_ended_by, some_change_matches}
 use Rattle.v_design.specs.Logs.{change_of, changes_of}
 use Rattle.order_laws.proofs.Conflicts.{In}
 use Rattle.order_laws.proofs.FreeLogs.{In-append}
@@ -17,16 +17,16 @@ use Rattle.order_laws.proofs.ProperLogs.{In-joined-back}
 use Rattle.order_laws.proofs.Clash.{some_entry-true}
 use Rattle.order_laws.proofs.MayCause.{activity_at}
 use Rattle.order_laws.proofs.PathLaws.{decided, true-false, reached}
-use Rattle.order_laws.proofs.QuietNets.{event_changes, run_changes}
+use Rattle.order_laws.proofs.QuietNets.{event_changes}
 use Rattle.order_laws.proofs.CountedChanges.{changed_in}
-use Rattle.order_laws.proofs.RunStates.{first_of, state_at, at_start, at_next, some_below}
+use Rattle.order_laws.proofs.RunStates.{state_at, at_start, at_next, some_below}
 use Rattle.order_laws.proofs.Woken.{changed_entry, touches_process, touches-how}
 use Rattle.order_laws.proofs.Touches.{unchanged_in, entry_changed, evaluation-value, net_value-other}
 use Rattle.order_laws.proofs.Cells.{begun}
 use Rattle.order_laws.proofs.Runs.{IsRun, follows_at, changes_there}
 use Rattle.order_laws.proofs.FreeRuns.{IsFree, wild_in, waits_tame, in_joined_back}
-use Rattle.order_laws.proofs.DoneChanges.{done_reach, done_nothing}
-use Rattle.order_laws.proofs.Comparison.{process_there, lane_there, ProcessPart, process_part, lane_part, part_through, lane_through, Silent, step_there, steps_to, History, Compared}
+use Rattle.order_laws.proofs.DoneChanges.{done_nothing}
+use Rattle.order_laws.proofs.Comparison.{process_there, lane_there, ProcessPart, process_part, lane_part, part_through, lane_through, Silent, step_there, steps_to, Compared}
 use Rattle.order_laws.proofs.Meets.{extended, met}
 use Rattle.order_laws.proofs.Passes.{passed}
 use Rattle.order_laws.proofs.StepsGoOn.{found, step_meets, lane-found, lane_meets}
@@ -100,7 +100,6 @@ node_changes machine state (NetUpdate m) object h =
 -- One event
 
 module _ (machine : Machine) (state : State) (first events : List Event) (r : IsFree machine state first) (run : IsRun machine state events) where
-
   silent_event : (n : ℕ) (matched : ℕ → Option ℕ) (done : List ℕ) (event : Event) → Compared machine state first events n matched done → slice_get events n ≡ Some event → is_process_event event ≡ false →
       ((object : ℕ) → wild_in machine state first object ≡ false → changes_there machine state events object n ≡ false) → Silent machine state first events n event
   silent_event n matched done event c e h still = record {

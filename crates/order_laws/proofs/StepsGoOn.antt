@@ -1,25 +1,23 @@
 -- After a process or lane step a run goes on beside the run without conflict.
-use Rattle.std.proofs.Common.{◌≡◌, ℕ, zero, suc, ◌+◌, ◌<◌, ◌≤◌, List, [], ◌∷◌, ◌++◌, map, length, Bool, true, false, not, ◌&&◌, ◌||◌, refl, sym, ap, subst, ◌∙◌, ◌⊎◌, inl, inr, arith}
-use Rattle.std.specs.Prelude.{◌≢◌, Option, Some, None, slice_get, nat_eq}
-use Rattle.std.proofs.lemmas.Bool.{eqb-true, eq-eqb}
-use Rattle.v_design.specs.Lists.{has, joined}
-use Rattle.v_design.specs.Trees.{Entry}
-use Rattle.v_design.specs.Designs.{FlatDesign, Machine}
+use Rattle.std.proofs.Common.{◌≡◌, ℕ, suc, List, [], ◌++◌, length, false, refl, sym, ap, subst, ◌∙◌, inl, inr, arith}
+use Rattle.std.specs.Prelude.{Option, Some, None, slice_get}
+use Rattle.std.proofs.lemmas.Bool.{eq-eqb}
+use Rattle.v_design.specs.Designs.{Machine}
 use Rattle.v_design.specs.Assignments.{ValueUpdate, value_at}
-use Rattle.v_design.specs.Processes.{Activity, Action, ReadsObject, WritesObject, AppendsUpdate, TouchesNothing, ProcessStep}
-use Rattle.v_design.specs.States.{State, ProcessState, LaterUpdate, Event, Step, LaneStep, Evaluation, NetUpdate, after, possible, found_or, is_process_event, process_at, is_ready, is_any, written_if, with_process, write_of, step_of, after_step, after_lane_step, first_update, rest_of, next_activity, appended}
-use Rattle.v_design.specs.Accesses.{AccessAct, Reading, Awaiting, ObjectAccess, waiting_entries, action_accesses, await_accesses, lane_accesses}
-use Rattle.v_design.specs.Logs.{change_of, changes_of}
-use Rattle.v_design.specs.PhaseLogs.{NotedEvent, log_of, may_cause, is_lane_of, lane_line}
+use Rattle.v_design.specs.Processes.{Action, ReadsObject, WritesObject, AppendsUpdate, TouchesNothing, ProcessStep}
+use Rattle.v_design.specs.States.{State, ProcessState, Event, Step, LaneStep, Evaluation, NetUpdate, is_process_event, process_at, is_ready, is_any, written_if, with_process, write_of, step_of, after_step, after_lane_step, first_update, rest_of, appended}
+use Rattle.v_design.specs.Accesses.{Reading, ObjectAccess, waiting_entries, action_accesses, await_accesses, lane_accesses}
+use Rattle.v_design.specs.Logs.{changes_of}
+use Rattle.v_design.specs.PhaseLogs.{log_of, may_cause, is_lane_of, lane_line}
 use Rattle.order_laws.proofs.Conflicts.{In}
-use Rattle.order_laws.proofs.Unaffected.{own_of, read_of, write_by, read_by, step_of-same, next_activity-same}
+use Rattle.order_laws.proofs.Unaffected.{own_of, read_of, step_of-same, next_activity-same}
 use Rattle.order_laws.proofs.Clash.{read_stands}
-use Rattle.order_laws.proofs.MayCause.{activity_at, woken_if}
+use Rattle.order_laws.proofs.MayCause.{activity_at}
 use Rattle.order_laws.proofs.PathLaws.{decided, true-false}
 use Rattle.order_laws.proofs.QuietNets.{event_changes}
 use Rattle.order_laws.proofs.RunStates.{state_at, at_next, possible_at, bare, noted, accesses_before, cause_before, IsCause, cause_found}
 use Rattle.order_laws.proofs.Woken.{touches_process, step_touches, woken_if_process, own_step, own_lane}
-use Rattle.order_laws.proofs.Cells.{Cell, NoneBetween, stays_between, IsNext, in_order}
+use Rattle.order_laws.proofs.Cells.{stays_between, IsNext, in_order}
 use Rattle.order_laws.proofs.Runs.{IsRun, time_at, changes_there}
 use Rattle.order_laws.proofs.FreeRuns.{IsFree, wild_in, other_counted, awaits-no-changes, IsOpen}
 use Rattle.order_laws.proofs.Comparison.{on_event, process_there, lane_there, ProcessPart, LanePart, process_part, lane_part, through, part_through, lane_through, CauseSame, Silent, Compared, process_stays, value_stays}
@@ -65,7 +63,6 @@ read-no-changes machine state p object e =
 
 module _ (machine : Machine) (state : State) (first events : List Event) (n : ℕ) (matched : ℕ → Option ℕ) (done : List ℕ) (p : ℕ)
     (r : IsFree machine state first) (run : IsRun machine state events) (c : Compared machine state first events n matched done) (stands : slice_get events n ≡ Some (Step p)) where
-
   pub found : NextAt (process_there machine state first p) first (Step p) (c.processes p).place
   found =
       find_step machine state first p r (length first) (c.processes p).place (omega arith)
@@ -207,7 +204,6 @@ module _ (machine : Machine) (state : State) (first events : List Event) (n : �
 
 module _ (machine : Machine) (state : State) (first events : List Event) (n : ℕ) (matched : ℕ → Option ℕ) (done : List ℕ) (p : ℕ)
     (r : IsFree machine state first) (run : IsRun machine state events) (c : Compared machine state first events n matched done) (stands : slice_get events n ≡ Some (LaneStep p)) where
-
   pub lane-found : NextAt (lane_there first p) first (LaneStep p) (c.lanes p).place
   lane-found =
       find_lane machine state first p r (length first) (c.lanes p).place (omega arith)

@@ -1,5 +1,5 @@
 -- A process or lane step that is possible in a run meets its like in the run without conflict.
-use Rattle.std.proofs.Common.{◌≡◌, ℕ, zero, suc, ◌+◌, ◌<◌, ◌≤◌, List, [], ◌∷◌, ◌++◌, map, length, Bool, true, false, not, ◌&&◌, ◌||◌, refl, sym, ap, subst, ◌∙◌, ◌⊎◌, inl, inr, arith}
+use Rattle.std.proofs.Common.{◌≡◌, ℕ, zero, suc, ◌+◌, ◌<◌, ◌≤◌, List, [], ◌∷◌, length, Bool, true, false, not, ◌&&◌, refl, sym, ap, subst, ◌∙◌, ◌⊎◌, inl, inr, arith}
 use Rattle.std.specs.Prelude.{◌≢◌, Option, Some, None, slice_get, nat_eq}
 use Rattle.std.proofs.lemmas.Bool.{eqb-true, eq-eqb}
 use Rattle.v_design.specs.Lists.{has, joined, map_numbered}
@@ -7,33 +7,28 @@ use Rattle.four_value.specs.Values.{LogicValue, same_value, with_part}
 use Rattle.v_design.specs.Trees.{Entry}
 use Rattle.v_design.specs.Designs.{Machine, forced_variable}
 use Rattle.v_design.specs.Assignments.{ValueUpdate, value_at}
-use Rattle.v_design.specs.Processes.{Activity, Action, ReadsObject, WritesObject, AppendsUpdate, TouchesNothing, ProcessStep}
-use Rattle.v_design.specs.States.{State, ProcessState, LaterUpdate, Event, Step, LaneStep, Evaluation, NetUpdate, after, possible, found_or, idle_process, is_process_event, process_at, is_ready, is_any, is_quiescent, has_event, has_work, some_in, some_entry, entry_matches, value_written, written_if, with_process, write_of, step_of, after_step, after_lane_step, first_update, rest_of, next_activity, appended, woken}
+use Rattle.v_design.specs.Processes.{Activity, Action, ReadsObject, WritesObject, AppendsUpdate, TouchesNothing}
+use Rattle.v_design.specs.States.{State, ProcessState, Event, Step, LaneStep, Evaluation, NetUpdate, found_or, idle_process, process_at, is_ready, is_any, is_quiescent, has_event, has_work, some_in, some_entry, entry_matches, value_written, written_if, with_process, write_of, first_update, woken}
 use Rattle.v_design.specs.Runs.{happened}
-use Rattle.v_design.specs.Paths.{net_pieces, is_wild}
-use Rattle.v_design.specs.Accesses.{AccessAct, Reading, Writing, ObjectAccess, waiting_entries, waiting_line, ended_of, ended_by, ended_accesses, update_accesses, action_accesses, await_accesses, lane_accesses, accesses_of}
-use Rattle.v_design.specs.Logs.{change_of, changes_of, phase_changes, cause_at}
-use Rattle.v_design.specs.PhaseLogs.{NotedEvent, log_of, may_cause, is_lane_of}
-use Rattle.v_design.specs.Laws.{IsStateOf}
-use Rattle.order_laws.proofs.Conflicts.{In}
-use Rattle.order_laws.proofs.Unaffected.{own_of, read_of, write_by, read_by, step_of-same, next_activity-same}
-use Rattle.order_laws.proofs.Clash.{read_stands, write_stands, some_entry-true, true_is_false}
+use Rattle.v_design.specs.Paths.{is_wild}
+use Rattle.v_design.specs.Accesses.{Writing, ObjectAccess, waiting_entries, waiting_line, ended_of, ended_by, ended_accesses, update_accesses, action_accesses, lane_accesses}
+use Rattle.v_design.specs.Logs.{phase_changes}
+use Rattle.v_design.specs.PhaseLogs.{log_of, may_cause, is_lane_of}
+use Rattle.order_laws.proofs.Unaffected.{write_by}
+use Rattle.order_laws.proofs.Clash.{write_stands, some_entry-true, true_is_false}
 use Rattle.order_laws.proofs.MayCause.{activity_at, woken_if}
-use Rattle.order_laws.proofs.PathLaws.{decided, true-false, or-neither, reached}
+use Rattle.order_laws.proofs.PathLaws.{decided, true-false, or-neither}
 use Rattle.order_laws.proofs.WritersStay.{NotNet, write-clear-of, bodies_clear}
-use Rattle.order_laws.proofs.NetStates.{same_value-true}
-use Rattle.order_laws.proofs.QuietNets.{event_changes}
-use Rattle.order_laws.proofs.SettledNets.{not-both}
 use Rattle.order_laws.proofs.CountedChanges.{changed_in}
-use Rattle.order_laws.proofs.RunStates.{state_at, at_next, at_past, possible_at, bare, noted, accesses_before, cause_before, cause_at-place, IsCause, cause_found, none_past, past_none, found_below}
-use Rattle.order_laws.proofs.Woken.{changed_entry, unchanged_entry, entry-written, length-written, touches_process, step_touches, step_or_not, woken_if_process, own_step, own_lane, lane_after_other, none-passes}
+use Rattle.order_laws.proofs.RunStates.{state_at, at_next, at_past, bare, noted, cause_before, cause_at-place, cause_found, none_past}
+use Rattle.order_laws.proofs.Woken.{changed_entry, unchanged_entry, entry-written, length-written, step_or_not, woken_if_process, lane_after_other}
 use Rattle.order_laws.proofs.Touches.{unchanged_in, written-here, written-other}
-use Rattle.order_laws.proofs.Cells.{Cell, le_or, below_or_same, difference, Stays, NoneBetween, stays_between, IsNext, InOrder, in_order}
-use Rattle.order_laws.proofs.Runs.{IsRun, clear_at, state_of_at, time_at, changes_there, past_same}
-use Rattle.order_laws.proofs.FreeRuns.{IsFree, wild_in, counted, other_counted, tame_counted, Closed, IsOpen, ready_waits_not}
-use Rattle.order_laws.proofs.Comparison.{on_event, process_there, lane_there, ProcessPart, LanePart, process_part, lane_part, through, part_through, lane_through, CauseSame, Paired, Silent, Compared, cause_past, cause_untouched, process_stays, value_stays, there-how, wakes_there}
-use Rattle.order_laws.proofs.WaitsAlike.{SameTests, WaitsAlike, waits_alike, value_in_order, wild_first, tests-same}
-use Rattle.order_laws.proofs.Meets.{ChangesAlike, Meets}
+use Rattle.order_laws.proofs.Cells.{Cell, le_or, below_or_same, Stays, NoneBetween, InOrder, in_order}
+use Rattle.order_laws.proofs.Runs.{IsRun, clear_at, state_of_at, changes_there, past_same}
+use Rattle.order_laws.proofs.FreeRuns.{IsFree, wild_in, tame_counted, Closed, IsOpen, ready_waits_not}
+use Rattle.order_laws.proofs.Comparison.{on_event, process_there, lane_there, ProcessPart, LanePart, lane_part, CauseSame, Paired, Compared, cause_past, cause_untouched, process_stays, value_stays, there-how, wakes_there}
+use Rattle.order_laws.proofs.WaitsAlike.{SameTests, waits_alike, value_in_order, tests-same}
+use Rattle.order_laws.proofs.Meets.{ChangesAlike}
 
 -- At a legal run's end nothing is ready
 
@@ -261,7 +256,6 @@ module _ (machine : Machine) (state : State) (first events : List Event) (n : �
     (here : state_at machine state events (suc n) ≡ written_if machine w (with_process p own (state_at machine state events n)))
     (there : state_at machine state first (suc i) ≡ written_if machine w (with_process p own' (state_at machine state first i)))
     (writes : write_by machine (state_at machine state first i) event ≡ w) where
-
   -- it writes no net
   not-net : (u : ValueUpdate) → w ≡ Some u → wild_in machine state first u.object ≡ false
   not-net u e =

@@ -1,26 +1,23 @@
 -- Where an event changes an object or ends a wait, accesses of it say so.
-use Rattle.std.proofs.Common.{◌≡◌, ℕ, zero, suc, ◌+◌, List, [], ◌∷◌, ◌++◌, map, Bool, true, false, not, ◌&&◌, ◌||◌, refl, sym, ap, subst, ◌∙◌, ◌⊎◌, inl, inr, arith, filter}
-use Rattle.std.specs.Prelude.{◌≢◌, Option, Some, None, slice_get, nat_eq}
+use Rattle.std.proofs.Common.{◌≡◌, ℕ, zero, suc, List, [], ◌∷◌, map, Bool, true, false, not, ◌&&◌, refl, sym, ap, subst, ◌∙◌, ◌⊎◌, inl, inr, filter}
+use Rattle.std.specs.Prelude.{Option, Some, None, slice_get, nat_eq}
 use Rattle.std.proofs.lemmas.Bool.{eqb-true, eq-eqb}
 use Rattle.v_design.specs.Lists.{has, joined, map_numbered}
 use Rattle.four_value.specs.Values.{LogicValue, same_value, edge_matches, part_of}
 use Rattle.v_design.specs.Trees.{Entry}
 use Rattle.v_design.specs.Designs.{FlatNode, Machine}
 use Rattle.v_design.specs.Assignments.{ValueUpdate, value_at}
-use Rattle.v_design.specs.Processes.{Activity}
-use Rattle.v_design.specs.States.{State, ProcessState, Event, Step, LaneStep, Evaluation, NetUpdate, after, found_or, idle_process, process_at, node_at, entry_matches, some_entry, with_values, with_value, with_node, with_process, written_if, value_written, write_of, step_of, after_step, after_lane_step, first_update, evaluated, nets_updated}
+use Rattle.v_design.specs.States.{State, ProcessState, Event, Step, LaneStep, Evaluation, NetUpdate, after, found_or, idle_process, process_at, node_at, entry_matches, some_entry, with_node, with_process, written_if, value_written, write_of, step_of, after_lane_step, first_update, evaluated, nets_updated}
 use Rattle.v_design.specs.Paths.{net_pieces}
 use Rattle.v_design.specs.Accesses.{Writing, Ending, ObjectAccess, waiting_entries, waiting_line, without_first, ended_of, ended_by, accesses_of, net_write, net_accesses, net_ended_by, some_change_matches}
 use Rattle.v_design.specs.WellFormed.{KeepsRules}
 use Rattle.order_laws.proofs.Rules.{outputs_are_nets}
 use Rattle.order_laws.proofs.Conflicts.{In, In-left, In-right, In-map}
 use Rattle.order_laws.proofs.Unaffected.{own_of, write_by}
-use Rattle.order_laws.proofs.SameAccesses.{In-slice_get}
 use Rattle.order_laws.proofs.Clash.{write_stands, ended_stands, ending_access, in_without_first, In-joined, some_entry-true, true_is_false}
 use Rattle.order_laws.proofs.MayCause.{activity_at}
 use Rattle.order_laws.proofs.PathLaws.{decided, true-false}
 use Rattle.order_laws.proofs.NetStates.{same_value-true, same_value-self, other_number, value-other, values-other}
-use Rattle.order_laws.proofs.SettledNets.{Follows, Everywhere}
 use Rattle.order_laws.proofs.CountedChanges.{changed_in}
 use Rattle.order_laws.proofs.Woken.{changed_entry, unchanged_entry, put-new, length-written, entry-written, none-passes}
 use Rattle.order_laws.proofs.Ordered.{in_joined, has_in, in-filter}
@@ -57,9 +54,12 @@ pub changed-write : (machine : Machine) (state : State) (q : ℕ) (own : Process
     (u : ValueUpdate) × (write ≡ Some u) × (u.object ≡ object) × (value_at (written_if machine write (with_process q own state)).values object ≡ value_written machine state u)
 changed-write machine state q own None object t = true-false (changed_in state (with_process q own state) object) t (unchanged_in state (with_process q own state) object refl)
 changed-write machine state q own (Some u) object t = elim (decided (nat_eq u.object object)) [
-  | inl same ↦
-      (u, refl, eqb-true u.object object same,
-      subst (λ x. value_at (written_if machine (Some u) (with_process q own state)).values x ≡ value_written machine state u) (eqb-true u.object object same) (written-here machine state q own u))
+  | inl same ↦ (
+    u,
+    refl,
+    eqb-true u.object object same,
+    subst (λ x. value_at (written_if machine (Some u) (with_process q own state)).values x ≡ value_written machine state u) (eqb-true u.object object same) (written-here machine state q own u),
+  )
   | inr other ↦
       true-false (changed_in state (written_if machine (Some u) (with_process q own state)) object) t
       (unchanged_in state (written_if machine (Some u) (with_process q own state)) object (value-other machine u.object (value_written machine state u) (with_process q own state) object (other_number u.object object other)))
@@ -127,8 +127,7 @@ change_access machine state (Evaluation n) w l object rules t =
     (unchanged_in state (after machine state (Evaluation n)) object (ap (λ vs. value_at vs object) (evaluation-value machine n state)))
 change_access machine state (NetUpdate n) w l object rules t =
     let d = changed_output machine n state object t in
-    let next : State = after machine state (NetUpdate n) in
-    (
+    let next : State = after machine state (NetUpdate n) in (
       net_access,
       subst (λ found. In net_access (net_accesses machine.design w l found state (after machine state (NetUpdate n)))) (sym d.1)
           (In-left net_access (joined (map (net_write w l state (after machine state (NetUpdate n))) (filter (has d.0.outputs) (net_pieces machine.design))))
@@ -210,8 +209,7 @@ net-wakes machine number state w l p entry node e i s f =
     let r = In-joined (net_ended_by state (after machine state (NetUpdate number)) node.outputs) (λ k. ending_access k (waiting_line (activity_at state p)) entry) 0 state.processes (process_at state p)
     (in_processes state.processes p entry i)
     (λ k. ends-entry test (waiting_entries (activity_at state p)) entry k (waiting_line (activity_at state p))
-    (some-same test (changed_entry state (after machine state (NetUpdate number))) (waiting_entries (activity_at state p)) (net-test machine number state node e) ∙ s) i (net-test machine number state node e entry ∙ f)) in
-    (
+    (some-same test (changed_entry state (after machine state (NetUpdate number))) (waiting_entries (activity_at state p)) (net-test machine number state node e) ∙ s) i (net-test machine number state node e entry ∙ f)) in (
       ending_access r.0 (waiting_line (activity_at state p)) entry,
       subst (λ found. In (ending_access r.0 (waiting_line (activity_at state p)) entry) (net_accesses machine.design w l found state (after machine state (NetUpdate number)))) (sym e)
           (In-right (ending_access r.0 (waiting_line (activity_at state p)) entry) (joined (map (net_write w l state (after machine state (NetUpdate number))) (filter (has node.outputs) (net_pieces machine.design))))

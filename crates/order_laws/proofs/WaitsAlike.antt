@@ -1,39 +1,35 @@
 -- An event that meets its like in a run without conflict ends the same waits there, and reads and writes the same.
-use Rattle.std.proofs.Common.{◌≡◌, ℕ, zero, suc, ◌+◌, ◌<◌, ◌≤◌, List, [], ◌∷◌, ◌++◌, Bool, true, false, not, ◌&&◌, ◌||◌, refl, sym, ap, subst, ◌∙◌, ◌⊎◌, inl, inr, arith}
+use Rattle.std.proofs.Common.{◌≡◌, ℕ, zero, suc, ◌+◌, ◌<◌, ◌≤◌, List, [], Bool, true, false, ◌&&◌, refl, sym, ap, subst, ◌∙◌, ◌⊎◌, inl, inr, arith}
 use Rattle.std.specs.Prelude.{◌≢◌, Option, Some, None, slice_get, nat_eq}
 use Rattle.std.proofs.lemmas.Bool.{eqb-true, eq-eqb}
 use Rattle.v_design.specs.Lists.{has}
 use Rattle.four_value.specs.Values.{LogicValue}
 use Rattle.v_design.specs.Trees.{Entry}
 use Rattle.v_design.specs.Designs.{Machine}
-use Rattle.v_design.specs.Assignments.{ValueUpdate, value_at}
-use Rattle.v_design.specs.Processes.{Activity}
-use Rattle.v_design.specs.States.{State, Event, Step, LaneStep, Evaluation, NetUpdate, after, possible, found_or, process_at, is_ready, some_entry, entry_matches}
-use Rattle.v_design.specs.Paths.{net_pieces}
-use Rattle.v_design.specs.Accesses.{AccessAct, Reading, Writing, Awaiting, Ending, Settling, ObjectAccess, waiting_entries}
-use Rattle.v_design.specs.Logs.{is_write, acts_clash, cause_at, orders, orders_others}
+use Rattle.v_design.specs.Assignments.{value_at}
+use Rattle.v_design.specs.States.{State, Event, Step, found_or, is_ready, some_entry, entry_matches}
+use Rattle.v_design.specs.Accesses.{Reading, Writing, Awaiting, ObjectAccess, waiting_entries}
+use Rattle.v_design.specs.Logs.{is_write, acts_clash, orders, orders_others}
 use Rattle.v_design.specs.PhaseLogs.{log_of}
 use Rattle.order_laws.proofs.Conflicts.{In}
-use Rattle.order_laws.proofs.Unaffected.{awaits_by, read_by, write_by}
-use Rattle.order_laws.proofs.Clash.{await_stands, read_stands, write_stands, some_entry-true, true_is_false}
+use Rattle.order_laws.proofs.Clash.{await_stands, some_entry-true, true_is_false}
 use Rattle.order_laws.proofs.MayCause.{activity_at}
 use Rattle.order_laws.proofs.Notes.{later-orders-not}
 use Rattle.order_laws.proofs.PairsOfRuns.{backward-log}
 use Rattle.order_laws.proofs.PathLaws.{decided, true-false, reached}
-use Rattle.order_laws.proofs.WritersStay.{NotNet, write-clear-of, bodies_clear}
 use Rattle.order_laws.proofs.NetStates.{other_number}
 use Rattle.order_laws.proofs.WorkedNodes.{below_other}
-use Rattle.order_laws.proofs.QuietNets.{StaysQuiet, event_changes, run_changes}
+use Rattle.order_laws.proofs.QuietNets.{event_changes, run_changes}
 use Rattle.order_laws.proofs.CountedChanges.{changed_in}
-use Rattle.order_laws.proofs.RunStates.{first_of, state_at, at_next, first-below, first-state, possible_at, noted, past_none}
-use Rattle.order_laws.proofs.Woken.{changed_entry, woken_by, woken_by-ready, own_waits}
+use Rattle.order_laws.proofs.RunStates.{first_of, state_at, at_next, first-below, first-state, possible_at, noted}
+use Rattle.order_laws.proofs.Woken.{changed_entry, woken_by-ready, own_waits}
 use Rattle.order_laws.proofs.Ordered.{events_clash}
 use Rattle.order_laws.proofs.Touches.{entry_changed, wake_access, unchanged_in}
-use Rattle.order_laws.proofs.Cells.{Cell, le_or, below_or_same, difference, NoneBetween, stays_between, IsNext, InOrder, in_order}
-use Rattle.order_laws.proofs.Runs.{IsRun, clear_at, quiet_at, changes_there, past_same, reached_by}
-use Rattle.order_laws.proofs.FreeRuns.{IsFree, wild_in, counted, CountedWrite, other_counted, tame_counted, change_counted, settles_there, IsOpen, InOrderWith, clash_with, in_chain, ready_waits_not, waits_tame}
-use Rattle.order_laws.proofs.DoneChanges.{done_reach, done_none}
-use Rattle.order_laws.proofs.Comparison.{process_there, ProcessPart, process_part, process_stays, value_stays, there-how, wakes_there, woken_at, Compared, part_through}
+use Rattle.order_laws.proofs.Cells.{Cell, le_or, below_or_same, difference, NoneBetween, stays_between, IsNext, InOrder}
+use Rattle.order_laws.proofs.Runs.{IsRun, quiet_at, changes_there, past_same, reached_by}
+use Rattle.order_laws.proofs.FreeRuns.{IsFree, wild_in, counted, other_counted, change_counted, settles_there, IsOpen, InOrderWith, clash_with, in_chain, ready_waits_not, waits_tame}
+use Rattle.order_laws.proofs.DoneChanges.{done_none}
+use Rattle.order_laws.proofs.Comparison.{process_there, ProcessPart, process_part, process_stays, there-how, wakes_there, woken_at, Compared, part_through}
 
 pub changes-where : (machine : Machine) (state : State) (first : List Event) (object k : ℕ) → changes_there machine state first object k ≡ true → (event : Event) × (slice_get first k ≡ Some event)
 changes-where machine state first object k t = go (slice_get first k) refl
@@ -125,7 +121,6 @@ SameTests before next before' next' = (entry : Entry) → changed_entry before n
 
 module _ (machine : Machine) (state : State) (first : List Event) (done : List ℕ) (i q : ℕ) (event : Event)
     (r : IsFree machine state first) (o : IsOpen (log_of machine state first) done i) (e : slice_get first i ≡ Some event) (d : Step q ≢ event) where
-
   -- a write at the event of an object that an entry waits on, whose change matches it
   clash_here : (entry : Entry) → wild_in machine state first entry.object ≡ false → changed_entry (state_at machine state first i) (state_at machine state first (suc i)) entry ≡ true →
       (k : ℕ) (x : ObjectAccess) → k ≢ i → In x (counted machine state first k) → x.object ≡ entry.object →
@@ -214,7 +209,6 @@ module _ (machine : Machine) (state : State) (first events : List Event) (n : �
     (r : IsFree machine state first) (o : IsOpen (log_of machine state first) done i) (e : slice_get first i ≡ Some event) (d : Step q ≢ event)
     (cell : Cell (process_there machine state first q) (process_part machine state first q) done (part_through machine state events matched q n))
     (tests : SameTests (state_at machine state events n) (state_at machine state events (suc n)) (state_at machine state first i) (state_at machine state first (suc i))) where
-
   stays-active : (k : ℕ) → process_there machine state first q k ≡ false → activity_at (state_at machine state first (suc k)) q ≡ activity_at (state_at machine state first k) q
   stays-active k f = ap (λ (x : ProcessPart). x.activity) (process_stays machine state first q r.run k f)
 

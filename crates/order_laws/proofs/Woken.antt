@@ -1,9 +1,9 @@
 -- What an event makes of the processes that don't take it: it wakes those that wait on an entry which its changes match.
 use Rattle.std.proofs.Common.{◌≡◌, ℕ, zero, suc, List, [], ◌∷◌, map, length, Bool, true, false, not, ◌&&◌, ◌||◌, refl, sym, ap, subst, ◌∙◌, ◌⊎◌, inl, inr, arith}
-use Rattle.std.specs.Prelude.{◌≢◌, Option, Some, None, slice_get, nat_eq, IsTrue}
+use Rattle.std.specs.Prelude.{◌≢◌, Option, Some, None, slice_get, nat_eq}
 use Rattle.std.proofs.lemmas.Bool.{eqb-true, eq-eqb}
 use Rattle.v_design.specs.Lists.{has, change_at}
-use Rattle.four_value.specs.Values.{LogicValue, same_value, with_part, part_of, edge_matches, bit_at}
+use Rattle.four_value.specs.Values.{LogicValue, with_part, part_of, edge_matches, bit_at}
 use Rattle.four_value.specs.Bits.{is_posedge, is_negedge}
 use Rattle.v_design.specs.Trees.{Entry}
 use Rattle.v_design.specs.Designs.{FlatNode, Machine}
@@ -12,14 +12,14 @@ use Rattle.v_design.specs.Processes.{Activity, Ready, Waiting, Asleep, Postponed
 use Rattle.v_design.specs.States.{State, ProcessState, Event, Step, LaneStep, Evaluation, NetUpdate, after, possible, found_or, idle_process, process_at, node_at, is_ready, is_any, entry_matches, some_entry, ready_if, woken, woken_process, with_value, with_values, with_process, with_node, written_if, value_written, write_of, step_of, after_step, after_lane_step, first_update, evaluated, nets_updated, next_activity}
 use Rattle.v_design.specs.Accesses.{waiting_entries, is_waiting}
 use Rattle.v_design.specs.WellFormed.{KeepsRules}
-use Rattle.v_design.specs.PhaseLogs.{NotedEvent, may_cause, ends_wait, is_step_of, is_lane_of}
+use Rattle.v_design.specs.PhaseLogs.{may_cause, ends_wait, is_step_of}
 use Rattle.four_value.specs.declared.logic.Bit.{Bit}
 use Rattle.four_value.specs.declared.logic.Bit.TheVariants.{Zero, One, X, Z}
 use Rattle.four_value.specs.declared.logic.Edge.{Edge}
 use Rattle.four_value.specs.declared.logic.Edge.TheVariants.{Any, Pos, Neg}
 use Rattle.order_laws.proofs.Rules.{node_rules}
 use Rattle.order_laws.proofs.Conflicts.{In}
-use Rattle.order_laws.proofs.Unaffected.{own_of, write_by, awaits_by, part-with_process}
+use Rattle.order_laws.proofs.Unaffected.{own_of, awaits_by, part-with_process}
 use Rattle.order_laws.proofs.Exchange.{entries-next_activity}
 use Rattle.order_laws.proofs.MayCause.{activity_at, woken_if, activity-after}
 use Rattle.order_laws.proofs.PathLaws.{decided, true-false, or-either, or-second}

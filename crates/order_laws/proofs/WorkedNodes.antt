@@ -1,19 +1,19 @@
 -- Working on nodes one at a time settles the nets, and settled values are one where they agree on all that no node drives.
-use Rattle.std.proofs.Common.{◌≡◌, ℕ, zero, suc, ◌<◌, ◌≤◌, List, [], ◌∷◌, map, length, Bool, true, false, not, ◌&&◌, ◌||◌, refl, sym, ap, subst, ◌∙◌, ◌⊎◌, inl, inr, arith}
-use Rattle.std.specs.Prelude.{◌≢◌, Option, Some, None, slice_get, nat_eq, is_some}
+use Rattle.std.proofs.Common.{◌≡◌, ℕ, zero, suc, ◌<◌, List, [], ◌∷◌, map, length, Bool, true, false, not, ◌&&◌, ◌||◌, refl, sym, ap, subst, ◌∙◌, ◌⊎◌, inl, inr, arith}
+use Rattle.std.specs.Prelude.{◌≢◌, Some, slice_get, nat_eq, is_some}
 use Rattle.std.specs.List.{list_any}
-use Rattle.std.proofs.lemmas.Bool.{eqb-true, eq-eqb}
+use Rattle.std.proofs.lemmas.Bool.{eqb-true}
 use Rattle.v_design.specs.Lists.{has}
 use Rattle.four_value.specs.Values.{LogicValue, same_value}
-use Rattle.v_design.specs.Designs.{FlatObject, FlatNode, FlatDesign, Machine}
-use Rattle.v_design.specs.Assignments.{value_at, node_outputs, with_outputs, AreSettled}
+use Rattle.v_design.specs.Designs.{FlatObject, FlatNode, Machine}
+use Rattle.v_design.specs.Assignments.{value_at, node_outputs, with_outputs}
 use Rattle.v_design.specs.States.{found_or}
 use Rattle.v_design.specs.WellFormed.{KeepsRules}
-use Rattle.v_design.specs.Laws.{HaveWidths, AreSettledBut, input_differs, marks_after, worked_on, NetsSettle, is_driven, SettledValuesAreOne}
+use Rattle.v_design.specs.Laws.{HaveWidths, AreSettledBut, input_differs, marks_after, worked_on, NetsSettle, SettledValuesAreOne}
 use Rattle.order_laws.proofs.Rules.{node_rules, outputs_are_nets}
-use Rattle.order_laws.proofs.PathLaws.{decided, true-false, or-either, or-neither, or-second, has-self}
+use Rattle.order_laws.proofs.PathLaws.{decided, true-false, or-either, or-neither}
 use Rattle.order_laws.proofs.NetStates.{same_value-true, other_number}
-use Rattle.order_laws.proofs.SettledNets.{Fit, Distinct, distinct, fit-from, there-below, net-below, settled_determined}
+use Rattle.order_laws.proofs.SettledNets.{Fit, distinct, fit-from, there-below, net-below, settled_determined}
 use Rattle.order_laws.proofs.NodeRests.{rest_on_inputs}
 use Rattle.order_laws.proofs.PhasesGoOn.{length-mapped}
 use Rattle.order_laws.proofs.StartSettles.{outputs-elsewhere, outputs-fit, outputs-put, map-elsewhere}

@@ -1,7 +1,7 @@
 -- The laws of settling nets and of exchanging events, and the headline: what a report says of every legal order (IEEE 1364-2001, clause 5).
 use Rattle.std.specs.Prelude.{◌≡◌, ◌≢◌, ℕ, ◌+◌, ◌<◌, ◌≤◌, Bool, true, false, not, ◌&&◌, ◌||◌, List, [], ◌∷◌, ◌++◌, map, filter, length, Option, Some, None, IsTrue, slice_get, nat_eq, nat_le, sum_by}
 use Rattle.std.specs.List.{AllZip, list_any}
-use Rattle.v_design.specs.Lists.{has}
+use Rattle.v_design.specs.Lists.{has, AllHold}
 use Rattle.four_value.specs.Values.{LogicValue, same_value}
 use Rattle.vf_base.specs.Base.{WatchedBit}
 use Rattle.v_design.specs.Designs.{FlatObject, FlatNode, FlatDesign, Machine, StuckAt, TestPlan, good_machine, faulty_machine}
@@ -9,7 +9,7 @@ use Rattle.v_design.specs.Writers.{WriteVariables}
 use Rattle.v_design.specs.WellFormed.{IsPlan, KeepsRules}
 use Rattle.v_design.specs.Sites.{AreOneClass}
 use Rattle.v_design.specs.Assignments.{AreSettled, value_at, node_outputs, with_outputs}
-use Rattle.v_design.specs.States.{is_process_event, State, Event, Step, LaneStep, Evaluation, NetUpdate, TurnKind, start, possible, after, turned, has_work, some_in, is_quiescent}
+use Rattle.v_design.specs.States.{is_process_event, State, Event, Step, LaneStep, Evaluation, NetUpdate, TurnKind, start, possible, after, turned, has_work, some_in}
 use Rattle.v_design.specs.Runs.{Move, Turns, Leads, IsLegal, IsPhase, all_possible, happened, FirstSlot, first_run, slot_end, is_hyper, ends_by}
 use Rattle.v_design.specs.Paths.{Clean, net_class, paths}
 use Rattle.v_design.specs.Accesses.{ObjectAccess, accesses_of}
@@ -255,6 +255,14 @@ abbrev pub RunsProject : Type 0
 RunsProject = (machine : Machine) (state : State) (first events : List Event) → RunsBeside machine state first events → StepsAlike machine state first events
 
 -- Slots and runs
+
+-- two legal runs to a time from one state, in which a phase begins, end alike where no phase of the one has a conflict
+abbrev pub RunsEndAlike : Type 0
+RunsEndAlike =
+    (machine : Machine) (time : ℕ) (begins : State) (moves other : List Move) (final other_final : State) → KeepsRules machine.design → BeginsPhase machine begins →
+    Leads machine time begins moves final → IsTrue (ends_by time final) →
+    AllHold (λ (phase : Phase). HasNoConflict machine phase.begins phase.events) (cut machine None begins [] begins moves) →
+    Leads machine time begins other other_final → IsTrue (ends_by time other_final) → other_final ≡ final
 
 -- where a slot of the first run is fine, every legal run of that slot ends where it does
 abbrev pub FineSlotsEndAlike : Type 0

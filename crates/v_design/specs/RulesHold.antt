@@ -1,6 +1,6 @@
 -- The rules that a design or a plan keeps are facts with one proof, so they may be taken out of what a value carries (nothing of the language).
 use Rattle.std.specs.Prelude.{◌≡◌, ◌≢◌, ℕ, ◌+◌, ◌≤◌, ◌<◌, Bool, false, List, [], ◌∷◌, length, map, Option, Some, None, IsTrue}
-use Rattle.std.specs.Coded.{×_prop, Unit-prop, le_prop}
+use Rattle.std.specs.Coded.{×_prop, Unit-prop}
 use Rattle.std.specs.List.{AllZip}
 use Rattle.std.proofs.Math.Logic.{∥∥₁_elim}
 use Rattle.std.proofs.Props.{props}
@@ -15,7 +15,7 @@ use Rattle.v_design.specs.Sites.{AllDiffer, expressions_count, site_name, sites_
 use Rattle.v_design.specs.WellFormed.{TerminalsFit, AreTerminals, IsSizedNode, IsSizedObject, IsSizedName, IsEntryOf, IsNodeOf, IsProcessOf, KeepsRules, IsAscending, IsPlan}
 use Rattle.four_value.specs.declared.operator.GateKind.{GateKind}
 use Rattle.four_value.specs.declared.operator.GateKind.TheVariants.{And, Nand, Or, Nor, Xor, Xnor, Buf, Not}
-use Rattle.v_design.specs.Sized.{UnarySizing, OperandWithWhole, OperandAlone, unary_sizing, UnaryAgrees, BinarySizing, BothWithWhole, LeftWithWhole, BothTogether, EachAlone, binary_sizing, BinaryAgrees, IsAlone, IsSized, AreSizedAlone, IsSizedTarget, IsSizedAssignment, IsSizedEntry, AreLabels, IsDelayIf, IsSizedStatement, AreSizedStatements, AreSizedItems}
+use Rattle.v_design.specs.Sized.{UnarySizing, OperandWithWhole, OperandAlone, UnaryAgrees, BinarySizing, BothWithWhole, LeftWithWhole, BothTogether, EachAlone, BinaryAgrees, IsSized, AreSizedAlone, IsSizedTarget, IsSizedAssignment, IsSizedEntry, AreLabels, IsDelayIf, IsSizedStatement, AreSizedStatements, AreSizedItems}
 
 -- a fact of each element
 pub AllHold-prop : {A : Type 0} (P : A → Type 0) (xs : List A) → ((x : A) → IsProp (P x)) → IsProp (AllHold P xs)
