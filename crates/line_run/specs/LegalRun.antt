@@ -25,6 +25,7 @@ has-more {S} {E} m u n s x more e [] is = by-turn (m.next_turn s) refl
   where
     settled-if : (o : Option ℕ) → m.next_turn s ≡ o → IsPast u o → HasRun m u s
     settled-if o at past = let P : Option ℕ → Type 0 = λ (p : Option ℕ). IsPast u p in record { moves = []; end = s; legal = (refl, record { no_event = is; no_turn = subst P (sym at) past }) }
+
     by-test : (turn : ℕ) (b : Bool) → nat_le turn u ≡ b → m.next_turn s ≡ Some turn → HasRun m u s
     by-test turn false test at = settled-if (Some turn) at (search (rules, tests, test))
     by-test turn true test at =
@@ -37,6 +38,7 @@ has-more {S} {E} m u n s x more e [] is = by-turn (m.next_turn s) refl
         let D : Option ℕ → Type 0 = λ (o : Option ℕ). IsDue u o in
         let due : D (Some turn) = le in
         record { moves = Turn ∷ r.moves; end = r.end; legal = ((is, subst D (sym at) due, r.legal.0), r.legal.1) }
+
     by-turn : (o : Option ℕ) → m.next_turn s ≡ o → HasRun m u s
     by-turn None at = settled-if None at tt
     by-turn (Some turn) at = by-test turn (nat_le turn u) refl at
