@@ -3,3 +3,5 @@ pub mod RestsLaws
 pub mod Positions
 pub mod Compiling
 pub mod Codes
+pub mod Points
+pub mod StepLaws

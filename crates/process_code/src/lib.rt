@@ -2,6 +2,8 @@
 #![tactic(auto)]
 
 mod code;
+mod state;
 mod builder;
 
 pub use code::{Code, compile};
+pub use state::{Did, ProcState, RunEnd, Stage};
