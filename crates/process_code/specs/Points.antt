@@ -1,5 +1,5 @@
 -- What a process does at a position of its code, and what a step of it does there (IEEE 1364-2001, clause 9).
-use Rattle.std.specs.Prelude.{◌≡◌, ℕ, suc, zero, ◌+◌, ◌-◌, ◌≤◌, ◌<◌, Bool, true, false, if◌then◌else◌, List, [], ◌∷◌, ◌++◌, map, length, get_or, slice_get, Option, Some, None, option_map, vec_capacity}
+use Rattle.std.specs.Prelude.{◌≡◌, ℕ, suc, zero, ◌+◌, ◌-◌, ◌≤◌, ◌<◌, Bool, true, false, if◌then◌else◌, List, [], ◌∷◌, ◌++◌, map, length, get_or, set, slice_get, Option, Some, None, option_map, vec_capacity}
 use Rattle.vf_base.specs.Base.{SourcePlace, source_place, object_number}
 use Rattle.vf_base.specs.declared.ids.ObjectId.{ObjectId}
 use Rattle.four_value.specs.Values.{LogicValue}
@@ -149,3 +149,26 @@ stage_after now (suc delay) = Asleep (now + suc delay)
 abbrev pub said_delay : ℕ → ℕ → StepSaid
 said_delay now zero = SaysZero
 said_delay now (suc delay) = SaysSleep (now + suc delay)
+
+-- what the first of the updates that are left says
+abbrev pub said_update : Option ℕ → ℕ → Option ValueUpdate → StepSaid
+said_update None now update = said_write update
+said_update (Some delay) now update = said_append (now + delay) update
+
+-- some update is left
+abbrev pub HasUpdates : {A : Type 0} → List A → Type 0
+HasUpdates [] = ⊥
+HasUpdates (update ∷ updates) = Unit {0}
+
+-- the first of the updates that are left is taken
+abbrev pub TakesFirst : ℕ → Point → Point → StepSaid → List (Option ValueUpdate) → Type 0
+TakesFirst now old new said [] = ⊥
+TakesFirst now old new said (update ∷ updates) = (new ≡ record old { operands = []; updates = updates }) × (said ≡ said_update old.delay now update)
+
+abbrev pub TakesUpdate : ℕ → Point → Point → StepSaid → Type 0
+TakesUpdate now old new said = TakesFirst now old new said old.updates
+
+-- a point after a turn of a repeat, of which so many turns were left
+abbrev pub after_turn : Point → ℕ → ℕ → ℕ → ℕ → Point
+after_turn p number inner next zero = record p { position = next; operands = [] }
+after_turn p number inner next (suc count) = record p { position = inner; operands = []; counts = set p.counts number count }

@@ -2,6 +2,7 @@
 #![tactic(auto)]
 
 mod code;
+mod moves;
 mod state;
 mod builder;
 
