@@ -5,3 +5,4 @@ pub mod Compiling
 pub mod Codes
 pub mod Points
 pub mod StepLaws
+pub mod Sameness

@@ -3,6 +3,7 @@
 
 mod code;
 mod moves;
+mod same;
 mod state;
 mod builder;
 
