@@ -6,3 +6,4 @@ pub mod Codes
 pub mod Points
 pub mod StepLaws
 pub mod Sameness
+pub mod SamenessLaws

@@ -2,8 +2,9 @@
 
 ghost use Rattle.std.specs.Prelude.{◌≡◌, ◌↔◌, IsTrue, length, map, option_map};
 ghost use Rattle.v_design.specs.Plain.{update_of};
-ghost use Rattle.process_code.specs.Points.{point_of};
+ghost use Rattle.process_code.specs.Points.{point_of, activity_of};
 ghost use Rattle.process_code.specs.Sameness.{IsSamePoint};
+ghost use Rattle.process_code.specs.declared.code.Code.{Code};
 
 use crate::state::ProcState;
 use four_value::Vec4;
@@ -12,7 +13,8 @@ use v_design::Update;
 impl ProcState {
     /// Whether both stand at one position, with the same operands, counts and updates left, and are ready or stopped alike.
     pub fn same(&self, other: &ProcState) -> bool
-        ensures { IsTrue result ↔ IsSamePoint (point_of self.now) (point_of other.now) }
+        ensures point { IsTrue result ↔ IsSamePoint (point_of self.now) (point_of other.now) }
+        ensures activity { IsTrue result → (code : Code) → activity_of code self.now ≡ activity_of code other.now }
     {
         self.stage == other.stage
             && self.position == other.position
