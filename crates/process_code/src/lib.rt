@@ -2,6 +2,10 @@
 #![tactic(auto)]
 
 mod code;
+mod moves;
+mod same;
+mod state;
 mod builder;
 
 pub use code::{Code, compile};
+pub use state::{Did, ProcState, RunEnd, Stage};
