@@ -1,6 +1,5 @@
 -- Whether a process stands at one point twice (nothing of the language).
 use Rattle.std.specs.Prelude.{◌≡◌, ℕ, List, [], ◌∷◌, Option}
-
 use Rattle.vf_base.specs.Base.{SourcePlace}
 use Rattle.v_design.specs.Assignments.{ValueUpdate}
 use Rattle.process_code.specs.Points.{Point}

@@ -52,7 +52,7 @@ pub step-reads : {A : Type 0} (now : ℕ) (values : List LogicValue) (rests : Li
     IsStep now values rests step (ready_at position (operands ++ (value_at values object ∷ [])) counts place delay) (SaysRead object)
 step-reads now values rests position rest operands counts place delay line object progress act step h e needs =
     let known : step ≡ record { line = line; action = ReadsObject object; next = activities.Ready (tasks_of counts rest) operands } =
-        e ∙ ap (λ pr. reads_or line (tasks_of counts rest) operands pr act) needs in
+    e ∙ ap (λ pr. reads_or line (tasks_of counts rest) operands pr act) needs in
     let P : ProcessStep → Type 0 = λ s. IsStep now values rests s (ready_at position (operands ++ (value_at values object ∷ [])) counts place delay) (SaysRead object) in
     subst P (sym known) (record { activity = activity-ready rests position rest (operands ++ (value_at values object ∷ [])) counts place delay h; says = refl })
 
@@ -70,7 +70,7 @@ pub step-write : (now : ℕ) (values : List LogicValue) (rests : List (List Part
     IsStep now values rests step (left_at Ready position counts place None updates) (said_write update)
 step-write now values rests position rest counts place update updates step h e =
     let here : activity_at rests (left_at Ready position counts place None updates) ≡ activities.Ready (writes_left place updates (tasks_of counts rest)) [] =
-        ap (λ r. activities.Ready (writes_left place updates (tasks_of counts r)) []) (rest-is rests position rest h) in
+    ap (λ r. activities.Ready (writes_left place updates (tasks_of counts r)) []) (rest-is rests position rest h) in
     let P : ProcessStep → Type 0 = λ s. IsStep now values rests s (left_at Ready position counts place None updates) (said_write update) in
     let Q : Option ValueUpdate → Type 0 = λ u. IsStep now values rests (write_step place (u ∷ updates) (tasks_of counts rest)) (left_at Ready position counts place None updates) (said_write u) in
     subst P (sym e) (elim update as Q [ None ↦ record { activity = here; says = refl } | Some u ↦ record { activity = here; says = refl } ])
@@ -82,7 +82,7 @@ pub step-append : (now : ℕ) (values : List LogicValue) (rests : List (List Par
     IsStep now values rests step (left_at Ready position counts place (Some delay) updates) (said_append (now + delay) update)
 step-append now values rests position rest counts place delay update updates step h e =
     let here : activity_at rests (left_at Ready position counts place (Some delay) updates) ≡ activities.Ready (appends_left place delay updates (tasks_of counts rest)) [] =
-        ap (λ r. activities.Ready (appends_left place delay updates (tasks_of counts r)) []) (rest-is rests position rest h) in
+    ap (λ r. activities.Ready (appends_left place delay updates (tasks_of counts r)) []) (rest-is rests position rest h) in
     let P : ProcessStep → Type 0 = λ s. IsStep now values rests s (left_at Ready position counts place (Some delay) updates) (said_append (now + delay) update) in
     let Q : Option ValueUpdate → Type 0 = λ u. IsStep now values rests (append_step place delay (u ∷ updates) (tasks_of counts rest)) (left_at Ready position counts place (Some delay) updates) (said_append (now + delay) u) in
     subst P (sym e) (elim update as Q [ None ↦ record { activity = here; says = refl } | Some u ↦ record { activity = here; says = refl } ])
@@ -96,8 +96,8 @@ step-delay now values rests position rest counts place line delay updates step h
     let P : ProcessStep → Type 0 = λ s. IsStep now values rests s (left_at (stage_after now delay) position counts place None updates) (said_delay now delay) in
     let Q : ℕ → Type 0 = λ d. IsStep now values rests (goes_on line (after_delay now d (writes_left place updates (tasks_of counts rest)))) (left_at (stage_after now d) position counts place None updates) (said_delay now d) in
     subst P (sym e) (elim delay as Q [
-      zero ↦ record { activity = ap (λ r. activities.Postponed (writes_left place updates (tasks_of counts r))) (rest-is rests position rest h); says = refl }
-    | suc d ↦ record { activity = ap (λ r. activities.Asleep (now + suc d) (writes_left place updates (tasks_of counts r))) (rest-is rests position rest h); says = refl }
+      | zero ↦ record { activity = ap (λ r. activities.Postponed (writes_left place updates (tasks_of counts r))) (rest-is rests position rest h); says = refl }
+      | suc d ↦ record { activity = ap (λ r. activities.Asleep (now + suc d) (writes_left place updates (tasks_of counts r))) (rest-is rests position rest h); says = refl }
     ])
 
 -- Branches
@@ -114,27 +114,27 @@ pub step-if : (process : FlatProcess) (now : ℕ) (values : List LogicValue) (re
     (place : SourcePlace) (condition : Expression) (first second : Statement) (after : List Part) (inner other : ℕ) (value : LogicValue) →
     StandsAt rests inner (opened_parts first after) → StandsAt rests other (opened_parts second after) → read_expression condition operands ≡ Has value left →
     IsStep now values rests (process_step process now (tasks_of counts (Runs (If place condition first second) ∷ after)) operands)
-      (ready_at (if is_true value then inner else other) [] counts old_place delay) SaysInner
+    (ready_at (if is_true value then inner else other) [] counts old_place delay) SaysInner
 step-if process now values rests operands left counts old_place delay place condition first second after inner other value h k has =
     step-inner now values rests (if is_true value then inner else other) (opened_parts (either_statement (is_true value) first second) after) counts old_place delay place.line _
     (either-stands rests (is_true value) first second inner other after h k)
     (ap (λ pr. reads_or place.line (Run (If place condition first second) ∷ tasks_of counts after) operands pr
-        (λ v. turns_to place.line (opened (either_statement (is_true v) first second) (tasks_of counts after)))) has
-     ∙ ap (turns_to place.line) (opened-tasks counts (either_statement (is_true value) first second) after))
+    (λ v. turns_to place.line (opened (either_statement (is_true v) first second) (tasks_of counts after)))) has
+    ∙ ap (turns_to place.line) (opened-tasks counts (either_statement (is_true value) first second) after))
 
 -- a loop that decides: its body stands before the loop
 pub step-while : (process : FlatProcess) (now : ℕ) (values : List LogicValue) (rests : List (List Part)) (operands left : List LogicValue) (counts : List ℕ) (old_place : SourcePlace) (delay : Option ℕ)
     (place : SourcePlace) (condition : Expression) (body : Statement) (after : List Part) (inner next : ℕ) (value : LogicValue) →
     StandsAt rests inner (opened_parts body (Runs (While place condition body) ∷ after)) → StandsAt rests next after → read_expression condition operands ≡ Has value left →
     IsStep now values rests (process_step process now (tasks_of counts (Runs (While place condition body) ∷ after)) operands)
-      (ready_at (if is_true value then inner else next) [] counts old_place delay) SaysInner
+    (ready_at (if is_true value then inner else next) [] counts old_place delay) SaysInner
 step-while process now values rests operands left counts old_place delay place condition body after inner next value h k has =
     let again : Statement = Block (more_statements body (more_statements (While place condition body) no_statements)) in
     step-inner now values rests (if is_true value then inner else next) (opened_parts (either_statement (is_true value) again Null) after) counts old_place delay place.line _
     (either-stands rests (is_true value) again Null inner next after h k)
     (ap (λ pr. reads_or place.line (Run (While place condition body) ∷ tasks_of counts after) operands pr
-        (λ v. turns_to place.line (opened (either_statement (is_true v) again Null) (tasks_of counts after)))) has
-     ∙ ap (turns_to place.line) (opened-tasks counts (either_statement (is_true value) again Null) after))
+    (λ v. turns_to place.line (opened (either_statement (is_true v) again Null) (tasks_of counts after)))) has
+    ∙ ap (turns_to place.line) (opened-tasks counts (either_statement (is_true value) again Null) after))
 
 -- a case that has chosen a statement
 pub step-case : (process : FlatProcess) (now : ℕ) (values : List LogicValue) (rests : List (List Part)) (operands left : List LogicValue) (counts : List ℕ) (old_place : SourcePlace) (delay : Option ℕ)
@@ -144,7 +144,7 @@ pub step-case : (process : FlatProcess) (now : ℕ) (values : List LogicValue) (
 step-case process now values rests operands left counts old_place delay place kind value items default chosen after position h has =
     step-inner now values rests position (opened_parts chosen after) counts old_place delay place.line _ h
     (ap (λ pr. reads_or place.line (Run (Case place kind value items default) ∷ tasks_of counts after) operands pr (λ s. turns_to place.line (opened s (tasks_of counts after)))) has
-     ∙ ap (turns_to place.line) (opened-tasks counts chosen after))
+    ∙ ap (turns_to place.line) (opened-tasks counts chosen after))
 
 -- Loops
 
@@ -160,15 +160,15 @@ pub step-repeat : (process : FlatProcess) (now : ℕ) (values : List LogicValue)
     (place : SourcePlace) (count : Expression) (body : Statement) (after : List Part) (number inner : ℕ) (value : LogicValue) → number < length counts → NumbersFall number after →
     StandsAt rests inner (TurnsLeft number place body ∷ after) → read_expression count operands ≡ Has value left →
     IsStep now values rests (process_step process now (tasks_of counts (Runs (Repeat place count body) ∷ after)) operands)
-      (ready_at inner [] (set counts number (turns_of (natural_number (sign_of count) value))) old_place delay) SaysInner
+    (ready_at inner [] (set counts number (turns_of (natural_number (sign_of count) value))) old_place delay) SaysInner
 step-repeat process now values rests operands left counts old_place delay place count body after number inner value low falls h has =
     let turns = turns_of (natural_number (sign_of count) value) in
     let fixed : get_or (set counts number turns) number 0 ≡ turns = rw get_or-set_same refl in
     step-inner now values rests inner _ (set counts number turns) old_place delay place.line _ h
     (ap (λ pr. reads_or place.line (Run (Repeat place count body) ∷ tasks_of counts after) operands pr
-        (λ v. turns_to place.line (activities.Turns place (turns_of (natural_number (sign_of count) v)) body ∷ tasks_of counts after))) has
-     ∙ ap (λ n. turns_to place.line (activities.Turns place n body ∷ tasks_of counts after)) (sym fixed)
-     ∙ ap (λ tasks. turns_to place.line (activities.Turns place (get_or (set counts number turns) number 0) body ∷ tasks)) (sym (tasks_of-set counts number turns after falls)))
+    (λ v. turns_to place.line (activities.Turns place (turns_of (natural_number (sign_of count) v)) body ∷ tasks_of counts after))) has
+    ∙ ap (λ n. turns_to place.line (activities.Turns place n body ∷ tasks_of counts after)) (sym fixed)
+    ∙ ap (λ tasks. turns_to place.line (activities.Turns place (get_or (set counts number turns) number 0) body ∷ tasks)) (sym (tasks_of-set counts number turns after falls)))
 
 -- a turn of a repeat
 pub step-turn : (process : FlatProcess) (now : ℕ) (values : List LogicValue) (rests : List (List Part)) (operands : List LogicValue) (counts : List ℕ) (old_place : SourcePlace) (delay : Option ℕ)
@@ -179,9 +179,9 @@ step-turn process now values rests operands counts old_place delay place body af
     let fixed : get_or (set counts number count) number 0 ≡ count = rw get_or-set_same refl in
     step-inner now values rests inner _ (set counts number count) old_place delay place.line _ h
     (ap (λ n. turns_step place n body (tasks_of counts after)) more
-     ∙ ap (λ n. turns_to place.line (opened body (activities.Turns place n body ∷ tasks_of counts after))) (sym fixed)
-     ∙ ap (λ tasks. turns_to place.line (opened body (activities.Turns place (get_or (set counts number count) number 0) body ∷ tasks))) (sym (tasks_of-set counts number count after falls))
-     ∙ ap (turns_to place.line) (opened-tasks (set counts number count) body (TurnsLeft number place body ∷ after)))
+    ∙ ap (λ n. turns_to place.line (opened body (activities.Turns place n body ∷ tasks_of counts after))) (sym fixed)
+    ∙ ap (λ tasks. turns_to place.line (opened body (activities.Turns place (get_or (set counts number count) number 0) body ∷ tasks))) (sym (tasks_of-set counts number count after falls))
+    ∙ ap (turns_to place.line) (opened-tasks (set counts number count) body (TurnsLeft number place body ∷ after)))
 
 -- the end of a repeat
 pub step-turns_end : (process : FlatProcess) (now : ℕ) (values : List LogicValue) (rests : List (List Part)) (operands : List LogicValue) (counts : List ℕ) (old_place : SourcePlace) (delay : Option ℕ)
@@ -227,8 +227,8 @@ pub step-wait_over : (process : FlatProcess) (now : ℕ) (values : List LogicVal
 step-wait_over process now values rests operands left counts old_place delay place condition body after inner value h has holds =
     step-inner now values rests inner _ counts old_place delay place.line _ h
     (ap (λ pr. reads_or place.line (Run (Wait place condition body) ∷ tasks_of counts after) operands pr (λ v. wait_step place condition body (tasks_of counts after) (is_true v))) has
-     ∙ ap (wait_step place condition body (tasks_of counts after)) holds
-     ∙ ap (turns_to place.line) (opened-tasks counts body after))
+    ∙ ap (wait_step place condition body (tasks_of counts after)) holds
+    ∙ ap (turns_to place.line) (opened-tasks counts body after))
 
 -- a wait whose condition isn't true begins, and tests again after it
 pub step-wait : (process : FlatProcess) (now : ℕ) (values : List LogicValue) (rests : List (List Part)) (operands left : List LogicValue) (counts : List ℕ) (old_place : SourcePlace) (delay : Option ℕ)
@@ -237,7 +237,7 @@ pub step-wait : (process : FlatProcess) (now : ℕ) (values : List LogicValue) (
     IsStep now values rests (process_step process now (tasks_of counts (Runs (Wait place condition body) ∷ after)) operands) (left_at (Waiting at) at counts old_place delay []) SaysAwait
 step-wait process now values rests operands left counts old_place delay place condition body after at value h has fails =
     let known = ap (λ pr. reads_or place.line (Run (Wait place condition body) ∷ tasks_of counts after) operands pr (λ v. wait_step place condition body (tasks_of counts after) (is_true v))) has
-        ∙ ap (wait_step place condition body (tasks_of counts after)) fails in
+    ∙ ap (wait_step place condition body (tasks_of counts after)) fails in
     let P : ProcessStep → Type 0 = λ s. IsStep now values rests s (left_at (Waiting at) at counts old_place delay []) SaysAwait in
     subst P (sym known) (record { activity = activity-waiting rests at at _ (Runs (Wait place condition body) ∷ after) counts old_place delay h h; says = refl })
 
@@ -257,7 +257,7 @@ pub step-blocking_delay : (process : FlatProcess) (now : ℕ) (values : List Log
     (place : SourcePlace) (targets : List Target) (delay : ℕ) (value : Expression) (after : List Part) (next : ℕ) (updates : List (Option ValueUpdate)) →
     StandsAt rests next after → read_assignment place.line targets value operands ≡ Has updates left →
     IsStep now values rests (process_step process now (tasks_of counts (Runs (Blocking place targets (Some delay) value) ∷ after)) operands)
-      (left_at (stage_after now delay) next counts place None updates) (said_delay now delay)
+    (left_at (stage_after now delay) next counts place None updates) (said_delay now delay)
 step-blocking_delay process now values rests operands left counts place targets delay value after next updates h has =
     step-delay now values rests next after counts place place.line delay updates _ h
     (ap (λ pr. reads_or place.line (Run (Blocking place targets (Some delay) value) ∷ tasks_of counts after) operands pr (λ us. assignment_step place now (Some delay) us (tasks_of counts after))) has)
@@ -267,7 +267,7 @@ pub step-nonblocking : (process : FlatProcess) (now : ℕ) (values : List LogicV
     (place : SourcePlace) (targets : List Target) (delay : ℕ) (value : Expression) (after : List Part) (next : ℕ) (update : Option ValueUpdate) (updates : List (Option ValueUpdate)) →
     StandsAt rests next after → read_assignment place.line targets value operands ≡ Has (update ∷ updates) left →
     IsStep now values rests (process_step process now (tasks_of counts (Runs (Nonblocking place targets delay value) ∷ after)) operands)
-      (left_at Ready next counts place (Some delay) updates) (said_append (now + delay) update)
+    (left_at Ready next counts place (Some delay) updates) (said_append (now + delay) update)
 step-nonblocking process now values rests operands left counts place targets delay value after next update updates h has =
     step-append now values rests next after counts place delay update updates _ h
     (ap (λ pr. reads_or place.line (Run (Nonblocking place targets delay value) ∷ tasks_of counts after) operands pr (λ us. append_step place delay us (tasks_of counts after))) has)
@@ -278,11 +278,11 @@ pub step-for : (process : FlatProcess) (now : ℕ) (values : List LogicValue) (r
     (update : Option ValueUpdate) (updates : List (Option ValueUpdate)) →
     StandsAt rests inner (Runs (loop_of place condition next_targets next body) ∷ after) → read_assignment place.line first_targets first operands ≡ Has (update ∷ updates) left →
     IsStep now values rests (process_step process now (tasks_of counts (Runs (For place first_targets first condition next_targets next body) ∷ after)) operands)
-      (left_at Ready inner counts place None updates) (said_write update)
+    (left_at Ready inner counts place None updates) (said_write update)
 step-for process now values rests operands left counts place first_targets first condition next_targets next body after inner update updates h has =
     step-write now values rests inner _ counts place update updates _ h
     (ap (λ pr. reads_or place.line (Run (For place first_targets first condition next_targets next body) ∷ tasks_of counts after) operands pr
-        (λ us. write_step place us (Run (loop_of place condition next_targets next body) ∷ tasks_of counts after))) has)
+    (λ us. write_step place us (Run (loop_of place condition next_targets next body) ∷ tasks_of counts after))) has)
 
 -- Ends
 
