@@ -9,8 +9,8 @@ use Rattle.v_design.specs.Writers.{WriteVariables}
 use Rattle.v_design.specs.WellFormed.{IsPlan, KeepsRules}
 use Rattle.v_design.specs.Sites.{AreOneClass}
 use Rattle.v_design.specs.Assignments.{AreSettled, value_at, node_outputs, with_outputs}
-use Rattle.v_design.specs.States.{is_process_event, State, Event, Step, LaneStep, Evaluation, NetUpdate, TurnKind, start, possible, after, turned, has_work, some_in}
-use Rattle.v_design.specs.Runs.{Move, Turns, Leads, IsLegal, IsPhase, all_possible, happened, FirstSlot, first_run, slot_end, is_hyper, ends_by}
+use Rattle.v_design.specs.States.{is_process_event, State, Event, Step, LaneStep, Evaluation, NetUpdate, TurnKind, start, possible, after, turned, has_work, some_in, is_quiescent, turn_of}
+use Rattle.v_design.specs.Runs.{Move, Turns, Leads, IsLegal, IsPhase, all_possible, happened, turn_in_slot, all_made, counted_steps, most_steps, first_moves, FirstSlot, first_run, slot_end, is_hyper, ends_by}
 use Rattle.v_design.specs.Paths.{Clean, net_class, paths}
 use Rattle.v_design.specs.Accesses.{ObjectAccess, accesses_of}
 use Rattle.v_design.specs.Logs.{LoggedEvent, LoggedPhase, PhaseAccess, phase_changes, counted_accesses, log_accesses, orders, conflict}
@@ -263,6 +263,12 @@ RunsEndAlike =
     Leads machine time begins moves final → IsTrue (ends_by time final) →
     AllHold (λ (phase : Phase). HasNoConflict machine phase.begins phase.events) (cut machine None begins [] begins moves) →
     Leads machine time begins other other_final → IsTrue (ends_by time other_final) → other_final ≡ final
+
+-- a slot of the first order that isn't hyperactive goes to its end: no event is possible then, and no turn within the slot
+abbrev pub SlotsEnd : Type 0
+SlotsEnd =
+    (machine : Machine) (begins : State) → KeepsRules machine.design → BeginsPhase machine begins → counted_steps (first_moves machine begins) ≤ most_steps →
+    IsTrue (is_quiescent (all_made machine begins (first_moves machine begins))) × (turn_in_slot (turn_of (all_made machine begins (first_moves machine begins))) ≡ None)
 
 -- where a slot of the first run is fine, every legal run of that slot ends where it does
 abbrev pub FineSlotsEndAlike : Type 0
