@@ -1,5 +1,5 @@
 -- The planes of what the operators that work bit by bit answer.
-use Rattle.std.proofs.Common.{◌≡◌, ℕ, zero, suc, ◌+◌, ◌-◌, ◌*◌, ◌^◌, ◌<◌, ◌≤◌, Bool, true, false, not, ◌&&◌, ◌||◌, List, [], ◌∷◌, map, length, refl, ap, ap₂, sym, ◌∙◌, arith}
+use Rattle.std.proofs.Common.{◌≡◌, ℕ, suc, ◌+◌, ◌-◌, ◌*◌, ◌^◌, ◌≤◌, Bool, true, false, not, ◌&&◌, ◌||◌, [], ◌∷◌, length, refl, ap, ap₂, sym, ◌∙◌, arith}
 use Rattle.std.specs.Int.Bits.{bit_and, bit_or, bit_xor}
 use Rattle.std.specs.List.{zip}
 use Rattle.four_value.specs.Bits.{is_one, is_not_zero, is_unknown, and_bit, or_bit, xor_bit, not_bit, merge_bit}

@@ -1,16 +1,16 @@
 -- The fields of values that are made of numbers, of one bit, and of parts of other values.
-use Rattle.std.proofs.Common.{◌≡◌, ℕ, zero, suc, ◌+◌, ◌-◌, ◌*◌, ◌/◌, ◌%◌, ◌^◌, ◌<◌, ◌≤◌, min, Bool, true, false, not, List, [], ◌∷◌, ◌++◌, map, length, take, drop, replicate, get_or, refl, ap, ap₂, sym, ◌∙◌, arith}
+use Rattle.std.proofs.Common.{◌≡◌, ℕ, zero, suc, ◌+◌, ◌-◌, ◌*◌, ◌/◌, ◌%◌, ◌^◌, ◌<◌, ◌≤◌, Bool, true, false, [], ◌∷◌, ◌++◌, length, drop, replicate, refl, ap, ap₂, sym, ◌∙◌, arith}
 use Rattle.std.specs.Prelude.{nat_eq}
-use Rattle.std.specs.Int.Bits.{bit_and, bit_or, bit_xor}
-use Rattle.std.proofs.lemmas.Nat.{pow_pos, mod-pow-add, and_mask, shl_whole, or_shifted, shr-shr}
-use Rattle.std.proofs.lemmas.List.{length-drop, length-append, length-take, length-replicate}
-use Rattle.four_value.specs.Bits.{is_one, is_unknown, bit_of}
+use Rattle.std.specs.Int.Bits.{bit_and, bit_or}
+use Rattle.std.proofs.lemmas.Nat.{mod-pow-add, and_mask, shl_whole, or_shifted, shr-shr}
+use Rattle.std.proofs.lemmas.List.{length-drop, length-append, length-replicate}
+use Rattle.four_value.specs.Bits.{is_unknown, bit_of}
 use Rattle.four_value.specs.Planes.{bit_in_planes, is_one_or_z, one_if, plane_of}
 use Rattle.four_value.specs.PlanesLaws.{low_digit, bit_in_planes-digits}
 use Rattle.four_value.specs.ValueLaws.{length-bits_of, length-resized}
-use Rattle.four_value.specs.Values.{LogicValue, IsWidth, bits_of, bit_at, top_bit, part_of, with_part, joined_to, resized, fill_bit}
+use Rattle.four_value.specs.Values.{LogicValue, bits_of, bit_at, top_bit, joined_to, resized}
 use Rattle.four_value.specs.declared.logic.Bit.{Bit}
-use Rattle.four_value.specs.declared.logic.Bit.TheVariants.{Zero, One, X, Z}
+use Rattle.four_value.specs.declared.logic.Bit.TheVariants.{Zero}
 use Rattle.four_value.proofs.Planes.{halved, lowest, plane_of-lt, plane_of-append, plane_of-drop, plane_of-take, plane_of-replicate}
 use Rattle.four_value.proofs.Views.{AreFields}
 

@@ -1,5 +1,5 @@
 -- What the fields of a value tell: tests, numbers, equality, labels of a case, reductions.
-use Rattle.std.proofs.Common.{◌≡◌, ℕ, zero, suc, ◌+◌, ◌-◌, ◌*◌, ◌%◌, ◌^◌, ◌<◌, ◌≤◌, Bool, true, false, not, ◌&&◌, ◌||◌, List, [], ◌∷◌, map, length, refl, ap, ap₂, sym, ◌∙◌, arith, Option, Some, None}
+use Rattle.std.proofs.Common.{◌≡◌, ℕ, zero, suc, ◌+◌, ◌-◌, ◌*◌, ◌%◌, ◌^◌, ◌≤◌, Bool, true, false, not, ◌&&◌, ◌||◌, [], ◌∷◌, map, length, refl, ap, ap₂, sym, ◌∙◌, arith, Option, Some, None}
 use Rattle.std.specs.Prelude.{nat_eq}
 use Rattle.std.specs.Int.Bits.{bit_and, bit_or, bit_xor}
 use Rattle.std.specs.Int.Count.{ones, ones_in}
@@ -9,18 +9,16 @@ use Rattle.std.proofs.lemmas.Nat.{le_or_l, le_or_r, ones_cat}
 use Rattle.four_value.specs.Bits.{is_z, is_one, is_unknown, same_bit, differ, bit_of, not_bit, known_or_x, and_bit, or_bit, xor_bit}
 use Rattle.four_value.specs.Planes.{is_one_or_z, one_if, plane_of}
 use Rattle.four_value.specs.ValueLaws.{same_value-refl, from_same_value}
-use Rattle.four_value.specs.Values.{LogicValue, some_bit, some_place, each_place, number_of, with_low_bit, equality_of, logical_equality, same_value, truth_by, truth_of, truth_bit, reduced, not_value}
+use Rattle.four_value.specs.Values.{LogicValue, some_bit, some_place, each_place, number_of, with_low_bit, logical_equality, same_value, truth_by, truth_of, truth_bit, reduced, not_value}
 use Rattle.four_value.specs.Operators.{is_ignored, label_bit_matches, label_matches}
 use Rattle.four_value.specs.declared.operator.CaseKind.{CaseKind}
 use Rattle.four_value.specs.declared.operator.CaseKind.TheVariants.{Exact, IgnoreZ, IgnoreXz}
 use Rattle.four_value.specs.declared.logic.Bit.{Bit}
 use Rattle.four_value.specs.declared.logic.Bit.TheVariants.{Zero, One, X, Z}
-use Rattle.four_value.specs.declared.logic.Truth.{Truth}
-use Rattle.four_value.specs.declared.logic.Truth.TheVariants.{True, False, Unknown}
 use Rattle.four_value.proofs.Words.{either_one}
-use Rattle.four_value.proofs.Planes.{plane_of-and, plane_of-or, plane_of-xor, plane_of-and_inverse, plane_of-same}
+use Rattle.four_value.proofs.Planes.{plane_of-and, plane_of-or, plane_of-and_inverse, plane_of-same}
 use Rattle.four_value.proofs.Views.{AreFields, bits_in_planes-plane_of}
-use Rattle.four_value.proofs.Bitwise.{every, agree, by_table, by_pair_table, plane_of-left, plane_of-right, one_plane, some_plane, differing-plane, some_unknown, length-zip_same}
+use Rattle.four_value.proofs.Bitwise.{by_table, by_pair_table, one_plane, some_plane, differing-plane, some_unknown, length-zip_same}
 
 -- A test that some bit or some place passes
 

@@ -1,12 +1,10 @@
 -- A value and its fields: the width and the two planes.
-use Rattle.std.proofs.Common.{◌≡◌, ℕ, zero, suc, ◌+◌, ◌-◌, ◌*◌, ◌/◌, ◌%◌, ◌^◌, ◌<◌, ◌≤◌, Bool, true, false, List, [], ◌∷◌, length, refl, ap, sym, subst, ◌∙◌, arith}
+use Rattle.std.proofs.Common.{◌≡◌, ℕ, ◌+◌, ◌*◌, ◌%◌, ◌^◌, ◌<◌, ◌≤◌, Bool, true, false, [], ◌∷◌, length, refl, ap, sym, ◌∙◌}
 use Rattle.std.specs.Prelude.{nat_eq}
 use Rattle.four_value.specs.Bits.{is_unknown}
-use Rattle.four_value.specs.Planes.{bit_in_planes, bits_in_planes, is_one_or_z, one_if, plane_of}
+use Rattle.four_value.specs.Planes.{bits_in_planes, is_one_or_z, one_if, plane_of}
 use Rattle.four_value.specs.PlanesLaws.{bit_in_planes-digits, length-bits_in_planes, plane_of-ones, plane_of-unknowns}
 use Rattle.four_value.specs.Values.{LogicValue, IsWidth}
-use Rattle.four_value.specs.declared.logic.Bit.{Bit}
-use Rattle.four_value.specs.declared.logic.Bit.TheVariants.{Zero, One, X, Z}
 use Rattle.four_value.specs.declared.value.Vec4.TheInside.{Inside}
 use Rattle.four_value.proofs.Planes.{halved, lowest, plane_of-lt}
 

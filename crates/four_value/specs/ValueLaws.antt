@@ -1,8 +1,8 @@
 -- Widths of what the operators answer, and that values which are the same by all four values are one (IEEE 1364-2001, clause 4.1).
-use Rattle.std.proofs.Common.{◌≡◌, ℕ, zero, suc, ◌+◌, ◌-◌, ◌/◌, ◌≤◌, Bool, true, false, ◌&&◌, List, [], ◌∷◌, ◌++◌, length, take, replicate, refl, ap, ap₂, sym, ◌∙◌, arith}
+use Rattle.std.proofs.Common.{◌≡◌, ℕ, zero, suc, ◌+◌, ◌/◌, Bool, true, false, ◌&&◌, [], ◌∷◌, ◌++◌, length, replicate, refl, ap, ap₂, ◌∙◌, arith}
 use Rattle.std.proofs.lemmas.List.{length-append, length-take, length-replicate, take-append-le, take_all}
 use Rattle.four_value.specs.Bits.{same_bit}
-use Rattle.four_value.specs.Values.{LogicValue, bit_by_bit, bits_of, fill_bit, resized, bit_at, part_of, with_part, joined_to, same_value}
+use Rattle.four_value.specs.Values.{LogicValue, bit_by_bit, bits_of, fill_bit, resized, part_of, with_part, joined_to, same_value}
 use Rattle.four_value.specs.declared.logic.Bit.{Bit}
 use Rattle.four_value.specs.declared.logic.Bit.TheVariants.{Zero, One, X, Z}
 

@@ -21,7 +21,7 @@ use Rattle.line_grade.specs.declared.grade.Difference.{Difference}
 use Rattle.line_grade.specs.declared.grade.Difference.TheVariants.{Nothing, Soft, Hard}
 use Rattle.line_grade.specs.Difference.{difference, possible_after}
 use Rattle.line_grade.specs.Headline.{holds_in_every_order}
-use Rattle.line_grade.specs.Grade.{start_of, fault_of, Shows, AreSamples, EndsAfter, IsGrade, AreFindings}
+use Rattle.line_grade.specs.Grade.{start_of, fault_of, Shows, AreSamples, EndsAfter, IsGrade, AreFindings, HasLegalRuns}
 
 -- a run that stands where the first run leads, and may be run on to any time from this strobe of the plan on
 pub record Follows (line : Line) (plan : Plan) (fault : Fault) (run : Running) (index : ℕ) : Type 0 where
@@ -169,8 +169,12 @@ IsGrade-end line plan held possible values so shows =
     ends-at (Some t) e = (rw (so.no_hard, e) refl, so.count, (values, shows))
     ends-at None e = (rw (so.no_hard, e) refl, so.count, (values, shows))
 
-pub AreFindings-push : (line : Line) (plan : Plan) (place : ℕ) (faults : List HeldBit) (findings : List Finding) (held : HeldBit) (finding : Finding) → IsPlanOver (length line.names) plan → AreFindings line plan place faults findings → finding.fault.0 ≡ place + length faults → IsGrade line plan held finding.end → AreFindings line plan place (faults ++ held ∷ []) (findings ++ finding ∷ [])
-AreFindings-push line plan place [] [] held finding names all at grade = (omega arith, grade, holds_in_every_order line plan held finding.end names grade, tt)
-AreFindings-push line plan place [] (f ∷ fs) held finding names all at grade = absurd all
-AreFindings-push line plan place (h ∷ hs) [] held finding names all at grade = absurd all
-AreFindings-push line plan place (h ∷ hs) (f ∷ fs) held finding names all at grade = (all.0, all.1, all.2, AreFindings-push line plan (place + 1) hs fs held finding names all.3 (omega arith) grade)
+pub AreFindings-push : (line : Line) (plan : Plan) (place : ℕ) (faults : List HeldBit) (findings : List Finding) (held : HeldBit) (finding : Finding) → IsPlanOver (length line.names) plan → AreFindings line plan place faults findings → finding.fault.0 ≡ place + length faults → IsGrade line plan held finding.end → HasLegalRuns line plan held finding.end → AreFindings line plan place (faults ++ held ∷ []) (findings ++ finding ∷ [])
+AreFindings-push line plan place [] [] held finding names all at grade runs = (omega arith, grade, holds_in_every_order line plan held finding.end names grade, runs, tt)
+AreFindings-push line plan place [] (f ∷ fs) held finding names all at grade runs = absurd all
+AreFindings-push line plan place (h ∷ hs) [] held finding names all at grade runs = absurd all
+AreFindings-push line plan place (h ∷ hs) (f ∷ fs) held finding names all at grade runs = (all.0, all.1, all.2, all.3, AreFindings-push line plan (place + 1) hs fs held finding names all.4 (omega arith) grade runs)
+
+-- the first run from the start shows its values
+pub Shows-start : (line : Line) (fault : Fault) (run : Running) (t : ℕ) → RunsTo (one_process fault) (start_of line fault) run.state t → Shows line fault t run.state.values
+Shows-start line fault run t runs = record { state = run.state; stands = record { reached = runs.leads; in_time = runs.in_time (omega arith); settled = runs.settled }; values_are = refl }

@@ -5,6 +5,7 @@ use Rattle.vf_base.specs.declared.finding.End.{End}
 use Rattle.vf_base.specs.declared.finding.End.TheVariants.{Detected, Possible, Undetected, Race, Hyper}
 use Rattle.vf_base.specs.declared.finding.Finding.{Finding}
 use Rattle.v_line.specs.declared.line.Line.{Line}
+use Rattle.line_run.specs.LegalRun.{HasRun}
 use Rattle.line_run.specs.Events.{Move, IsLegal, state_at, StandsAt, LoopsAt}
 use Rattle.line_run.specs.OneProcess.{Event, Fault, State, one_process, start}
 use Rattle.plan_line.specs.declared.plan.Plan.{Plan}
@@ -65,9 +66,17 @@ HoldsInEveryOrder line plan held Undetected = InEveryOrder line plan held plan.e
 HoldsInEveryOrder line plan held (Race side pair) = Unit {0}
 HoldsInEveryOrder line plan held (Hyper time) = Unit {0}
 
+-- both machines have legal runs to the time that the verdict speaks of: the strobe of a detection, else the plan's end
+abbrev pub HasLegalRuns : Line → Plan → HeldBit → End → Type 0
+HasLegalRuns line plan held (Detected time) = HasRun (one_process None) time (start_of line None) × HasRun (one_process (fault_of held)) time (start_of line (fault_of held))
+HasLegalRuns line plan held (Possible time) = HasRun (one_process None) plan.end (start_of line None) × HasRun (one_process (fault_of held)) plan.end (start_of line (fault_of held))
+HasLegalRuns line plan held Undetected = HasRun (one_process None) plan.end (start_of line None) × HasRun (one_process (fault_of held)) plan.end (start_of line (fault_of held))
+HasLegalRuns line plan held (Race side pair) = Unit {0}
+HasLegalRuns line plan held (Hyper time) = Unit {0}
+
 -- the findings on the plan's faults, from this place of its list on, in its order
 abbrev pub AreFindings : Line → Plan → ℕ → List HeldBit → List Finding → Type 0
 AreFindings line plan place [] [] = Unit {0}
 AreFindings line plan place [] (finding ∷ findings) = ⊥
 AreFindings line plan place (held ∷ faults) [] = ⊥
-AreFindings line plan place (held ∷ faults) (finding ∷ findings) = (finding.fault.0 ≡ place) × IsGrade line plan held finding.end × HoldsInEveryOrder line plan held finding.end × AreFindings line plan (place + 1) faults findings
+AreFindings line plan place (held ∷ faults) (finding ∷ findings) = (finding.fault.0 ≡ place) × IsGrade line plan held finding.end × HoldsInEveryOrder line plan held finding.end × HasLegalRuns line plan held finding.end × AreFindings line plan (place + 1) faults findings

@@ -13,7 +13,8 @@ use Rattle.plan_line.specs.declared.plan.Plan.{Plan}
 use Rattle.plan_line.specs.declared.plan.HeldBit.{HeldBit}
 use Rattle.plan_line.specs.Spelled.{IsPlanOver}
 use Rattle.line_grade.specs.Verdict.{Sample, verdict}
-use Rattle.line_grade.specs.Grade.{start_of, fault_of, Shows, AreSamples, IsGrade, samples_of, InEveryOrder, HoldsInEveryOrder}
+use Rattle.line_grade.specs.Grade.{start_of, fault_of, Shows, AreSamples, IsGrade, samples_of, InEveryOrder, HoldsInEveryOrder, HasLegalRuns}
+use Rattle.line_run.specs.LegalRun.{HasRun, stands-HasRun}
 
 sample-is : (s : Sample) (t : ℕ) (g b : List Bit) → s.time ≡ t → g ≡ s.good → b ≡ s.bad → record { time = t; good = g; bad = b } ≡ s
 sample-is s t g b at good bad = let S : ℕ → List Bit → List Bit → Sample = λ (x : ℕ) (y z : List Bit). record { time = x; good = y; bad = z } in ap (λ x. S x g b) (sym at) ∙ (ap (λ y. S s.time y b) good ∙ ap (λ z. S s.time s.good z) bad)
@@ -70,3 +71,28 @@ holds_in_every_order line plan held (Possible t) names g = to-end line plan held
 holds_in_every_order line plan held Undetected names g = to-end line plan held g.samples Undetected names g.sampled g.ends.1 g.ends.0
 holds_in_every_order line plan held (Race side pair) names g = tt
 holds_in_every_order line plan held (Hyper t) names g = tt
+
+-- the first runs show that there are legal runs to each strobe that was sampled
+runs-at : (line : Line) (held : HeldBit) (strobes : List ℕ) (samples : List Sample) (k t : ℕ) → AreSamples line held strobes samples → k < length strobes → get_or strobes k 0 ≡ t → HasRun (one_process None) t (start_of line None) × HasRun (one_process (fault_of held)) t (start_of line (fault_of held))
+runs-at line held [] samples k t are lt at = absurd (omega arith)
+runs-at line held (u ∷ us) [] k t are lt at = absurd are
+runs-at line held (u ∷ us) (s ∷ ss) zero t are lt at =
+    let P : ℕ → Type 0 = λ (x : ℕ). HasRun (one_process None) x (start_of line None) × HasRun (one_process (fault_of held)) x (start_of line (fault_of held)) in
+    let here : P u = (stands-HasRun (one_process None) u (start_of line None) are.1.state are.1.stands, stands-HasRun (one_process (fault_of held)) u (start_of line (fault_of held)) are.2.state are.2.stands) in
+    subst P at here
+runs-at line held (u ∷ us) (s ∷ ss) (suc k) t are lt at = runs-at line held us ss k t are.3 (omega arith) at
+
+-- both machines have legal runs, where the good one comes to the plan's end
+pub legal_runs : (line : Line) (plan : Plan) (held : HeldBit) (end : End) (values : List Bit) → Shows line None plan.end values → IsGrade line plan held end → HasLegalRuns line plan held end
+legal_runs line plan held (Detected t) values good g =
+    let own = g.ends.1 in
+    let size : length g.samples ≡ own.0 + 1 = own.1 in
+    let below : own.0 < length plan.strobes = own.2 in
+    let strobes : List ℕ = take (length g.samples) plan.strobes in
+    let long : length strobes ≡ length g.samples = length-take-le (length g.samples) plan.strobes (omega arith) in
+    let at : get_or strobes own.0 0 ≡ t = get_or-take (length g.samples) plan.strobes own.0 0 (omega arith) ∙ own.3 in
+    runs-at line held strobes g.samples own.0 t g.sampled (omega arith) at
+legal_runs line plan held (Possible t) values good g = (stands-HasRun (one_process None) plan.end (start_of line None) good.state good.stands, (let bad = g.ends.2.1 in stands-HasRun (one_process (fault_of held)) plan.end (start_of line (fault_of held)) bad.state bad.stands))
+legal_runs line plan held Undetected values good g = (stands-HasRun (one_process None) plan.end (start_of line None) good.state good.stands, (let bad = g.ends.2.1 in stands-HasRun (one_process (fault_of held)) plan.end (start_of line (fault_of held)) bad.state bad.stands))
+legal_runs line plan held (Race side pair) values good g = tt
+legal_runs line plan held (Hyper t) values good g = tt

@@ -10,6 +10,3 @@ mod run;
 mod step;
 
 pub use run::LineRun;
-
-
-

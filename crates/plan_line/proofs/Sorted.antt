@@ -98,6 +98,7 @@ Keeps-same sorted kept last index t rises below at never h =
   where
     only : (t time : ℕ) → Contains (t ∷ []) time → time ≡ t
     only t time c = let z : c.0 ≡ 0 = omega arith in let e : get_or (t ∷ []) c.0 time ≡ time = c.2 in sym (ap (λ n. get_or (t ∷ []) n time) (sym z) ∙ e)
+
     last-more : (last : Option ℕ) → IfSome last (λ time. Contains (take index sorted) time) → IfSome last (λ time. Contains (take index sorted ++ t ∷ []) time)
     last-more None f = tt
     last-more (Some l) f = Contains-append_left (take index sorted) (t ∷ []) l f

@@ -31,7 +31,13 @@ fn object_of(names: &NameTable<'_>, name: &[u8]) -> Option<ObjectId>
 }
 
 /// Adds so many times in steps, none past `to`.
-fn push_row(strobes: &mut Vec<u64>, from: u64, step: u64, count: u64, to: u64) -> Result<(), NoMemory>
+fn push_row(
+    strobes: &mut Vec<u64>,
+    from: u64,
+    step: u64,
+    count: u64,
+    to: u64,
+) -> Result<(), NoMemory>
     requires { (k : ℕ) → k < count → from + step * k ≤ to }
     ensures { OnOk result (strobes.new.items ≡ strobes.old.items ++ row from step count) }
 {

@@ -51,13 +51,7 @@ fn end_within(time: Option<u64>) -> Option<u64>
     ensures { result ≡ end_within time }
 {
     match time {
-        Some(time) => {
-            if time <= MAX_END {
-                Some(time)
-            } else {
-                None
-            }
-        }
+        Some(time) => { if time <= MAX_END { Some(time) } else { None } }
         None => None,
     }
 }

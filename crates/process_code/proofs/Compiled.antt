@@ -147,7 +147,7 @@ pub compiled-body : (old placed grown new : Builder) (head : Head) (s body : Sta
 compiled-body old placed grown new head s body next own inner ways m p k t head_is opened inner_is leads =
     compiled-own old placed grown new head s next own ways m p k.grows k.in_step t head_is opened
     (λ rest h. leads rest (at-way (rests_in new) ways.inner inner _ inner_is
-      (turned-keeps grown new _ ways t inner _ (k.opens rest (placed-keeps old placed head next own p.0 next rest h)))))
+    (turned-keeps grown new _ ways t inner _ (k.opens rest (placed-keeps old placed head next own p.0 next rest h)))))
 
 -- a statement whose body stands before the statement itself
 pub compiled-loop : (old placed grown new : Builder) (head : Head) (s body : Statement) (next own inner : ℕ) (ways : Ways) →
@@ -158,7 +158,7 @@ pub compiled-loop : (old placed grown new : Builder) (head : Head) (s body : Sta
 compiled-loop old placed grown new head s body next own inner ways m p k t head_is opened inner_is leads =
     compiled-own old placed grown new head s next own ways m p k.grows k.in_step t head_is opened
     (λ rest h. leads rest (at-way (rests_in new) ways.inner inner _ inner_is
-      (turned-keeps grown new _ ways t inner _ (k.opens _ (placed-stands old placed head next own rest p.0 h ∙ ap (λ part. Some (part ∷ rest)) head_is)))))
+    (turned-keeps grown new _ ways t inner _ (k.opens _ (placed-stands old placed head next own rest p.0 h ∙ ap (λ part. Some (part ∷ rest)) head_is)))))
 
 -- a statement with two branches
 pub compiled-branches : (old placed one grown new : Builder) (head : Head) (s first second : Statement) (next own inner other : ℕ) (ways : Ways) →
@@ -169,17 +169,17 @@ pub compiled-branches : (old placed one grown new : Builder) (head : Head) (s fi
 compiled-branches old placed one grown new head s first second next own inner other ways m p j k t head_is opened inner_is other_is leads =
     compiled-own old placed grown new head s next own ways m p (grows-trans placed one grown p.1.ways j.grows k.grows) k.in_step t head_is opened
     (λ rest h.
-      let here = placed-keeps old placed head next own p.0 next rest h in
-      leads rest
-      (at-way (rests_in new) ways.inner inner _ inner_is (turned-keeps grown new _ ways t inner _ (grows-keeps one grown k.grows inner _ (j.opens rest here))))
-      (at-way (rests_in new) ways.other other _ other_is (turned-keeps grown new _ ways t other _ (k.opens rest (grows-keeps placed one j.grows next rest here)))))
+    let here = placed-keeps old placed head next own p.0 next rest h in
+    leads rest
+    (at-way (rests_in new) ways.inner inner _ inner_is (turned-keeps grown new _ ways t inner _ (grows-keeps one grown k.grows inner _ (j.opens rest here))))
+    (at-way (rests_in new) ways.other other _ other_is (turned-keeps grown new _ ways t other _ (k.opens rest (grows-keeps placed one j.grows next rest here)))))
 
 -- the ways of a spot that is placed stay open while others are added behind it
 pub turned-self : (old placed grown : Builder) (head : Head) (next own : ℕ) (p : Places old placed head next own) → length old.spots.items ≡ length old.ways.items → Grows placed grown →
     Turned grown grown (length old.spots.items) p.way
 turned-self old placed grown head next own p in_step g =
     let there : slice_get placed.ways.items (length old.spots.items) ≡ Some p.way =
-        ap (λ xs. slice_get xs (length old.spots.items)) p.ways ∙ ap (slice_get (old.ways.items ++ (p.way ∷ []))) in_step ∙ slice_get-last old.ways.items p.way in
+    ap (λ xs. slice_get xs (length old.spots.items)) p.ways ∙ ap (slice_get (old.ways.items ++ (p.way ∷ []))) in_step ∙ slice_get-last old.ways.items p.way in
     record {
       spots = refl;
       set = g.kept (length old.spots.items) (omega (arith, placed-length old placed head next own p)) ∙ there;
@@ -221,12 +221,13 @@ pub compiled-case : (old placed one grown new : Builder) (head : Head) (place : 
 compiled-case old placed one grown new head place kind value items default next own other positions ways m p j k t head_is items_are other_is =
     compiled-own old placed grown new head (Case place kind value items default) next own ways m p (grows-trans placed one grown p.1.ways j.grows k.grows) k.in_step t head_is (λ rest. refl)
     (λ rest h.
-      let here = placed-keeps old placed head next own p.0 next rest h in
-      let P : List ℕ → Type 0 = λ list. ItemsLead (rests_in new) list items rest in
-      (subst P (sym items_are)
-        (items_lead-more (rests_in grown) (rests_in new) positions items rest (turned-keeps grown new _ ways t)
+    let here = placed-keeps old placed head next own p.0 next rest h in
+    let P : List ℕ → Type 0 = λ list. ItemsLead (rests_in new) list items rest in (
+      subst P (sym items_are)
+          (items_lead-more (rests_in grown) (rests_in new) positions items rest (turned-keeps grown new _ ways t)
           (items_lead-more (rests_in one) (rests_in grown) positions items rest (grows-keeps one grown k.grows) (j.lead rest here))),
-       at-way (rests_in new) ways.other other _ other_is (turned-keeps grown new _ ways t other _ (k.opens rest (grows-keeps placed one j.grows next rest here)))))
+      at-way (rests_in new) ways.other other _ other_is (turned-keeps grown new _ ways t other _ (k.opens rest (grows-keeps placed one j.grows next rest here))),
+    ))
 
 -- a builder that counts one more repeat
 pub counts-more : (old new : Builder) → new.spots.items ≡ old.spots.items → new.ways.items ≡ old.ways.items → old.repeats ≤ new.repeats → length old.spots.items ≡ length old.ways.items → Grows old new
@@ -273,22 +274,23 @@ compiled-repeat old placed counted turned grown led new head turns_head place co
     let led_in = turned-in_step grown led (turns - 1) turns_ways k.in_step t in
     let more_led : old.repeats < led.repeats = omega (arith, more, q.0.repeats, k.grows.repeats, t.repeats) in
     let turns_lead : (rest : List Part) → StandsAt (rests_in counted) next rest → StandsAt (rests_in led) turns_ways.inner (opened_parts body (TurnsLeft old.repeats place body ∷ rest)) =
-        λ rest h. at-way (rests_in led) turns_ways.inner inner _ inner_is
-          (turned-keeps grown led _ turns_ways t inner _ (k.opens _ (placed-stands counted turned turns_head next turns rest q.0 h ∙ ap (λ part. Some (part ∷ rest)) turns_is))) in
+    λ rest h. at-way (rests_in led) turns_ways.inner inner _ inner_is
+    (turned-keeps grown led _ turns_ways t inner _ (k.opens _ (placed-stands counted turned turns_head next turns rest q.0 h ∙ ap (λ part. Some (part ∷ rest)) turns_is))) in
     let P : Part → Type 0 = λ part. PartLeads led.repeats (rests_in led) turns_ways part (get_or (rests_in counted) next []) in
     let g : Grows counted led = grows-own counted turned grown led turns_head next turns turns_ways _ counted_in.ways q.0 k.grows led_own known
-        (subst P (sym turns_is) (more_led, below-counted old placed counted head next own m p.0 gc _ known, turns_lead _ known)) in
+    (subst P (sym turns_is) (more_led, below-counted old placed counted head next own m p.0 gc _ known, turns_lead _ known)) in
     let N : ℕ → List Part → Type 0 = λ n rest. NumbersFall n rest in
     compiled-own old placed led new head (Repeat place count body) next own ways m p (grows-trans placed counted led p.1.ways gc g) led_in u head_is (λ rest. refl)
     (λ rest h.
-      let here = grows-keeps placed counted gc next rest (placed-keeps old placed head next own p.0 next rest h) in
-      let stands : StandsAt (rests_in turned) turns (TurnsLeft old.repeats place body ∷ rest) = placed-stands counted turned turns_head next turns rest q.0 here ∙ ap (λ part. Some (part ∷ rest)) turns_is in
-      let F : ℕ → Type 0 = λ n. NumbersFall n rest in
-      (omega (arith, number_is, more_led, u.repeats),
-       subst F (sym number_is) (m.below rest h),
-       ap (slice_get (rests_in new)) turns_at
-       ∙ turned-keeps led new _ ways u turns _ (turned-keeps grown led _ turns_ways t turns _ (grows-keeps turned grown k.grows turns _ stands))
-       ∙ ap (λ n. Some (TurnsLeft n place body ∷ rest)) (sym number_is)))
+    let here = grows-keeps placed counted gc next rest (placed-keeps old placed head next own p.0 next rest h) in
+    let stands : StandsAt (rests_in turned) turns (TurnsLeft old.repeats place body ∷ rest) = placed-stands counted turned turns_head next turns rest q.0 here ∙ ap (λ part. Some (part ∷ rest)) turns_is in
+    let F : ℕ → Type 0 = λ n. NumbersFall n rest in (
+      omega (arith, number_is, more_led, u.repeats),
+      subst F (sym number_is) (m.below rest h),
+      ap (slice_get (rests_in new)) turns_at
+          ∙ turned-keeps led new _ ways u turns _ (turned-keeps grown led _ turns_ways t turns _ (grows-keeps turned grown k.grows turns _ stands))
+          ∙ ap (λ n. Some (TurnsLeft n place body ∷ rest)) (sym number_is),
+    ))
 
 -- a for: its own spot, that of its test, and that of the assignment that ends a turn
 pub compiled-for : (old placed tested advanced grown led new : Builder) (head test_head advance_head : Head) (place : SourcePlace) (first_targets : List Target) (first condition : Expression)
@@ -305,12 +307,12 @@ compiled-for old placed tested advanced grown led new head test_head advance_hea
     let known = rest_at tested.spots.items test (omega (arith, q.0.own_is, placed-length placed tested test_head next test q.0)) in
     let A : Part → Type 0 = λ part. PartLeads grown.repeats (rests_in grown) r.0.way part (get_or (rests_in tested) test []) in
     let g : Grows tested grown = grows-own tested advanced grown grown advance_head test advance r.0.way _ q.1.ways r.0 k.grows
-        (turned-self tested advanced grown advance_head test advance r.0 q.1.ways k.grows) known (subst A (sym advance_is) tt) in
+    (turned-self tested advanced grown advance_head test advance r.0 q.1.ways k.grows) known (subst A (sym advance_is) tt) in
     let loop : Compiles placed led (loop_of place condition next_targets next_value body) next test =
-        compiled-own placed tested grown led test_head (loop_of place condition next_targets next_value body) next test test_ways may_placed q g k.in_step t test_is (λ rest. refl)
-        (λ rest h. at-way (rests_in led) test_ways.inner inner _ inner_is (turned-keeps grown led _ test_ways t inner _
-          (k.opens _ (placed-stands tested advanced advance_head test advance _ r.0
-            (placed-stands placed tested test_head next test rest q.0 h ∙ ap (λ part. Some (part ∷ rest)) test_is) ∙ ap (λ part. Some (part ∷ (Runs (loop_of place condition next_targets next_value body) ∷ rest))) advance_is)))) in
+    compiled-own placed tested grown led test_head (loop_of place condition next_targets next_value body) next test test_ways may_placed q g k.in_step t test_is (λ rest. refl)
+    (λ rest h. at-way (rests_in led) test_ways.inner inner _ inner_is (turned-keeps grown led _ test_ways t inner _
+    (k.opens _ (placed-stands tested advanced advance_head test advance _ r.0
+    (placed-stands placed tested test_head next test rest q.0 h ∙ ap (λ part. Some (part ∷ rest)) test_is) ∙ ap (λ part. Some (part ∷ (Runs (loop_of place condition next_targets next_value body) ∷ rest))) advance_is)))) in
     compiled-body old placed led new head _ (loop_of place condition next_targets next_value body) next own test ways m p loop u head_is (λ rest. refl) test_at (λ rest h. h)
 
 -- Measures

@@ -85,7 +85,7 @@ pub rest-last : (spots : List Spot) (spot : Spot) (after : List Part) → Stands
 rest-last spots spot after h =
     let same : get_or (rests_of spots) spot.next [] ≡ after = get_or_from_slice_get (rests_of spots) spot.next after [] h in
     let e : rests_of (spots ++ (spot ∷ [])) ≡ rests_of spots ++ ((part_of_head spot.head ∷ after) ∷ []) =
-        rests_from-append ([] ∷ []) spots (spot ∷ []) ∙ ap (λ rest. rests_of spots ++ ((part_of_head spot.head ∷ rest) ∷ [])) same in
+    rests_from-append ([] ∷ []) spots (spot ∷ []) ∙ ap (λ rest. rests_of spots ++ ((part_of_head spot.head ∷ rest) ∷ [])) same in
     ap (λ rests. slice_get rests (length spots + 1)) e
     ∙ ap (slice_get (rests_of spots ++ ((part_of_head spot.head ∷ after) ∷ []))) (sym (rests_of-length spots))
     ∙ slice_get-last (rests_of spots) (part_of_head spot.head ∷ after)
@@ -150,7 +150,7 @@ led-within : (one two three : Builder) → length one.spots.items ≡ length one
     Leads three.repeats (rests_in three) spot ways
 led-within one two three in_step g h i spot ways low high s w =
     let s2 : slice_get two.spots.items i ≡ Some spot =
-        sym (slice_get-shorter two.spots.items h.added i high) ∙ ap (λ xs. slice_get xs i) (sym h.spots) ∙ s in
+    sym (slice_get-shorter two.spots.items h.added i high) ∙ ap (λ xs. slice_get xs i) (sym h.spots) ∙ s in
     let w2 : slice_get two.ways.items i ≡ Some ways = sym (h.kept i high) ∙ w in
     leads-more two.repeats three.repeats (rests_in two) (rests_in three) spot ways h.repeats (grows-keeps two three h) (g.led i spot ways low s2 w2)
 
@@ -164,8 +164,8 @@ grows-trans one two three in_step g h =
       repeats = omega (arith, g.repeats, h.repeats);
       led = λ i spot ways low s w.
           elim (cases_lt i (length two.spots.items)) [
-            inl high ↦ led-within one two three in_step g h i spot ways low high s w
-          | inr high ↦ h.led i spot ways high s w
+            | inl high ↦ led-within one two three in_step g h i spot ways low high s w
+            | inr high ↦ h.led i spot ways high s w
           ];
     }
 
@@ -186,13 +186,13 @@ own-leads : (old placed grown new : Builder) (head : Head) (next own : ℕ) (way
     Leads new.repeats (rests_in new) spot way
 own-leads old placed grown new head next own ways after p g t stands leads spot way s w =
     let there : slice_get new.spots.items (length old.spots.items) ≡ Some p.spot =
-        ap (λ xs. slice_get xs (length old.spots.items)) (t.spots ∙ g.spots)
-        ∙ slice_get-longer placed.spots.items g.added (length old.spots.items) p.spot
-          (ap (λ xs. slice_get xs (length old.spots.items)) p.spots ∙ slice_get-last old.spots.items p.spot) in
+    ap (λ xs. slice_get xs (length old.spots.items)) (t.spots ∙ g.spots)
+    ∙ slice_get-longer placed.spots.items g.added (length old.spots.items) p.spot
+    (ap (λ xs. slice_get xs (length old.spots.items)) p.spots ∙ slice_get-last old.spots.items p.spot) in
     let spot_is : p.spot ≡ spot = some-same (sym there ∙ s) in
     let way_is : ways ≡ way = some-same (sym t.set ∙ w) in
     let keeps : Keeps (rests_in old) (rests_in new) =
-        λ position rest h. turned-keeps grown new _ ways t position rest (grows-keeps placed grown g position rest (keeps-spots old.spots.items (p.spot ∷ []) placed.spots.items p.spots position rest h)) in
+    λ position rest h. turned-keeps grown new _ ways t position rest (grows-keeps placed grown g position rest (keeps-spots old.spots.items (p.spot ∷ []) placed.spots.items p.spots position rest h)) in
     let P : Spot → Type 0 = λ x. Leads new.repeats (rests_in new) x way in
     let Q : Ways → Type 0 = λ x. Leads new.repeats (rests_in new) p.spot x in
     let H : Head → Type 0 = λ x. PartLeads new.repeats (rests_in new) ways (part_of_head x) after in
@@ -210,13 +210,13 @@ own-led : (old placed grown new : Builder) (head : Head) (next own : ℕ) (ways 
     Leads new.repeats (rests_in new) spot way
 own-led old placed grown new head next own ways after in_step p g t stands leads i spot way low s w =
     elim (eq-or-lt_of_le low) [
-      inl e ↦ own-leads old placed grown new head next own ways after p g t stands leads spot way (ap (slice_get new.spots.items) e ∙ s) (ap (slice_get new.ways.items) e ∙ w)
-    | inr high ↦
-        let longer : length placed.spots.items ≡ length old.spots.items + 1 = ap length p.spots ∙ length-append old.spots.items (p.spot ∷ []) in
-        let s2 : slice_get grown.spots.items i ≡ Some spot = ap (λ xs. slice_get xs i) (sym t.spots) ∙ s in
-        let w2 : slice_get grown.ways.items i ≡ Some way = sym (t.kept i (omega (arith, high))) ∙ w in
-        leads-more grown.repeats new.repeats (rests_in grown) (rests_in new) spot way (omega (arith, t.repeats)) (turned-keeps grown new _ ways t)
-            (g.led i spot way (omega (arith, longer, high)) s2 w2)
+      | inl e ↦ own-leads old placed grown new head next own ways after p g t stands leads spot way (ap (slice_get new.spots.items) e ∙ s) (ap (slice_get new.ways.items) e ∙ w)
+      | inr high ↦
+          let longer : length placed.spots.items ≡ length old.spots.items + 1 = ap length p.spots ∙ length-append old.spots.items (p.spot ∷ []) in
+          let s2 : slice_get grown.spots.items i ≡ Some spot = ap (λ xs. slice_get xs i) (sym t.spots) ∙ s in
+          let w2 : slice_get grown.ways.items i ≡ Some way = sym (t.kept i (omega (arith, high))) ∙ w in
+          leads-more grown.repeats new.repeats (rests_in grown) (rests_in new) spot way (omega (arith, t.repeats)) (turned-keeps grown new _ ways t)
+          (g.led i spot way (omega (arith, longer, high)) s2 w2)
     ]
 
 -- a spot is put before the rest of a position, other spots come behind it, and its ways are set

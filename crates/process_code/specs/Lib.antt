@@ -3,3 +3,7 @@ pub mod RestsLaws
 pub mod Positions
 pub mod Compiling
 pub mod Codes
+pub mod Points
+pub mod StepLaws
+pub mod Sameness
+pub mod SamenessLaws

@@ -45,7 +45,12 @@ impl<'d> Builder<'d> {
 
     /// The spots of a statement before the rest of a position. It answers the position at which the statement begins.
     #[cycle(compile)]
-    pub fn statement(&mut self, alloc: Global, statement: &'d FlatStmt, next: usize) -> Result<usize, NoMemory>
+    pub fn statement(
+        &mut self,
+        alloc: Global,
+        statement: &'d FlatStmt,
+        next: usize,
+    ) -> Result<usize, NoMemory>
         requires { MayCompile self.old next }
         ensures { IfOk result (λ entry. Compiles self.old self.new (statement_of statement.now) next entry) }
     {
@@ -66,7 +71,14 @@ impl<'d> Builder<'d> {
                 let own = self.place(alloc, Head::Statement(statement), next)?;
                 let items = self.items(alloc, items, next)?;
                 let other = self.statement(alloc, default, next)?;
-                self.lead(own, Ways { inner: 0, other, items });
+                self.lead(
+                    own,
+                    Ways {
+                        inner: 0,
+                        other,
+                        items,
+                    },
+                );
                 Ok(own)
             }
             FlatStmt::For { body, .. } => {
@@ -135,7 +147,12 @@ impl<'d> Builder<'d> {
 
     /// The spots of several statements. The last one is compiled first, since each stands before the next.
     #[cycle(compile)]
-    fn block(&mut self, alloc: Global, statements: &'d [FlatStmt], next: usize) -> Result<usize, NoMemory>
+    fn block(
+        &mut self,
+        alloc: Global,
+        statements: &'d [FlatStmt],
+        next: usize,
+    ) -> Result<usize, NoMemory>
         requires { MayCompile self.old next }
         ensures { IfOk result (λ entry. Compiles self.old self.new (Block (statements_of statements.now)) next entry) }
     {
@@ -150,7 +167,12 @@ impl<'d> Builder<'d> {
 
     /// The spots of the items of a case.
     #[cycle(compile)]
-    fn items(&mut self, alloc: Global, items: &'d [CaseItem], next: usize) -> Result<Vec<usize>, NoMemory>
+    fn items(
+        &mut self,
+        alloc: Global,
+        items: &'d [CaseItem],
+        next: usize,
+    ) -> Result<Vec<usize>, NoMemory>
         requires { MayCompile self.old next }
         ensures { IfOk result (λ positions. CompilesItems self.old self.new (items_of items.now) next positions.items) }
     {

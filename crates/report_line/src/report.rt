@@ -5,9 +5,7 @@ ghost use Rattle.plan_line.specs.declared.plan.HeldBit.{HeldBit};
 ghost use Rattle.report_line.specs.Report.{counted, count_of, end_text, name_at, held_text, finding_line, total_line, report_text, is_detected, is_possible, is_undetected, is_race, is_hyper};
 ghost use Rattle.std.specs.Prelude.{◌≡◌, ◌≤◌, ◌<◌, ◌++◌, ◌^◌, length, All, IfOk, OnOk, slice_get, Some};
 
-use crate::count::{
-    count_detected, count_hyper, count_possible, count_race, count_undetected,
-};
+use crate::count::{count_detected, count_hyper, count_possible, count_race, count_undetected};
 use plan_line::HeldBit;
 use std::alloc::Global;
 use vf_base::{End, FaultId, Finding, NoMemory, ObjectId, Text};

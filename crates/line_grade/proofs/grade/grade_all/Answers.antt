@@ -1,10 +1,11 @@
-use Rattle.std.proofs.Common.{◌≡◌, ◌<◌, false, length, take, get_or, arith, length-take-le}
+use Rattle.std.proofs.Common.{None, ◌≡◌, ◌<◌, false, length, take, get_or, arith, length-take-le}
 use Rattle.std.proofs.lemmas.List.{take_more}
 use Rattle.std.proofs.lemmas.Grind.{elements}
 use Rattle.vf_base.specs.declared.finding.Finding.{Finding}
 use Rattle.plan_line.specs.declared.plan.HeldBit.{HeldBit}
 use Rattle.line_grade.specs.Grade.{IsGrade}
-use Rattle.line_grade.proofs.Grading.{AreFindings-push}
+use Rattle.line_grade.proofs.Grading.{AreFindings-push, Shows-start}
+use Rattle.line_grade.specs.Headline.{legal_runs}
 use Rattle.line_grade.proofs.grade.grade_all.Goals as goal
 
 pub loop-held-preserved : goal.loop-held-preserved
@@ -18,6 +19,6 @@ loop-held-preserved c =
     let size : length (take i plan.faults) ≡ i = omega (arith, length-take-le i plan.faults (omega arith)) in
     record {
       place = omega arith;
-      graded = rw (c.in-Ok.ensures.items, take_more plan.faults i none below) (AreFindings-push line plan 0 (take i plan.faults) c.loop-held.findings.items (get_or plan.faults i none) finding c.requires.plan inv.graded (omega (arith, size, inv.place)) grade);
+      graded = rw (c.in-Ok.ensures.items, take_more plan.faults i none below) (AreFindings-push line plan 0 (take i plan.faults) c.loop-held.findings.items (get_or plan.faults i none) finding c.requires.plan inv.graded (omega (arith, size, inv.place)) grade (legal_runs line plan (get_or plan.faults i none) c.in_ok-end.end _ (Shows-start line None c.advance.new.self plan.end (rw c.in_ok-good.ensures at c.in_default.ensures.ok)) grade));
       listed = rw c.in-Ok.ensures.items (grind (arith, elements, inv.listed));
     }

@@ -17,9 +17,10 @@ loop-time-preserved c =
 pub returns-clause-same : goal.returns-clause-same
 returns-clause-same c time =
     let all : take c.loop-time.time-index c.deref-time-items.result.now ≡ c.deref-time-items.result.now = take_all c.loop-time.time-index c.deref-time-items.result.now c.loop-time-test.false in
-    rw c.from_vec.ensures
-    ((λ h. Contains-permutation c.sort.new.self.items c.args.times.items time (IsPermutation-sym _ _ c.in-Ok.ensures.permutation) (rw (all, c.deref-time-items.ensures.value) at c.loop-time.invariant.there time h)),
-    (λ h. c.loop-time.invariant.all time (rw (all, c.deref-time-items.ensures.value) (Contains-permutation c.args.times.items c.sort.new.self.items time c.in-Ok.ensures.permutation h))))
+    rw c.from_vec.ensures (
+      (λ h. Contains-permutation c.sort.new.self.items c.args.times.items time (IsPermutation-sym _ _ c.in-Ok.ensures.permutation) (rw (all, c.deref-time-items.ensures.value) at c.loop-time.invariant.there time h)),
+      (λ h. c.loop-time.invariant.all time (rw (all, c.deref-time-items.ensures.value) (Contains-permutation c.args.times.items c.sort.new.self.items time c.in-Ok.ensures.permutation h))),
+    )
 
 pub returns-clause-within : goal.returns-clause-within
 returns-clause-within c end up_to =

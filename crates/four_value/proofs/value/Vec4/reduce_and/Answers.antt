@@ -1,4 +1,4 @@
-use Rattle.std.proofs.Common.{ap, sym, ◌∙◌}
+use Rattle.std.proofs.Common.{ap, ◌∙◌}
 use Rattle.four_value.specs.Bits.{not_bit, or_bit}
 use Rattle.four_value.specs.Values.{reduced}
 use Rattle.four_value.specs.declared.logic.Bit.TheVariants.{Zero}

@@ -33,10 +33,11 @@ block-statements-init t c =
 pub block-statement-requires : goal.block-statement-requires
 block-statement-requires t c =
     let inv = c.statements.invariant in
-    let low = levels-statement c.args.statements.now (c.statements.left - 1) c.index-statements-left.result (omega (arith, c.statements-test.true, inv.in_range)) c.index-statements-left.is in
-    (omega (arith, low, c.decreases),
-     may-entry c.args.self.now c.statements.self (plain.Block (statements_of (drop c.statements.left c.args.statements.now))) c.args.next c.statements.entry c.requires
-      (record { in_step = inv.in_step; grows = inv.grows; there = inv.there; opens = inv.opens }))
+    let low = levels-statement c.args.statements.now (c.statements.left - 1) c.index-statements-left.result (omega (arith, c.statements-test.true, inv.in_range)) c.index-statements-left.is in (
+      omega (arith, low, c.decreases),
+      may-entry c.args.self.now c.statements.self (plain.Block (statements_of (drop c.statements.left c.args.statements.now))) c.args.next c.statements.entry c.requires
+          (record { in_step = inv.in_step; grows = inv.grows; there = inv.there; opens = inv.opens }),
+    )
 
 pub block-statements-preserved : goal.block-statements-preserved
 block-statements-preserved t c =
@@ -47,7 +48,7 @@ block-statements-preserved t c =
     let left = c.statements.left in
     let next_left : left - 1 + 1 ≡ left = omega (arith, c.statements-test.true) in
     let here : drop (left - 1) items ≡ x ∷ drop left items =
-        drop_more items (left - 1) x (omega (arith, c.statements-test.true, inv.in_range)) ∙ ap (λ y. y ∷ drop (left - 1 + 1) items) (sym c.index-statements-left.is) ∙ ap (λ n. x ∷ drop n items) next_left in
+    drop_more items (left - 1) x (omega (arith, c.statements-test.true, inv.in_range)) ∙ ap (λ y. y ∷ drop (left - 1 + 1) items) (sym c.index-statements-left.is) ∙ ap (λ n. x ∷ drop n items) next_left in
     record {
       in_step = k.in_step;
       grows = grows-trans c.args.self.now c.statements.self c.statement.new.self c.requires.in_step.ways inv.grows k.grows;
@@ -186,7 +187,7 @@ statement-lead-requires-in-Repeat-2 t c =
 pub statement-block-requires : goal.statement-block-requires
 statement-block-requires t c =
     let s : statement_of c.args.statement.now ≡ plain.Block (statements_of c.deref.result.now) =
-        ap statement_of c.in-Block.is ∙ statement_of-Block c.in-Block.place c.in-Block.statements ∙ ap (λ xs. plain.Block (statements_of xs)) (sym c.deref.ensures.value) in
+    ap statement_of c.in-Block.is ∙ statement_of-Block c.in-Block.place c.in-Block.statements ∙ ap (λ xs. plain.Block (statements_of xs)) (sym c.deref.ensures.value) in
     let n = ap levels_of_statement s in
     (omega (arith, n, c.decreases), c.requires)
 
@@ -198,7 +199,7 @@ statement-returns-in-Null t c =
 pub statement-returns-in_ok-entry-in-Block : goal.statement-returns-in_ok-entry-in-Block
 statement-returns-in_ok-entry-in-Block t c =
     let s : statement_of c.args.statement.now ≡ plain.Block (statements_of c.deref.result.now) =
-        ap statement_of c.in-Block.is ∙ statement_of-Block c.in-Block.place c.in-Block.statements ∙ ap (λ xs. plain.Block (statements_of xs)) (sym c.deref.ensures.value) in
+    ap statement_of c.in-Block.is ∙ statement_of-Block c.in-Block.place c.in-Block.statements ∙ ap (λ xs. plain.Block (statements_of xs)) (sym c.deref.ensures.value) in
     let P : plain.Statement → Type 0 = λ x. Compiles c.args.self.now c.block.new.self x c.args.next c.in_ok-entry-in-Block.entry in
     subst P (sym s) c.in_ok-entry-in-Block.ensures
 
@@ -225,59 +226,59 @@ statement-returns-in_ok-other-in-If t c =
     let s : statement_of c.args.statement.now ≡ plain.If (source_place c.in-If.place) (expression_of c.in-If.condition) (statement_of c.deref-in-If.result.now) (statement_of c.deref-in-If-2.result.now) = ap statement_of c.in-If.is ∙ ap (λ x. plain.If (source_place c.in-If.place) (expression_of c.in-If.condition) (statement_of x) (statement_of c.in-If.second.value)) (sym c.deref-in-If.ensures) ∙ ap (λ x. plain.If (source_place c.in-If.place) (expression_of c.in-If.condition) (statement_of c.deref-in-If.result.now) (statement_of x)) (sym c.deref-in-If-2.ensures) in
     let P : plain.Statement → Type 0 = λ x. Compiles c.args.self.now c.lead.new.self x c.args.next c.in_ok-own-in-If.own in
     subst P (sym s) (compiled-branches c.args.self.now c.place.new.self c.statement.new.self c.statement-in-If.new.self c.lead.new.self (Statement c.args.statement) _ _ _ _ _ _ _ c.new.result c.requires
-      c.in_ok-own-in-If.ensures c.in_ok-inner-in-If.ensures c.in_ok-other-in-If.ensures c.lead.ensures (ap Runs s) (λ rest. refl) c.new.ensures.inner c.new.ensures.other (λ rest h k. (h, k)))
+    c.in_ok-own-in-If.ensures c.in_ok-inner-in-If.ensures c.in_ok-other-in-If.ensures c.lead.ensures (ap Runs s) (λ rest. refl) c.new.ensures.inner c.new.ensures.other (λ rest h k. (h, k)))
 
 pub statement-returns-in_ok-inner-in-While : goal.statement-returns-in_ok-inner-in-While
 statement-returns-in_ok-inner-in-While t c =
     let s : statement_of c.args.statement.now ≡ plain.While (source_place c.in-While.place) (expression_of c.in-While.condition) (statement_of c.deref-in-While.result.now) = ap statement_of c.in-While.is ∙ ap (λ x. plain.While (source_place c.in-While.place) (expression_of c.in-While.condition) (statement_of x)) (sym c.deref-in-While.ensures) in
     let P : plain.Statement → Type 0 = λ x. Compiles c.args.self.now c.lead-in-While.new.self x c.args.next c.in_ok-own-in-While.own in
     subst P (sym s) (compiled-loop c.args.self.now c.place-in-While.new.self c.statement-in-While.new.self c.lead-in-While.new.self (Statement c.args.statement) _ _ _ _ _ c.new-in-While.result c.requires
-      c.in_ok-own-in-While.ensures c.in_ok-inner-in-While.ensures c.lead-in-While.ensures (ap Runs s) (λ rest. refl) c.new-in-While.ensures.inner (λ rest h. h))
+    c.in_ok-own-in-While.ensures c.in_ok-inner-in-While.ensures c.lead-in-While.ensures (ap Runs s) (λ rest. refl) c.new-in-While.ensures.inner (λ rest h. h))
 
 pub statement-returns-in_ok-inner-in-Forever : goal.statement-returns-in_ok-inner-in-Forever
 statement-returns-in_ok-inner-in-Forever t c =
     let s : statement_of c.args.statement.now ≡ plain.Forever (source_place c.in-Forever.place) (statement_of c.deref-in-Forever.result.now) = ap statement_of c.in-Forever.is ∙ ap (λ x. plain.Forever (source_place c.in-Forever.place) (statement_of x)) (sym c.deref-in-Forever.ensures) in
     let P : plain.Statement → Type 0 = λ x. Compiles c.args.self.now c.lead-in-Forever.new.self x c.args.next c.in_ok-own-in-Forever.own in
     subst P (sym s) (compiled-loop c.args.self.now c.place-in-Forever.new.self c.statement-in-Forever.new.self c.lead-in-Forever.new.self (Statement c.args.statement) _ _ _ _ _ c.new-in-Forever.result c.requires
-      c.in_ok-own-in-Forever.ensures c.in_ok-inner-in-Forever.ensures c.lead-in-Forever.ensures (ap Runs s) (λ rest. refl) c.new-in-Forever.ensures.inner (λ rest h. h))
+    c.in_ok-own-in-Forever.ensures c.in_ok-inner-in-Forever.ensures c.lead-in-Forever.ensures (ap Runs s) (λ rest. refl) c.new-in-Forever.ensures.inner (λ rest h. h))
 
 pub statement-returns-in_ok-inner-in-Delay : goal.statement-returns-in_ok-inner-in-Delay
 statement-returns-in_ok-inner-in-Delay t c =
     let s : statement_of c.args.statement.now ≡ plain.Delay (source_place c.in-Delay.place) c.in-Delay.delay (statement_of c.deref-in-Delay.result.now) = ap statement_of c.in-Delay.is ∙ ap (λ x. plain.Delay (source_place c.in-Delay.place) c.in-Delay.delay (statement_of x)) (sym c.deref-in-Delay.ensures) in
     let P : plain.Statement → Type 0 = λ x. Compiles c.args.self.now c.lead-in-Delay.new.self x c.args.next c.in_ok-own-in-Delay.own in
     subst P (sym s) (compiled-body c.args.self.now c.place-in-Delay.new.self c.statement-in-Delay.new.self c.lead-in-Delay.new.self (Statement c.args.statement) _ _ _ _ _ c.new-in-Delay.result c.requires
-      c.in_ok-own-in-Delay.ensures c.in_ok-inner-in-Delay.ensures c.lead-in-Delay.ensures (ap Runs s) (λ rest. refl) c.new-in-Delay.ensures.inner (λ rest h. h))
+    c.in_ok-own-in-Delay.ensures c.in_ok-inner-in-Delay.ensures c.lead-in-Delay.ensures (ap Runs s) (λ rest. refl) c.new-in-Delay.ensures.inner (λ rest h. h))
 
 pub statement-returns-in_ok-inner-in-EventControl : goal.statement-returns-in_ok-inner-in-EventControl
 statement-returns-in_ok-inner-in-EventControl t c =
     let s : statement_of c.args.statement.now ≡ plain.EventControl (source_place c.in-EventControl.place) (map entry_of c.in-EventControl.entries) (statement_of c.deref-in-EventControl.result.now) = ap statement_of c.in-EventControl.is ∙ ap (λ x. plain.EventControl (source_place c.in-EventControl.place) (map entry_of c.in-EventControl.entries) (statement_of x)) (sym c.deref-in-EventControl.ensures) in
     let P : plain.Statement → Type 0 = λ x. Compiles c.args.self.now c.lead-in-EventControl.new.self x c.args.next c.in_ok-own-in-EventControl.own in
     subst P (sym s) (compiled-body c.args.self.now c.place-in-EventControl.new.self c.statement-in-EventControl.new.self c.lead-in-EventControl.new.self (Statement c.args.statement) _ _ _ _ _ c.new-in-EventControl.result c.requires
-      c.in_ok-own-in-EventControl.ensures c.in_ok-inner-in-EventControl.ensures c.lead-in-EventControl.ensures (ap Runs s) (λ rest. refl) c.new-in-EventControl.ensures.inner (λ rest h. h))
+    c.in_ok-own-in-EventControl.ensures c.in_ok-inner-in-EventControl.ensures c.lead-in-EventControl.ensures (ap Runs s) (λ rest. refl) c.new-in-EventControl.ensures.inner (λ rest h. h))
 
 pub statement-returns-in_ok-inner-in-Wait : goal.statement-returns-in_ok-inner-in-Wait
 statement-returns-in_ok-inner-in-Wait t c =
     let s : statement_of c.args.statement.now ≡ plain.Wait (source_place c.in-Wait.place) (expression_of c.in-Wait.condition) (statement_of c.deref-in-Wait.result.now) = ap statement_of c.in-Wait.is ∙ ap (λ x. plain.Wait (source_place c.in-Wait.place) (expression_of c.in-Wait.condition) (statement_of x)) (sym c.deref-in-Wait.ensures) in
     let P : plain.Statement → Type 0 = λ x. Compiles c.args.self.now c.lead-in-Wait.new.self x c.args.next c.in_ok-own-in-Wait.own in
     subst P (sym s) (compiled-body c.args.self.now c.place-in-Wait.new.self c.statement-in-Wait.new.self c.lead-in-Wait.new.self (Statement c.args.statement) _ _ _ _ _ c.new-in-Wait.result c.requires
-      c.in_ok-own-in-Wait.ensures c.in_ok-inner-in-Wait.ensures c.lead-in-Wait.ensures (ap Runs s) (λ rest. refl) c.new-in-Wait.ensures.inner (λ rest h. h))
+    c.in_ok-own-in-Wait.ensures c.in_ok-inner-in-Wait.ensures c.lead-in-Wait.ensures (ap Runs s) (λ rest. refl) c.new-in-Wait.ensures.inner (λ rest h. h))
 
 pub statement-returns-in_ok-other-in-Case : goal.statement-returns-in_ok-other-in-Case
 statement-returns-in_ok-other-in-Case t c =
     let s : statement_of c.args.statement.now ≡ plain.Case (source_place c.in-Case.place) c.in-Case.kind (expression_of c.in-Case.value) (items_of c.deref-in-Case.result.now) (statement_of c.deref-in-Case-2.result.now) = ap statement_of c.in-Case.is ∙ statement_of-Case c.in-Case.place c.in-Case.kind c.in-Case.value c.in-Case.items c.in-Case.default ∙ ap (λ xs. plain.Case (source_place c.in-Case.place) c.in-Case.kind (expression_of c.in-Case.value) (items_of xs) (statement_of c.in-Case.default.value)) (sym c.deref-in-Case.ensures.value) ∙ ap (λ x. plain.Case (source_place c.in-Case.place) c.in-Case.kind (expression_of c.in-Case.value) (items_of c.deref-in-Case.result.now) (statement_of x)) (sym c.deref-in-Case-2.ensures) in
     let P : plain.Statement → Type 0 = λ x. Compiles c.args.self.now c.lead-in-Case.new.self x c.args.next c.in_ok-own-in-Case.own in
     subst P (sym s) (compiled-case c.args.self.now c.place-in-Case.new.self c.items.new.self c.statement-in-Case.new.self c.lead-in-Case.new.self (Statement c.args.statement) _ _ _ _ _ c.args.next c.in_ok-own-in-Case.own c.in_ok-other-in-Case.other
-      c.in_ok-items-in-Case.items.items (record { inner = 0; other = c.in_ok-other-in-Case.other; items = c.in_ok-items-in-Case.items }) c.requires
-      c.in_ok-own-in-Case.ensures c.in_ok-items-in-Case.ensures c.in_ok-other-in-Case.ensures c.lead-in-Case.ensures (ap Runs s) refl refl)
+    c.in_ok-items-in-Case.items.items (record { inner = 0; other = c.in_ok-other-in-Case.other; items = c.in_ok-items-in-Case.items }) c.requires
+    c.in_ok-own-in-Case.ensures c.in_ok-items-in-Case.ensures c.in_ok-other-in-Case.ensures c.lead-in-Case.ensures (ap Runs s) refl refl)
 
 pub statement-returns-in_ok-inner-in-For : goal.statement-returns-in_ok-inner-in-For
 statement-returns-in_ok-inner-in-For t c =
     let s : statement_of c.args.statement.now ≡ plain.For (source_place c.in-For.place) (map target_of c.in-For.first_targets.items) (expression_of c.in-For.first) (expression_of c.in-For.condition) (map target_of c.in-For.next_targets.items) (expression_of c.in-For.next) (statement_of c.deref-in-For.result.now) = ap statement_of c.in-For.is ∙ ap (λ x. plain.For (source_place c.in-For.place) (map target_of c.in-For.first_targets.items) (expression_of c.in-For.first) (expression_of c.in-For.condition) (map target_of c.in-For.next_targets.items) (expression_of c.in-For.next) (statement_of x)) (sym c.deref-in-For.ensures) in
     let P : plain.Statement → Type 0 = λ x. Compiles c.args.self.now c.lead-in-For-2.new.self x c.args.next c.in_ok-own-in-For.own in
     subst P (sym s) (compiled-for c.args.self.now c.place-in-For.new.self c.place-in-For-2.new.self c.place-in-For-3.new.self c.statement-in-For.new.self c.lead-in-For.new.self c.lead-in-For-2.new.self
-      (Statement c.args.statement) (Test c.args.statement) (Advance c.args.statement) _ _ _ _ _ _ _ c.args.next c.in_ok-own-in-For.own c.in_ok-test-in-For.test c.in_ok-advance-in-For.advance c.in_ok-inner-in-For.inner
-      c.new-in-For.result c.new-in-For-2.result c.requires c.in_ok-own-in-For.ensures c.in_ok-test-in-For.ensures c.in_ok-advance-in-For.ensures c.in_ok-inner-in-For.ensures c.lead-in-For.ensures c.lead-in-For-2.ensures
-      (ap Runs s) (ap loop_part s) (ap advance_part s) c.new-in-For.ensures.inner c.new-in-For-2.ensures.inner)
+    (Statement c.args.statement) (Test c.args.statement) (Advance c.args.statement) _ _ _ _ _ _ _ c.args.next c.in_ok-own-in-For.own c.in_ok-test-in-For.test c.in_ok-advance-in-For.advance c.in_ok-inner-in-For.inner
+    c.new-in-For.result c.new-in-For-2.result c.requires c.in_ok-own-in-For.ensures c.in_ok-test-in-For.ensures c.in_ok-advance-in-For.ensures c.in_ok-inner-in-For.ensures c.lead-in-For.ensures c.lead-in-For-2.ensures
+    (ap Runs s) (ap loop_part s) (ap advance_part s) c.new-in-For.ensures.inner c.new-in-For-2.ensures.inner)
 
 pub statement-returns-in_ok-inner-in-Repeat : goal.statement-returns-in_ok-inner-in-Repeat
 statement-returns-in_ok-inner-in-Repeat t c =
@@ -290,7 +291,6 @@ statement-returns-in_ok-inner-in-Repeat t c =
     let counted_in : IsInStep counted = record { ways = p.1.ways; repeats = omega (arith, longer, p.0.repeats, c.requires.in_step.repeats) } in
     let P : plain.Statement → Type 0 = λ x. Compiles c.args.self.now c.lead-in-Repeat-2.new.self x c.args.next c.in_ok-own-in-Repeat.own in
     subst P (sym s) (compiled-repeat c.args.self.now c.place-in-Repeat.new.self counted c.place-in-Repeat-2.new.self c.statement-in-Repeat.new.self c.lead-in-Repeat.new.self c.lead-in-Repeat-2.new.self
-      (Statement c.args.statement) (Turns c.args.statement c.args.self.now.repeats) _ _ _ c.args.next c.in_ok-own-in-Repeat.own c.in_ok-turns-in-Repeat.turns c.in_ok-inner-in-Repeat.inner
-      c.new-in-Repeat.result c.new-in-Repeat-2.result c.requires p gc counted_in more c.in_ok-turns-in-Repeat.ensures c.in_ok-inner-in-Repeat.ensures c.lead-in-Repeat.ensures c.lead-in-Repeat-2.ensures
-      (ap Runs s) (ap (turns_part c.args.self.now.repeats) s) c.new-in-Repeat.ensures.inner c.new-in-Repeat-2.ensures.inner c.new-in-Repeat-2.ensures.other)
-
+    (Statement c.args.statement) (Turns c.args.statement c.args.self.now.repeats) _ _ _ c.args.next c.in_ok-own-in-Repeat.own c.in_ok-turns-in-Repeat.turns c.in_ok-inner-in-Repeat.inner
+    c.new-in-Repeat.result c.new-in-Repeat-2.result c.requires p gc counted_in more c.in_ok-turns-in-Repeat.ensures c.in_ok-inner-in-Repeat.ensures c.lead-in-Repeat.ensures c.lead-in-Repeat-2.ensures
+    (ap Runs s) (ap (turns_part c.args.self.now.repeats) s) c.new-in-Repeat.ensures.inner c.new-in-Repeat-2.ensures.inner c.new-in-Repeat-2.ensures.other)

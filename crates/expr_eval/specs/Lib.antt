@@ -1,0 +1,4 @@
+pub mod Operands
+pub mod WidthLaws
+pub mod PartLaws
+pub mod PartsLaws
