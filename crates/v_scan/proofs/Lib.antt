@@ -1,0 +1,10 @@
+pub mod Spans
+pub mod MarkLaws
+pub mod QuoteLaws
+pub mod NumberLaws
+pub mod WordLaws
+pub mod FrontLaws
+pub mod TextLaws
+pub mod PieceLaws
+pub mod ValueLaws
+pub mod NumberReads

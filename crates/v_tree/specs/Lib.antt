@@ -1,0 +1,4 @@
+pub mod Tokens
+pub mod Trees
+pub mod Views
+pub mod ViewLaws
