@@ -1,0 +1,13 @@
+//! The race monitor: the log of a phase's events, with the cause and the accesses of each (IEEE 1364-2001, clause 5).
+//!
+//! A log is what the definition of a phase as a log says: the entries that waits hold from the phase's start, and then event by event the number of
+//! the event that caused it and what it reads, writes, waits for and ends. Contracts see a log as that plain data.
+#![tactic(auto)]
+
+mod log;
+mod noted;
+mod slot;
+
+pub use log::PhaseLog;
+pub use noted::{Noted, WaitEdge};
+pub use slot::{Actor, SlotLog, Turn};

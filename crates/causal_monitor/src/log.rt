@@ -1,0 +1,93 @@
+// The log of a phase.
+
+ghost use Rattle.std.specs.Prelude.{◌≡◌, ℕ, ◌+◌, ◌<◌, List, [], ◌∷◌, ◌++◌, map, length, OnOk, OnErr, IfOk};
+ghost use Rattle.std.specs.Option.{ForSome};
+ghost use Rattle.v_design.specs.Lists.{AllHold};
+ghost use Rattle.v_design.specs.Logs.{cause_at};
+ghost use Rattle.causal_monitor.specs.Notes.{IsNoted, IsHeld, noted_access};
+ghost use Rattle.causal_monitor.specs.Phases.{with_event, with_held, empty_log};
+
+use crate::noted::Noted;
+use std::alloc::Global;
+use std::marker::Model;
+use vf_base::{NoMemory, Seq};
+
+#[cfg(test)]
+mod tests;
+
+/// An event: the number of the event that caused it, and its accesses in order.
+#[derive(Drop)]
+struct Entry {
+    cause: Option<u64>,
+    accesses: Seq<Noted>,
+}
+
+/// The log of a phase of a slot, which contracts see as the slot's time, the phase's number from 1, the held entries, and the events in order.
+#[derive(Drop)]
+pub struct PhaseLog {
+    alloc: Global,
+    time: u64,
+    phase: u32,
+    held: Vec<Noted>,
+    events: Vec<Entry>,
+}
+
+impl Model for PhaseLog {
+    ghost use Rattle.causal_monitor.specs.Phases.{PhaseOfSlot};
+
+    ghost Value = { PhaseOfSlot };
+
+    ghost use Rattle.causal_monitor.specs.Entries.{logged_phase, IsKept};
+
+    ghost view = { λ l. record { time = l.time; phase = l.phase; log = logged_phase l.held.items l.events.items } };
+
+    ghost invariant = { λ l. IsKept l.held.items l.events.items };
+}
+
+impl PhaseLog {
+    /// The log of a phase of which nothing is noted yet.
+    pub fn new(alloc: Global, time: u64, phase: u32) -> PhaseLog
+        ensures { result ≡ empty_log time phase }
+    {
+        PhaseLog {
+            alloc,
+            time,
+            phase,
+            held: Vec::new(alloc),
+            events: Vec::new(alloc),
+        }
+    }
+
+    /// Notes an event with its cause and its accesses, and gives its number.
+    pub fn note(&mut self, cause: Option<u64>, accesses: &[Noted]) -> Result<u64, NoMemory>
+        requires earlier { ForSome cause (λ c. c < length self.old.log.events) }
+        requires noted { AllHold IsNoted accesses.now }
+        ensures number { IfOk result (λ number. number ≡ length self.old.log.events) }
+        ensures ok { OnOk result (self.new ≡ with_event (record { cause = cause; accesses = map noted_access accesses.now }) self.old) }
+        ensures err { OnErr result (self.new ≡ self.old) }
+    {
+        let number = self.events.len() as u64;
+        let accesses = Seq::from_vec(Vec::from_slice(self.alloc, accesses)?);
+        self.events.push(Entry { cause, accesses })?;
+        Ok(number)
+    }
+
+    /// Notes an entry on a net piece of a wait that the phase begins with.
+    pub fn hold(&mut self, entry: Noted) -> Result<(), NoMemory>
+        requires first { self.old.log.events ≡ [] }
+        requires held { IsHeld entry }
+        ensures ok { OnOk result (self.new ≡ with_held (noted_access entry) self.old) }
+        ensures err { OnErr result (self.new ≡ self.old) }
+    {
+        self.held.extend_from_slice(&[entry])?;
+        Ok(())
+    }
+
+    /// The cause of an event, by its number; `None` where it was noted without one.
+    pub fn cause_of(&self, event: u64) -> Option<u64>
+        requires { event < length self.now.log.events }
+        ensures { result ≡ cause_at self.now.log event }
+    {
+        self.events[event as usize].cause
+    }
+}
