@@ -4,6 +4,7 @@
 //! Contracts speak of it as the plain tree of `specs/Trees`, by the views of `specs/Views`; `copy_tree` gives a tree with the same view.
 #![tactic(auto)]
 
+mod copy_expression;
 mod expression;
 mod item;
 mod statement;
