@@ -6,7 +6,8 @@ use Rattle.v_design.specs.Lists.{has, AllHold}
 use Rattle.v_design.specs.Assignments.{AreSettled, value_at, node_outputs}
 use Rattle.v_design.specs.Trees.{Null, Delay}
 use Rattle.v_design.specs.Designs.{BlockNode, FlatObject, FlatNode, FlatProcess, FlatDesign, good_machine}
-use Rattle.v_design.specs.States.{found_or, start}
+use Rattle.v_design.specs.States.{process_at, found_or, start}
+use Rattle.v_design.specs.Paths.{net_pieces}
 use Rattle.v_design.specs.Writers.{process_objects, WriteVariables}
 use Rattle.v_design.specs.WellFormed.{KeepsRules, IsPlan, IsPlanOf, IsNodeOf, IsProcessOf, rank_of}
 use Rattle.v_design.specs.Laws.{BeginsPhase}

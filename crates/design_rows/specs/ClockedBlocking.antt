@@ -20,5 +20,9 @@ design = record {
 abbrev pub test_plan : TestPlan
 test_plan = plan 30 (3 ∷ []) (3 ∷ 13 ∷ 23 ∷ []) (variable_fault 1 0 false ∷ variable_fault 3 0 true ∷ [])
 
-pub grades : map (grade design test_plan) test_plan.faults ≡ Some (race Good 5 1 Write 2 1 4 Read 2 2 5) ∷ Some (Judged (Detected 3)) ∷ []
+-- the grades of the listed faults
+abbrev pub Grades : Type 0
+Grades = map (grade design test_plan) test_plan.faults ≡ Some (race Good 5 1 Write 2 1 4 Read 2 2 5) ∷ Some (Judged (Detected 3)) ∷ []
+
+pub grades : Grades
 grades = refl

@@ -20,5 +20,9 @@ design = record {
 abbrev pub test_plan : TestPlan
 test_plan = plan 9 (2 ∷ []) (8 ∷ []) (variable_fault 2 0 false ∷ [])
 
-pub grades : map (grade design test_plan) test_plan.faults ≡ Some (race Good 5 1 Write 1 0 3 Read 1 1 4) ∷ []
+-- the grades of the listed faults
+abbrev pub Grades : Type 0
+Grades = map (grade design test_plan) test_plan.faults ≡ Some (race Good 5 1 Write 1 0 3 Read 1 1 4) ∷ []
+
+pub grades : Grades
 grades = refl

@@ -19,5 +19,9 @@ design = record {
 abbrev pub test_plan : TestPlan
 test_plan = plan 30 (3 ∷ []) (20 ∷ []) (variable_fault 0 0 true ∷ [])
 
-pub grades : map (grade design test_plan) test_plan.faults ≡ Some (race Faulty 20 1 Write 1 1 4 Read 1 2 5) ∷ []
+-- the grades of the listed faults
+abbrev pub Grades : Type 0
+Grades = map (grade design test_plan) test_plan.faults ≡ Some (race Faulty 20 1 Write 1 1 4 Read 1 2 5) ∷ []
+
+pub grades : Grades
 grades = refl

@@ -20,5 +20,9 @@ design = record {
 abbrev pub test_plan : TestPlan
 test_plan = plan 12 (2 ∷ []) (7 ∷ []) (variable_fault 1 0 false ∷ variable_fault 2 0 true ∷ [])
 
-pub grades : map (grade design test_plan) test_plan.faults ≡ Some (race Good 5 1 Held 3 1 5 Settle 3 0 4) ∷ Some (race Good 5 1 Held 3 1 5 Settle 3 0 4) ∷ []
+-- the grades of the listed faults
+abbrev pub Grades : Type 0
+Grades = map (grade design test_plan) test_plan.faults ≡ Some (race Good 5 1 Held 3 1 5 Settle 3 0 4) ∷ Some (race Good 5 1 Held 3 1 5 Settle 3 0 4) ∷ []
+
+pub grades : Grades
 grades = refl

@@ -20,5 +20,9 @@ design = record {
 abbrev pub test_plan : TestPlan
 test_plan = plan 20 (2 ∷ []) (12 ∷ []) (variable_fault 0 0 false ∷ [])
 
-pub grades : map (grade design test_plan) test_plan.faults ≡ Some (race Good 10 2 Held 3 1 6 Settle 3 0 5) ∷ []
+-- the grades of the listed faults
+abbrev pub Grades : Type 0
+Grades = map (grade design test_plan) test_plan.faults ≡ Some (race Good 10 2 Held 3 1 6 Settle 3 0 5) ∷ []
+
+pub grades : Grades
 grades = refl

@@ -19,5 +19,9 @@ design = record {
 abbrev pub test_plan : TestPlan
 test_plan = plan 5 (1 ∷ []) (3 ∷ []) (variable_fault 1 0 false ∷ [])
 
-pub grades : map (grade design test_plan) test_plan.faults ≡ Some (race Good 0 1 Write 0 0 3 Await 0 1 4) ∷ []
+-- the grades of the listed faults
+abbrev pub Grades : Type 0
+Grades = map (grade design test_plan) test_plan.faults ≡ Some (race Good 0 1 Write 0 0 3 Await 0 1 4) ∷ []
+
+pub grades : Grades
 grades = refl

@@ -19,5 +19,9 @@ design = record {
 abbrev pub test_plan : TestPlan
 test_plan = plan 30 (2 ∷ []) (25 ∷ []) (variable_fault 0 0 true ∷ variable_fault 0 0 false ∷ [])
 
-pub grades : map (grade design test_plan) test_plan.faults ≡ Some (race Faulty 20 1 Read 1 0 3 Write 1 1 4) ∷ Some (Judged Undetected) ∷ []
+-- the grades of the listed faults
+abbrev pub Grades : Type 0
+Grades = map (grade design test_plan) test_plan.faults ≡ Some (race Faulty 20 1 Read 1 0 3 Write 1 1 4) ∷ Some (Judged Undetected) ∷ []
+
+pub grades : Grades
 grades = refl

@@ -18,5 +18,9 @@ design = record {
 abbrev pub test_plan : TestPlan
 test_plan = plan 2 (0 ∷ []) (1 ∷ []) (variable_fault 0 0 false ∷ [])
 
-pub grades : map (grade design test_plan) test_plan.faults ≡ Some (race Good 0 2 Write 0 0 3 Write 0 1 4) ∷ []
+-- the grades of the listed faults
+abbrev pub Grades : Type 0
+Grades = map (grade design test_plan) test_plan.faults ≡ Some (race Good 0 2 Write 0 0 3 Write 0 1 4) ∷ []
+
+pub grades : Grades
 grades = refl

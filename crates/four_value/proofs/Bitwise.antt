@@ -1,9 +1,10 @@
 -- The planes of what the operators that work bit by bit answer.
-use Rattle.std.proofs.Common.{◌≡◌, ℕ, zero, suc, ◌+◌, ◌-◌, ◌*◌, ◌^◌, ◌<◌, ◌≤◌, Bool, true, false, not, ◌&&◌, ◌||◌, List, [], ◌∷◌, map, length, refl, ap, ap₂, sym, ◌∙◌, arith}
+use Rattle.std.proofs.Common.{◌≡◌, ℕ, suc, ◌+◌, ◌-◌, ◌*◌, ◌^◌, ◌≤◌, Bool, true, false, not, ◌&&◌, ◌||◌, [], ◌∷◌, length, refl, ap, ap₂, sym, ◌∙◌, arith}
 use Rattle.std.specs.Int.Bits.{bit_and, bit_or, bit_xor}
 use Rattle.std.specs.List.{zip}
 use Rattle.four_value.specs.Bits.{is_one, is_not_zero, is_unknown, and_bit, or_bit, xor_bit, not_bit, merge_bit}
 use Rattle.four_value.specs.Planes.{is_one_or_z, one_if, plane_of}
+use Rattle.four_value.specs.ValueLaws.{length-bit_by_bit}
 use Rattle.four_value.specs.Values.{LogicValue, bit_by_bit, and_value, or_value, xor_value, not_value, merged}
 use Rattle.four_value.specs.declared.logic.Bit.{Bit}
 use Rattle.four_value.specs.declared.logic.Bit.TheVariants.{Zero, One, X, Z}
@@ -65,11 +66,6 @@ pub plane_of-bit_by_bit : (test : Bit → Bool) (f : Bit → Bit → Bit) (a b :
 plane_of-bit_by_bit test f [] b = refl
 plane_of-bit_by_bit test f (x ∷ a) [] = refl
 plane_of-bit_by_bit test f (x ∷ a) (y ∷ b) = ap (λ n. one_if (test (f x y)) + 2 * n) (plane_of-bit_by_bit test f a b)
-
-pub length-bit_by_bit : (f : Bit → Bit → Bit) (a b : LogicValue) → length a ≡ length b → length (bit_by_bit f a b) ≡ length a
-length-bit_by_bit f [] b h = refl
-length-bit_by_bit f (x ∷ a) [] h = absurd (omega (arith, h))
-length-bit_by_bit f (x ∷ a) (y ∷ b) h = ap suc (length-bit_by_bit f a b (omega (arith, h)))
 
 pub length-zip_same : (a b : LogicValue) → length a ≡ length b → length (zip a b) ≡ length a
 length-zip_same [] b h = refl

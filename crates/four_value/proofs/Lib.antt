@@ -3,6 +3,6 @@ pub mod Planes
 pub mod Views
 pub mod Bitwise
 pub mod Parts
-pub mod Tests
+pub mod Readings
 pub mod Places
 pub mod Numbers

@@ -1,5 +1,5 @@
 -- Arithmetic modulo a width: what the machine's numbers of 128 bits give.
-use Rattle.std.proofs.Common.{◌≡◌, ℕ, zero, suc, ◌+◌, ◌-◌, ◌*◌, ◌/◌, ◌%◌, ◌^◌, ◌<◌, ◌≤◌, Bool, true, false, not, ◌&&◌, List, [], ◌∷◌, map, length, replicate, refl, ap, ap₂, sym, ◌∙◌, arith, Option, Some, None, ⊎_elim, Fits}
+use Rattle.std.proofs.Common.{◌≡◌, ℕ, zero, suc, ◌+◌, ◌-◌, ◌*◌, ◌/◌, ◌%◌, ◌^◌, ◌<◌, ◌≤◌, Bool, true, false, [], ◌∷◌, map, length, refl, ap, ap₂, sym, ◌∙◌, arith, Option, Some, None, ⊎_elim, Fits}
 use Rattle.std.specs.Prelude.{nat_eq, ℤ, pos, negsuc, ◌-ℤ◌, neg_ℤ, int_div, FitsSigned}
 use Rattle.std.specs.Int.Bits.{bit_or}
 use Rattle.std.specs.Int.{w128, cast_signed, cast_unsigned, int_wrapping_div}
@@ -11,14 +11,14 @@ use Rattle.std.proofs.Math.Facts.{to_z-neg, sfits_to_z}
 use Rattle.std.proofs.lemmas.Int.{ints, to_z_pos, of_z-to_z}
 use Rattle.four_value.specs.Bits.{is_one, is_unknown, bit_of, not_bit}
 use Rattle.four_value.specs.Planes.{is_one_or_z, one_if, plane_of}
-use Rattle.four_value.specs.Values.{LogicValue, bits_of, bits_of_whole, bits_or_unknown, both, by_divisor, whole_or_unknown, quotient_of, arithmetic, sum_of, difference_of, product_of, number_of, is_negative, whole_of, whole_number, top_bit}
+use Rattle.four_value.specs.Values.{LogicValue, bits_of, bits_of_whole, bits_or_unknown, both, by_divisor, whole_or_unknown, quotient_of, arithmetic, sum_of, difference_of, product_of, number_of, whole_of, whole_number, top_bit}
 use Rattle.four_value.specs.declared.logic.Bit.{Bit}
 use Rattle.four_value.specs.declared.logic.Bit.TheVariants.{Zero, One, X, Z}
 use Rattle.four_value.proofs.Words.{one_if-lt}
 use Rattle.four_value.proofs.Planes.{plane_of-lt}
 use Rattle.four_value.proofs.Parts.{mod_step}
 use Rattle.four_value.proofs.Places.{mod_narrower}
-use Rattle.four_value.proofs.Tests.{number_of-known, number_of-unknown}
+use Rattle.four_value.proofs.Readings.{number_of-known, number_of-unknown}
 
 -- only the low digits count
 pub bits_of-mod : (w n : ℕ) → bits_of w (n % 2 ^ w) ≡ bits_of w n

@@ -1,22 +1,20 @@
 -- The fields of values that are made of numbers, of one bit, and of parts of other values.
-use Rattle.std.proofs.Common.{◌≡◌, ℕ, zero, suc, ◌+◌, ◌-◌, ◌*◌, ◌/◌, ◌%◌, ◌^◌, ◌<◌, ◌≤◌, min, Bool, true, false, not, List, [], ◌∷◌, ◌++◌, map, length, take, drop, replicate, get_or, refl, ap, ap₂, sym, ◌∙◌, arith}
+use Rattle.std.proofs.Common.{◌≡◌, ℕ, zero, suc, ◌+◌, ◌-◌, ◌*◌, ◌/◌, ◌%◌, ◌^◌, ◌<◌, ◌≤◌, Bool, true, false, [], ◌∷◌, ◌++◌, length, drop, replicate, refl, ap, ap₂, sym, ◌∙◌, arith}
 use Rattle.std.specs.Prelude.{nat_eq}
-use Rattle.std.specs.Int.Bits.{bit_and, bit_or, bit_xor}
-use Rattle.std.proofs.lemmas.Nat.{pow_pos, mod-pow-add, and_mask, shl_whole, or_shifted, shr-shr}
-use Rattle.std.proofs.lemmas.List.{length-drop, length-append, length-take, length-replicate}
-use Rattle.four_value.specs.Bits.{is_one, is_unknown, bit_of}
+use Rattle.std.specs.Int.Bits.{bit_and, bit_or}
+use Rattle.std.proofs.lemmas.Nat.{mod-pow-add, and_mask, shl_whole, or_shifted, shr-shr}
+use Rattle.std.proofs.lemmas.List.{length-drop, length-append, length-replicate}
+use Rattle.four_value.specs.Bits.{is_unknown, bit_of}
 use Rattle.four_value.specs.Planes.{bit_in_planes, is_one_or_z, one_if, plane_of}
-use Rattle.four_value.specs.Values.{LogicValue, IsWidth, bits_of, bit_at, top_bit, part_of, with_part, joined_to, resized, fill_bit}
+use Rattle.four_value.specs.PlanesLaws.{low_digit, bit_in_planes-digits}
+use Rattle.four_value.specs.ValueLaws.{length-bits_of, length-resized}
+use Rattle.four_value.specs.Values.{LogicValue, bits_of, bit_at, top_bit, joined_to, resized}
 use Rattle.four_value.specs.declared.logic.Bit.{Bit}
-use Rattle.four_value.specs.declared.logic.Bit.TheVariants.{Zero, One, X, Z}
-use Rattle.four_value.proofs.Planes.{plane_of-lt, plane_of-append, plane_of-drop, plane_of-take, plane_of-replicate}
+use Rattle.four_value.specs.declared.logic.Bit.TheVariants.{Zero}
+use Rattle.four_value.proofs.Planes.{halved, lowest, plane_of-lt, plane_of-append, plane_of-drop, plane_of-take, plane_of-replicate}
 use Rattle.four_value.proofs.Views.{AreFields}
 
 -- Numbers
-
-pub length-bits_of : (w n : ℕ) → length (bits_of w n) ≡ w
-length-bits_of zero n = refl
-length-bits_of (suc w) n = ap suc (length-bits_of w (n / 2))
 
 known : (b : Bool) → is_unknown (bit_of b) ≡ false
 known true = refl
@@ -25,14 +23,6 @@ known false = refl
 one_back : (b : Bool) → is_one_or_z (bit_of b) ≡ b
 one_back true = refl
 one_back false = refl
-
-remainder : (r : ℕ) → r < 2 → one_if (nat_eq r 1) ≡ r
-remainder zero h = refl
-remainder (suc zero) h = refl
-remainder (suc (suc r)) h = absurd (omega (arith, h))
-
-pub low_digit : (n : ℕ) → one_if (nat_eq (n % 2) 1) ≡ n % 2
-low_digit n = remainder (n % 2) (omega arith)
 
 -- the low digits, from the lowest one and the others
 pub mod_step : (w n : ℕ) → n % 2 ^ suc w ≡ n % 2 + 2 * (n / 2 % 2 ^ w)
@@ -76,23 +66,16 @@ filled_fields b w o u p q hp hq ho hu = record {
 pub plane_of-at : (test : Bit → Bool) (bits : LogicValue) (i : ℕ) → i < length bits → plane_of test bits / 2 ^ i % 2 ≡ one_if (test (bit_at bits i))
 plane_of-at test [] i h = absurd (omega (arith, h))
 plane_of-at test (b ∷ bits) zero h =
-    let P : Bool → Type 0 = λ t. (one_if t + 2 * plane_of test bits) / 2 ^ 0 % 2 ≡ one_if t in
-    elim (test b) as P [ true ↦ omega arith | false ↦ omega arith ]
+    let first : (one_if (test b) + 2 * plane_of test bits) % 2 ≡ one_if (test b) = lowest (test b) (plane_of test bits) in
+    omega (arith, first)
 plane_of-at test (b ∷ bits) (suc i) h =
-    let halves : (one_if (test b) + 2 * plane_of test bits) / 2 ≡ plane_of test bits =
-    (let P : Bool → Type 0 = λ t. (one_if t + 2 * plane_of test bits) / 2 ≡ plane_of test bits in elim (test b) as P [ true ↦ omega arith | false ↦ omega arith ]) in
+    let halves : (one_if (test b) + 2 * plane_of test bits) / 2 ≡ plane_of test bits = halved (test b) (plane_of test bits) in
     ap (λ n. n % 2) (ap (λ m. (one_if (test b) + 2 * plane_of test bits) / 2 ^ m) (omega arith) ∙ sym (shr-shr (one_if (test b) + 2 * plane_of test bits) 1 i) ∙ ap (λ m. m / 2 ^ i) halves)
     ∙ plane_of-at test bits i (omega (arith, h))
 
 one_is_true : (b : Bool) → nat_eq (one_if b) 1 ≡ b
 one_is_true true = refl
 one_is_true false = refl
-
-bit_back : (b : Bit) → bit_in_planes (is_one_or_z b) (is_unknown b) ≡ b
-bit_back Zero = refl
-bit_back One = refl
-bit_back X = refl
-bit_back Z = refl
 
 pub bit_at-planes : (bits : LogicValue) (w o u i : ℕ) → AreFields bits w o u → i < w →
     bit_in_planes (nat_eq (bit_and (o / 2 ^ i) 1) 1) (nat_eq (bit_and (u / 2 ^ i) 1) 1) ≡ bit_at bits i
@@ -101,7 +84,7 @@ bit_at-planes bits w o u i f h =
     let ones : bit_and (o / 2 ^ i) 1 ≡ one_if (is_one_or_z (bit_at bits i)) = and_mask (o / 2 ^ i) 1 ∙ ap (λ n. n / 2 ^ i % 2) f.in_ones ∙ plane_of-at is_one_or_z bits i within in
     let unknowns : bit_and (u / 2 ^ i) 1 ≡ one_if (is_unknown (bit_at bits i)) = and_mask (u / 2 ^ i) 1 ∙ ap (λ n. n / 2 ^ i % 2) f.in_unknowns ∙ plane_of-at is_unknown bits i within in
     ap₂ (λ m n. bit_in_planes (nat_eq m 1) (nat_eq n 1)) ones unknowns
-    ∙ ap₂ bit_in_planes (one_is_true (is_one_or_z (bit_at bits i))) (one_is_true (is_unknown (bit_at bits i))) ∙ bit_back (bit_at bits i)
+    ∙ ap₂ bit_in_planes (one_is_true (is_one_or_z (bit_at bits i))) (one_is_true (is_unknown (bit_at bits i))) ∙ bit_in_planes-digits (bit_at bits i)
 
 pub bit_at-top : (bits : LogicValue) → 1 ≤ length bits → bit_at bits (length bits - 1) ≡ top_bit bits
 bit_at-top [] h = absurd (omega (arith, h))
@@ -141,10 +124,6 @@ widened test h bits w m e =
     let whole : plane_of test (bits ++ replicate w Zero) ≡ plane_of test bits
     = plane_of-append test bits (replicate w Zero) ∙ ap (λ k. plane_of test bits + 2 ^ length bits * k) zeros ∙ omega arith in
     ap (bit_and (plane_of test bits)) e ∙ and_mask (plane_of test bits) w ∙ ap (λ k. k % 2 ^ w) (sym whole) ∙ sym (plane_of-take test w (bits ++ replicate w Zero))
-
-pub length-resized : (signed : Bool) (w : ℕ) (bits : LogicValue) → length (resized signed w bits) ≡ w
-length-resized signed w bits =
-    omega (arith, length-take w (bits ++ replicate w (fill_bit signed bits)), length-append bits (replicate w (fill_bit signed bits)), length-replicate w (fill_bit signed bits))
 
 pub resize_fields : (bits : LogicValue) (v o u w m n : ℕ) → AreFields bits v o u → m ≡ 2 ^ w - 1 → n ≡ 2 ^ w - 1 →
     AreFields (resized false w bits) w (bit_and o m) (bit_and u n)

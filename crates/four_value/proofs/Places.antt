@@ -1,17 +1,18 @@
 -- The fields of a value with a part put in, and of a shifted one; lists that are parts of a value.
-use Rattle.std.proofs.Common.{◌≡◌, ℕ, zero, suc, ◌+◌, ◌-◌, ◌*◌, ◌/◌, ◌%◌, ◌^◌, ◌<◌, ◌≤◌, min, Bool, true, false, not, ◌&&◌, ◌||◌, List, [], ◌∷◌, ◌++◌, length, take, drop, replicate, get_or, refl, ap, ap₂, sym, ◌∙◌, arith}
+use Rattle.std.proofs.Common.{◌≡◌, ℕ, zero, suc, ◌+◌, ◌-◌, ◌*◌, ◌/◌, ◌%◌, ◌^◌, ◌<◌, ◌≤◌, min, Bool, true, false, ◌&&◌, ◌||◌, [], ◌∷◌, ◌++◌, length, take, drop, replicate, get_or, refl, ap, ap₂, sym, ◌∙◌, arith}
 use Rattle.std.specs.Int.Bits.{bit_and, bit_or, and_zero_r, or_zero_r}
 use Rattle.std.proofs.lemmas.Nat.{pow_pos, mod-pow-add, mod_low, mod_below, and_mask, and_mod, and_le_r, shl_whole, or_comm, or_shifted}
 use Rattle.std.proofs.Math.Nat.{mod-eq_of_lt}
 use Rattle.std.proofs.Math.Pow.{pow_mono}
 use Rattle.std.proofs.Math.Seq.{take-append-add}
-use Rattle.std.proofs.lemmas.List.{length-drop, length-append, length-take, length-replicate, drop_more, drop_all, get_or_past, take_all, take-append-le, append-nil, take-replicate, take_at, take_more, length-take-le}
+use Rattle.std.proofs.lemmas.List.{length-append, length-take, length-replicate, drop_more, drop_all, get_or_past, take-append-le, take-replicate, take_at, take_more, length-take-le}
 use mir.Val.{bool_byte}
 use Rattle.four_value.specs.Bits.{is_unknown}
 use Rattle.four_value.specs.Planes.{is_one_or_z, one_if, plane_of}
+use Rattle.four_value.specs.ValueLaws.{length-with_part}
 use Rattle.four_value.specs.Values.{LogicValue, bit_at, part_of, with_part, resized, fill_bit, top_bit}
 use Rattle.four_value.specs.declared.logic.Bit.{Bit}
-use Rattle.four_value.specs.declared.logic.Bit.TheVariants.{Zero, One, X, Z}
+use Rattle.four_value.specs.declared.logic.Bit.TheVariants.{Zero, X}
 use Rattle.four_value.proofs.Words.{one_if-lt, and_step, or_step, and_inverse_step}
 use Rattle.four_value.proofs.Planes.{plane_of-lt, plane_of-append, plane_of-take, plane_of-replicate}
 use Rattle.four_value.proofs.Parts.{mod_step}
@@ -99,12 +100,6 @@ plane_of-with_part test (b ∷ bits) zero (p ∷ part) (suc k) h =
     ap₂ bit_or left right
     ∙ or_step (test b && false) (test p && true) (bit_and (plane_of test bits) (2 ^ k - 1 - H)) (bit_and (plane_of test part * 2 ^ 0) H)
     ∙ ap₂ (λ x n. one_if x + 2 * n) (put (test b) (test p)) (plane_of-with_part test bits zero part k within)
-
-pub length-with_part : (bits : LogicValue) (low : ℕ) (part : LogicValue) → length (with_part bits low part) ≡ length bits
-length-with_part [] low part = refl
-length-with_part (b ∷ bits) (suc low) part = ap suc (length-with_part bits low part)
-length-with_part (b ∷ bits) zero [] = refl
-length-with_part (b ∷ bits) zero (p ∷ part) = ap suc (length-with_part bits zero part)
 
 -- past the end nothing is put in
 pub with_part-past : (bits : LogicValue) (low : ℕ) (part : LogicValue) → length bits ≤ low → bits ≡ with_part bits low part

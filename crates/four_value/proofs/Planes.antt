@@ -1,5 +1,5 @@
 -- The plane of a list, from the planes of its parts.
-use Rattle.std.proofs.Common.{◌≡◌, ℕ, zero, suc, ◌+◌, ◌-◌, ◌*◌, ◌/◌, ◌%◌, ◌^◌, ◌<◌, ◌≤◌, Bool, true, false, not, ◌&&◌, ◌||◌, List, [], ◌∷◌, ◌++◌, map, length, take, drop, replicate, refl, ap, sym, subst, ◌∙◌, arith, rules}
+use Rattle.std.proofs.Common.{◌≡◌, ℕ, zero, suc, ◌+◌, ◌-◌, ◌*◌, ◌/◌, ◌%◌, ◌^◌, ◌<◌, ◌≤◌, Bool, true, false, not, ◌&&◌, ◌||◌, List, [], ◌∷◌, ◌++◌, map, length, take, drop, replicate, refl, ap, sym, ◌∙◌, arith}
 use Rattle.std.specs.Int.Bits.{bit_and, bit_or, bit_xor}
 use Rattle.std.proofs.lemmas.Nat.{pow_pos, mod-pow-add, shr-shr}
 use Rattle.std.proofs.Math.Pow.{pow_mono}
@@ -54,13 +54,14 @@ plane_of-append test (x ∷ xs) ys =
     let whole : one_if (test x) + 2 * plane_of test (xs ++ ys) ≡ (one_if (test x) + 2 * plane_of test xs) + 2 ^ suc (length xs) * plane_of test ys = omega (arith, rest, product) in
     whole
 
-halved : (b : Bool) (m : ℕ) → (one_if b + 2 * m) / 2 ≡ m
+-- the other digits of a number whose lowest digit is b
+pub halved : (b : Bool) (m : ℕ) → (one_if b + 2 * m) / 2 ≡ m
 halved true m = omega arith
 halved false m = omega arith
 
-low : (b : Bool) (m : ℕ) → (one_if b + 2 * m) % 2 ≡ one_if b
-low true m = omega arith
-low false m = omega arith
+pub lowest : (b : Bool) (m : ℕ) → (one_if b + 2 * m) % 2 ≡ one_if b
+lowest true m = omega arith
+lowest false m = omega arith
 
 pub plane_of-drop : {A : Type 0} (test : A → Bool) (n : ℕ) (xs : List A) → plane_of test (drop n xs) ≡ plane_of test xs / 2 ^ n
 plane_of-drop test zero xs = omega arith
@@ -76,7 +77,7 @@ low_digits b m n =
     let by_one : (one_if b + 2 * m) % 2 ^ (n + 1) ≡ ((one_if b + 2 * m) / 2 % 2 ^ n) * 2 + (one_if b + 2 * m) % 2 = mod-pow-add (one_if b + 2 * m) n 1 in
     let halves : (one_if b + 2 * m) / 2 % 2 ^ n ≡ m % 2 ^ n = ap (λ k. k % 2 ^ n) (halved b m) in
     let same : (one_if b + 2 * m) % 2 ^ suc n ≡ (one_if b + 2 * m) % 2 ^ (n + 1) = ap (λ k. (one_if b + 2 * m) % 2 ^ k) (omega arith) in
-    same ∙ by_one ∙ omega (arith, halves, low b m)
+    same ∙ by_one ∙ omega (arith, halves, lowest b m)
 
 pub plane_of-take : {A : Type 0} (test : A → Bool) (n : ℕ) (xs : List A) → plane_of test (take n xs) ≡ plane_of test xs % 2 ^ n
 plane_of-take test zero xs = omega arith

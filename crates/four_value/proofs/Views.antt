@@ -1,14 +1,12 @@
 -- A value and its fields: the width and the two planes.
-use Rattle.std.proofs.Common.{◌≡◌, ℕ, zero, suc, ◌+◌, ◌-◌, ◌*◌, ◌/◌, ◌%◌, ◌^◌, ◌<◌, ◌≤◌, Bool, true, false, List, [], ◌∷◌, length, refl, ap, sym, subst, ◌∙◌, arith}
+use Rattle.std.proofs.Common.{◌≡◌, ℕ, ◌+◌, ◌*◌, ◌%◌, ◌^◌, ◌<◌, ◌≤◌, Bool, true, false, [], ◌∷◌, length, refl, ap, sym, ◌∙◌}
 use Rattle.std.specs.Prelude.{nat_eq}
 use Rattle.four_value.specs.Bits.{is_unknown}
-use Rattle.four_value.specs.Planes.{bit_in_planes, bits_in_planes, is_one_or_z, one_if, plane_of}
-use Rattle.four_value.specs.PlanesLaws.{length-bits_in_planes, plane_of-ones, plane_of-unknowns}
+use Rattle.four_value.specs.Planes.{bits_in_planes, is_one_or_z, one_if, plane_of}
+use Rattle.four_value.specs.PlanesLaws.{bit_in_planes-digits, length-bits_in_planes, plane_of-ones, plane_of-unknowns}
 use Rattle.four_value.specs.Values.{LogicValue, IsWidth}
-use Rattle.four_value.specs.declared.logic.Bit.{Bit}
-use Rattle.four_value.specs.declared.logic.Bit.TheVariants.{Zero, One, X, Z}
 use Rattle.four_value.specs.declared.value.Vec4.TheInside.{Inside}
-use Rattle.four_value.proofs.Planes.{plane_of-lt}
+use Rattle.four_value.proofs.Planes.{halved, lowest, plane_of-lt}
 
 pub record AreFields (bits : LogicValue) (width ones unknowns : ℕ) : Type 0 where
   pub wide : width ≡ length bits
@@ -24,18 +22,8 @@ fields_of v bits e h = record {
 }
 
 digit : (b : Bool) (m : ℕ) → nat_eq ((one_if b + 2 * m) % 2) 1 ≡ b
-digit true m = let e : (1 + 2 * m) % 2 ≡ 1 = omega arith in rw e
-digit false m = let e : (0 + 2 * m) % 2 ≡ 0 = omega arith in rw e
-
-half : (b : Bool) (m : ℕ) → (one_if b + 2 * m) / 2 ≡ m
-half true m = omega arith
-half false m = omega arith
-
-bit_back : (b : Bit) → bit_in_planes (is_one_or_z b) (is_unknown b) ≡ b
-bit_back Zero = refl
-bit_back One = refl
-bit_back X = refl
-bit_back Z = refl
+digit true m = ap (λ n. nat_eq n 1) (lowest true m)
+digit false m = ap (λ n. nat_eq n 1) (lowest false m)
 
 -- the bits of a value's planes are the value
 pub bits_in_planes-plane_of : (bits : LogicValue) → bits_in_planes (length bits) (plane_of is_one_or_z bits) (plane_of is_unknown bits) ≡ bits
@@ -44,9 +32,9 @@ bits_in_planes-plane_of (b ∷ bits) =
     rw (
       digit (is_one_or_z b) (plane_of is_one_or_z bits),
       digit (is_unknown b) (plane_of is_unknown bits),
-      half (is_one_or_z b) (plane_of is_one_or_z bits),
-      half (is_unknown b) (plane_of is_unknown bits),
-      bit_back b,
+      halved (is_one_or_z b) (plane_of is_one_or_z bits),
+      halved (is_unknown b) (plane_of is_unknown bits),
+      bit_in_planes-digits b,
       bits_in_planes-plane_of bits,
     )
 

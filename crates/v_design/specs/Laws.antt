@@ -1,7 +1,7 @@
 -- The laws of settling nets and of exchanging events, and the headline: what a report says of every legal order (IEEE 1364-2001, clause 5).
-use Rattle.std.specs.Prelude.{◌≡◌, ◌≢◌, ℕ, ◌+◌, ◌<◌, ◌≤◌, Bool, true, false, not, ◌&&◌, ◌||◌, List, [], ◌∷◌, ◌++◌, map, filter, length, Option, Some, None, IsTrue, slice_get, nat_eq, nat_le}
+use Rattle.std.specs.Prelude.{◌≡◌, ◌≢◌, ℕ, ◌+◌, ◌<◌, ◌≤◌, Bool, true, false, not, ◌&&◌, ◌||◌, List, [], ◌∷◌, ◌++◌, map, filter, length, Option, Some, None, IsTrue, slice_get, nat_eq, nat_le, sum_by}
 use Rattle.std.specs.List.{AllZip, list_any}
-use Rattle.v_design.specs.Lists.{has}
+use Rattle.v_design.specs.Lists.{has, AllHold}
 use Rattle.four_value.specs.Values.{LogicValue, same_value}
 use Rattle.vf_base.specs.Base.{WatchedBit}
 use Rattle.v_design.specs.Designs.{FlatObject, FlatNode, FlatDesign, Machine, StuckAt, TestPlan, good_machine, faulty_machine}
@@ -9,9 +9,9 @@ use Rattle.v_design.specs.Writers.{WriteVariables}
 use Rattle.v_design.specs.WellFormed.{IsPlan, KeepsRules}
 use Rattle.v_design.specs.Sites.{AreOneClass}
 use Rattle.v_design.specs.Assignments.{AreSettled, value_at, node_outputs, with_outputs}
-use Rattle.v_design.specs.States.{is_process_event, State, Event, Step, LaneStep, Evaluation, NetUpdate, start, possible, after, has_work, some_in, is_quiescent}
-use Rattle.v_design.specs.Runs.{Move, Turns, Leads, IsLegal, IsPhase, happened, first_event, FirstSlot, first_run, slot_end, is_hyper, ends_by}
-use Rattle.v_design.specs.Paths.{Clean, net_class}
+use Rattle.v_design.specs.States.{is_process_event, State, Event, Step, LaneStep, Evaluation, NetUpdate, TurnKind, start, possible, after, turned, has_work, some_in}
+use Rattle.v_design.specs.Runs.{Move, Turns, Leads, IsLegal, IsPhase, all_possible, happened, FirstSlot, first_run, slot_end, is_hyper, ends_by}
+use Rattle.v_design.specs.Paths.{Clean, net_class, paths}
 use Rattle.v_design.specs.Accesses.{ObjectAccess, accesses_of}
 use Rattle.v_design.specs.Logs.{LoggedEvent, LoggedPhase, PhaseAccess, phase_changes, counted_accesses, log_accesses, orders, conflict}
 use Rattle.v_design.specs.PhaseLogs.{NotedEvent, cause_of, note_of, noted_events, log_of, phase_race}
@@ -43,11 +43,6 @@ pub record BeginsPhase (machine : Machine) (state : State) : Type 0 where
 -- a phase without two conflicting accesses
 abbrev pub HasNoConflict : Machine → State → List Event → Type 0
 HasNoConflict machine state events = phase_race machine state events ≡ None
-
--- each event is the one that the first order takes, to the phase's end
-abbrev pub IsFirstPhase : Machine → State → List Event → Type 0
-IsFirstPhase machine state [] = IsTrue (is_quiescent state)
-IsFirstPhase machine state (event ∷ events) = (first_event state ≡ Some event) × IsFirstPhase machine (after machine state event) events
 
 -- the accesses of each event of a phase
 abbrev pub accesses_by_event : Machine → State → List Event → List (List ObjectAccess)
@@ -165,24 +160,42 @@ changes_at machine state (event ∷ events) object =
     (value_at state.values object) (value_at (after machine state event).values object)
     (changes_at machine (after machine state event) events object)
 
--- a phase's first run without conflict, and any legal run of it from the same state
+-- two legal runs of a phase from one state, the first of them without conflict
 pub record RunsBeside (machine : Machine) (state : State) (first events : List Event) : Type 0 where
   pub rules : KeepsRules machine.design
   pub begins : BeginsPhase machine state
-  pub is_first : IsFirstPhase machine state first
+  pub first_legal : IsPhase machine state first
   pub no_conflict : HasNoConflict machine state first
   pub legal : IsPhase machine state events
 
--- each clean net piece changes as in the first run: once or never
+-- a net piece changes alike in two runs: once or never
 pub record ChangesAlike (machine : Machine) (state : State) (first events : List Event) (net : ℕ) : Type 0 where
   pub alike : changes_at machine state events net ≡ changes_at machine state first net
   pub at_most_once : length (changes_at machine state first net) ≤ 1
 
--- each clean net piece changes in every legal run of a phase as in the first one, where that has no conflict
+-- each clean net piece changes in every legal run of a phase as in one without conflict
 abbrev pub CleanNetsChangeOnce : Type 0
 CleanNetsChangeOnce =
     (machine : Machine) (state : State) (first events : List Event) (net : ℕ) → RunsBeside machine state first events →
     net_class machine.design (phase_changes machine.design (log_of machine state first)) net ≡ Clean → ChangesAlike machine state first events net
+
+-- every legal order of a phase ends with its nets settled
+abbrev pub PhasesSettle : Type 0
+PhasesSettle =
+    (machine : Machine) (state : State) (events : List Event) → KeepsRules machine.design → BeginsPhase machine state → IsPhase machine state events →
+    AreSettled machine (happened machine state events).values
+
+-- at each moment an object has changed at most as often as there are paths to it from the changes made so far: a quiet net never, a clean one once at most
+abbrev pub ChangesHaveBounds : Type 0
+ChangesHaveBounds =
+    (machine : Machine) (state : State) (events : List Event) (object : ℕ) → KeepsRules machine.design → BeginsPhase machine state → IsTrue (all_possible machine state events) →
+    length (changes_at machine state events object) ≤ sum_by (λ source. paths machine.design source object) (phase_changes machine.design (log_of machine state events))
+
+-- the first phase of a run begins as the laws ask, and so does each phase that a turn leads to
+pub record PhasesBegin : Type 0 where
+  pub first : (machine : Machine) → KeepsRules machine.design → BeginsPhase machine (start machine)
+  pub next : (machine : Machine) (state : State) (events : List Event) (turn : TurnKind) → KeepsRules machine.design → BeginsPhase machine state → IsPhase machine state events →
+      BeginsPhase machine (turned turn (happened machine state events))
 
 -- the place of the n-th event that is the given one; a process's steps are told apart by their number
 abbrev pub same_event : Event → Event → Bool
@@ -230,18 +243,26 @@ abbrev pub steps_ordered : Machine → State → List Event → Event → ℕ �
 steps_ordered machine state events one m other n =
     orders_if_there (log_of machine state events) (slice_get (places_of one 0 events) m) (slice_get (places_of other 0 events) n)
 
--- the process and lane steps are those of the first run, with the same accesses and the same orders, and the end is the same
+-- the process and lane steps are those of the run without conflict, with the same accesses and the same orders, and the end is the same
 pub record StepsAlike (machine : Machine) (state : State) (first events : List Event) : Type 0 where
   pub accesses : (event : Event) → IsTrue (is_process_event event) → steps_accesses machine state events event ≡ steps_accesses machine state first event
   pub same_orders : (one other : Event) (m n : ℕ) → IsTrue (is_process_event one) → IsTrue (is_process_event other) →
       steps_ordered machine state events one m other n ≡ steps_ordered machine state first one m other n
   pub same_end : happened machine state events ≡ happened machine state first
 
--- every legal run of a phase has the steps of the first run, where that has no conflict
+-- every legal run of a phase has the steps of each run of it without conflict
 abbrev pub RunsProject : Type 0
 RunsProject = (machine : Machine) (state : State) (first events : List Event) → RunsBeside machine state first events → StepsAlike machine state first events
 
 -- Slots and runs
+
+-- two legal runs to a time from one state, in which a phase begins, end alike where no phase of the one has a conflict
+abbrev pub RunsEndAlike : Type 0
+RunsEndAlike =
+    (machine : Machine) (time : ℕ) (begins : State) (moves other : List Move) (final other_final : State) → KeepsRules machine.design → BeginsPhase machine begins →
+    Leads machine time begins moves final → IsTrue (ends_by time final) →
+    AllHold (λ (phase : Phase). HasNoConflict machine phase.begins phase.events) (cut machine None begins [] begins moves) →
+    Leads machine time begins other other_final → IsTrue (ends_by time other_final) → other_final ≡ final
 
 -- where a slot of the first run is fine, every legal run of that slot ends where it does
 abbrev pub FineSlotsEndAlike : Type 0

@@ -22,3 +22,5 @@ pub mod Laws
 pub mod Plain
 pub mod PlainDesigns
 pub mod Views
+pub mod PlainLemmas
+pub mod RulesHold

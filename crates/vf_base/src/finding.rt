@@ -56,4 +56,3 @@ pub struct Finding {
     pub fault: FaultId,
     pub end: End,
 }
-

@@ -27,3 +27,6 @@ pub use shelf::{FolderShelf, MemShelf, Shelf, ShelfFault};
 pub use sink::{MemSink, OutSink, Sink, SinkFault};
 pub use steps::Steps;
 pub use text::{NoMemory, Text};
+
+#[cfg(test)]
+mod tests;

@@ -1,4 +1,4 @@
-use Rattle.std.proofs.Common.{arith, ◌<◌, ◌^◌, length, ◌∙◌}
+use Rattle.std.proofs.Common.{arith, ◌∙◌}
 use Rattle.four_value.proofs.Numbers.{sum_bits}
 use Rattle.four_value.proofs.value.Vec4.add.Goals as goal
 

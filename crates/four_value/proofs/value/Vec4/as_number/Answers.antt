@@ -1,6 +1,6 @@
 use Rattle.std.proofs.Common.{ap, sym, Some, ◌∙◌}
 use Rattle.four_value.proofs.Views.{AreFields, fields_of}
-use Rattle.four_value.proofs.Tests.{number_of-known, number_of-unknown}
+use Rattle.four_value.proofs.Readings.{number_of-known, number_of-unknown}
 use Rattle.four_value.proofs.value.Vec4.as_number.Goals as goal
 
 pub returns-then-self-eq0 : goal.returns-then-self-eq0

@@ -1,5 +1,5 @@
 use Rattle.four_value.proofs.Views.{AreFields, fields_of}
-use Rattle.four_value.proofs.Tests.{equality-zero, equality-x, equality-one}
+use Rattle.four_value.proofs.Readings.{equality-zero, equality-x, equality-one}
 use Rattle.four_value.proofs.value.Vec4.eq4.Goals as goal
 
 pub returns-then-self-other-ne0 : goal.returns-then-self-other-ne0

@@ -1,4 +1,4 @@
-use Rattle.std.proofs.Common.{arith, ◌<◌, ◌^◌, length, ◌∙◌}
+use Rattle.std.proofs.Common.{arith, ◌∙◌}
 use Rattle.four_value.proofs.Numbers.{product_bits}
 use Rattle.four_value.proofs.value.Vec4.mul.Goals as goal
 

@@ -1,8 +1,8 @@
-use Rattle.std.proofs.Common.{ap, sym, ◌∙◌}
+use Rattle.std.proofs.Common.{ap, ◌∙◌}
 use Rattle.four_value.specs.Bits.{not_bit, or_bit}
 use Rattle.four_value.specs.Values.{reduced}
 use Rattle.four_value.specs.declared.logic.Bit.TheVariants.{Zero}
-use Rattle.four_value.proofs.Tests.{reduced-and}
+use Rattle.four_value.proofs.Readings.{reduced-and}
 use Rattle.four_value.proofs.value.Vec4.reduce_and.Goals as goal
 
 pub returns : goal.returns

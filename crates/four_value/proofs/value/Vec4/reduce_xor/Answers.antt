@@ -1,7 +1,7 @@
 use Rattle.std.proofs.Common.{◌∙◌, sym}
 use Rattle.std.proofs.lemmas.Bool.{ne_eqb}
 use Rattle.four_value.proofs.Views.{AreFields, fields_of}
-use Rattle.four_value.proofs.Tests.{reduced-xor_unknown, reduced-xor_known}
+use Rattle.four_value.proofs.Readings.{reduced-xor_unknown, reduced-xor_known}
 use Rattle.four_value.proofs.value.Vec4.reduce_xor.Goals as goal
 
 pub returns-then-self-ne0 : goal.returns-then-self-ne0

@@ -2,7 +2,7 @@ use Rattle.std.proofs.Common.{◌∙◌, ⊎_elim}
 use Rattle.std.proofs.lemmas.Bool.{ne_eqb}
 use Rattle.std.proofs.lemmas.Bool.Decides.{eqb_tells}
 use Rattle.four_value.proofs.Views.{AreFields, fields_of}
-use Rattle.four_value.proofs.Tests.{same_fields, other_ones, other_unknowns}
+use Rattle.four_value.proofs.Readings.{same_fields, other_ones, other_unknowns}
 use Rattle.four_value.proofs.value.Vec4.same.Goals as goal
 
 pub returns-then-self-other : goal.returns-then-self-other

@@ -2,7 +2,7 @@ use Rattle.std.proofs.Common.{◌≡◌, true, false, sym, ◌∙◌}
 use Rattle.four_value.specs.Bits.{is_one, is_unknown}
 use Rattle.four_value.specs.Values.{some_bit}
 use Rattle.four_value.proofs.Views.{AreFields, fields_of}
-use Rattle.four_value.proofs.Tests.{some_bit-true, some_bit-false}
+use Rattle.four_value.proofs.Readings.{some_bit-true, some_bit-false}
 use Rattle.four_value.proofs.value.Vec4.truth.Goals as goal
 
 pub returns-then-surely_one-ne0 : goal.returns-then-surely_one-ne0

@@ -1,5 +1,5 @@
 use Rattle.four_value.proofs.Views.{AreFields, fields_of}
-use Rattle.four_value.proofs.Tests.{ignored-exact, ignored-z, ignored-xz}
+use Rattle.four_value.proofs.Readings.{ignored-exact, ignored-z, ignored-xz}
 use Rattle.four_value.proofs.value.comparisons.ignored_places.Goals as goal
 
 pub returns-in-Exact : goal.returns-in-Exact

@@ -1,5 +1,5 @@
 use Rattle.four_value.proofs.Views.{AreFields, fields_of}
-use Rattle.four_value.proofs.Tests.{label_matches-plane}
+use Rattle.four_value.proofs.Readings.{label_matches-plane}
 use Rattle.four_value.proofs.value.comparisons.label_matches.Goals as goal
 
 pub returns : goal.returns

@@ -1,0 +1,9 @@
+pub mod Places
+pub mod Views
+pub mod Numbers
+pub mod Arrangements
+pub mod Updates
+pub mod Releases
+pub mod NextTimes
+pub mod NothingHeld
+pub mod Turns

@@ -1,0 +1,4 @@
+pub mod Queues
+pub mod Arranged
+pub mod Regions
+pub mod TurnLaws

@@ -1,0 +1,5 @@
+pub mod Plans
+pub mod Verdict
+pub mod Grade
+pub mod Difference
+pub mod Headline

@@ -1,0 +1,7 @@
+pub mod ListLaws
+pub mod PathLaws
+pub mod Tables
+pub mod TableLaws
+pub mod RuleLaws
+pub mod CountLaws
+pub mod ConeLaws

@@ -1,0 +1,13 @@
+//! The nodes of a design as a graph of its objects: who reads an object, what reaches a net piece, and on how many paths.
+//!
+//! A graph is made for one design and refers to it. A change of a variable spreads through continuous assignments, gates and combinational
+//! blocks (IEEE 1364-2001, clauses 6 and 7); the graph tells which variables can change a net piece, and whether one does so on one path
+//! or on more.
+#![tactic(auto)]
+
+mod cone;
+mod count;
+mod graph;
+
+pub use count::Marks;
+pub use graph::Graph;

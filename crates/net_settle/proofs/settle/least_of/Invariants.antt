@@ -1,0 +1,10 @@
+use Rattle.std.proofs.Common.{◌≡◌, ℕ, ◌≤◌, true, map, take}
+use Rattle.vf_base.specs.Base.{node_number}
+use Rattle.v_design.specs.Lists.{has}
+use Rattle.net_settle.proofs.settle.least_of.Given as goal
+
+abbrev pub invariant-nodes : goal.invariant-nodes
+invariant-nodes l = record {
+  low : l.lowest ≤ l.fn.least;
+  lower : (node : ℕ) → has (map node_number (take l.node-index l.nodes)) node ≡ true → l.lowest ≤ node;
+}

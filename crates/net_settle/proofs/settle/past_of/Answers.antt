@@ -1,0 +1,17 @@
+use Rattle.std.proofs.Common.{rules, arith, ◌≡◌, ◌<◌, get_or, inl, inr}
+use Rattle.vf_base.specs.Base.{node_number}
+use Rattle.net_settle.specs.MarkLaws.{listed_more}
+use Rattle.net_settle.proofs.settle.past_of.Goals as goal
+
+pub nodes-preserved : goal.nodes-preserved
+nodes-preserved c =
+    let bounded : node_number (get_or c.args.nodes.now c.nodes.node-index (record { 0 = 0 })) < c.args.count = c.requires.are_nodes c.nodes.node-index (record { 0 = 0 }) c.nodes-test.true in
+    record {
+      high = search rules;
+      within = omega arith;
+      higher = λ n e.
+          elim (listed_more c.args.nodes.now c.nodes.node-index (record { 0 = 0 }) n c.nodes-test.true e) [
+            | inl before ↦ let bound : n < c.nodes.highest = c.nodes.invariant.higher n before in omega arith
+            | inr here ↦ let same : node_number (get_or c.args.nodes.now c.nodes.node-index (record { 0 = 0 })) ≡ n = here in omega arith
+          ];
+    }

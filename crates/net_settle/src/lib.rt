@@ -1,0 +1,20 @@
+//! Settling the nets of a design: which nodes are still to be evaluated, and the law that evaluating them settles the nets.
+//!
+//! After a change of a variable the nodes that read it are marked. Whoever takes the least marked node, writes what its function gives and
+//! marks the readers of what that changed, and so on until no mark is left, has settled nets (IEEE 1364-2001, clauses 6 and 7): those
+//! in which each node's outputs equal its function of its inputs.
+#![tactic(auto)]
+
+ghost use Rattle.v_design.specs.Laws.{NetsSettle, SettledValuesAreOne};
+
+mod settle;
+
+pub use settle::Settle;
+
+/// Working on marked nodes settles the nets, and the variables alone fix what they settle on. It does nothing when it runs; its contract is the law.
+pub fn settles()
+    ensures settle { NetsSettle }
+    ensures one { SettledValuesAreOne }
+{
+    order_laws::nets();
+}

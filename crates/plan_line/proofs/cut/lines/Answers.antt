@@ -1,0 +1,16 @@
+use Rattle.std.proofs.Common.{◌≡◌, ℕ, List, take, take_all, length, slice_index, false}
+use Rattle.std.specs.List.{AllByRecursion}
+use Rattle.plan_line.specs.Text.{is_line_feed}
+use Rattle.plan_line.proofs.Cuts.{lines-more, lines-end}
+use Rattle.plan_line.proofs.cut.lines.Goals as goal
+
+pub lines-preserved-then-count-rest : goal.lines-preserved-then-count-rest
+lines-preserved-then-count-rest c =
+    let text = c.lines.rest.now in let n = c.line_length-count.result in
+    lines-more _ _ _ text (take n text) c.rest_of-rest.result.now (slice_index text n) c.lines.invariant (rw (c.without_return.ensures, c.piece.ensures) at c.in_ok-push_line.ensures) c.rest_of-rest.ensures c.line_length-count.ensures.line (c.line_length-count.ensures.ends c.if-count-rest.true)
+
+pub returns : goal.returns
+returns c =
+    let text = c.lines.rest.now in
+    let none : AllByRecursion (λ b. is_line_feed b ≡ false) text = rw (take_all c.line_length.result text c.lines-test.false) at c.line_length.ensures.line in
+    lines-end _ _ _ text c.lines.invariant c.in_ok-push_word.ensures none

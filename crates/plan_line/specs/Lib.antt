@@ -1,0 +1,4 @@
+pub mod Text
+pub mod Spelled
+pub mod Entries
+pub mod Draft

@@ -1,0 +1,332 @@
+-- A statement whose own spot stands before the rest of a position, and whose parts are compiled behind it.
+use Rattle.std.proofs.Common.{◌≡◌, ◌≢◌, ◌≤◌, ◌<◌, ℕ, zero, suc, ◌+◌, ◌-◌, List, [], ◌∷◌, ◌++◌, length, get_or, Option, Some, None, refl, sym, ap, ◌∙◌, subst, arith, length-append, append-nil, unwrap_or}
+use Rattle.std.specs.List.{slice_get}
+use Rattle.v_design.specs.Trees.{Expression, Target, Statement, Block, Case, For, While, Repeat, Blocking, Statements, no_statements, more_statements, CaseItems, no_items, more_items}
+use Rattle.vf_base.specs.Base.{SourcePlace}
+use Rattle.four_value.specs.declared.operator.CaseKind.{CaseKind}
+use Rattle.v_design.specs.Processes.{loop_of}
+use Rattle.process_code.specs.Rests.{Part, Runs, TurnsLeft, opened_parts, NumbersFall}
+use Rattle.process_code.specs.RestsLaws.{numbers_fall-opened, numbers_fall-more}
+use Rattle.process_code.specs.Positions.{part_of_head, rests_of, StandsAt, ItemsLead, PartLeads}
+use Rattle.process_code.specs.Compiling.{Leads, rests_in, IsInStep, Grows, Places, Turned, IsBelow, MayCompile, Compiles, CompilesItems}
+use Rattle.process_code.proofs.Growing.{Keeps, slice_get-last, keeps-spots, rest_at, rest-last, some-same, grows-keeps, turned-keeps, grows-refl, grows-trans, grows-own, items_lead-more}
+use Rattle.std.proofs.lemmas.Option.{slice_get_within}
+use Rattle.v_design.specs.Plain.{statement_of}
+use Rattle.v_design.specs.PlainLemmas.{items_of, statements_of}
+use Rattle.v_design.specs.declared.tree.CaseItem.{CaseItem}
+use Rattle.v_design.specs.declared.tree.FlatStmt.{FlatStmt}
+use Rattle.v_design.specs.Sized.{levels_of_statement, levels_of_statements, levels_of_items}
+use Rattle.process_code.specs.declared.code.Head.{Head}
+use Rattle.process_code.specs.declared.code.Ways.{Ways}
+use Rattle.process_code.specs.declared.builder.Builder.{Builder}
+
+-- The rests stay
+
+pub placed-keeps : (old placed : Builder) (head : Head) (next own : ℕ) → Places old placed head next own → Keeps (rests_in old) (rests_in placed)
+placed-keeps old placed head next own p = keeps-spots old.spots.items (p.spot ∷ []) placed.spots.items p.spots
+
+pub placed-length : (old placed : Builder) (head : Head) (next own : ℕ) → Places old placed head next own → length placed.spots.items ≡ length old.spots.items + 1
+placed-length old placed head next own p = ap length p.spots ∙ length-append old.spots.items (p.spot ∷ [])
+
+-- the rest that a spot which is placed stands for
+pub placed-stands : (old placed : Builder) (head : Head) (next own : ℕ) (rest : List Part) → Places old placed head next own → StandsAt (rests_in old) next rest →
+    StandsAt (rests_in placed) own (part_of_head head ∷ rest)
+placed-stands old placed head next own rest p h =
+    let stands : StandsAt (rests_in old) p.spot.next rest = ap (slice_get (rests_in old)) p.next_is ∙ h in
+    ap (slice_get (rests_in placed)) p.own_is
+    ∙ ap (λ spots. slice_get (rests_of spots) (length old.spots.items + 1)) p.spots
+    ∙ rest-last old.spots.items p.spot rest stands
+    ∙ ap (λ h. Some (part_of_head h ∷ rest)) p.head_is
+
+-- What may be compiled
+
+-- the rest of a position is one
+pub one-rest : (rests : List (List Part)) (position : ℕ) (one other : List Part) → StandsAt rests position one → StandsAt rests position other → one ≡ other
+one-rest rests position one other h k = some-same (sym h ∙ k)
+
+below-kept : (old new : Builder) (next : ℕ) → next ≤ length old.spots.items → IsBelow old next → Keeps (rests_in old) (rests_in new) → old.repeats ≤ new.repeats → IsBelow new next
+below-kept old new next there below keeps more rest h =
+    let known = rest_at old.spots.items next there in
+    let P : List Part → Type 0 = λ r. NumbersFall new.repeats r in
+    subst P (one-rest (rests_in new) next _ rest (keeps next _ known) h) (numbers_fall-more old.repeats new.repeats (get_or (rests_in old) next []) more (below _ known))
+
+-- behind a spot that is placed
+pub may-placed : (old placed : Builder) (head : Head) (next own : ℕ) → MayCompile old next → Places old placed head next own × IsInStep placed → MayCompile placed next
+may-placed old placed head next own m p =
+    record {
+      in_step = p.1;
+      there = omega (arith, m.there, placed-length old placed head next own p.0);
+      below = below-kept old placed next m.there m.below (placed-keeps old placed head next own p.0) (omega (arith, p.0.repeats));
+    }
+
+-- before the spot that is placed
+pub may-own : (old placed : Builder) (head : Head) (next own : ℕ) → MayCompile old next → Places old placed head next own × IsInStep placed →
+    ((rest : List Part) → StandsAt (rests_in old) next rest → NumbersFall old.repeats (part_of_head head ∷ rest)) → MayCompile placed own
+may-own old placed head next own m p falls =
+    let known = rest_at old.spots.items next m.there in
+    let P : List Part → Type 0 = λ r. NumbersFall placed.repeats r in
+    let N : ℕ → Type 0 = λ n. NumbersFall n (part_of_head head ∷ get_or (rests_in old) next []) in
+    record {
+      in_step = p.1;
+      there = omega (arith, p.0.own_is, placed-length old placed head next own p.0);
+      below = λ rest h. subst P (one-rest (rests_in placed) own _ rest (placed-stands old placed head next own _ p.0 known) h)
+          (subst N (sym p.0.repeats) (falls (get_or (rests_in old) next []) known));
+    }
+
+-- before a statement's spot that is placed
+pub may-runs : (old placed : Builder) (head : Head) (s : Statement) (next own : ℕ) → MayCompile old next → Places old placed head next own × IsInStep placed → part_of_head head ≡ Runs s → MayCompile placed own
+may-runs old placed head s next own m p e =
+    may-own old placed head next own m p (λ rest h. let P : Part → Type 0 = λ part. NumbersFall old.repeats (part ∷ rest) in subst P (sym e) (m.below rest h))
+
+-- after other spots are added
+pub may-grown : (old new : Builder) (next : ℕ) → MayCompile old next → Grows old new → IsInStep new → MayCompile new next
+may-grown old new next m g in_step =
+    let longer : length new.spots.items ≡ length old.spots.items + length g.added = ap length g.spots ∙ length-append old.spots.items g.added in
+    record {
+      in_step = in_step;
+      there = omega (arith, m.there, longer);
+      below = below-kept old new next m.there m.below (grows-keeps old new g) g.repeats;
+    }
+
+-- before a statement that is compiled
+pub may-entry : (old new : Builder) (s : Statement) (next entry : ℕ) → MayCompile old next → Compiles old new s next entry → MayCompile new entry
+may-entry old new s next entry m k =
+    let known = rest_at old.spots.items next m.there in
+    let P : List Part → Type 0 = λ r. NumbersFall new.repeats r in
+    record {
+      in_step = k.in_step;
+      there = k.there;
+      below = λ rest h. subst P (one-rest (rests_in new) entry _ rest (k.opens _ known) h)
+          (numbers_fall-opened new.repeats s (get_or (rests_in old) next []) (numbers_fall-more old.repeats new.repeats (get_or (rests_in old) next []) k.grows.repeats (m.below _ known)));
+    }
+
+-- Statements
+
+turned-in_step : (grown new : Builder) (own : ℕ) (ways : Ways) → IsInStep grown → Turned grown new own ways → IsInStep new
+turned-in_step grown new own ways in_step t =
+    let spots : length new.spots.items ≡ length grown.spots.items = ap length t.spots in
+    record { ways = omega (arith, spots, in_step.ways, t.lengths); repeats = omega (arith, spots, in_step.repeats, t.repeats) }
+
+turned-own : (old placed grown new : Builder) (head : Head) (next own : ℕ) (ways : Ways) → Places old placed head next own → Turned grown new (own - 1) ways →
+    Turned grown new (length old.spots.items) ways
+turned-own old placed grown new head next own ways p t =
+    let e : own - 1 ≡ length old.spots.items = omega (arith, p.own_is) in
+    let P : ℕ → Type 0 = λ n. Turned grown new n ways in
+    subst P e t
+
+-- a statement with its own spot
+pub compiled-own : (old placed grown new : Builder) (head : Head) (s : Statement) (next own : ℕ) (ways : Ways) →
+    MayCompile old next → Places old placed head next own × IsInStep placed → Grows placed grown → IsInStep grown → Turned grown new (own - 1) ways →
+    part_of_head head ≡ Runs s → ((rest : List Part) → opened_parts s rest ≡ Runs s ∷ rest) →
+    ((rest : List Part) → StandsAt (rests_in old) next rest → PartLeads new.repeats (rests_in new) ways (Runs s) rest) →
+    Compiles old new s next own
+compiled-own old placed grown new head s next own ways m p g in_step t head_is opened leads =
+    let known = rest_at old.spots.items next m.there in
+    let turned = turned-own old placed grown new head next own ways p.0 t in
+    let longer : length grown.spots.items ≡ length placed.spots.items + length g.added = ap length g.spots ∙ length-append placed.spots.items g.added in
+    let spots : length new.spots.items ≡ length grown.spots.items = ap length t.spots in
+    let P : Part → Type 0 = λ part. PartLeads new.repeats (rests_in new) ways part (get_or (rests_in old) next []) in
+    record {
+      in_step = turned-in_step grown new (own - 1) ways in_step t;
+      grows = grows-own old placed grown new head next own ways _ m.in_step.ways p.0 g turned known (subst P (sym head_is) (leads _ known));
+      there = omega (arith, spots, longer, placed-length old placed head next own p.0, p.0.own_is);
+      opens = λ rest h.
+          turned-keeps grown new _ ways t own _ (grows-keeps placed grown g own _ (placed-stands old placed head next own rest p.0 h))
+          ∙ ap (λ part. Some (part ∷ rest)) head_is ∙ ap Some (sym (opened rest));
+    }
+
+at-way : (rests : List (List Part)) (one other : ℕ) (rest : List Part) → one ≡ other → StandsAt rests other rest → StandsAt rests one rest
+at-way rests one other rest e h = ap (slice_get rests) e ∙ h
+
+-- a statement whose body stands before the same rest
+pub compiled-body : (old placed grown new : Builder) (head : Head) (s body : Statement) (next own inner : ℕ) (ways : Ways) →
+    MayCompile old next → Places old placed head next own × IsInStep placed → Compiles placed grown body next inner → Turned grown new (own - 1) ways →
+    part_of_head head ≡ Runs s → ((rest : List Part) → opened_parts s rest ≡ Runs s ∷ rest) → ways.inner ≡ inner →
+    ((rest : List Part) → StandsAt (rests_in new) ways.inner (opened_parts body rest) → PartLeads new.repeats (rests_in new) ways (Runs s) rest) →
+    Compiles old new s next own
+compiled-body old placed grown new head s body next own inner ways m p k t head_is opened inner_is leads =
+    compiled-own old placed grown new head s next own ways m p k.grows k.in_step t head_is opened
+    (λ rest h. leads rest (at-way (rests_in new) ways.inner inner _ inner_is
+      (turned-keeps grown new _ ways t inner _ (k.opens rest (placed-keeps old placed head next own p.0 next rest h)))))
+
+-- a statement whose body stands before the statement itself
+pub compiled-loop : (old placed grown new : Builder) (head : Head) (s body : Statement) (next own inner : ℕ) (ways : Ways) →
+    MayCompile old next → Places old placed head next own × IsInStep placed → Compiles placed grown body own inner → Turned grown new (own - 1) ways →
+    part_of_head head ≡ Runs s → ((rest : List Part) → opened_parts s rest ≡ Runs s ∷ rest) → ways.inner ≡ inner →
+    ((rest : List Part) → StandsAt (rests_in new) ways.inner (opened_parts body (Runs s ∷ rest)) → PartLeads new.repeats (rests_in new) ways (Runs s) rest) →
+    Compiles old new s next own
+compiled-loop old placed grown new head s body next own inner ways m p k t head_is opened inner_is leads =
+    compiled-own old placed grown new head s next own ways m p k.grows k.in_step t head_is opened
+    (λ rest h. leads rest (at-way (rests_in new) ways.inner inner _ inner_is
+      (turned-keeps grown new _ ways t inner _ (k.opens _ (placed-stands old placed head next own rest p.0 h ∙ ap (λ part. Some (part ∷ rest)) head_is)))))
+
+-- a statement with two branches
+pub compiled-branches : (old placed one grown new : Builder) (head : Head) (s first second : Statement) (next own inner other : ℕ) (ways : Ways) →
+    MayCompile old next → Places old placed head next own × IsInStep placed → Compiles placed one first next inner → Compiles one grown second next other → Turned grown new (own - 1) ways →
+    part_of_head head ≡ Runs s → ((rest : List Part) → opened_parts s rest ≡ Runs s ∷ rest) → ways.inner ≡ inner → ways.other ≡ other →
+    ((rest : List Part) → StandsAt (rests_in new) ways.inner (opened_parts first rest) → StandsAt (rests_in new) ways.other (opened_parts second rest) → PartLeads new.repeats (rests_in new) ways (Runs s) rest) →
+    Compiles old new s next own
+compiled-branches old placed one grown new head s first second next own inner other ways m p j k t head_is opened inner_is other_is leads =
+    compiled-own old placed grown new head s next own ways m p (grows-trans placed one grown p.1.ways j.grows k.grows) k.in_step t head_is opened
+    (λ rest h.
+      let here = placed-keeps old placed head next own p.0 next rest h in
+      leads rest
+      (at-way (rests_in new) ways.inner inner _ inner_is (turned-keeps grown new _ ways t inner _ (grows-keeps one grown k.grows inner _ (j.opens rest here))))
+      (at-way (rests_in new) ways.other other _ other_is (turned-keeps grown new _ ways t other _ (k.opens rest (grows-keeps placed one j.grows next rest here)))))
+
+-- the ways of a spot that is placed stay open while others are added behind it
+pub turned-self : (old placed grown : Builder) (head : Head) (next own : ℕ) (p : Places old placed head next own) → length old.spots.items ≡ length old.ways.items → Grows placed grown →
+    Turned grown grown (length old.spots.items) p.way
+turned-self old placed grown head next own p in_step g =
+    let there : slice_get placed.ways.items (length old.spots.items) ≡ Some p.way =
+        ap (λ xs. slice_get xs (length old.spots.items)) p.ways ∙ ap (slice_get (old.ways.items ++ (p.way ∷ []))) in_step ∙ slice_get-last old.ways.items p.way in
+    record {
+      spots = refl;
+      set = g.kept (length old.spots.items) (omega (arith, placed-length old placed head next own p)) ∙ there;
+      kept = λ i other. refl;
+      lengths = refl;
+      repeats = refl;
+    }
+
+-- a statement without parts
+pub compiled-leaf : (old placed : Builder) (head : Head) (s : Statement) (next own : ℕ) →
+    MayCompile old next → Places old placed head next own × IsInStep placed → part_of_head head ≡ Runs s → ((rest : List Part) → opened_parts s rest ≡ Runs s ∷ rest) →
+    ((ways : Ways) (rest : List Part) → PartLeads placed.repeats (rests_in placed) ways (Runs s) rest) → Compiles old placed s next own
+compiled-leaf old placed head s next own m p head_is opened leads =
+    let t = turned-self old placed placed head next own p.0 m.in_step.ways (grows-refl placed) in
+    let e : length old.spots.items ≡ own - 1 = omega (arith, p.0.own_is) in
+    let P : ℕ → Type 0 = λ n. Turned placed placed n p.0.way in
+    compiled-own old placed placed placed head s next own p.0.way m p (grows-refl placed) p.1 (subst P e t) head_is opened (λ rest h. leads p.0.way rest)
+
+-- a null statement
+pub compiled-null : (old : Builder) (next : ℕ) (s : Statement) → MayCompile old next → ((rest : List Part) → opened_parts s rest ≡ rest) → Compiles old old s next next
+compiled-null old next s m opened =
+    record { in_step = m.in_step; grows = grows-refl old; there = m.there; opens = λ rest h. h ∙ ap Some (sym (opened rest)) }
+
+-- one more item of a case
+pub items_lead-push : (rests : List (List Part)) (positions : List ℕ) (position : ℕ) (items : List CaseItem) (item : CaseItem) (rest : List Part) →
+    ItemsLead rests positions (items_of items) rest → StandsAt rests position (opened_parts (statement_of item.statement) rest) →
+    ItemsLead rests (positions ++ (position ∷ [])) (items_of (items ++ (item ∷ []))) rest
+items_lead-push rests [] position [] item rest h k = (k, tt)
+items_lead-push rests (p ∷ positions) position [] item rest h k = absurd h
+items_lead-push rests [] position (x ∷ items) item rest h k = absurd h
+items_lead-push rests (p ∷ positions) position (x ∷ items) item rest h k = (h.0, items_lead-push rests positions position items item rest h.1 k)
+
+-- a case
+pub compiled-case : (old placed one grown new : Builder) (head : Head) (place : SourcePlace) (kind : CaseKind) (value : Expression) (items : CaseItems) (default : Statement)
+    (next own other : ℕ) (positions : List ℕ) (ways : Ways) →
+    MayCompile old next → Places old placed head next own × IsInStep placed → CompilesItems placed one items next positions → Compiles one grown default next other →
+    Turned grown new (own - 1) ways → part_of_head head ≡ Runs (Case place kind value items default) → ways.items.items ≡ positions → ways.other ≡ other →
+    Compiles old new (Case place kind value items default) next own
+compiled-case old placed one grown new head place kind value items default next own other positions ways m p j k t head_is items_are other_is =
+    compiled-own old placed grown new head (Case place kind value items default) next own ways m p (grows-trans placed one grown p.1.ways j.grows k.grows) k.in_step t head_is (λ rest. refl)
+    (λ rest h.
+      let here = placed-keeps old placed head next own p.0 next rest h in
+      let P : List ℕ → Type 0 = λ list. ItemsLead (rests_in new) list items rest in
+      (subst P (sym items_are)
+        (items_lead-more (rests_in grown) (rests_in new) positions items rest (turned-keeps grown new _ ways t)
+          (items_lead-more (rests_in one) (rests_in grown) positions items rest (grows-keeps one grown k.grows) (j.lead rest here))),
+       at-way (rests_in new) ways.other other _ other_is (turned-keeps grown new _ ways t other _ (k.opens rest (grows-keeps placed one j.grows next rest here)))))
+
+-- a builder that counts one more repeat
+pub counts-more : (old new : Builder) → new.spots.items ≡ old.spots.items → new.ways.items ≡ old.ways.items → old.repeats ≤ new.repeats → length old.spots.items ≡ length old.ways.items → Grows old new
+counts-more old new spots ways more in_step =
+    record {
+      added = [];
+      spots = spots ∙ sym (append-nil old.spots.items);
+      kept = λ i low. ap (λ xs. slice_get xs i) ways;
+      repeats = more;
+      led = λ i spot way low h w.
+          let n : length new.spots.items ≡ length old.spots.items = ap length spots in
+          absurd (omega (arith, n, low, slice_get_within new.spots.items i spot h));
+    }
+
+-- the numbers of the repeats around a repeat are below its own
+below-counted : (old placed counted : Builder) (head : Head) (next own : ℕ) → MayCompile old next → Places old placed head next own → Grows placed counted →
+    (rest : List Part) → StandsAt (rests_in counted) next rest → NumbersFall old.repeats rest
+below-counted old placed counted head next own m p g rest h =
+    let r0 = rest_at old.spots.items next m.there in
+    let P : List Part → Type 0 = λ r. NumbersFall old.repeats r in
+    subst P (one-rest (rests_in counted) next _ rest (grows-keeps placed counted g next _ (placed-keeps old placed head next own p next _ r0)) h) (m.below _ r0)
+
+-- before the turns of a repeat
+pub may-turns : (old placed counted turned : Builder) (head turns_head : Head) (place : SourcePlace) (body : Statement) (next own turns : ℕ) →
+    MayCompile old next → Places old placed head next own × IsInStep placed → Grows placed counted → IsInStep counted → old.repeats < counted.repeats →
+    Places counted turned turns_head next turns × IsInStep turned → part_of_head turns_head ≡ TurnsLeft old.repeats place body → MayCompile turned turns
+may-turns old placed counted turned head turns_head place body next own turns m p gc counted_in more q turns_is =
+    may-own counted turned turns_head next turns (may-grown placed counted next (may-placed old placed head next own m p) gc counted_in) q
+    (λ rest h. let P : Part → Type 0 = λ part. NumbersFall counted.repeats (part ∷ rest) in subst P (sym turns_is) (more, below-counted old placed counted head next own m p.0 gc rest h))
+
+-- a repeat: its own spot, and that of its turns
+pub compiled-repeat : (old placed counted turned grown led new : Builder) (head turns_head : Head) (place : SourcePlace) (count : Expression) (body : Statement)
+    (next own turns inner : ℕ) (turns_ways ways : Ways) →
+    MayCompile old next → Places old placed head next own × IsInStep placed → Grows placed counted → IsInStep counted → old.repeats < counted.repeats →
+    Places counted turned turns_head next turns × IsInStep turned → Compiles turned grown body turns inner →
+    Turned grown led (turns - 1) turns_ways → Turned led new (own - 1) ways →
+    part_of_head head ≡ Runs (Repeat place count body) → part_of_head turns_head ≡ TurnsLeft old.repeats place body →
+    turns_ways.inner ≡ inner → ways.inner ≡ turns → ways.other ≡ old.repeats →
+    Compiles old new (Repeat place count body) next own
+compiled-repeat old placed counted turned grown led new head turns_head place count body next own turns inner turns_ways ways m p gc counted_in more q k t u head_is turns_is inner_is turns_at number_is =
+    let may_counted = may-grown placed counted next (may-placed old placed head next own m p) gc counted_in in
+    let known = rest_at counted.spots.items next may_counted.there in
+    let led_own = turned-own counted turned grown led turns_head next turns turns_ways q.0 t in
+    let led_in = turned-in_step grown led (turns - 1) turns_ways k.in_step t in
+    let more_led : old.repeats < led.repeats = omega (arith, more, q.0.repeats, k.grows.repeats, t.repeats) in
+    let turns_lead : (rest : List Part) → StandsAt (rests_in counted) next rest → StandsAt (rests_in led) turns_ways.inner (opened_parts body (TurnsLeft old.repeats place body ∷ rest)) =
+        λ rest h. at-way (rests_in led) turns_ways.inner inner _ inner_is
+          (turned-keeps grown led _ turns_ways t inner _ (k.opens _ (placed-stands counted turned turns_head next turns rest q.0 h ∙ ap (λ part. Some (part ∷ rest)) turns_is))) in
+    let P : Part → Type 0 = λ part. PartLeads led.repeats (rests_in led) turns_ways part (get_or (rests_in counted) next []) in
+    let g : Grows counted led = grows-own counted turned grown led turns_head next turns turns_ways _ counted_in.ways q.0 k.grows led_own known
+        (subst P (sym turns_is) (more_led, below-counted old placed counted head next own m p.0 gc _ known, turns_lead _ known)) in
+    let N : ℕ → List Part → Type 0 = λ n rest. NumbersFall n rest in
+    compiled-own old placed led new head (Repeat place count body) next own ways m p (grows-trans placed counted led p.1.ways gc g) led_in u head_is (λ rest. refl)
+    (λ rest h.
+      let here = grows-keeps placed counted gc next rest (placed-keeps old placed head next own p.0 next rest h) in
+      let stands : StandsAt (rests_in turned) turns (TurnsLeft old.repeats place body ∷ rest) = placed-stands counted turned turns_head next turns rest q.0 here ∙ ap (λ part. Some (part ∷ rest)) turns_is in
+      let F : ℕ → Type 0 = λ n. NumbersFall n rest in
+      (omega (arith, number_is, more_led, u.repeats),
+       subst F (sym number_is) (m.below rest h),
+       ap (slice_get (rests_in new)) turns_at
+       ∙ turned-keeps led new _ ways u turns _ (turned-keeps grown led _ turns_ways t turns _ (grows-keeps turned grown k.grows turns _ stands))
+       ∙ ap (λ n. Some (TurnsLeft n place body ∷ rest)) (sym number_is)))
+
+-- a for: its own spot, that of its test, and that of the assignment that ends a turn
+pub compiled-for : (old placed tested advanced grown led new : Builder) (head test_head advance_head : Head) (place : SourcePlace) (first_targets : List Target) (first condition : Expression)
+    (next_targets : List Target) (next_value : Expression) (body : Statement) (next own test advance inner : ℕ) (test_ways ways : Ways) →
+    MayCompile old next → Places old placed head next own × IsInStep placed → Places placed tested test_head next test × IsInStep tested →
+    Places tested advanced advance_head test advance × IsInStep advanced → Compiles advanced grown body advance inner →
+    Turned grown led (test - 1) test_ways → Turned led new (own - 1) ways →
+    part_of_head head ≡ Runs (For place first_targets first condition next_targets next_value body) → part_of_head test_head ≡ Runs (loop_of place condition next_targets next_value body) →
+    part_of_head advance_head ≡ Runs (Blocking place next_targets None next_value) → test_ways.inner ≡ inner → ways.inner ≡ test →
+    Compiles old new (For place first_targets first condition next_targets next_value body) next own
+compiled-for old placed tested advanced grown led new head test_head advance_head place first_targets first condition next_targets next_value body next own test advance inner test_ways ways
+    m p q r k t u head_is test_is advance_is inner_is test_at =
+    let may_placed = may-placed old placed head next own m p in
+    let known = rest_at tested.spots.items test (omega (arith, q.0.own_is, placed-length placed tested test_head next test q.0)) in
+    let A : Part → Type 0 = λ part. PartLeads grown.repeats (rests_in grown) r.0.way part (get_or (rests_in tested) test []) in
+    let g : Grows tested grown = grows-own tested advanced grown grown advance_head test advance r.0.way _ q.1.ways r.0 k.grows
+        (turned-self tested advanced grown advance_head test advance r.0 q.1.ways k.grows) known (subst A (sym advance_is) tt) in
+    let loop : Compiles placed led (loop_of place condition next_targets next_value body) next test =
+        compiled-own placed tested grown led test_head (loop_of place condition next_targets next_value body) next test test_ways may_placed q g k.in_step t test_is (λ rest. refl)
+        (λ rest h. at-way (rests_in led) test_ways.inner inner _ inner_is (turned-keeps grown led _ test_ways t inner _
+          (k.opens _ (placed-stands tested advanced advance_head test advance _ r.0
+            (placed-stands placed tested test_head next test rest q.0 h ∙ ap (λ part. Some (part ∷ rest)) test_is) ∙ ap (λ part. Some (part ∷ (Runs (loop_of place condition next_targets next_value body) ∷ rest))) advance_is)))) in
+    compiled-body old placed led new head _ (loop_of place condition next_targets next_value body) next own test ways m p loop u head_is (λ rest. refl) test_at (λ rest h. h)
+
+-- Measures
+
+pub levels-statement : (statements : List FlatStmt) (i : ℕ) (s : FlatStmt) → i < length statements → s ≡ get_or statements i s →
+    levels_of_statement (statement_of s) ≤ levels_of_statements (statements_of statements)
+levels-statement [] i s h e = absurd (omega (arith, h))
+levels-statement (x ∷ xs) zero s h e = let n = ap (λ y. levels_of_statement (statement_of y)) e in omega (arith, n)
+levels-statement (x ∷ xs) (suc i) s h e = omega (arith, levels-statement xs i s (omega (arith, h)) e)
+
+pub levels-item : (items : List CaseItem) (i : ℕ) (item : CaseItem) → i < length items → item ≡ get_or items i item →
+    levels_of_statement (statement_of item.statement) ≤ levels_of_items (items_of items)
+levels-item [] i item h e = absurd (omega (arith, h))
+levels-item (x ∷ xs) zero item h e = let n = ap (λ (y : CaseItem). levels_of_statement (statement_of y.statement)) e in omega (arith, n)
+levels-item (x ∷ xs) (suc i) item h e = omega (arith, levels-item xs i item (omega (arith, h)) e)
+
+-- a builder that grows has no fewer spots
+pub grows-longer : (old new : Builder) → Grows old new → length old.spots.items ≤ length new.spots.items
+grows-longer old new g = let n : length new.spots.items ≡ length old.spots.items + length g.added = ap length g.spots ∙ length-append old.spots.items g.added in omega (arith, n)

@@ -1,0 +1,10 @@
+pub mod Codes
+pub mod CodeLaws
+pub mod Views
+pub mod Rule
+pub mod Plays
+pub mod Seats
+pub mod Settled
+pub mod Last
+pub mod Slots
+pub mod JobSeats

@@ -1,0 +1,10 @@
+//! The words of the command line, and the statuses with which the program ends, each with its number and its line.
+//!
+//! `specs/Words` says which words are of a form, `specs/Status` which number and line a status has (both are this program's own).
+#![tactic(auto)]
+
+mod status;
+mod words;
+
+pub use status::{Refusal, Status, Which, code, line};
+pub use words::{GradeWords, grade_words};

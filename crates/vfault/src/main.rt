@@ -1,0 +1,98 @@
+//! Grades a test: which stuck-at faults of a design it finds, and at which strobe.
+//!
+//! `vfault` is the whole program but for the outside. Where it answers `Done`, the sink gained the report on what the shelf holds: each line is
+//! the verdict of its fault in every legal order of events (IEEE 1364-2001, clause 5). `main` makes the outside, calls it, prints the line
+//! of the status on standard error, and ends with its number.
+#![tactic(auto)]
+
+ghost use Rattle.std.specs.Prelude.{◌≡◌, length, IfOk};
+
+mod output;
+mod top;
+
+use std::alloc::Global;
+use std::env;
+use std::marker::Brand;
+use std::process::ExitCode;
+use std::rt::{Env, Files};
+use std::sync::ledger::{Blank, Ledger, Share};
+use std::thread::Threads;
+use top::vfault;
+use vf_base::{FolderShelf, NoMemory, OpenGate, OutSink, Steps};
+#[cfg(test)]
+use vf_words::Which;
+use vf_words::{Status, code, line};
+
+/// One counter for the calling thread, and one for each worker.
+const COUNTERS: u64 = 65;
+
+/// A counter from each share of a ledger.
+fn counters<L: Ledger + Send + Sync>(
+    alloc: Global,
+    share: Share<L>,
+) -> Result<Vec<Steps<L>>, NoMemory>
+    requires parts { share.parts ≡ COUNTERS }
+    requires amount { share.amount ≡ 0 }
+    ensures { IfOk result (λ steps. length steps.items ≡ COUNTERS) }
+{
+    let mut rest = share;
+    let mut steps = Vec::new(alloc);
+    'shares: for _ in 0..COUNTERS {
+        let part = rest.split_off(1, 0);
+        steps.push(Steps::new(part))?;
+    }
+    Ok(steps)
+}
+
+/// A run of the program over the files of the system and standard output.
+fn run<L: Ledger + Send + Sync, R: Threads + Sync + Files + Print>(
+    rt: &R,
+    alloc: Global,
+    words: &[String],
+    blank: Blank,
+) -> Status
+    requires name { blank.name ≡ L.name }
+    requires parts { blank.parts ≡ L.parts }
+    requires counters { blank.parts ≡ COUNTERS }
+{
+    let (_book, share) = blank.open::<L>();
+    let Ok(mut steps) = counters(alloc, share) else {
+        return Status::NoMemory;
+    };
+    let mut shelf = FolderShelf::new(rt);
+    let mut sink = OutSink::new(rt);
+    vfault(
+        rt, alloc, words, &mut shelf, &mut sink, &OpenGate, &mut steps,
+    )
+}
+
+/// The words after the program's name.
+fn given_words(rt: &(impl Env + AllocGlobal), alloc: Global) -> Result<Vec<String>, NoMemory> {
+    let mut words = Vec::new(alloc);
+    let Ok(args) = env::args(rt) else {
+        return Ok(words);
+    };
+    for word in args.skip(1) {
+        words.push(word)?;
+    }
+    Ok(words)
+}
+
+/// Ends with the number of the status, and prints its line where it isn't done.
+fn main(rt: HostRuntime) -> ExitCode {
+    let alloc = rt.alloc();
+    let status = match given_words(&rt, alloc) {
+        Ok(words) => run::<Brand, HostRuntime>(&rt, alloc, &words, Blank::new(COUNTERS)),
+        Err(_) => Status::NoMemory,
+    };
+    if status != Status::Done {
+        if let Ok(text) = line(alloc, &status) {
+            let _ = rt.stderr().write_all(text.as_bytes());
+            let _ = rt.stderr().write_all(b"\n");
+        }
+    }
+    ExitCode::from(code(&status))
+}
+
+#[cfg(test)]
+mod tests;
