@@ -141,7 +141,7 @@ fn copy_box(alloc: Global, expr: &Expr) -> Result<Box<Expr>, NoMemory>
 
 /// Parts with the same views.
 #[cycle(copy_expression)]
-fn copy_parts(alloc: Global, parts: &[Expr]) -> Result<Vec<Expr>, NoMemory>
+pub fn copy_parts(alloc: Global, parts: &[Expr]) -> Result<Vec<Expr>, NoMemory>
     ensures { IfOk result (λ copy. map expression_of copy.items ≡ map expression_of parts.now) }
 {
     let mut copies = Vec::new(alloc);

@@ -5,11 +5,14 @@
 #![tactic(auto)]
 
 mod copy_expression;
+mod copy_item;
+mod copy_statement;
 mod expression;
 mod item;
 mod statement;
 mod token;
 
+pub use copy_item::copy_tree;
 pub use expression::{Expr, Index, Select, Target};
 pub use item::{
     Assignment, Connection, Content, Direction, Gate, Heads, Instance, Item, Module, Name, Param,

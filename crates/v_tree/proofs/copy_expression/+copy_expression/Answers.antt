@@ -1,6 +1,4 @@
 use Rattle.std.proofs.Common.{ap, map, sym, ◌∙◌}
-use Rattle.vf_base.specs.Base.{source_place}
-use Rattle.v_tree.specs.Trees as plain
 use Rattle.v_tree.specs.Views.{expression_of}
 use Rattle.v_tree.specs.declared.expression.Expr.{Expr}
 use Rattle.v_tree.proofs.Copies.{copied-concat, copied-repeat}
