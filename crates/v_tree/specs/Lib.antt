@@ -2,3 +2,4 @@ pub mod Tokens
 pub mod Trees
 pub mod Views
 pub mod ViewLaws
+pub mod CaseParts

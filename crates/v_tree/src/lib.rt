@@ -4,11 +4,15 @@
 //! Contracts speak of it as the plain tree of `specs/Trees`, by the views of `specs/Views`; `copy_tree` gives a tree with the same view.
 #![tactic(auto)]
 
+mod copy_expression;
+mod copy_item;
+mod copy_statement;
 mod expression;
 mod item;
 mod statement;
 mod token;
 
+pub use copy_item::copy_tree;
 pub use expression::{Expr, Index, Select, Target};
 pub use item::{
     Assignment, Connection, Content, Direction, Gate, Heads, Instance, Item, Module, Name, Param,
