@@ -1,7 +1,9 @@
-// A queue with sleepers and a postponed process, turn by turn.
+// Queues with sleepers, a postponed process and updates, turn by turn.
 
 use super::*;
+use four_value::{Bit, Vec4};
 use std::test::Fail;
+use vf_base::ObjectId;
 
 #[test]
 fn postponed_before_sleepers(rt: HostRuntime) -> Result<(), Fail> {
@@ -22,5 +24,36 @@ fn postponed_before_sleepers(rt: HostRuntime) -> Result<(), Fail> {
     assert_eq!(rt; second.lanes.as_slice().len(), 0);
 
     assert!(rt; queue.take_region(5).is_none());
+    Ok(())
+}
+
+// a nonblocking update of one bit
+fn update(bit: Bit) -> Update {
+    Update {
+        object: ObjectId(0),
+        low: 0,
+        value: Vec4::of_bit(bit),
+        line: 3,
+    }
+}
+
+#[test]
+fn two_updates_in_one_lane(rt: HostRuntime) -> Result<(), Fail> {
+    let mut queue = Queue::new(rt.alloc(), 2).expect(&rt, "memory");
+    queue
+        .schedule_update(ProcId(1), 0, update(Bit::Zero))
+        .expect(&rt, "memory");
+    queue
+        .schedule_update(ProcId(1), 0, update(Bit::One))
+        .expect(&rt, "memory");
+    let region = queue.take_region(0).ok_or("no region")?;
+    assert_eq!(rt; region.processes.as_slice().len(), 0);
+    assert_eq!(rt; region.lanes.as_slice().len(), 1);
+    let lane = region.lanes.as_slice().first().ok_or("no lane")?;
+    assert_eq!(rt; lane.0, ProcId(1));
+    let updates = lane.1.as_slice();
+    assert_eq!(rt; updates.len(), 2);
+    assert_eq!(rt; updates[0].value.bit(0), Bit::Zero);
+    assert_eq!(rt; updates[1].value.bit(0), Bit::One);
     Ok(())
 }
