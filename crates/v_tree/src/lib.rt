@@ -10,6 +10,8 @@ mod copy_statement;
 mod expression;
 mod item;
 mod statement;
+#[cfg(test)]
+mod tests;
 mod token;
 
 pub use copy_item::copy_tree;
