@@ -1,20 +1,14 @@
 //! The tokens of a source text, and the syntax tree that they spell (IEEE 1364-2001, clause 2 and annex A).
 //!
 //! The tree keeps what stands in the text: each item, statement and expression has its place, and parentheses are parts of their own.
-//! Contracts speak of it as the plain tree of `specs/Trees`, by the views of `specs/Views`; `copy_tree` gives a tree with the same view.
+//! Contracts speak of it as the plain tree of `specs/Trees`, by the views of `specs/Views`.
 #![tactic(auto)]
 
-mod copy_expression;
-mod copy_item;
-mod copy_statement;
 mod expression;
 mod item;
 mod statement;
-#[cfg(test)]
-mod tests;
 mod token;
 
-pub use copy_item::copy_tree;
 pub use expression::{Expr, Index, Select, Target};
 pub use item::{
     Assignment, Connection, Content, Direction, Gate, Heads, Instance, Item, Module, Name, Param,

@@ -1,0 +1,12 @@
+//! Copies of syntax trees (IEEE 1364-2001, annex A).
+//!
+//! `copy_tree` gives a tree with the same plain view (`Views` of the trees' crate): the same modules, items, statements and expressions,
+//! each with its place. It answers nothing else than that tree or want of memory.
+#![tactic(auto)]
+
+mod copy_item;
+mod copy_statement;
+#[cfg(test)]
+mod tests;
+
+pub use copy_item::copy_tree;
