@@ -1,0 +1,5 @@
+-- The first order, slot by slot, beside all legal runs.
+pub mod Awake
+pub mod SlotMoves
+pub mod SlotChain
+pub mod FineSlots
