@@ -3,3 +3,4 @@ pub mod Awake
 pub mod SlotMoves
 pub mod SlotChain
 pub mod FineSlots
+pub mod FirstRuns

@@ -89,7 +89,7 @@ record LeastWork (start : ℕ) (xs : List NodeState) (event : Event) : Type 0 wh
   which : ((event ≡ Evaluation (start + number)) × ((at xs number).marked ≡ true) × (2 * length xs ≤ work xs + 2 * number))
       ⊎ ((event ≡ NetUpdate (start + number)) × ((at xs number).marked ≡ false) × (is_some (at xs number).pending ≡ true) × (2 * length xs ≤ work xs + 2 * number + 1))
 
-pub some_eq : {A : Type 0} (x y : A) → Some x ≡ Some y → x ≡ y
+some_eq : {A : Type 0} (x y : A) → Some x ≡ Some y → x ≡ y
 some_eq x y e = ap (found_or x) e
 
 least-step : (start : ℕ) (x : NodeState) (xs : List NodeState) (event : Event) (a b : Bool) → x.marked ≡ a → is_some x.pending ≡ b → least_work start a b (work_of (start + 1) xs) ≡ Some event →
@@ -225,7 +225,7 @@ node_less machine state event rules fits e = go (least 0 state.nodes event e)
 
 -- Events of processes
 
-pub found-earlier : (b : Bool) (o : Option ℕ) → earlier_place b o ≡ None → (b ≡ false) × (o ≡ None)
+found-earlier : (b : Bool) (o : Option ℕ) → earlier_place b o ≡ None → (b ≡ false) × (o ≡ None)
 found-earlier true o e = cc
 found-earlier false None e = (refl, refl)
 found-earlier false (Some n) e = cc
@@ -240,7 +240,7 @@ named-none : (event : ℕ → Event) (found : Option ℕ) → named_event event 
 named-none event None e = refl
 named-none event (Some n) e = cc
 
-pub or-none : (one other : Option Event) → or_event one other ≡ None → (one ≡ None) × (other ≡ None)
+or-none : (one other : Option Event) → or_event one other ≡ None → (one ≡ None) × (other ≡ None)
 or-none None other e = (refl, e)
 or-none (Some x) other e = cc
 
