@@ -4,3 +4,9 @@ pub mod SlotMoves
 pub mod SlotChain
 pub mod FineSlots
 pub mod FirstRuns
+pub mod Cuts
+pub mod RunsUpTo
+pub mod RunSamples
+pub mod FoundSlots
+pub mod NamedRaces
+pub mod GradesHold
