@@ -10,3 +10,4 @@ pub mod RunSamples
 pub mod FoundSlots
 pub mod NamedRaces
 pub mod GradesHold
+pub mod ReportLines

@@ -74,15 +74,15 @@ places log earlier (second ∷ later) pair e =
 
 -- The phase
 
-record RacedPhase (machine : Machine) (number : ℕ) (phases : List Phase) (pair : ReportedPair) : Type 0 where
-  place : ℕ
-  phase : Phase
-  accesses : PhaseAccess × PhaseAccess
-  stands : slice_get phases place ≡ Some phase
-  races : phase_race machine phase.begins phase.events ≡ Some accesses
-  is_pair : pair ≡ race_of phase.begins.time (number + place) accesses
+pub record RacedPhase (machine : Machine) (number : ℕ) (phases : List Phase) (pair : ReportedPair) : Type 0 where
+  pub place : ℕ
+  pub phase : Phase
+  pub accesses : PhaseAccess × PhaseAccess
+  pub stands : slice_get phases place ≡ Some phase
+  pub races : phase_race machine phase.begins phase.events ≡ Some accesses
+  pub is_pair : pair ≡ race_of phase.begins.time (number + place) accesses
 
-raced-phase : (machine : Machine) (number : ℕ) (phases : List Phase) (pair : ReportedPair) → first_race machine number phases ≡ Some pair → RacedPhase machine number phases pair
+pub raced-phase : (machine : Machine) (number : ℕ) (phases : List Phase) (pair : ReportedPair) → first_race machine number phases ≡ Some pair → RacedPhase machine number phases pair
 raced-phase machine number [] pair e = cc
 raced-phase machine number (phase ∷ rest) pair e = go (phase_race machine phase.begins phase.events) refl e (λ f. raced-phase machine (number + 1) rest pair f)
   where
@@ -130,14 +130,14 @@ keep-own time (phase ∷ rest) h = go (nat_eq phase.begins.time time) (eq-eqb ph
     go true e r = ap (λ ps. phase ∷ ps) r
     go false e r = cc
 
-all-at : {A : Type 0} (P : A → Type 0) (xs : List A) (n : ℕ) (x : A) → AllHold P xs → slice_get xs n ≡ Some x → P x
+pub all-at : {A : Type 0} (P : A → Type 0) (xs : List A) (n : ℕ) (x : A) → AllHold P xs → slice_get xs n ≡ Some x → P x
 all-at P [] n x h e = cc
 all-at P (y ∷ xs) zero x h e = subst P (some_eq y x e) h.0
 all-at P (y ∷ xs) (suc n) x h e = all-at P xs n x h.1 e
 
 -- The outcome of a slot
 
-race-is : (machine : Machine) (slot : FirstSlot) (pair : ReportedPair) → slot_outcome machine slot ≡ Race pair → (is_hyper slot ≡ false) × (first_race machine 1 (phases machine slot) ≡ Some pair)
+pub race-is : (machine : Machine) (slot : FirstSlot) (pair : ReportedPair) → slot_outcome machine slot ≡ Race pair → (is_hyper slot ≡ false) × (first_race machine 1 (phases machine slot) ≡ Some pair)
 race-is machine slot pair e = go (is_hyper slot) refl e
   where
     raced : (found : Option ReportedPair) → race_or_fine found ≡ Race pair → found ≡ Some pair
