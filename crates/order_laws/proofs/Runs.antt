@@ -68,7 +68,7 @@ time-evaluated : (machine : Machine) (number : ℕ) (found : Option FlatNode) (s
 time-evaluated machine number None s = refl
 time-evaluated machine number (Some node) s = refl
 
-time-after : (machine : Machine) (s : State) (event : Event) → (after machine s event).time ≡ s.time
+pub time-after : (machine : Machine) (s : State) (event : Event) → (after machine s event).time ≡ s.time
 time-after machine s (Step p) = time-written machine (write_of (step_of machine s p).action) (with_process p _ s)
 time-after machine s (LaneStep p) = time-written machine (first_update (process_at s p).lane) (with_process p _ s)
 time-after machine s (Evaluation n) = time-evaluated machine n (slice_get machine.design.nodes n) s

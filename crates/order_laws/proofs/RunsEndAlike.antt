@@ -12,20 +12,20 @@ use Rattle.order_laws.proofs.PathLaws.{true-false}
 use Rattle.order_laws.proofs.PhasesGoOn.{next_phase_begins}
 use Rattle.order_laws.proofs.Projection.{end_same}
 
-some_eq : {A : Type 0} (x y : A) → Some x ≡ Some y → x ≡ y
+pub some_eq : {A : Type 0} (x y : A) → Some x ≡ Some y → x ≡ y
 some_eq x y e = ap (found_or x) e
 
-and-both : (b c : Bool) → (b && c) ≡ true → (b ≡ true) × (c ≡ true)
+pub and-both : (b c : Bool) → (b && c) ≡ true → (b ≡ true) × (c ≡ true)
 and-both true c e = (refl, e)
 and-both false c e = cc
 
 -- One event more
 
-happened-more : (machine : Machine) (state : State) (events : List Event) (event : Event) → happened machine state (events ++ event ∷ []) ≡ after machine (happened machine state events) event
+pub happened-more : (machine : Machine) (state : State) (events : List Event) (event : Event) → happened machine state (events ++ event ∷ []) ≡ after machine (happened machine state events) event
 happened-more machine state [] event = refl
 happened-more machine state (first ∷ events) event = happened-more machine (after machine state first) events event
 
-possible-more : (machine : Machine) (state : State) (events : List Event) (event : Event) → all_possible machine state events ≡ true → possible (happened machine state events) event ≡ true → all_possible machine state (events ++ event ∷ []) ≡ true
+pub possible-more : (machine : Machine) (state : State) (events : List Event) (event : Event) → all_possible machine state events ≡ true → possible (happened machine state events) event ≡ true → all_possible machine state (events ++ event ∷ []) ≡ true
 possible-more machine state [] event a p = λ i. p i && true
 possible-more machine state (first ∷ events) event a p =
     let both : (possible state first ≡ true) × (all_possible machine (after machine state first) events ≡ true) = and-both (possible state first) (all_possible machine (after machine state first) events) a in
@@ -33,16 +33,16 @@ possible-more machine state (first ∷ events) event a p =
 
 -- Moves that may be made
 
-then-some : {A B : Type 0} (found : Option A) (next : A → Option B) (b : B) → then_state found next ≡ Some b → (a : A) × (found ≡ Some a) × (next a ≡ Some b)
+pub then-some : {A B : Type 0} (found : Option A) (next : A → Option B) (b : B) → then_state found next ≡ Some b → (a : A) × (found ≡ Some a) × (next a ≡ Some b)
 then-some None next b e = cc
 then-some (Some a) next b e = (a, refl, e)
 
-only-some : {A : Type 0} (b : Bool) (x y : A) → only_if b x ≡ Some y → (b ≡ true) × (x ≡ y)
+pub only-some : {A : Type 0} (b : Bool) (x y : A) → only_if b x ≡ Some y → (b ≡ true) × (x ≡ y)
 only-some true x y e = (refl, some_eq x y e)
 only-some false x y e = cc
 
 -- a turn that may be taken
-turn-some : (time : ℕ) (state : State) (turn : Option TurnKind) (next : State) → turn_within time state turn ≡ Some next → (kind : TurnKind) × (turn ≡ Some kind) × (is_quiescent state ≡ true) × (turned kind state ≡ next)
+pub turn-some : (time : ℕ) (state : State) (turn : Option TurnKind) (next : State) → turn_within time state turn ≡ Some next → (kind : TurnKind) × (turn ≡ Some kind) × (is_quiescent state ≡ true) × (turned kind state ≡ next)
 turn-some time state None next e = cc
 turn-some time state (Some kind) next e =
     let o = only-some (is_quiescent state && stays_within time kind) (turned kind state) next e in
@@ -77,7 +77,7 @@ split machine time begins events state (Turns ∷ moves) final at p leads ends =
       inl (t.0, moves, subst (λ s. turn_within time s (turn_of s) ≡ Some t.0) at t.1, t.2),
     )
 
-no-turn : (time : ℕ) (final next : State) → ends_by time final ≡ true → turn_within time final (turn_of final) ≡ Some next → ⊥
+pub no-turn : (time : ℕ) (final next : State) → ends_by time final ≡ true → turn_within time final (turn_of final) ≡ Some next → ⊥
 no-turn time final next ends e =
     true-false (is_some (turn_within time final (turn_of final))) (ap is_some e)
     (not-true (is_some (turn_within time final (turn_of final))) (and-both (is_quiescent final) (not (is_some (turn_within time final (turn_of final)))) ends).1)
@@ -86,7 +86,7 @@ no-turn time final next ends e =
     not-true true f = cc
     not-true false f = refl
 
-abbrev NoConflicts : Machine → List Phase → Type 0
+abbrev pub NoConflicts : Machine → List Phase → Type 0
 NoConflicts machine phases = AllHold (λ (phase : Phase). HasNoConflict machine phase.begins phase.events) phases
 
 -- phase by phase

@@ -360,7 +360,7 @@ after-turn state quiet turn busy = go (first_event (turned turn state)) refl
 
 -- The moves of a slot
 
-abbrev on_move : ℕ → ℕ → Machine → State → Option Move → List Move
+abbrev pub on_move : ℕ → ℕ → Machine → State → Option Move → List Move
 on_move fuel steps machine state found = elim found [ None ↦ [] | Some move ↦ move ∷ slot_moves fuel (less_one_if (is_counted move) steps) machine (made machine state move) ]
 
 -- the moves lead to the slot's end, or hold so many steps
