@@ -10,7 +10,7 @@ use Rattle.v_tree.specs.Tokens.{SourceToken}
 use Rattle.v_tree.specs.Trees.{Identifier}
 use Rattle.v_read.specs.declared.class.Class.{Class}
 use Rattle.v_read.specs.declared.class.Class.TheVariants as classes
-use Rattle.v_read.specs.Classes.{class_of, kind_of, is_fixed, same_class, token_at, token_of, name_token, IsName}
+use Rattle.v_read.specs.Classes.{class_of, kind_of, is_fixed, same_class, token_at, token_of, name_token, number_token, IsName}
 use Rattle.v_read.specs.ClassLaws.{same_class-true, same_class-same, class_of-kind_of, kind_of-class_of, name-kind, number-kind}
 use Rattle.v_read.specs.Reading.{Why, Wrong, Deep, Reading, Reader, followed, ◌>>=◌, give, wrong, deep, place_of, next_class, by_class, pass, expect, step, down, ready, name_in, name, number_in, number, end}
 use Rattle.v_read.specs.Exact.{Language, Family, SameNext, Found, Stops, Tells, Exact, behind, both_tell, exact-bind, exact-under, exact-give}
@@ -31,7 +31,7 @@ SpellsName x ts = IsName x.0 × (ts ≡ name_token x.0 x.1 ∷ [])
 
 -- this number
 abbrev pub SpellsNumber : Language ((LogicValue × NumberForm) × SourcePlace)
-SpellsNumber x ts = ts ≡ token_at (kinds.Number x.0.0 x.0.1) x.1 ∷ []
+SpellsNumber x ts = ts ≡ number_token x.0.0 x.0.1 x.1 ∷ []
 
 abbrev pub nowhere : SourcePlace
 nowhere = record { line = 0; column = 0 }

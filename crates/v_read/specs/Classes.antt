@@ -4,9 +4,11 @@ use Rattle.std.specs.List.{list_any}
 use Rattle.std.specs.Str.{bytes_eq}
 use denote.Enum.Bare.{sameb}
 use Rattle.vf_base.specs.Base.{SourcePlace}
+use Rattle.four_value.specs.Values.{LogicValue}
 use Rattle.four_value.specs.declared.logic.Bit.TheVariants.{Zero}
 use Rattle.v_tree.specs.declared.token.TokenKind.{TokenKind}
 use Rattle.v_tree.specs.declared.token.TokenKind.TheVariants as kinds
+use Rattle.v_tree.specs.declared.token.NumberForm.{NumberForm}
 use Rattle.v_tree.specs.declared.token.NumberForm.TheVariants.{Plain}
 use Rattle.v_tree.specs.declared.token.Mark.{Mark}
 use Rattle.v_tree.specs.declared.token.Mark.TheVariants as marks
@@ -258,6 +260,10 @@ token_of class place = token_at (kind_of class) place
 -- the token of a name
 abbrev pub name_token : List ℕ → SourcePlace → SourceToken
 name_token name place = token_at (kinds.Word name) place
+
+-- the token of a number
+abbrev pub number_token : LogicValue → NumberForm → SourcePlace → SourceToken
+number_token value form place = token_at (kinds.Number value form) place
 
 -- whether bytes are a name: a word that is none of the language's
 abbrev pub IsName : List ℕ → Type 0

@@ -12,7 +12,7 @@ use Rattle.v_read.specs.declared.class.Class.{Class}
 use Rattle.v_read.specs.declared.class.Class.TheVariants as classes
 use Rattle.v_read.specs.declared.stop.Stop.{Stop}
 use Rattle.v_read.specs.declared.stop.Stop.TheVariants as stops
-use Rattle.v_read.specs.Classes.{class_of, same_class, token_at, token_of, name_token, IsName}
+use Rattle.v_read.specs.Classes.{class_of, same_class, token_at, token_of, name_token, number_token, IsName}
 use Rattle.v_read.specs.ClassLaws.{same_class-same, class_of-kind_of}
 use Rattle.v_read.specs.Reading.{Wrong, Deep, Reader, Reading, Stopped, followed, ◌>>=◌, give, wrong, deep, turned, place_of, next_class, is_class, pass, expect, step, ready, down, name, number, repeat}
 use Rattle.v_read.specs.Exact.{Language}
@@ -38,7 +38,7 @@ pub name-reads : (bytes : Identifier) (place : SourcePlace) (rest : List SourceT
 name-reads bytes place rest h = rw (pass-reads classes.Name (name_token bytes place) rest h) refl
 
 pub number-reads : (value : LogicValue) (form : NumberForm) (place : SourcePlace) (rest : List SourceToken)
-    → number (token_at (kinds.Number value form) place ∷ rest) ≡ Ok (((value, form), place), rest)
+    → number (number_token value form place ∷ rest) ≡ Ok (((value, form), place), rest)
 number-reads value form place rest = refl
 
 pub ready-reads : (low levels : ℕ) (tokens : List SourceToken) → low < levels → ready low levels tokens ≡ Ok (tt, tokens)
@@ -77,11 +77,11 @@ Fails-followed stop r next h = Fails-through stop r (followed r next) (λ e fail
 -- every spelled list is read
 module _ {A : Type 0} (P : Reader A) (L : Language A) (F : A → Type 0) (Ends : Option Class → Type 0) (m : Class) (ends : Ends (Some m))
     (reads : (x : A) (ts rest : List SourceToken) → L x ts → F x → Ends (next_class rest) → P (ts ++ rest) ≡ Ok (x, rest)) where
-  behind-ends : (xs : List A) (ts rest : List SourceToken) → SpellsBehind L m xs ts → Ends (next_class rest) → Ends (next_class (ts ++ rest))
+  pub behind-ends : (xs : List A) (ts rest : List SourceToken) → SpellsBehind L m xs ts → Ends (next_class rest) → Ends (next_class (ts ++ rest))
   behind-ends [] ts rest h e = subst (λ f. Ends (next_class (f ++ rest))) (sym h) e
   behind-ends (x ∷ xs) ts rest h e = subst (λ f. Ends (next_class (f ++ rest))) (sym h.5) (subst Ends (sym (next-class m h.0 (h.1 ++ (h.2 ++ rest)))) ends)
 
-  behind-reads : (xs done : List A) (ts rest : List SourceToken) → SpellsBehind L m xs ts → EachFits F xs → Ends (next_class rest) → is_class m (next_class rest) ≡ false
+  pub behind-reads : (xs done : List A) (ts rest : List SourceToken) → SpellsBehind L m xs ts → EachFits F xs → Ends (next_class rest) → is_class m (next_class rest) ≡ false
       → repeat (element_turn m P) done (ts ++ rest) ≡ Ok (done ++ xs, rest)
   behind-reads [] done ts rest h fits e other =
       ap (λ f. repeat (element_turn m P) done (f ++ rest)) h
@@ -107,7 +107,7 @@ module _ {A : Type 0} (P : Reader A) (L : Language A) (F : A → Type 0) (Ends :
 
 -- what the turns of a loop over such a list read
 module _ {A : Type 0} (m : Class) (P : Reader A) (xs : List A) (rest : List SourceToken) where
-  element_turn-is : is_class m (next_class rest) ≡ true → (place : SourcePlace) (between : List SourceToken) → step rest ≡ Ok (place, between)
+  pub element_turn-is : is_class m (next_class rest) ≡ true → (place : SourcePlace) (between : List SourceToken) → step rest ≡ Ok (place, between)
       → element_turn m P xs rest ≡ followed (P between) (λ x. give (Some (xs ++ x ∷ [])))
   element_turn-is b place between s = ap (λ t. (if t then (step >>= λ place. P >>= λ x. give (Some (xs ++ x ∷ []))) else give None) rest) b ∙ rw s refl
 

@@ -22,7 +22,7 @@ abbrev pub EachFits : {A : Type 0} → (A → Type 0) → List A → Type 0
 EachFits F [] = Unit {0}
 EachFits F (x ∷ xs) = F x × EachFits F xs
 
-behind-append : {A : Type 0} (L : Language A) (m : Class) (xs : List A) (front : List SourceToken) (x : A) (place : SourcePlace) (inside : List SourceToken)
+pub behind-append : {A : Type 0} (L : Language A) (m : Class) (xs : List A) (front : List SourceToken) (x : A) (place : SourcePlace) (inside : List SourceToken)
     → SpellsBehind L m xs front → L x inside → SpellsBehind L m (xs ++ x ∷ []) (front ++ token_of m place ∷ (inside ++ []))
 behind-append L m [] front x place inside h s = (place, inside, [], s, refl, ap (λ f. f ++ token_of m place ∷ (inside ++ [])) h)
 behind-append L m (y ∷ xs) front x place inside h s = (
@@ -34,7 +34,7 @@ behind-append L m (y ∷ xs) front x place inside h s = (
   ap (λ f. f ++ token_of m place ∷ (inside ++ [])) h.5 ∙ ap (λ f. token_of m h.0 ∷ f) (append_assoc h.1 h.2 (token_of m place ∷ (inside ++ []))),
 )
 
-list-append : {A : Type 0} (L : Language A) (m : Class) (xs : List A) (front : List SourceToken) (x : A) (place : SourcePlace) (inside : List SourceToken)
+pub list-append : {A : Type 0} (L : Language A) (m : Class) (xs : List A) (front : List SourceToken) (x : A) (place : SourcePlace) (inside : List SourceToken)
     → SpellsList L m xs front → L x inside → SpellsList L m (xs ++ x ∷ []) (front ++ token_of m place ∷ (inside ++ []))
 list-append L m [] front x place inside h s = absurd h
 list-append L m (y ∷ xs) front x place inside h s = (
@@ -45,12 +45,12 @@ list-append L m (y ∷ xs) front x place inside h s = (
   ap (λ f. f ++ token_of m place ∷ (inside ++ [])) h.4 ∙ append_assoc h.0 h.1 (token_of m place ∷ (inside ++ [])),
 )
 
-fits-append : {A : Type 0} (F : A → Type 0) (xs : List A) (x : A) → EachFits F xs → F x → EachFits F (xs ++ x ∷ [])
+pub fits-append : {A : Type 0} (F : A → Type 0) (xs : List A) (x : A) → EachFits F xs → F x → EachFits F (xs ++ x ∷ [])
 fits-append F [] x h f = (f, tt)
 fits-append F (y ∷ xs) x h f = (h.0, fits-append F xs x h.1 f)
 
 module _ {C A : Type 0} (P : Family A) (k : ℕ) (L : Language A) (F : A → Type 0) (m : Class) (fixed : is_fixed m ≡ true) (element : Exact C P k L F) where
-  turn-exact : (xs : List A) (front : List SourceToken) → SpellsList L m xs front
+  pub turn-exact : (xs : List A) (front : List SourceToken) → SpellsList L m xs front
       → Exact (C × EachFits F xs) (λ n. element_turn m (P n) xs) k (Turn (SpellsList L m) xs front) (TurnFits (EachFits F))
   turn-exact xs front here = exact-by_class (λ n. element_by m (P n) xs) ((None, [], refl), λ c. (None, [], refl, tt)) (λ class. each class (is_class m class) refl)
     where
