@@ -10,6 +10,8 @@
 mod expressions;
 mod operators;
 mod parts;
+#[cfg(test)]
+mod tests;
 
 pub use expressions::expression;
 pub use parts::{
