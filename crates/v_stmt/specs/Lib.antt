@@ -1,0 +1,5 @@
+pub mod Spelling
+pub mod Heights
+pub mod Statements
+pub mod PartExact
+pub mod StatementExact
