@@ -3,3 +3,4 @@ pub mod Heights
 pub mod Statements
 pub mod PartExact
 pub mod StatementExact
+pub mod PartReads
