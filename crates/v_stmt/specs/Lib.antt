@@ -4,3 +4,4 @@ pub mod Statements
 pub mod PartExact
 pub mod StatementExact
 pub mod PartReads
+pub mod StatementReads

@@ -191,7 +191,7 @@ body_height-append (t ∷ ss) s k h g = let rest : body_height (statements_list 
 some_within : (before : List SourceToken) (t : SourceToken) (after : List SourceToken) → 0 < length (before ++ t ∷ after)
 some_within before t after = omega (arith, length-append before (t ∷ after))
 
-some-tokens : (s : SourceStatement) (ts : List SourceToken) → SpellsStatement s ts → 0 < length ts
+pub some-tokens : (s : SourceStatement) (ts : List SourceToken) → SpellsStatement s ts → 0 < length ts
 some-tokens (NullStatement place) ts h = omega (arith, ap length h)
 some-tokens (BlockStatement place statements) ts h = omega (arith, ap length h.5)
 some-tokens (IfStatement place condition first) ts h = omega (arith, ap length h.6)
@@ -282,6 +282,46 @@ module _ (k : ℕ) where
 regroup : (first : SourceToken) (inside : List SourceToken) (last : SourceToken) (after : List SourceToken)
     → (first ∷ (inside ++ last ∷ [])) ++ after ≡ first ∷ (inside ++ last ∷ after)
 regroup first inside last after = ap (λ f. first ∷ f) (append_assoc inside (last ∷ []) after)
+
+-- Items of a case behind others
+
+items-append : (parts : List CasePart) (front : List SourceToken) (part : Option (List SourceExpression)) (s : SourceStatement) (back : List SourceToken)
+    → SpellsItems (items_list parts) front → SpellsItems (item_before part s no_source_items) back → SpellsItems (items_list (parts ++ (part, s) ∷ [])) (front ++ back)
+items-append [] front part s back h g = subst (λ f. SpellsItems (item_before part s no_source_items) (f ++ back)) (sym h) g
+items-append ((Some labels, first) ∷ parts) front part s back h g = (
+  h.0,
+  h.1,
+  h.2,
+  h.3 ++ back,
+  h.4,
+  h.5,
+  items-append parts h.3 part s back h.6 g,
+  ap (λ f. f ++ back) h.7 ∙ append_assoc h.1 (token_of classes.Colon h.0 ∷ (h.2 ++ h.3)) back
+      ∙ ap (λ f. h.1 ++ token_of classes.Colon h.0 ∷ f) (append_assoc h.2 h.3 back),
+)
+items-append ((None, first) ∷ parts) front part s back h g = (
+  h.0,
+  h.1,
+  h.2,
+  h.3 ++ back,
+  h.4,
+  h.5,
+  items-append parts h.3 part s back h.6 g,
+  ap (λ f. f ++ back) h.7
+      ∙ ap (λ f. token_of classes.Default h.0 ∷ f) (append_assoc h.1 (h.2 ++ h.3) back ∙ ap (λ f. h.1 ++ f) (append_assoc h.2 h.3 back)),
+)
+
+items_in-append : (parts : List CasePart) (part : Option (List SourceExpression)) (s : SourceStatement) → 1 ≤ items_in (items_list (parts ++ (part, s) ∷ []))
+items_in-append [] (Some labels) s = omega arith
+items_in-append [] None s = omega arith
+items_in-append ((Some labels, first) ∷ parts) part s = omega arith
+items_in-append ((None, first) ∷ parts) part s = omega arith
+
+pub defaults-append : (parts : List CasePart) (part : Option (List SourceExpression)) (s : SourceStatement)
+    → defaults_in (items_list (parts ++ (part, s) ∷ [])) ≡ defaults_in (items_list parts) + defaults_in (item_before part s no_source_items)
+defaults-append [] part s = omega arith
+defaults-append ((Some labels, first) ∷ parts) part s = defaults-append parts part s
+defaults-append ((None, first) ∷ parts) part s = omega (arith, defaults-append parts part s)
 
 module _ (k : ℕ) (below : BelowExact k) where
   body_turn-exact : {C : Type 0} (body : List SourceStatement) (front : List SourceToken) → SpellsBody (statements_list body) front
@@ -499,44 +539,6 @@ module _ (k : ℕ) (below : BelowExact k) where
 
   item_after : (part : Option (List SourceExpression)) (s : SourceStatement) (back : List SourceToken) → Type 0
   item_after part s back = SpellsItems (item_before part s no_source_items) back
-
-  items-append : (parts : List CasePart) (front : List SourceToken) (part : Option (List SourceExpression)) (s : SourceStatement) (back : List SourceToken)
-      → SpellsItems (items_list parts) front → SpellsItems (item_before part s no_source_items) back → SpellsItems (items_list (parts ++ (part, s) ∷ [])) (front ++ back)
-  items-append [] front part s back h g = subst (λ f. SpellsItems (item_before part s no_source_items) (f ++ back)) (sym h) g
-  items-append ((Some labels, first) ∷ parts) front part s back h g = (
-    h.0,
-    h.1,
-    h.2,
-    h.3 ++ back,
-    h.4,
-    h.5,
-    items-append parts h.3 part s back h.6 g,
-    ap (λ f. f ++ back) h.7 ∙ append_assoc h.1 (token_of classes.Colon h.0 ∷ (h.2 ++ h.3)) back
-        ∙ ap (λ f. h.1 ++ token_of classes.Colon h.0 ∷ f) (append_assoc h.2 h.3 back),
-  )
-  items-append ((None, first) ∷ parts) front part s back h g = (
-    h.0,
-    h.1,
-    h.2,
-    h.3 ++ back,
-    h.4,
-    h.5,
-    items-append parts h.3 part s back h.6 g,
-    ap (λ f. f ++ back) h.7
-        ∙ ap (λ f. token_of classes.Default h.0 ∷ f) (append_assoc h.1 (h.2 ++ h.3) back ∙ ap (λ f. h.1 ++ f) (append_assoc h.2 h.3 back)),
-  )
-
-  items_in-append : (parts : List CasePart) (part : Option (List SourceExpression)) (s : SourceStatement) → 1 ≤ items_in (items_list (parts ++ (part, s) ∷ []))
-  items_in-append [] (Some labels) s = omega arith
-  items_in-append [] None s = omega arith
-  items_in-append ((Some labels, first) ∷ parts) part s = omega arith
-  items_in-append ((None, first) ∷ parts) part s = omega arith
-
-  defaults-append : (parts : List CasePart) (part : Option (List SourceExpression)) (s : SourceStatement)
-      → defaults_in (items_list (parts ++ (part, s) ∷ [])) ≡ defaults_in (items_list parts) + defaults_in (item_before part s no_source_items)
-  defaults-append [] part s = omega arith
-  defaults-append ((Some labels, first) ∷ parts) part s = defaults-append parts part s
-  defaults-append ((None, first) ∷ parts) part s = omega (arith, defaults-append parts part s)
 
   heights-append : (parts : List CasePart) (part : Option (List SourceExpression)) (s : SourceStatement)
       → items_height (items_list parts) < k → items_height (item_before part s no_source_items) < k → items_height (items_list (parts ++ (part, s) ∷ [])) < k
