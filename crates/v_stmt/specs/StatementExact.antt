@@ -27,7 +27,7 @@ use Rattle.v_stmt.specs.Spelling.{SpellsLabel, SpellsColon, SpellsWaits, SpellsI
 use Rattle.v_stmt.specs.Heights.{waits_height, delay_height, statement_height, body_height, items_height}
 use Rattle.v_expr.specs.Parts.{inner_expression, inner_target, inner_delay}
 use Rattle.v_expr.specs.PartLaws.{inner_expression-exact, inner_target-exact, inner_delay-exact}
-use Rattle.v_stmt.specs.Statements.{assigned_delay, arguments, task, assigned, assignment_by, assignment, another, begins_statement, begins, body_by, body_turn, statements_list, block, condition, second_branch, else_by, conditional, Looping, loop, forever, head_assignment, for_loop, event, delayed, CasePart, item_before, items_list, default_item, labelled_item, item_by, item, items_by, items_turn, case, statement_by, below_of, statement}
+use Rattle.v_stmt.specs.Statements.{assigned_delay, arguments, task, assigned, assignment_by, assignment, another, begins_statement, begins, body_by, body_turn, statements_list, block_body, block, condition, second_branch, else_by, conditional, Looping, looped, forever, head_assignment, for_loop, event, delayed, CasePart, item_before, items_list, default_item, has_default, labelled_item, item_by, item, items_by, items_turn, items, case, simple_by, statement_by, below_of, statement}
 use Rattle.v_stmt.specs.PartExact.{TargetBelow, WaitsBelow, DelayBelow, label-exact, colon-exact, a_name, a_name-is, a_select, waits-exact, assigned_delay-exact, SpellsCondition, condition-exact, SpellsHead, HeadBelow, head-exact, arguments-exact}
 
 abbrev pub StatementWithin : ℕ → SourceStatement → Type 0
@@ -391,13 +391,28 @@ module _ (k : ℕ) (below : BelowExact k) where
   body-exact {C} = exact-repeat {C = C} (λ m. body_turn m (below_of m)) {N = λ ss ts. SpellsBody (statements_list ss) ts} {G = λ ss. body_height (statements_list ss) ≤ k}
       (body_turn-exact {C = C})
 
+  block_body-exact : {C : Type 0} → Exact C (λ m. block_body m (below_of m)) k
+      (λ body ts. (label inside : List SourceToken) × SpellsLabel label × SpellsBody (statements_list body) inside × (ts ≡ label ++ inside)) (λ ss. body_height (statements_list ss) ≤ k)
+  unfolding block_body
+  block_body-exact {C} =
+      exact-bind label-exact (λ nothing before named.
+      exact-weaken (λ body inside spelled. (before, inside, named, spelled, refl))
+      (exact-under (λ c. (c, omega arith)) (body-exact {C = C × Unit {0}} [] [] refl)))
+
   block-branch : {C : Type 0} → Branch C (λ m. block m (below_of m)) k SpellsStatement (StatementWithin k) (Some classes.Begin)
   unfolding block
   block-branch {C} = branch-step refl (λ place.
-      exact-bind label-exact (λ nothing before named.
-      exact-bind (exact-under (λ c. (c, omega arith)) (body-exact {C = C × Unit {0}} [] [] refl)) (λ body inside spelled.
+      exact-bind block_body-exact (λ body front spelled.
       exact-after classes.End refl (λ closing.
-      exact-give (BlockStatement place (statements_list body)) (closing, before, inside, named, spelled, refl) (λ c. c.1)))))
+      exact-give (BlockStatement place (statements_list body)) (
+        closing,
+        spelled.0,
+        spelled.1,
+        spelled.2,
+        spelled.3,
+        ap (λ f. token_of classes.Begin place ∷ f) (ap (λ f. f ++ token_of classes.End closing ∷ []) spelled.4 ∙ append_assoc spelled.0 spelled.1 (token_of classes.End closing ∷ [])),
+      )
+      (λ c. c.1))))
 
   else-exact : (place : SourcePlace) (test : SourceExpression) (opening closing : SourcePlace) (inside : List SourceToken) → SpellsExpression test inside
       → (first : SourceStatement) (between : List SourceToken) → SpellsStatement first between
@@ -470,8 +485,8 @@ module _ (k : ℕ) (below : BelowExact k) where
       → ((place open_place close_place : SourcePlace) (test : SourceExpression) (body : SourceStatement) (inside after : List SourceToken) → SpellsExpression test inside → SpellsStatement body after
       → SpellsStatement (made place test body) (token_of word place ∷ token_of classes.LeftParen open_place ∷ (inside ++ token_of classes.RightParen close_place ∷ after)))
       → ((place : SourcePlace) (test : SourceExpression) (body : SourceStatement) → statement_height (made place test body) ≡ suc (max (height_of test) (statement_height body)))
-      → Branch C (λ m. loop m (below_of m) made) k SpellsStatement (StatementWithin k) (Some word)
-  unfolding loop
+      → Branch C (λ m. looped m (below_of m) made) k SpellsStatement (StatementWithin k) (Some word)
+  unfolding looped
   loop-branch {C} word fixed made so high = branch-down fixed 0 (λ place.
       exact-bind (exact-under (λ c. c.1) (condition-exact k)) (λ test front spelled.
       exact-bind (exact-under (λ c. c.0.1) below) (λ body after held.
@@ -661,12 +676,17 @@ module _ (k : ℕ) (below : BelowExact k) where
   case_word-fixed kinds_of_case.IgnoreZ = refl
   case_word-fixed kinds_of_case.IgnoreXz = refl
 
+  items-exact : Exact (0 < k) (λ m. items m (below_of m)) k SpellsAll AllBelow
+  unfolding items SpellsAll SpellsAnother AllBelow
+  items-exact =
+      exact-bind (exact-under (λ c. (c, c)) (item-exact [] [] refl (omega arith))) (λ first between begun.
+      exact-under (λ c. (c.0, c.1)) (exact-repeat {C = 0 < k} (λ m. items_turn m (below_of m)) {N = SpellsAll} {G = AllBelow} items_turn-exact first between begun.0))
+
   case-branch : {C : Type 0} (kind : CaseKind) → Branch C (λ m. case m (below_of m) kind) k SpellsStatement (StatementWithin k) (Some (case_word kind))
-  unfolding case SpellsAll SpellsAnother AllBelow
+  unfolding case SpellsAll AllBelow
   case-branch {C} kind = branch-down (case_word-fixed kind) 0 (λ place.
       exact-bind (exact-under (λ c. c.1) (condition-exact k)) (λ value front spelled.
-      exact-bind (exact-under (λ c. (c.0.1, c.0.1)) (item-exact [] [] refl (omega arith))) (λ first between begun.
-      exact-bind (exact-under (λ c. (c.0.0.1, c.1)) (exact-repeat {C = 0 < k} (λ m. items_turn m (below_of m)) {N = SpellsAll} {G = AllBelow} items_turn-exact first between begun.0)) (λ all after listed.
+      exact-bind (exact-under (λ c. c.0.1) items-exact) (λ all between listed.
       exact-after classes.EndCase refl (λ closing.
       exact-give (CaseStatement place kind value (items_list all)) (
         listed.1,
@@ -675,17 +695,16 @@ module _ (k : ℕ) (below : BelowExact k) where
         spelled.1,
         closing,
         spelled.2,
-        between ++ after,
+        between,
         spelled.3,
         listed.0,
         ap (λ f. token_of (case_word kind) place ∷ f)
-            (ap (λ f. f ++ (between ++ (after ++ token_of classes.EndCase closing ∷ []))) spelled.4
-            ∙ regroup (token_of classes.LeftParen spelled.0) spelled.2 (token_of classes.RightParen spelled.1) (between ++ (after ++ token_of classes.EndCase closing ∷ []))
-            ∙ ap (λ f. token_of classes.LeftParen spelled.0 ∷ (spelled.2 ++ token_of classes.RightParen spelled.1 ∷ f)) (sym (append_assoc between after (token_of classes.EndCase closing ∷ [])))),
+            (ap (λ f. f ++ (between ++ token_of classes.EndCase closing ∷ [])) spelled.4
+            ∙ regroup (token_of classes.LeftParen spelled.0) spelled.2 (token_of classes.RightParen spelled.1) (between ++ token_of classes.EndCase closing ∷ [])),
       )
       (λ c.
-      let a : height_of value < k = c.0.0.1 in
-      let b : items_height (items_list all) < k = c.1 in omega arith))))))
+      let a : height_of value < k = c.0.1 in
+      let b : items_height (items_list all) < k = c.1 in omega arith)))))
 
   pub statement_by-exact : {C : Type 0} → Exact C (λ m. by_class (statement_by m (below_of m))) k SpellsStatement (StatementWithin k)
   statement_by-exact {C} = exact-by_class (λ m. statement_by m (below_of m)) some-statement each

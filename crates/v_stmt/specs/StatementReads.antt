@@ -23,7 +23,7 @@ use Rattle.v_expr.specs.ExpressionReads.{EndsBefore}
 use Rattle.v_expr.specs.PartLaws.{inner_expression-reads, inner_target-reads, inner_delay-reads}
 use Rattle.v_stmt.specs.Spelling.{SpellsColon, SpellsTask, SpellsInnerDelay, case_word, defaults_in, items_in, is_unfinished, SpellsStatement, SpellsBody, SpellsItems}
 use Rattle.v_stmt.specs.Heights.{waits_height, delay_height, statement_height, body_height, items_height}
-use Rattle.v_stmt.specs.Statements.{assigned_delay, arguments, task, assigned, assignment_by, assignment, another, begins_statement, begins, body_by, body_turn, statements_list, block, condition, second_branch, else_by, conditional, Looping, loop, forever, head_assignment, for_loop, event, delayed, CasePart, item_before, items_list, default_item, labelled_item, item_by, item, items_by, items_turn, case, statement_by, below_of, statement}
+use Rattle.v_stmt.specs.Statements.{assigned_delay, arguments, task, assigned, assignment_by, assignment, another, begins_statement, begins, body_by, body_turn, statements_list, block_body, block, condition, second_branch, else_by, conditional, Looping, looped, forever, head_assignment, for_loop, event, delayed, CasePart, item_before, items_list, default_item, has_default, labelled_item, item_by, item, items_by, items_turn, items, case, simple_by, statement_by, below_of, statement}
 use Rattle.v_stmt.specs.PartExact.{SpellsCondition, SpellsHead}
 use Rattle.v_stmt.specs.StatementExact.{some-tokens, defaults-append}
 use Rattle.v_stmt.specs.PartReads.{begins_expression, leads, expression-first, leads-not, label-reads, colon-reads, waits-reads, assigned_delay-reads, condition-reads, head-reads, arguments-reads}
@@ -338,8 +338,8 @@ module _ (k : ℕ) (below : BelowReads k) where
 
   loop-reads : (word : Class) (made : Looping) (place open_place close_place : SourcePlace) (test : SourceExpression) (body : SourceStatement) (inside after rest : List SourceToken)
       → SpellsExpression test inside → SpellsStatement body after → height_of test < k → statement_height body < k → EndsStatement body (next_class rest)
-      → loop k (below_of k) made (token_of word place ∷ token_of classes.LeftParen open_place ∷ ((inside ++ token_of classes.RightParen close_place ∷ after) ++ rest)) ≡ Ok (made place test body, rest)
-  unfolding loop
+      → looped k (below_of k) made (token_of word place ∷ token_of classes.LeftParen open_place ∷ ((inside ++ token_of classes.RightParen close_place ∷ after) ++ rest)) ≡ Ok (made place test body, rest)
+  unfolding looped
   loop-reads word made place open_place close_place test body inside after rest h g test_low low ends =
       let some : nat_lt 0 k ≡ true = lt-ltb 0 k (omega arith) in
       rw (some, conditioned test open_place close_place inside after rest h test_low, below body after rest g low ends) refl
@@ -362,7 +362,7 @@ module _ (k : ℕ) (below : BelowReads k) where
       → 1 ≤ items_in items → defaults_in items ≤ 1 → SpellsExpression value inside → SpellsItems items between → height_of value < k → items_height items < k
       → case k (below_of k) kind (token_of (case_word kind) place ∷ token_of classes.LeftParen open_place ∷ ((inside ++ token_of classes.RightParen close_place ∷ (between ++ token_of classes.EndCase end_place ∷ [])) ++ rest))
       ≡ Ok (CaseStatement place kind value items, rest)
-  unfolding case
+  unfolding case items
   case-reads kind place value no_source_items open_place close_place end_place inside between rest some few h g low items_low = absurd (let p : 1 ≤ 0 = some in omega arith)
   case-reads kind place value (labelled labels s all) open_place close_place end_place inside between rest some few h g low items_low =
       let deeper : nat_lt 0 k ≡ true = lt-ltb 0 k (omega arith) in
@@ -390,7 +390,7 @@ module _ (k : ℕ) (below : BelowReads k) where
 
   pub statement_by-reads : (s : SourceStatement) (ts rest : List SourceToken) → SpellsStatement s ts → statement_height s ≤ k → EndsStatement s (next_class rest)
       → by_class (statement_by k (below_of k)) (ts ++ rest) ≡ Ok (s, rest)
-  unfolding block conditional forever event delayed for_loop
+  unfolding block block_body conditional forever event delayed for_loop
   statement_by-reads (NullStatement place) ts rest h low ends = ap (λ f. by_class (statement_by k (below_of k)) (f ++ rest)) h
   statement_by-reads (BlockStatement place statements) ts rest h low ends =
       let regrouped : (h.1 ++ (h.2 ++ token_of classes.End h.0 ∷ [])) ++ rest ≡ h.1 ++ (h.2 ++ token_of classes.End h.0 ∷ rest) =

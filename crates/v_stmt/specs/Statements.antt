@@ -231,11 +231,16 @@ abbrev pub statements_list : List SourceStatement → SourceStatements
 statements_list [] = no_source_statements
 statements_list (s ∷ body) = more_source_statements s (statements_list body)
 
+-- the statements of a block, behind its label
+unfoldable pub block_body : ℕ → Reader SourceStatement → Reader (List SourceStatement)
+block_body k below = do
+  nothing ← label
+  repeat (body_turn k below) []
+
 unfoldable pub block : ℕ → Reader SourceStatement → Reader SourceStatement
 block k below = do
   place ← step
-  nothing ← label
-  body ← repeat (body_turn k below) []
+  body ← block_body k below
   closing ← expect classes.End
   give (BlockStatement place (statements_list body))
 
@@ -270,8 +275,8 @@ abbrev pub Looping : Type 0
 Looping = SourcePlace → SourceExpression → SourceStatement → SourceStatement
 
 -- a statement with a condition and a body
-unfoldable pub loop : ℕ → Reader SourceStatement → Looping → Reader SourceStatement
-loop k below made = do
+unfoldable pub looped : ℕ → Reader SourceStatement → Looping → Reader SourceStatement
+looped k below made = do
   place ← down 0 k
   test ← condition k
   body ← below
@@ -332,6 +337,10 @@ abbrev pub items_list : List CasePart → SourceCaseItems
 items_list [] = no_source_items
 items_list (part ∷ parts) = item_before part.0 part.1 (items_list parts)
 
+-- whether a default is among the items
+abbrev pub has_default : List CasePart → Bool
+has_default parts = nat_lt 0 (defaults_in (items_list parts))
+
 -- the default of a case
 unfoldable pub default_item : Reader SourceStatement → List CasePart → Reader (List CasePart)
 default_item below parts = do
@@ -349,7 +358,7 @@ labelled_item k below parts = do
   give (parts ++ (Some labels, s) ∷ [])
 
 abbrev pub item_by : ℕ → Reader SourceStatement → List CasePart → Option Class → Reader (List CasePart)
-item_by k below parts (Some classes.Default) = if nat_lt 0 (defaults_in (items_list parts)) then wrong else default_item below parts
+item_by k below parts (Some classes.Default) = if has_default parts then wrong else default_item below parts
 item_by k below parts _ = labelled_item k below parts
 
 -- one more item of a case behind others
@@ -363,36 +372,45 @@ items_by k below parts _ = item k below parts >>= λ more. give (Some more)
 abbrev pub items_turn : ℕ → Reader SourceStatement → List CasePart → Reader (Option (List CasePart))
 items_turn k below parts = by_class (items_by k below parts)
 
+-- the items of a case, one at least
+unfoldable pub items : ℕ → Reader SourceStatement → Reader (List CasePart)
+items k below = do
+  first ← item k below []
+  repeat (items_turn k below) first
+
 unfoldable pub case : ℕ → Reader SourceStatement → CaseKind → Reader SourceStatement
 case k below kind = do
   place ← down 0 k
   value ← condition k
-  first ← item k below []
-  all ← repeat (items_turn k below) first
+  all ← items k below
   closing ← expect classes.EndCase
   give (CaseStatement place kind value (items_list all))
 
-abbrev pub statement_by : ℕ → Reader SourceStatement → Option Class → Reader SourceStatement
-statement_by k below (Some classes.Semicolon) = do
+-- a statement that has no statement in it
+abbrev pub simple_by : ℕ → Option Class → Reader SourceStatement
+simple_by k (Some classes.Semicolon) = do
   place ← step
   give (NullStatement place)
+simple_by k (Some classes.Name) = assignment k
+simple_by k (Some classes.LeftBrace) = assignment k
+simple_by k (Some classes.IgnoredTask) = task classes.IgnoredTask >>= λ place. give (IgnoredTask place)
+simple_by k (Some classes.FinishTask) = task classes.FinishTask >>= λ place. give (FinishTask place)
+simple_by k _ = wrong
+
+abbrev pub statement_by : ℕ → Reader SourceStatement → Option Class → Reader SourceStatement
 statement_by k below (Some classes.Begin) = block k below
 statement_by k below (Some classes.If) = conditional k below
 statement_by k below (Some classes.Case) = case k below Exact
 statement_by k below (Some classes.CaseZ) = case k below IgnoreZ
 statement_by k below (Some classes.CaseX) = case k below IgnoreXz
 statement_by k below (Some classes.For) = for_loop k below
-statement_by k below (Some classes.While) = loop k below WhileStatement
-statement_by k below (Some classes.Repeat) = loop k below RepeatStatement
+statement_by k below (Some classes.While) = looped k below WhileStatement
+statement_by k below (Some classes.Repeat) = looped k below RepeatStatement
 statement_by k below (Some classes.Forever) = forever k below
-statement_by k below (Some classes.Wait) = loop k below WaitStatement
+statement_by k below (Some classes.Wait) = looped k below WaitStatement
 statement_by k below (Some classes.At) = event k below
 statement_by k below (Some classes.Hash) = delayed k below
-statement_by k below (Some classes.Name) = assignment k
-statement_by k below (Some classes.LeftBrace) = assignment k
-statement_by k below (Some classes.IgnoredTask) = task classes.IgnoredTask >>= λ place. give (IgnoredTask place)
-statement_by k below (Some classes.FinishTask) = task classes.FinishTask >>= λ place. give (FinishTask place)
-statement_by k below _ = wrong
+statement_by k below class = simple_by k class
 
 -- a statement one level down
 unfoldable pub below_of : ℕ → Reader SourceStatement
