@@ -1,4 +1,3 @@
-pub mod ListLaws
 pub mod PathLaws
 pub mod Tables
 pub mod TableLaws
