@@ -10,5 +10,5 @@ mod order;
 mod search;
 
 pub use depth::depths;
-pub use order::{Order, put_in_order};
+pub use order::{Order, empty_lists, put_in_order};
 pub use search::least_on_loop;

@@ -71,7 +71,7 @@ fn place_or_wait(vertex: usize, needs: &[Vec<usize>], sort: &mut Sort) -> Result
 }
 
 /// So many empty lists.
-fn empty_lists(alloc: Global, count: usize) -> Result<Vec<Vec<usize>>, NoMemory>
+pub fn empty_lists(alloc: Global, count: usize) -> Result<Vec<Vec<usize>>, NoMemory>
     ensures { IfOk result (λ lists. lists_of lists.items ≡ replicate count []) }
 {
     let mut lists = Vec::new(alloc);

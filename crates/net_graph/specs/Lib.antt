@@ -4,3 +4,6 @@ pub mod TableLaws
 pub mod RuleLaws
 pub mod CountLaws
 pub mod ConeLaws
+pub mod Loops
+pub mod WiringLaws
+pub mod RankLaws
