@@ -283,3 +283,8 @@ pub all_below : (objects : List ObjectId) (count : ℕ) → AllHold (λ o. o < c
 all_below [] count each k d low = absurd (omega arith)
 all_below (x ∷ objects) count each zero d low = each.0
 all_below (x ∷ objects) count each (suc k) d low = all_below objects count each.1 k d (omega arith)
+
+-- a fact of one more element
+pub AllHold-push : {A : Type 0} (P : A → Type 0) (xs : List A) (x : A) → AllHold P xs → P x → AllHold P (xs ++ x ∷ [])
+AllHold-push P [] x each here = (here, tt)
+AllHold-push P (y ∷ xs) x each here = (each.0, AllHold-push P xs x each.1 here)

@@ -12,6 +12,8 @@ mod cone;
 mod count;
 mod graph;
 mod rank;
+#[cfg(test)]
+mod tests;
 
 pub use count::Marks;
 pub use graph::Graph;
