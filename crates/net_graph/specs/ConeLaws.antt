@@ -16,7 +16,7 @@ use Rattle.v_design.specs.Lists.{has}
 use Rattle.v_design.specs.Designs.{FlatNode, FlatObject, FlatDesign}
 use Rattle.v_design.specs.Paths.{is_net, numbers_of, paths, cone}
 use Rattle.v_design.specs.WellFormed.{KeepsRules}
-use Rattle.net_graph.specs.ListLaws.{AllHold-has, now_has, still_has}
+use Rattle.graph_order.specs.ListLaws.{AllHold-has, now_has, still_has}
 use Rattle.net_graph.specs.PathLaws.{reaches_in, reaches_in-paths, slice_get_dropped}
 use Rattle.net_graph.specs.RuleLaws.{outputs_are_objects}
 use Rattle.net_graph.specs.Tables.{before_if}

@@ -10,7 +10,7 @@ use Rattle.v_design.specs.Lists.{has}
 use Rattle.v_design.specs.Designs.{FlatNode, FlatNodeKind, AssignNode, GateNode, BlockNode, FlatDesign}
 use Rattle.v_design.specs.Paths.{path_weight, one_if, paths_through}
 use Rattle.v_design.specs.WellFormed.{KeepsRules}
-use Rattle.net_graph.specs.ListLaws.{AllHold-has, has-without_repeats, now_has, still_has}
+use Rattle.graph_order.specs.ListLaws.{AllHold-has, has-without_repeats, now_has, still_has}
 use Rattle.net_graph.specs.PathLaws.{all_paths, paths_before, paths_before-more, paths_before-driven, paths_before-undriven, paths_before-all, input_driven_below, paths_through-output, paths_through-other}
 use Rattle.net_graph.specs.RuleLaws.{inputs_are_objects}
 use Rattle.net_graph.specs.Tables.{distinct_inputs, AreCounts}

@@ -1,7 +1,9 @@
-pub mod ListLaws
 pub mod PathLaws
 pub mod Tables
 pub mod TableLaws
 pub mod RuleLaws
 pub mod CountLaws
 pub mod ConeLaws
+pub mod Loops
+pub mod WiringLaws
+pub mod RankLaws

@@ -10,7 +10,7 @@ use Rattle.v_design.specs.Lists.{has, without_repeats}
 use Rattle.v_design.specs.Designs.{FlatNode, FlatNodeKind, AssignNode, GateNode, BlockNode}
 use Rattle.v_design.specs.Paths.{path_weight, one_if, paths_through, paths_within}
 use Rattle.v_design.specs.WellFormed.{AreBelow}
-use Rattle.net_graph.specs.ListLaws.{sum_by-agree, sum_by-none, sum_by-agree_has, le-sum_by, term_of_sum, has-without_repeats, without_repeats-has}
+use Rattle.graph_order.specs.ListLaws.{sum_by-agree, sum_by-none, sum_by-agree_has, le-sum_by, term_of_sum, has-without_repeats, without_repeats-has}
 
 -- A node's part of the paths
 

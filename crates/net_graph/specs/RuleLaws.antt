@@ -16,7 +16,7 @@ use Rattle.v_design.specs.Lists.{has, without_repeats, AllHold}
 use Rattle.v_design.specs.Designs.{FlatObject, FlatNode, FlatDesign}
 use Rattle.v_design.specs.Paths.{is_net, numbers_of, net_pieces}
 use Rattle.v_design.specs.WellFormed.{KeepsRules, IsNodeOf}
-use Rattle.net_graph.specs.ListLaws.{AllHold-slice_get, AllHold-has, has-without_repeats}
+use Rattle.graph_order.specs.ListLaws.{AllHold-slice_get, AllHold-has, has-without_repeats}
 use Rattle.net_graph.specs.Tables.{distinct_inputs, distinct_inputs_at}
 
 -- the numbers of some objects are numbers of objects

@@ -8,7 +8,7 @@ use Rattle.vf_base.specs.declared.ids.NodeId.{NodeId}
 use Rattle.vf_base.specs.Base.{node_number}
 use Rattle.v_design.specs.Lists.{has, without_repeats, fresh_only}
 use Rattle.v_design.specs.Designs.{FlatNode}
-use Rattle.net_graph.specs.ListLaws.{without_repeats-push, now_has, still_has}
+use Rattle.graph_order.specs.ListLaws.{without_repeats-push, now_has, still_has}
 use Rattle.net_graph.specs.Tables.{distinct_inputs, before_if, readers_from, node_lists}
 
 fresh_only-new : (s t x : ℕ) → (s ≡ t → ⊥) → fresh_only (nat_eq s t) x [] ≡ x ∷ []

@@ -5,9 +5,11 @@ ghost use Rattle.std.specs.List.{All};
 ghost use Rattle.vf_base.specs.Base.{object_number, node_number};
 ghost use Rattle.v_design.specs.Lists.{has, without_repeats, fresh_only};
 ghost use Rattle.v_design.specs.PlainDesigns.{design_of};
+ghost use Rattle.v_design.specs.WellFormed.{rank_of};
 ghost use Rattle.net_graph.specs.Tables.{distinct_inputs, distinct_inputs_at, before_if, readers_of, object_lists, node_lists, ListReaders};
 ghost use Rattle.net_graph.specs.TableLaws.{InputsAdded};
 
+use crate::rank::design_ranks;
 use std::alloc::Global;
 use v_design::Design;
 use vf_base::{NoMemory, NodeId, ObjectId};
@@ -19,9 +21,11 @@ pub struct Graph<'d> {
     pub design: &'d Design,
     inputs: Vec<Vec<ObjectId>>,
     readers: Vec<Vec<NodeId>>,
+    ranks: Vec<u32>,
     pub ghost inputs_once: { object_lists inputs.items ≡ map distinct_inputs (design_of design.now).nodes },
     pub ghost readers_count: { vec_len readers ≡ length (design_of design.now).objects },
     pub ghost readers_listed: { ListReaders (design_of design.now) (node_lists readers.items) },
+    pub ghost ranked: { ranks.items ≡ map (rank_of (design_of design.now)) (design_of design.now).nodes },
 }
 
 impl<'d> Graph<'d> {
@@ -44,10 +48,12 @@ impl<'d> Graph<'d> {
             )?;
             inputs.push(once)?;
         }
+        let ranks = design_ranks(alloc, design)?;
         Ok(Graph {
             design,
             inputs,
             readers,
+            ranks,
         })
     }
 
@@ -65,6 +71,14 @@ impl<'d> Graph<'d> {
         ensures { map node_number result.now ≡ readers_of (design_of self.now.design.now) (object_number object) }
     {
         &self.readers[object.0 as usize]
+    }
+
+    /// The rank of a node: one more than the greatest rank of a node that drives one of its inputs, and 0 where there is none.
+    pub fn rank(&self, node: NodeId) -> u32
+        requires { node_number node < length (design_of self.now.design.now).nodes }
+        ensures { result ≡ get_or (map (rank_of (design_of self.now.design.now)) (design_of self.now.design.now).nodes) (node_number node) 0 }
+    {
+        self.ranks[node.0 as usize]
     }
 }
 

@@ -9,7 +9,7 @@ use Rattle.vf_base.specs.declared.ids.NodeId.{NodeId}
 use Rattle.vf_base.specs.Base.{node_number}
 use Rattle.v_design.specs.Lists.{has}
 use Rattle.v_design.specs.Designs.{FlatNode, FlatDesign}
-use Rattle.net_graph.specs.ListLaws.{has-append, or-false}
+use Rattle.graph_order.specs.ListLaws.{has-append, or-false}
 use Rattle.net_graph.specs.Tables.{before_if, readers_from, readers_of}
 use Rattle.net_graph.specs.ConeLaws.{Marks}
 use Rattle.net_settle.specs.Marked.{marked_at, reads, node_reads_at, MarksReaders, TakesLeast}

@@ -1,6 +1,6 @@
 -- Laws on the words that the definitions use of lists (nothing of the language).
 use Rattle.std.proofs.Common.{◌≡◌, ℕ, zero, suc, ◌+◌, ◌<◌, ◌≤◌, Bool, true, false, List, [], ◌∷◌, ◌++◌, length, get_or, take, refl, ap, sym, ◌∙◌, subst, inl, inr, arith}
-use Rattle.std.specs.Prelude.{Some, slice_get, nat_eq, ◌||◌, sum_by}
+use Rattle.std.specs.Prelude.{Some, slice_get, nat_eq, ◌||◌, sum_by, ◌⊎◌}
 use Rattle.std.proofs.lemmas.List.Sums.{sum_by-cons}
 use Rattle.std.proofs.lemmas.Bool.{or_cases, or_right, or_left, eqb-true, eq-eqb, ne_eqb}
 use Rattle.std.proofs.lemmas.List.{take_more}
@@ -137,3 +137,40 @@ now_has taken x = has-append taken (x ∷ []) x ∙ or_right (has taken x) (nat_
 pub still_has : (taken : List ℕ) (x o : ℕ) → (o ≡ x → ⊥) → has (taken ++ x ∷ []) o ≡ has taken o
 still_has taken x o other =
     has-append taken (x ∷ []) o ∙ ap (λ b. has taken o || (b || false)) (ne_eqb x o (λ e. other (sym e))) ∙ or-false (has taken o)
+
+-- an element of a list stands in it
+pub has-get_or : (xs : List ℕ) (i d : ℕ) → i < length xs → has xs (get_or xs i d) ≡ true
+has-get_or [] i d low = absurd (omega arith)
+has-get_or (x ∷ xs) zero d low = or_left (nat_eq x x) (has xs x) (eq-eqb x x refl)
+has-get_or (x ∷ xs) (suc i) d low = or_right (nat_eq x (get_or xs i d)) (has xs (get_or xs i d)) (has-get_or xs i d (omega arith))
+
+-- where a number stands
+pub has_place : (xs : List ℕ) (n : ℕ) → has xs n ≡ true → (i : ℕ) × (i < length xs) × (get_or xs i 0 ≡ n)
+has_place [] n e = absurd (cc)
+has_place (x ∷ xs) n e =
+    elim (or_cases (nat_eq x n) (has xs n) e) [
+      | inl same ↦ (0, omega arith, eqb-true x n same)
+      | inr there ↦ let r = has_place xs n there in (suc r.0, omega (arith, r.1), r.2)
+    ]
+
+-- what stands in the first part stands in the whole
+pub has-take : (xs : List ℕ) (i n : ℕ) → has (take i xs) n ≡ true → has xs n ≡ true
+has-take xs zero n e = absurd (cc)
+has-take [] (suc i) n e = absurd (cc)
+has-take (x ∷ xs) (suc i) n e =
+    elim (or_cases (nat_eq x n) (has (take i xs) n) e) [
+      | inl same ↦ or_left (nat_eq x n) (has xs n) same
+      | inr there ↦ or_right (nat_eq x n) (has xs n) (has-take xs i n there)
+    ]
+
+-- what a longer list has that is its last number or stood before
+pub has_push : (xs : List ℕ) (y n : ℕ) → has (xs ++ y ∷ []) n ≡ true → (has xs n ≡ true) ⊎ (y ≡ n)
+has_push xs y n e =
+    elim (or_cases (has xs n) (nat_eq y n || false) (sym (has-append xs (y ∷ []) n) ∙ e)) [
+      | inl before ↦ inl before
+      | inr last ↦ inr (eqb-true y n (sym (or-false (nat_eq y n)) ∙ last))
+    ]
+
+-- a number that stood in a list stands in a longer one
+pub has_before : (xs : List ℕ) (y n : ℕ) → has xs n ≡ true → has (xs ++ y ∷ []) n ≡ true
+has_before xs y n e = has-append xs (y ∷ []) n ∙ or_left (has xs n) (nat_eq y n || false) e
