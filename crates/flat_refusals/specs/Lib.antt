@@ -1,0 +1,14 @@
+pub mod Texts0
+pub mod Texts1
+pub mod Texts2
+pub mod Texts3
+pub mod Texts4
+pub mod Texts5
+pub mod Texts6
+pub mod Texts7
+pub mod Texts8
+pub mod Texts9
+pub mod Texts10
+pub mod Texts11
+pub mod Texts12
+pub mod Examples

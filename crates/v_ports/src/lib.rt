@@ -1,0 +1,12 @@
+//! Ports that are one object with what they are connected to, and nets cut into the largest runs of bits with one driver.
+//!
+//! A port whose actual is one whole net or variable of equal width is one object with it; `join_ports` answers for each object the one that it is
+//! at last joined into (`specs/JoinedObjects`; IEEE 1364-2001, clause 12.3, where that they are one object is this program's own choice), or the
+//! place of the first connection whose port an earlier one names too. `specs/Pieces` says how a net is cut (clause 6.1).
+#![tactic(auto)]
+
+mod fault;
+mod join;
+
+pub use fault::PortFault;
+pub use join::{PortUse, join_ports};
