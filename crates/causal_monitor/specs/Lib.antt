@@ -1,3 +1,4 @@
 pub mod Notes
 pub mod Phases
 pub mod Entries
+pub mod Orders

@@ -5,6 +5,7 @@
 #![tactic(auto)]
 
 mod log;
+mod order;
 mod noted;
 mod slot;
 
