@@ -2,3 +2,4 @@ pub mod Notes
 pub mod Phases
 pub mod Entries
 pub mod Orders
+pub mod Counted

@@ -4,9 +4,11 @@
 //! the event that caused it and what it reads, writes, waits for and ends. Contracts see a log as that plain data.
 #![tactic(auto)]
 
+mod conflict;
 mod log;
 mod order;
 mod noted;
+mod numbered;
 mod slot;
 
 pub use log::PhaseLog;

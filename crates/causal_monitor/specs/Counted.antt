@@ -1,0 +1,35 @@
+-- The numbered accesses of a phase, as the check keeps them.
+use Rattle.std.specs.Prelude.{ℕ, ◌<◌, Option}
+use Rattle.std.specs.Option.{ForSome}
+use Rattle.four_value.specs.Values.{LogicValue}
+use Rattle.vf_base.specs.Base.{object_number}
+use Rattle.vf_base.specs.declared.finding.AccessKind.{AccessKind}
+use Rattle.vf_base.specs.declared.finding.AccessKind.TheVariants.{Read, Write, Await, Ended, Held, Settle}
+use Rattle.v_design.specs.Logs.{PhaseAccess}
+use Rattle.causal_monitor.specs.declared.noted.WaitEdge.{WaitEdge}
+use Rattle.causal_monitor.specs.declared.noted.Noted.{Noted}
+use Rattle.causal_monitor.specs.declared.numbered.Numbered.{Numbered}
+use Rattle.causal_monitor.specs.Notes.{noted_access, HasValues, HasEntry}
+
+-- an access with the number of its event
+abbrev pub phase_access : Numbered → PhaseAccess
+phase_access numbered = record { event = numbered.event; access = noted_access numbered.noted }
+
+-- what an access of a kind has; a held entry and a settling are compared by their objects alone
+abbrev pub HasCheckedParts : AccessKind → Option LogicValue → Option LogicValue → Option WaitEdge → Type 0
+HasCheckedParts Read old new entry = Unit {0}
+HasCheckedParts Write old new entry = HasValues old new
+HasCheckedParts Await old new entry = HasEntry entry
+HasCheckedParts Ended old new entry = HasEntry entry
+HasCheckedParts Held old new entry = Unit {0}
+HasCheckedParts Settle old new entry = Unit {0}
+
+-- an access that can be compared with others
+abbrev pub IsComparable : Noted → Type 0
+IsComparable noted = HasCheckedParts noted.access.kind noted.old noted.new noted.entry
+
+-- an access of a phase with so many events, of a design with so many objects
+pub record IsNumbered (objects events : ℕ) (numbered : Numbered) : Type 0 where
+  pub object : object_number numbered.noted.access.object < objects
+  pub event : ForSome numbered.event (λ event. event < events)
+  pub parts : IsComparable numbered.noted
