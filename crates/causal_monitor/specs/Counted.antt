@@ -28,8 +28,11 @@ HasCheckedParts Settle old new entry = Unit {0}
 abbrev pub IsComparable : Noted → Type 0
 IsComparable noted = HasCheckedParts noted.access.kind noted.old noted.new noted.entry
 
--- an access of a phase with so many events, of a design with so many objects
-pub record IsNumbered (objects events : ℕ) (numbered : Numbered) : Type 0 where
-  pub object : object_number numbered.noted.access.object < objects
+-- an access of a phase with so many events
+pub record IsNumbered (events : ℕ) (numbered : Numbered) : Type 0 where
   pub event : ForSome numbered.event (λ event. event < events)
   pub parts : IsComparable numbered.noted
+
+-- the number of an access's object
+abbrev pub numbered_object : Numbered → ℕ
+numbered_object numbered = object_number numbered.noted.access.object

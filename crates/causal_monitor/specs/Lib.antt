@@ -3,3 +3,4 @@ pub mod Phases
 pub mod Entries
 pub mod Orders
 pub mod Counted
+pub mod Links

@@ -169,7 +169,7 @@ pub(crate) fn access_orders(
     second: &Numbered,
 ) -> bool
     requires jumps { HasJumps log.now.log jumps.now.items }
-    requires second { (objects : ℕ) × IsNumbered objects (length log.now.log.events) second.now }
+    requires second { IsNumbered (length log.now.log.events) second.now }
     ensures { result ≡ access_orders log.now.log (phase_access first.now) (phase_access second.now) }
 {
     if !orders_others(&first.noted) {
@@ -192,8 +192,8 @@ pub(crate) fn conflict(
     second: &Numbered,
 ) -> bool
     requires jumps { HasJumps log.now.log jumps.now.items }
-    requires first { (objects : ℕ) × IsNumbered objects (length log.now.log.events) first.now }
-    requires second { (objects : ℕ) × IsNumbered objects (length log.now.log.events) second.now }
+    requires first { IsNumbered (length log.now.log.events) first.now }
+    requires second { IsNumbered (length log.now.log.events) second.now }
     ensures { result ≡ conflict log.now.log (phase_access first.now) (phase_access second.now) }
 {
     first.noted.access.object.0 == second.noted.access.object.0

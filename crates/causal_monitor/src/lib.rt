@@ -5,6 +5,8 @@
 #![tactic(auto)]
 
 mod conflict;
+mod group;
+mod links;
 mod log;
 mod order;
 mod noted;
