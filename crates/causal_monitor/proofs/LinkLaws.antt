@@ -223,7 +223,7 @@ latest_stands group accesses object end None h = λ place e. absurd (let none : 
 latest_stands group accesses object end (Some latest) h = λ place e.
     subst (λ p. (p < end) × (object_at accesses p ≡ object)) (some_same latest place e) (h.0, eqb-true (object_at accesses latest) object (and_true _ _ h.1).0)
 
-link_read : (group : Group) (accesses : List PhaseAccess) (links : List (Option ℕ)) (place : ℕ) (link : Option ℕ) → AreLinks group accesses links → place < length links → link ≡ get_or links place link →
+pub link_read : (group : Group) (accesses : List PhaseAccess) (links : List (Option ℕ)) (place : ℕ) (link : Option ℕ) → AreLinks group accesses links → place < length links → link ≡ get_or links place link →
     IsLatest (stands_in group accesses (object_at accesses place)) place link
 link_read group accesses links place link are within is =
     subst (IsLatest (stands_in group accesses (object_at accesses place)) place) (sym (get_or_read links place link within is None)) (are place within)
@@ -276,3 +276,93 @@ pub table_read : (group : Group) (accesses : List PhaseAccess) (place : ℕ) (ta
 table_read group accesses place table object link is within read had =
     subst (λ o. IsLatest (stands_in group accesses o) place link) (sym is)
     (subst (IsLatest (stands_in group accesses object) place) (sym (get_or_read table object link within read None)) (had object within))
+
+-- Chains
+
+events_trans : (log : LoggedPhase) → CausesComeBefore log → (a b c : Option ℕ) → ForSome c (λ event. event < length log.events) → events_ordered log a b ≡ true → events_ordered log b c ≡ true →
+    events_ordered log a c ≡ true
+events_trans log before None b c low e f = absurd (true_false (sym e))
+events_trans log before (Some a) None c low e f = absurd (true_false (sym e))
+events_trans log before (Some a) (Some b) None low e f = absurd (true_false (sym f))
+events_trans log before (Some a) (Some b) (Some c) low e f = orders_trans log before a b c (let less = low c refl in omega arith) e f
+
+-- orders of accesses go on
+pub access_orders_trans : (log : LoggedPhase) → CausesComeBefore log → (a b c : PhaseAccess) → ForSome c.event (λ event. event < length log.events) → access_orders log a b ≡ true →
+    access_orders log b c ≡ true → access_orders log a c ≡ true
+access_orders_trans log before a b c low e f =
+    both_true _ _ (and_true _ _ e).0 (events_trans log before a.event b.event c.event low (and_true _ _ e).1 (and_true _ _ f).1)
+
+-- an access without an earlier one of its object
+pub IsChained-none : (log : LoggedPhase) (accesses : List PhaseAccess) (number : ℕ) → IsLatest (stands_in All accesses (object_at accesses number)) number None → IsChained log accesses number
+IsChained-none log accesses number h earlier low same = absurd (true_false (sym (both_true (nat_eq (object_at accesses earlier) (object_at accesses number)) true same refl) ∙ h earlier low))
+
+-- an access that the latest earlier one of its object orders, where each one before orders that
+pub IsChained-more : (log : LoggedPhase) → CausesComeBefore log → (accesses : List PhaseAccess) (number latest : ℕ) → ForSome (access_at accesses number).event (λ event. event < length log.events) →
+    IsLatest (stands_in All accesses (object_at accesses number)) number (Some latest) → IsChained log accesses latest → access_orders log (access_at accesses latest) (access_at accesses number) ≡ true →
+    IsChained log accesses number
+IsChained-more log before accesses number latest low h chained ordered earlier less same =
+    elim (cases_lt earlier latest) [
+      | inl first ↦
+          let object : object_at accesses latest ≡ object_at accesses number = eqb-true (object_at accesses latest) (object_at accesses number) (and_true _ _ h.1).0 in
+          access_orders_trans log before (access_at accesses earlier) (access_at accesses latest) (access_at accesses number) low
+          (chained earlier first (subst (λ o. nat_eq (object_at accesses earlier) o ≡ true) (sym object) same)) ordered
+      | inr after ↦
+          elim (cases_eq earlier latest) [
+            | inl is ↦ ap (λ p. access_orders log (access_at accesses p) (access_at accesses number)) is ∙ ordered
+            | inr other ↦
+                absurd (true_false (sym (both_true (nat_eq (object_at accesses earlier) (object_at accesses number)) true same refl) ∙ h.2 earlier (omega arith) less))
+          ]
+    ]
+
+-- one more mark
+pub AreChained-more : (log : LoggedPhase) (accesses : List PhaseAccess) (number : ℕ) (marks : List Bool) (mark : Bool) → number < length marks → (mark ≡ true → IsChained log accesses number) →
+    AreChained log accesses number marks → AreChained log accesses (number + 1) (set marks number mark)
+AreChained-more log accesses number marks mark within here had place low marked =
+    elim (cases_eq place number) [
+      | inl same ↦
+          subst (IsChained log accesses) (sym same)
+          (here (sym (ap (λ p. get_or (set marks number mark) p false) same ∙ get_or-set_same marks number mark false within) ∙ marked))
+      | inr other ↦ had place (omega arith) (sym (get_or-set_other marks number place mark false other) ∙ marked)
+    ]
+
+no_conflict : (log : LoggedPhase) (first second : PhaseAccess) (same : Bool) → nat_eq first.access.object second.access.object ≡ same →
+    (nat_eq first.access.object second.access.object ≡ true → access_orders log first second ≡ true) → conflict log first second ≡ false
+no_conflict log first second true e ordered =
+    third_false (nat_eq first.access.object second.access.object) (acts_clash first.access.object first.access.act second.access.act) (access_orders log first second)
+    (access_orders log second first) (ordered e)
+no_conflict log first second false e ordered =
+    left_false (nat_eq first.access.object second.access.object) (acts_clash first.access.object first.access.act second.access.act) (not (access_orders log first second))
+    (not (access_orders log second first)) e
+
+-- an access that all earlier ones of its object order conflicts with none of them
+pub chained_none : (log : LoggedPhase) (accesses : List PhaseAccess) (number : ℕ) → IsChained log accesses number →
+    IsFirst (λ place. conflict log (access_at accesses place) (access_at accesses number)) 0 number None
+chained_none log accesses number chained = λ place low less. no_conflict log (access_at accesses place) (access_at accesses number) _ refl (chained place less)
+
+-- The least pair
+
+pair_step : (log : LoggedPhase) (accesses : List PhaseAccess) (number : ℕ) (best : Option ℕ) → number < length accesses →
+    IsFirst (λ place. conflict log (access_at accesses place) (access_at accesses number)) 0 number best →
+    least_pair_from log (take number accesses) (drop number accesses)
+    ≡ or_pair (option_map (access_at accesses) best) (access_at accesses number) (least_pair_from log (take (number + 1) accesses) (drop (number + 1) accesses))
+pair_step log accesses number best within h =
+    ap (least_pair_from log (take number accesses)) (drop_more accesses number no_access within)
+    ∙ ap (λ found. or_pair found (access_at accesses number) (least_pair_from log (take number accesses ++ access_at accesses number ∷ []) (drop (number + 1) accesses)))
+    (find_first (λ first. conflict log first (access_at accesses number)) accesses number (omega arith) best h)
+    ∙ ap (λ earlier. or_pair (option_map (access_at accesses) best) (access_at accesses number) (least_pair_from log earlier (drop (number + 1) accesses))) (sym (take_more accesses number no_access within))
+
+-- an access that conflicts with an earlier one is the later one of the least pair
+pub pair_found : (log : LoggedPhase) (accesses : List PhaseAccess) (number first : ℕ) → number < length accesses →
+    IsFirst (λ place. conflict log (access_at accesses place) (access_at accesses number)) 0 number (Some first) →
+    least_pair_from log (take number accesses) (drop number accesses) ≡ Some (access_at accesses first, access_at accesses number)
+pair_found log accesses number first within h = pair_step log accesses number (Some first) within h
+
+-- an access that conflicts with no earlier one isn't
+pub pair_more : (log : LoggedPhase) (accesses : List PhaseAccess) (number : ℕ) → number < length accesses →
+    IsFirst (λ place. conflict log (access_at accesses place) (access_at accesses number)) 0 number None →
+    least_pair_from log (take number accesses) (drop number accesses) ≡ least_pair_from log (take (number + 1) accesses) (drop (number + 1) accesses)
+pair_more log accesses number within h = pair_step log accesses number None within h
+
+-- after the last access
+pub pair_none : (log : LoggedPhase) (accesses : List PhaseAccess) (number : ℕ) → length accesses ≤ number → least_pair_from log (take number accesses) (drop number accesses) ≡ None
+pair_none log accesses number past = ap (least_pair_from log (take number accesses)) (drop_all number accesses past)

@@ -4,3 +4,4 @@ pub mod Entries
 pub mod Orders
 pub mod Counted
 pub mod Links
+pub mod Index

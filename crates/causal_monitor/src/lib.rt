@@ -6,13 +6,17 @@
 
 mod conflict;
 mod group;
+mod index;
 mod links;
 mod log;
 mod order;
+mod search;
 mod noted;
 mod numbered;
 mod slot;
 
+pub use index::CheckIndex;
 pub use log::PhaseLog;
 pub use noted::{Noted, WaitEdge};
+pub use search::check;
 pub use slot::{Actor, SlotLog, Turn};
