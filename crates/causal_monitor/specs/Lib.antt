@@ -5,3 +5,4 @@ pub mod Orders
 pub mod Counted
 pub mod Links
 pub mod Index
+pub mod Changes
