@@ -2,3 +2,4 @@ pub mod Kept
 pub mod OrderLaws
 pub mod LinkLaws
 pub mod ChangeLaws
+pub mod TotalLaws

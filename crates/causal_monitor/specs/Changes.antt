@@ -17,9 +17,9 @@ pub record CountChanges (changes counts : List ℕ) : Type 0 where
   pub sums : (f : ℕ → ℕ) → min 2 (weighted f 0 counts) ≡ min 2 (sum_by f changes)
   pub seen : (object : ℕ) → has changes object ≡ true → 0 < get_or counts object 0
 
--- for each object the paths from all changes to it, cut at 2
+-- for each object the paths from all changes to it, told apart up to 2
 abbrev pub AreTotals : FlatDesign → List ℕ → List ℕ → Type 0
-AreTotals design changes totals = (object : ℕ) → object < length totals → get_or totals object 0 ≡ min 2 (sum_by (λ changed. paths design changed object) changes)
+AreTotals design changes totals = (object : ℕ) → object < length totals → min 2 (get_or totals object 0) ≡ min 2 (sum_by (λ changed. paths design changed object) changes)
 
 -- the wild net pieces that an object's change settles
 abbrev pub settled_nets : FlatDesign → List ℕ → ℕ → List ℕ
@@ -28,3 +28,7 @@ settled_nets design changes object = filter (λ net. is_wild design changes net 
 -- the wild net pieces of each object that changed
 abbrev pub AreSettled : FlatDesign → List ℕ → List (Vec ObjectId Global) → Type 0
 AreSettled design changes lists = (object : ℕ) → has changes object ≡ true → get_or (object_lists lists) object [] ≡ settled_nets design changes object
+
+-- the totals with the paths from an object that changed so often
+abbrev pub AddsPaths : FlatDesign → ℕ → ℕ → List ℕ → List ℕ → Type 0
+AddsPaths design from count before later = (object : ℕ) → object < length later → min 2 (get_or later object 0) ≡ min 2 (get_or before object 0 + count * paths design from object)

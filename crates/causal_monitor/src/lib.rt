@@ -14,7 +14,9 @@ mod order;
 mod search;
 mod noted;
 mod numbered;
+mod settled;
 mod slot;
+mod totals;
 
 pub use index::CheckIndex;
 pub use log::PhaseLog;
