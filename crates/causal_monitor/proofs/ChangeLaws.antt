@@ -2,7 +2,7 @@
 use Rattle.std.proofs.Common.{◌≡◌, ℕ, zero, suc, ◌+◌, ◌*◌, ◌-◌, ◌<◌, ◌≤◌, Bool, true, false, List, [], ◌∷◌, ◌++◌, length, get_or, set, map, take, drop, Option, Some, None, cond, min, replicate, refl, ap, sym, subst, ◌∙◌, arith, inl, inr, append-nil, append_assoc}
 use Rattle.std.specs.Prelude.{nat_eq, not, ◌&&◌, ◌||◌, sum_by, slice_get}
 use Rattle.std.proofs.lemmas.Bool.{ne_eqb, eq-eqb, cases_eq, cases_lt, eqb-true}
-use Rattle.std.proofs.lemmas.List.{get_or-set_same, get_or-set_other, length-set, take_more, map_push, length_push, take_all, get_or-replicate, length-replicate, get_or-map}
+use Rattle.std.proofs.lemmas.List.{get_or-set_same, get_or-set_other, length-set, take_more, map_push, length_push, take_all, get_or-replicate, length-replicate, get_or-map, length-map}
 use Rattle.std.proofs.lemmas.List.Sums.{sum_by-append}
 use Rattle.v_design.specs.Lists.{joined, has, AllHold}
 use Rattle.v_design.specs.States.{found_or}
@@ -219,3 +219,14 @@ changes_before-all design log n past = joined-all (λ (event : LoggedEvent). cha
 -- an access that is read, as plain data
 pub read_noted : (accesses : List Noted) (i : ℕ) (noted : Noted) → i < length accesses → noted ≡ get_or accesses i noted → noted_access noted ≡ get_or (map noted_access accesses) i (noted_access noted)
 read_noted accesses i noted low is = ap noted_access is ∙ sym (get_or-map noted_access accesses i noted (noted_access noted) low)
+
+-- an access that is read is of an object of the design
+pub read_object : (design : FlatDesign) (accesses : List Noted) (i : ℕ) (noted : Noted) → i < length accesses → noted ≡ get_or accesses i noted → NameObjects design (map noted_access accesses) →
+    (noted_access noted).object < length design.objects
+read_object design accesses i noted low is names =
+    subst (λ (a : ObjectAccess). a.object < length design.objects) (sym (read_noted accesses i noted low is))
+    (AllHold-at (λ (a : ObjectAccess). a.object < length design.objects) (map noted_access accesses) i (noted_access noted) names (rw length-map low))
+
+-- an access that is read has what the others have
+pub read_hold : (P : Noted → Type 0) (accesses : List Noted) (i : ℕ) (noted : Noted) → i < length accesses → noted ≡ get_or accesses i noted → AllHold P accesses → P noted
+read_hold P accesses i noted low is all = subst P (sym is) (AllHold-at P accesses i noted all low)

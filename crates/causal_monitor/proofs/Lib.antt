@@ -3,3 +3,4 @@ pub mod OrderLaws
 pub mod LinkLaws
 pub mod ChangeLaws
 pub mod TotalLaws
+pub mod AddLaws

@@ -4,6 +4,7 @@
 //! the event that caused it and what it reads, writes, waits for and ends. Contracts see a log as that plain data.
 #![tactic(auto)]
 
+mod accesses;
 mod changes;
 mod conflict;
 mod group;
