@@ -3,7 +3,7 @@
 ghost use Rattle.std.specs.Prelude.{◌≡◌, ◌<◌, ◌≤◌, true, length, vec_len, IfOk};
 ghost use Rattle.v_design.specs.Logs.{orders};
 ghost use Rattle.causal_monitor.specs.Phases.{CausesComeBefore};
-ghost use Rattle.causal_monitor.specs.Orders.{AreJumps};
+ghost use Rattle.causal_monitor.specs.Orders.{AreJumps, HasJumps};
 
 use crate::log::PhaseLog;
 use std::alloc::Global;
@@ -43,8 +43,7 @@ fn jump_of(log: &PhaseLog, event: u64, depths: &Vec<u64>, jumps: &Vec<u64>) -> u
 
 /// For each event one that orders it, from which the next is quickly reached.
 pub(crate) fn jumps_of(alloc: Global, log: &PhaseLog) -> Result<Vec<u64>, NoMemory>
-    ensures count { IfOk result (λ jumps. vec_len jumps ≡ length log.now.log.events) }
-    ensures jumps { IfOk result (λ jumps. AreJumps log.now.log jumps.items) }
+    ensures { IfOk result (λ jumps. HasJumps log.now.log jumps.items) }
 {
     let mut depths = Vec::new(alloc);
     let mut jumps = Vec::new(alloc);
