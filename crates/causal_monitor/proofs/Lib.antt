@@ -4,3 +4,5 @@ pub mod LinkLaws
 pub mod ChangeLaws
 pub mod TotalLaws
 pub mod AddLaws
+pub mod SmallRules
+pub mod LogLaws

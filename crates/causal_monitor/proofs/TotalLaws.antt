@@ -33,6 +33,7 @@ none_reads object number (first ∷ nodes) e zero node at =
   where
     some_node : (m n : FlatNode) → Some m ≡ Some n → m ≡ n
     some_node m n e' = cc
+
     front : (b : Bool) (rest : List ℕ) → before_if b number rest ≡ [] → b ≡ false
     front true rest e' = absurd (let more : number ∷ rest ≡ [] = e' in cc)
     front false rest e' = refl

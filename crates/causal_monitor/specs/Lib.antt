@@ -6,3 +6,4 @@ pub mod Counted
 pub mod Links
 pub mod Index
 pub mod Changes
+pub mod SmallDesign

@@ -203,8 +203,22 @@ fn push_event(source: &Source, event: u64, list: &mut Vec<Numbered>) -> Result<(
     ensures { IfOk result (λ _. Adds (length (design_of source.now.design.now).objects) (length source.now.log.now.log.events) list.old.items list.new.items (map (numbered_at event) (counted_accesses (design_of source.now.design.now) (phase_changes (design_of source.now.design.now) source.now.log.now.log) (accesses_at source.now.log.now.log event)))) }
 {
     let accesses = source.log.accesses_of(event);
-    push_counted(source.design, source.log, source.totals, event, accesses, list)?;
-    push_all_settled(source.design, source.log, source.settled, event, accesses, list)?;
+    push_counted(
+        source.design,
+        source.log,
+        source.totals,
+        event,
+        accesses,
+        list,
+    )?;
+    push_all_settled(
+        source.design,
+        source.log,
+        source.settled,
+        event,
+        accesses,
+        list,
+    )?;
     Ok(())
 }
 

@@ -60,11 +60,7 @@ pub(crate) fn links_against<'a>(
 }
 
 /// The accesses of a phase in their order, by the changes that were noted and the graph of the design.
-fn phase_accesses(
-    alloc: Global,
-    log: &PhaseLog,
-    graph: &Graph,
-) -> Result<Vec<Numbered>, NoMemory>
+fn phase_accesses(alloc: Global, log: &PhaseLog, graph: &Graph) -> Result<Vec<Numbered>, NoMemory>
     requires { IsLogOf (design_of graph.now.design.now) log.now.log }
     ensures accesses { IfOk result (λ list. map phase_access list.items ≡ log_accesses (design_of graph.now.design.now) log.now.log) }
     ensures numbered { IfOk result (λ list. All (IsNumbered (length log.now.log.events)) list.items) }

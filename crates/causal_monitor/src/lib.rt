@@ -11,12 +11,14 @@ mod group;
 mod index;
 mod links;
 mod log;
-mod order;
-mod search;
 mod noted;
 mod numbered;
+mod order;
+mod search;
 mod settled;
 mod slot;
+#[cfg(test)]
+mod tests;
 mod totals;
 
 pub use index::CheckIndex;

@@ -120,7 +120,12 @@ pub(crate) fn add_up<'d>(
 }
 
 /// Whether an object is a net piece that is wild in a phase: several changes reach it, or one on several paths.
-pub(crate) fn is_wild_net(design: &Design, log: &PhaseLog, totals: &Vec<u8>, object: ObjectId) -> bool
+pub(crate) fn is_wild_net(
+    design: &Design,
+    log: &PhaseLog,
+    totals: &Vec<u8>,
+    object: ObjectId,
+) -> bool
     requires is_object { object_number object < length (design_of design.now).objects }
     requires sized { vec_len totals.now ≡ length (design_of design.now).objects }
     requires totals { AreTotals (design_of design.now) (phase_changes (design_of design.now) log.now.log) totals.now.items }
