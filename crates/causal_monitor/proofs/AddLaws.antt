@@ -102,17 +102,21 @@ has_place [] i d low = absurd (omega arith)
 has_place (x ∷ xs) zero d low = or_left (nat_eq x x) (has xs x) (eq-eqb x x refl)
 has_place (x ∷ xs) (suc i) d low = or_right (nat_eq x (get_or xs i d)) (has xs (get_or xs i d)) (has_place xs i d (omega arith))
 
--- the net pieces of a list are objects
-pub settled_below : (design : FlatDesign) (changes : List ℕ) (object : ℕ) (nets : List ObjectId) → map object_number nets ≡ settled_nets design changes object →
+-- net pieces that pass a test are objects
+pub nets_below : (design : FlatDesign) (test : ℕ → Bool) (nets : List ObjectId) → map object_number nets ≡ filter test (net_pieces design) →
     All (λ (net : ObjectId). object_number net < length design.objects) nets
-settled_below design changes object nets is i d low =
+nets_below design test nets is i d low =
     let itself : get_or (map object_number nets) i (object_number d) ≡ object_number (get_or nets i d) = get_or-map object_number nets i d (object_number d) low in
     let there : has (map object_number nets) (get_or (map object_number nets) i (object_number d)) ≡ true = has_place (map object_number nets) i (object_number d) (rw length-map low) in
     let net : has (net_pieces design) (get_or (map object_number nets) i (object_number d)) ≡ true =
-    has_filtered (λ net. is_wild design changes net && nat_lt 0 (paths design object net)) (net_pieces design) (get_or (map object_number nets) i (object_number d))
-    (subst (λ l. has l (get_or (map object_number nets) i (object_number d)) ≡ true) is there) in
+    has_filtered test (net_pieces design) (get_or (map object_number nets) i (object_number d)) (subst (λ l. has l (get_or (map object_number nets) i (object_number d)) ≡ true) is there) in
     let bound = numbers_of-bound _ 0 design.objects (get_or (map object_number nets) i (object_number d)) net in
     omega (arith, bound, itself)
+
+-- the net pieces that a change settles are objects
+pub settled_below : (design : FlatDesign) (changes : List ℕ) (object : ℕ) (nets : List ObjectId) → map object_number nets ≡ settled_nets design changes object →
+    All (λ (net : ObjectId). object_number net < length design.objects) nets
+settled_below design changes object nets is = nets_below design (λ net. is_wild design changes net && nat_lt 0 (paths design object net)) nets is
 
 -- What changed in the phase
 

@@ -4,8 +4,10 @@ use Rattle.std.specs.Prelude.{◌⊎◌, nat_eq, nat_lt, ◌&&◌, sum_by, slice
 use Rattle.std.specs.Coded.{le_prop}
 use Rattle.std.proofs.Math.Logic.{∥∥₁_elim}
 use Rattle.std.proofs.lemmas.Bool.{ne_eqb, eq-eqb, cases_eq, cases_lt, eqb-true, cases_Bool, lt-ltb, le-ltb}
-use Rattle.std.proofs.lemmas.List.{get_or-set_same, get_or-set_other, length-set, take_more, take_all, length-take-le, get_or_push, get_or_append_left, get_or_past}
+use Rattle.std.proofs.lemmas.List.{get_or-set_same, get_or-set_other, length-set, take_more, take_all, length-take-le, map_push, get_or_push, get_or_append_left, get_or_past}
 use Rattle.std.proofs.lemmas.List.Elements.{filter-append}
+use Rattle.vf_base.specs.declared.ids.ObjectId.{ObjectId}
+use Rattle.vf_base.specs.Base.{object_number}
 use Rattle.v_design.specs.declared.logic.ObjectKind.TheVariants.{Var}
 use Rattle.v_design.specs.Lists.{has, without_repeats}
 use Rattle.v_design.specs.Designs.{FlatObject, FlatNode, FlatDesign}
@@ -217,33 +219,47 @@ filtered_one test false c n e = refl
 no_object : FlatObject
 no_object = record { name = []; kind = Var; width = 0; ranged = false; high = 0; low = 0; address = 0; first = []; place = record { line = 0; column = 0 } }
 
--- those among the first objects
-abbrev pub settled_before : FlatDesign → List ℕ → ℕ → ℕ → List ℕ
-settled_before design changes object number =
-    filter (λ net. is_wild design changes net && nat_lt 0 (paths design object net)) (numbers_of (λ (o : FlatObject). is_net o.kind) 0 (take number design.objects))
+-- the net pieces among the first objects that pass a test
+abbrev pub nets_before : (ℕ → Bool) → FlatDesign → ℕ → List ℕ
+nets_before test design number = filter test (numbers_of (λ (o : FlatObject). is_net o.kind) 0 (take number design.objects))
 
 -- one more object
-pub settled_before-more : (design : FlatDesign) (changes : List ℕ) (object number : ℕ) (wanted : Bool) → number < length design.objects →
-    wanted ≡ (has (net_pieces design) number && (is_wild design changes number && nat_lt 0 (paths design object number))) →
-    settled_before design changes object (number + 1) ≡ settled_before design changes object number ++ before_if wanted number []
-settled_before-more design changes object number wanted low is =
+pub nets_before-more : (test : ℕ → Bool) (design : FlatDesign) (number : ℕ) (wanted : Bool) → number < length design.objects → wanted ≡ (has (net_pieces design) number && test number) →
+    nets_before test design (number + 1) ≡ nets_before test design number ++ before_if wanted number []
+nets_before-more test design number wanted low is =
     let one : FlatObject = get_or design.objects number no_object in
     let before : List FlatObject = take number design.objects in
     let counted : 0 + length before ≡ number = let long = length-take-le number design.objects (omega arith) in omega (arith, long) in
-    ap (λ l. filter (λ net. is_wild design changes net && nat_lt 0 (paths design object net)) (numbers_of (λ (o : FlatObject). is_net o.kind) 0 l)) (take_more design.objects number no_object low)
-    ∙ ap (filter (λ net. is_wild design changes net && nat_lt 0 (paths design object net)))
+    ap (λ l. filter test (numbers_of (λ (o : FlatObject). is_net o.kind) 0 l)) (take_more design.objects number no_object low)
+    ∙ ap (filter test)
     (numbers_of-push (λ (o : FlatObject). is_net o.kind) 0 before one
     ∙ ap (λ n. numbers_of (λ (o : FlatObject). is_net o.kind) 0 before ++ before_if (is_net one.kind) n []) counted)
-    ∙ filter-append (λ net. is_wild design changes net && nat_lt 0 (paths design object net)) (numbers_of (λ (o : FlatObject). is_net o.kind) 0 before) (before_if (is_net one.kind) number [])
-    ∙ ap (λ l. settled_before design changes object number ++ l)
-    (filtered_one (λ net. is_wild design changes net && nat_lt 0 (paths design object net)) (is_net one.kind) (is_wild design changes number && nat_lt 0 (paths design object number)) number refl
-    ∙ ap (λ b. before_if (b && (is_wild design changes number && nat_lt 0 (paths design object number))) number []) (sym (net_by_kind design number no_object low))
+    ∙ filter-append test (numbers_of (λ (o : FlatObject). is_net o.kind) 0 before) (before_if (is_net one.kind) number [])
+    ∙ ap (λ l. nets_before test design number ++ l)
+    (filtered_one test (is_net one.kind) (test number) number refl ∙ ap (λ b. before_if (b && test number) number []) (sym (net_by_kind design number no_object low))
     ∙ ap (λ b. before_if b number []) (sym is))
 
 -- all objects
-pub settled_before-all : (design : FlatDesign) (changes : List ℕ) (object number : ℕ) → length design.objects ≤ number → settled_before design changes object number ≡ settled_nets design changes object
-settled_before-all design changes object number past =
-    ap (λ l. filter (λ net. is_wild design changes net && nat_lt 0 (paths design object net)) (numbers_of (λ (o : FlatObject). is_net o.kind) 0 l)) (take_all number design.objects past)
+pub nets_before-all : (test : ℕ → Bool) (design : FlatDesign) (number : ℕ) → length design.objects ≤ number → nets_before test design number ≡ filter test (net_pieces design)
+nets_before-all test design number past = ap (λ l. filter test (numbers_of (λ (o : FlatObject). is_net o.kind) 0 l)) (take_all number design.objects past)
+
+filter_both : (a b : Bool) (x : ℕ) (rest later : List ℕ) (q : ℕ → Bool) → q x ≡ b → filter q rest ≡ later → filter q (cond a (x ∷ rest) rest) ≡ cond (a && b) (x ∷ later) later
+filter_both true true x rest later q e f = ap (λ b. cond b (x ∷ filter q rest) (filter q rest)) e ∙ ap (λ l. x ∷ l) f
+filter_both true false x rest later q e f = ap (λ b. cond b (x ∷ filter q rest) (filter q rest)) e ∙ f
+filter_both false b x rest later q e f = f
+
+-- one test after another
+pub filter_filter : (p q : ℕ → Bool) (xs : List ℕ) → filter q (filter p xs) ≡ filter (λ x. p x && q x) xs
+filter_filter p q [] = refl
+filter_filter p q (x ∷ xs) = filter_both (p x) (q x) x (filter p xs) (filter (λ y. p y && q y) xs) q refl (filter_filter p q xs)
+
+-- one more of some net pieces, where it passes
+pub filtered-more : (test : ℕ → Bool) (nets : List ObjectId) (i : ℕ) (d : ObjectId) (wanted : Bool) → i < length nets → test (object_number (get_or nets i d)) ≡ wanted →
+    filter test (map object_number (take (i + 1) nets)) ≡ filter test (map object_number (take i nets)) ++ before_if wanted (object_number (get_or nets i d)) []
+filtered-more test nets i d wanted low is =
+    ap (λ l. filter test (map object_number l)) (take_more nets i d low) ∙ ap (filter test) (map_push object_number (take i nets) (get_or nets i d))
+    ∙ filter-append test (map object_number (take i nets)) (object_number (get_or nets i d) ∷ [])
+    ∙ ap (λ l. filter test (map object_number (take i nets)) ++ l) (filtered_one test true wanted (object_number (get_or nets i d)) is)
 
 -- the lists of the first objects
 abbrev pub SettledBefore : FlatDesign → List ℕ → List ℕ → ℕ → List (List ℕ) → Type 0
@@ -270,3 +286,8 @@ SettledBefore-all design changes counts number lists past counted had object the
     below : (object < length counts) ⊎ (length counts ≤ object) → 0 < get_or counts object 0 → object < number
     below (inl low) positive = omega arith
     below (inr high) positive = absurd (let none : get_or counts object 0 ≡ 0 = get_or_past counts object 0 high in omega (arith, none))
+
+-- a number of paths that is cut at 2 tells whether there is one
+pub capped_positive : (n capped : ℕ) → capped ≡ min 2 n → nat_lt 0 n ≡ nat_lt 0 capped
+capped_positive zero capped e = sym (ap (nat_lt 0) e)
+capped_positive (suc n) capped e = lt-ltb 0 (suc n) (omega arith) ∙ sym (lt-ltb 0 capped (omega (arith, e)))
