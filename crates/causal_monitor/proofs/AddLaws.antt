@@ -1,18 +1,18 @@
 -- Laws on a list that gains the accesses of a phase (nothing of the language).
 use Rattle.std.proofs.Common.{◌≡◌, ℕ, zero, suc, ◌+◌, ◌<◌, ◌≤◌, Bool, true, false, List, [], ◌∷◌, ◌++◌, length, get_or, map, filter, take, Option, Some, None, cond, refl, ap, sym, subst, ◌∙◌, arith, inl, inr, append-nil, append_assoc}
-use Rattle.std.specs.Prelude.{nat_eq, nat_lt, ◌&&◌, ◌||◌}
+use Rattle.std.specs.Prelude.{nat_eq, nat_lt, ◌&&◌}
 use Rattle.std.specs.List.{All}
-use Rattle.std.specs.Option.{option_map, option_to_list, ForSome}
-use Rattle.std.proofs.lemmas.Bool.{cases_eq, eq-eqb, or_left, or_right, or_cases}
+use Rattle.std.specs.Option.{ForSome}
+use Rattle.std.proofs.lemmas.Bool.{eq-eqb, or_left, or_right, or_cases}
 use Rattle.std.proofs.lemmas.List.{map_push, take_more, take_all, length-take-le, map-append, get_or-map, length-map}
 use Rattle.std.proofs.lemmas.List.Elements.{All-push, filter-append}
 use Rattle.vf_base.specs.declared.ids.ObjectId.{ObjectId}
 use Rattle.vf_base.specs.Base.{object_number}
 use Rattle.v_design.specs.Lists.{joined, has, map_numbered}
 use Rattle.v_design.specs.Designs.{FlatDesign}
-use Rattle.v_design.specs.Paths.{net_pieces, numbers_of, is_wild, paths}
+use Rattle.v_design.specs.Paths.{net_pieces, is_wild, paths}
 use Rattle.v_design.specs.Accesses.{ObjectAccess}
-use Rattle.v_design.specs.Logs.{LoggedEvent, LoggedPhase, PhaseAccess, change_of, changes_of, phase_changes, counts, settles_of, counted_accesses, event_accesses, log_accesses}
+use Rattle.v_design.specs.Logs.{LoggedEvent, LoggedPhase, PhaseAccess, change_of, changes_of, phase_changes, settles_of, counted_accesses, event_accesses, log_accesses}
 use Rattle.net_graph.specs.ListLaws.{has-append}
 use Rattle.net_graph.specs.RuleLaws.{numbers_of-bound}
 use Rattle.causal_monitor.specs.declared.noted.Noted.{Noted}
@@ -21,7 +21,7 @@ use Rattle.four_value.specs.Values.{LogicValue}
 use Rattle.vf_base.specs.declared.finding.AccessKind.{AccessKind}
 use Rattle.vf_base.specs.declared.finding.AccessKind.TheVariants.{Read, Write, Await, Ended, Held, Settle}
 use Rattle.causal_monitor.specs.declared.noted.WaitEdge.{WaitEdge}
-use Rattle.causal_monitor.specs.Notes.{noted_access, IsNoted, IsHeld, HasParts}
+use Rattle.causal_monitor.specs.Notes.{IsNoted, IsHeld, HasParts}
 use Rattle.causal_monitor.specs.Phases.{accesses_at}
 use Rattle.causal_monitor.specs.Changes.{settled_nets}
 use Rattle.causal_monitor.specs.Counted.{IsNumbered, HasCheckedParts, numbered_object, phase_access, numbered_at, held_at, settling_of, Adds}

@@ -1,16 +1,16 @@
 -- Laws on the changes of a phase (nothing of the language).
-use Rattle.std.proofs.Common.{◌≡◌, ℕ, zero, suc, ◌+◌, ◌*◌, ◌-◌, ◌<◌, ◌≤◌, Bool, true, false, List, [], ◌∷◌, ◌++◌, length, get_or, set, map, take, drop, Option, Some, None, cond, min, replicate, refl, ap, sym, subst, ◌∙◌, arith, inl, inr, append-nil, append_assoc}
-use Rattle.std.specs.Prelude.{nat_eq, not, ◌&&◌, ◌||◌, sum_by, slice_get}
-use Rattle.std.proofs.lemmas.Bool.{ne_eqb, eq-eqb, cases_eq, cases_lt, eqb-true}
-use Rattle.std.proofs.lemmas.List.{get_or-set_same, get_or-set_other, length-set, take_more, map_push, length_push, take_all, get_or-replicate, length-replicate, get_or-map, length-map}
+use Rattle.std.proofs.Common.{◌≡◌, ℕ, zero, suc, ◌+◌, ◌*◌, ◌<◌, ◌≤◌, Bool, true, false, List, [], ◌∷◌, ◌++◌, length, get_or, set, map, take, None, min, replicate, refl, ap, sym, subst, ◌∙◌, arith, inl, inr, append-nil, append_assoc}
+use Rattle.std.specs.Prelude.{nat_eq, ◌||◌, sum_by, slice_get}
+use Rattle.std.proofs.lemmas.Bool.{ne_eqb, eq-eqb, cases_eq}
+use Rattle.std.proofs.lemmas.List.{get_or-set_same, get_or-set_other, take_more, map_push, take_all, get_or-map, length-map}
 use Rattle.std.proofs.lemmas.List.Sums.{sum_by-append}
 use Rattle.v_design.specs.Lists.{joined, has, AllHold}
 use Rattle.v_design.specs.States.{found_or}
 use Rattle.v_design.specs.Designs.{FlatObject, FlatDesign}
-use Rattle.v_design.specs.Paths.{numbers_of, net_pieces, is_net, one_if}
+use Rattle.v_design.specs.Paths.{numbers_of, net_pieces, is_net}
 use Rattle.v_design.specs.Accesses.{ObjectAccess}
 use Rattle.v_design.specs.Logs.{LoggedEvent, LoggedPhase, change_of, changes_of, phase_changes}
-use Rattle.net_graph.specs.ListLaws.{now_has, still_has, has-append}
+use Rattle.net_graph.specs.ListLaws.{still_has}
 use Rattle.causal_monitor.specs.declared.noted.Noted.{Noted}
 use Rattle.causal_monitor.specs.Notes.{noted_access}
 use Rattle.causal_monitor.specs.Phases.{accesses_at, NameObjects, IsLogOf}

@@ -1,18 +1,18 @@
 -- Laws on links, and on the search along them (nothing of the language).
-use Rattle.std.proofs.Common.{◌≡◌, ℕ, zero, suc, ◌+◌, ◌-◌, ◌<◌, ◌≤◌, Bool, true, false, List, [], ◌∷◌, ◌++◌, length, get_or, set, map, take, drop, Option, Some, None, cond, refl, ap, sym, subst, ◌∙◌, arith, inl, inr}
+use Rattle.std.proofs.Common.{◌≡◌, ℕ, zero, suc, ◌+◌, ◌<◌, ◌≤◌, Bool, true, false, List, [], ◌∷◌, ◌++◌, length, get_or, set, map, take, drop, Option, Some, None, cond, refl, ap, sym, subst, ◌∙◌, arith, inl, inr}
 use Rattle.std.specs.Prelude.{nat_eq, not, ◌&&◌}
 use Rattle.std.specs.List.{find}
 use Rattle.std.specs.Option.{option_map, ForSome}
 use Rattle.std.proofs.lemmas.Bool.{ne_eqb, eq-eqb, cases_eq, cases_lt, eqb-true}
 use Rattle.std.proofs.lemmas.List.{get_or-set_same, get_or-set_other, length-set, drop_more, get_or-take, length-take-le, drop_all, take_more, get_or_push, length_push, get_or_append_left, get_or_read, get_or-map}
 use Rattle.v_design.specs.Accesses.{AccessAct, Reading, Writing, Awaiting, Ending, Holding, Settling}
-use Rattle.v_design.specs.Logs.{LoggedPhase, PhaseAccess, acts_clash, access_orders, conflict, events_ordered, orders_others, least_pair_from, or_pair, orders}
+use Rattle.v_design.specs.Logs.{LoggedPhase, PhaseAccess, acts_clash, access_orders, conflict, events_ordered, least_pair_from, or_pair}
 use Rattle.causal_monitor.specs.declared.group.Group.{Group}
-use Rattle.causal_monitor.specs.declared.group.Group.TheVariants.{All, Changes, Looks}
-use Rattle.causal_monitor.specs.Links.{is_change, is_in_group, group_against, no_access, access_at, object_at, stands_in, IsLatest, AreLinks, AreLatest, IsFirst, IsChained, AreChained, low_of, IsSearch}
+use Rattle.causal_monitor.specs.declared.group.Group.TheVariants.{All}
+use Rattle.causal_monitor.specs.Links.{is_in_group, group_against, no_access, access_at, object_at, stands_in, IsLatest, AreLinks, AreLatest, IsFirst, IsChained, AreChained, low_of, IsSearch}
 use Rattle.causal_monitor.specs.Phases.{CausesComeBefore}
 use Rattle.causal_monitor.specs.declared.numbered.Numbered.{Numbered}
-use Rattle.causal_monitor.specs.Counted.{phase_access, numbered_object}
+use Rattle.causal_monitor.specs.Counted.{phase_access}
 use Rattle.causal_monitor.proofs.OrderLaws.{orders_trans}
 
 true_false : true ≡ false → ⊥

@@ -1,7 +1,5 @@
 -- Logs that stay logs of a design while they grow.
-use Rattle.std.proofs.Common.{◌≡◌, List, [], ◌∷◌, ◌++◌}
 use Rattle.v_design.specs.Designs.{FlatDesign}
-use Rattle.v_design.specs.Accesses.{ObjectAccess}
 use Rattle.v_design.specs.Logs.{LoggedEvent}
 use Rattle.causal_monitor.specs.Phases.{PhaseOfSlot, NameObjects, IsLogOf, with_event}
 use Rattle.causal_monitor.proofs.Kept.{AllHold-push}

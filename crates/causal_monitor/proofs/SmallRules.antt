@@ -1,6 +1,6 @@
 -- The design of the tests keeps the rules of every design.
-use Rattle.std.proofs.Common.{◌≡◌, ℕ, zero, suc, ◌≤◌, ◌<◌, List, [], ◌∷◌, Bool, true, false, map, refl, sym, ap, subst, inl, inr, arith}
-use Rattle.std.specs.Prelude.{Some, get_or, slice_get, IsTrue, nat_eq, ◌⊎◌, ◌||◌}
+use Rattle.std.proofs.Common.{◌≡◌, ℕ, zero, suc, ◌≤◌, List, [], ◌∷◌, false, map, refl, sym, ap, subst, inl, inr, arith}
+use Rattle.std.specs.Prelude.{Some, get_or, slice_get, IsTrue, nat_eq}
 use Rattle.std.proofs.lemmas.Bool.{eqb-true, or_cases}
 use Rattle.v_design.specs.Lists.{has, AllHold}
 use Rattle.v_design.specs.Designs.{FlatObject, FlatNode}

@@ -1,5 +1,5 @@
 -- What the index of a phase holds.
-use Rattle.std.specs.Prelude.{◌≡◌, ℕ, List, map, length, vec_len}
+use Rattle.std.specs.Prelude.{◌≡◌, List, map, length, vec_len}
 use Rattle.std.specs.List.{All}
 use Rattle.v_design.specs.Designs.{FlatDesign}
 use Rattle.v_design.specs.Logs.{LoggedPhase, PhaseAccess, log_accesses}

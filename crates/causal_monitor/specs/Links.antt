@@ -1,6 +1,6 @@
 -- What finds the accesses of one object fast: from each access the latest earlier one of its object (nothing of the language).
 use Rattle.std.specs.Prelude.{◌≡◌, ℕ, ◌+◌, ◌<◌, ◌≤◌, Bool, true, false, not, ◌&&◌, List, length, get_or, Option, Some, None, nat_eq}
-use Rattle.v_design.specs.Accesses.{AccessAct, Reading, Writing, Awaiting, Ending, Holding, Settling, ObjectAccess}
+use Rattle.v_design.specs.Accesses.{AccessAct, Reading, Writing, Awaiting, Ending, Holding, Settling}
 use Rattle.std.specs.Option.{ForSome}
 use Rattle.v_design.specs.Logs.{LoggedPhase, PhaseAccess, access_orders, conflict}
 use Rattle.causal_monitor.specs.declared.group.Group.{Group}

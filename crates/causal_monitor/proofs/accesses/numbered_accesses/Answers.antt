@@ -1,7 +1,5 @@
-use Rattle.std.proofs.Common.{◌≡◌, ◌<◌, ◌≤◌, ◌++◌, [], ℕ, List, map, length, append-nil, append_assoc, ap, sym, subst, ◌∙◌, rules}
-use Rattle.std.specs.List.{All}
+use Rattle.std.proofs.Common.{◌<◌, ◌≤◌, ◌++◌, [], List, map, length, append-nil, append_assoc, ap, sym, subst, ◌∙◌, rules}
 use Rattle.std.proofs.lemmas.List.Elements.{All-nil}
-use Rattle.v_design.specs.Accesses.{ObjectAccess}
 use Rattle.v_design.specs.Logs.{PhaseAccess, phase_changes, counted_accesses}
 use Rattle.v_design.specs.PlainDesigns.{design_of}
 use Rattle.causal_monitor.specs.declared.numbered.Numbered.{Numbered}

@@ -1,11 +1,11 @@
-use Rattle.std.proofs.Common.{◌≡◌, ◌+◌, ◌++◌, ◌∷◌, [], ℕ, List, Some, map, take, length, ap, sym, subst, ◌∙◌, rules}
-use Rattle.std.proofs.lemmas.List.{length-map, take_all, map-append}
+use Rattle.std.proofs.Common.{◌++◌, List, map, take, length, ap, sym, ◌∙◌}
+use Rattle.std.proofs.lemmas.List.{length-map, map-append}
 use Rattle.v_design.specs.Lists.{joined}
 use Rattle.v_design.specs.Accesses.{ObjectAccess}
-use Rattle.v_design.specs.Logs.{settles_of, phase_changes, PhaseAccess}
+use Rattle.v_design.specs.Logs.{settles_of, phase_changes}
 use Rattle.v_design.specs.PlainDesigns.{design_of}
-use Rattle.causal_monitor.specs.Notes.{noted_access, IsNoted}
-use Rattle.causal_monitor.specs.Counted.{Adds, numbered_at}
+use Rattle.causal_monitor.specs.Notes.{noted_access}
+use Rattle.causal_monitor.specs.Counted.{numbered_at}
 use Rattle.causal_monitor.proofs.ChangeLaws.{read_noted, read_object, joined-more}
 use Rattle.causal_monitor.proofs.AddLaws.{Adds-trans, Adds-same, changed_in_event}
 use Rattle.causal_monitor.proofs.accesses.push_all_settled.Goals as goal

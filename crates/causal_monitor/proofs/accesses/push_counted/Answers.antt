@@ -1,11 +1,11 @@
-use Rattle.std.proofs.Common.{◌≡◌, ◌+◌, ◌++◌, ◌∷◌, [], ℕ, List, Some, map, filter, take, length, cond, ap, sym, subst, ◌∙◌, rules}
-use Rattle.std.proofs.lemmas.List.{length-map, take_all}
+use Rattle.std.proofs.Common.{◌++◌, ◌∷◌, [], List, Some, map, filter, take, length, cond, ap, sym, ◌∙◌}
+use Rattle.std.proofs.lemmas.List.{length-map}
 use Rattle.v_design.specs.Accesses.{ObjectAccess}
 use Rattle.v_design.specs.Logs.{counts, phase_changes, PhaseAccess}
 use Rattle.v_design.specs.PlainDesigns.{design_of}
 use Rattle.causal_monitor.specs.declared.numbered.Numbered.{Numbered}
 use Rattle.causal_monitor.specs.Notes.{noted_access, IsNoted}
-use Rattle.causal_monitor.specs.Counted.{Adds, numbered_at}
+use Rattle.causal_monitor.specs.Counted.{numbered_at}
 use Rattle.causal_monitor.proofs.ChangeLaws.{read_noted, read_object, read_hold}
 use Rattle.causal_monitor.proofs.AddLaws.{Adds-if, Adds-same, filter_take-more, noted_numbered}
 use Rattle.causal_monitor.proofs.accesses.push_counted.Goals as goal

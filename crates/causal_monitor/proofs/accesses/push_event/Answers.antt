@@ -1,12 +1,12 @@
-use Rattle.std.proofs.Common.{◌≡◌, ◌++◌, ℕ, List, map, filter, length, true, ap, sym, subst, ◌∙◌, rules}
+use Rattle.std.proofs.Common.{◌≡◌, ◌++◌, List, map, filter, length, true, ap, sym, subst, ◌∙◌}
 use Rattle.std.proofs.lemmas.List.{map-append}
 use Rattle.v_design.specs.Lists.{joined, has}
 use Rattle.v_design.specs.Accesses.{ObjectAccess}
 use Rattle.v_design.specs.Logs.{counts, settles_of, changes_of, phase_changes, counted_accesses}
 use Rattle.v_design.specs.PlainDesigns.{design_of}
 use Rattle.causal_monitor.specs.Notes.{noted_access}
-use Rattle.causal_monitor.specs.Phases.{NameObjects, accesses_at}
-use Rattle.causal_monitor.specs.Counted.{Adds, numbered_at}
+use Rattle.causal_monitor.specs.Phases.{NameObjects}
+use Rattle.causal_monitor.specs.Counted.{numbered_at}
 use Rattle.causal_monitor.proofs.ChangeLaws.{names_at}
 use Rattle.causal_monitor.proofs.AddLaws.{Adds-trans, Adds-same, changed_in_phase}
 use Rattle.causal_monitor.proofs.accesses.push_event.Goals as goal

@@ -1,6 +1,5 @@
-use Rattle.std.proofs.Common.{◌≡◌, ◌<◌, [], ◌∷◌, ℕ, map, length, get_or, true, Some, List, Vec, Global, ap, sym, subst, ◌∙◌, rules, refl}
-use Rattle.std.specs.List.{All}
-use Rattle.std.proofs.lemmas.List.{get_or-map, get_or_read}
+use Rattle.std.proofs.Common.{◌≡◌, ◌<◌, [], ◌∷◌, ℕ, map, length, get_or, true, List, Vec, Global, ap, sym, subst, ◌∙◌, rules, refl}
+use Rattle.std.proofs.lemmas.List.{get_or-map}
 use Rattle.std.proofs.lemmas.Bool.{eq-eqb, or_left}
 use Rattle.std.specs.Prelude.{nat_eq}
 use Rattle.vf_base.specs.declared.ids.ObjectId.{ObjectId}
@@ -8,12 +7,11 @@ use Rattle.vf_base.specs.Base.{object_number}
 use Rattle.v_design.specs.Lists.{has}
 use Rattle.v_design.specs.Designs.{FlatDesign}
 use Rattle.v_design.specs.Accesses.{ObjectAccess}
-use Rattle.v_design.specs.Logs.{change_of, phase_changes, settles_of}
+use Rattle.v_design.specs.Logs.{change_of, phase_changes}
 use Rattle.v_design.specs.PlainDesigns.{design_of}
-use Rattle.net_graph.specs.Tables.{object_lists}
 use Rattle.causal_monitor.specs.Notes.{noted_access}
 use Rattle.causal_monitor.specs.Changes.{AreSettled, settled_nets}
-use Rattle.causal_monitor.specs.Counted.{Adds, numbered_at, settling_of}
+use Rattle.causal_monitor.specs.Counted.{numbered_at, settling_of}
 use Rattle.causal_monitor.proofs.AddLaws.{Adds-none, Adds-same, settles_of-none, settles_of-one, settled_below}
 use Rattle.causal_monitor.proofs.accesses.push_settled.Goals as goal
 

@@ -1,15 +1,14 @@
-use Rattle.std.proofs.Common.{◌≡◌, ◌<◌, ◌+◌, ◌++◌, ◌∷◌, [], ℕ, List, Some, map, take, length, get_or, ap, sym, subst, ◌∙◌, rules}
+use Rattle.std.proofs.Common.{◌≡◌, ◌<◌, ◌+◌, ◌++◌, ◌∷◌, [], ℕ, List, Some, map, take, length, get_or, ap, sym, subst, ◌∙◌}
 use Rattle.std.proofs.lemmas.List.{take_more, map_push}
 use Rattle.vf_base.specs.Base.{object_number}
 use Rattle.vf_base.specs.declared.ids.ObjectId.{ObjectId}
 use Rattle.v_design.specs.Accesses.{ObjectAccess}
 use Rattle.v_design.specs.Logs.{PhaseAccess}
 use Rattle.v_design.specs.PlainDesigns.{design_of}
-use Rattle.causal_monitor.specs.declared.noted.Noted.{Noted}
 use Rattle.causal_monitor.specs.declared.numbered.Numbered.{Numbered}
 use Rattle.causal_monitor.specs.Notes.{noted_access}
 use Rattle.causal_monitor.specs.Counted.{Adds, numbered_at, settling_of}
-use Rattle.causal_monitor.proofs.AddLaws.{Adds-push, Adds-same, map_take-more, settling_numbered}
+use Rattle.causal_monitor.proofs.AddLaws.{Adds-push, Adds-same, settling_numbered}
 use Rattle.causal_monitor.proofs.accesses.push_settlings.Goals as goal
 
 -- the settlings of one more net piece

@@ -1,4 +1,4 @@
-use Rattle.std.proofs.Common.{◌≡◌, ◌+◌, ◌≤◌, ◌∷◌, ◌++◌, [], ℕ, List, get_or, set, sym, subst, rules, arith}
+use Rattle.std.proofs.Common.{◌≡◌, ◌+◌, ◌∷◌, ◌++◌, [], get_or, set, sym, subst, rules, arith}
 use Rattle.std.proofs.lemmas.List.{get_or_read}
 use Rattle.vf_base.specs.Base.{object_number}
 use Rattle.causal_monitor.specs.Changes.{CountChanges}

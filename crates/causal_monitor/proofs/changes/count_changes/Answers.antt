@@ -1,5 +1,4 @@
-use Rattle.std.proofs.Common.{◌≡◌, ◌<◌, ◌≤◌, ◌++◌, ℕ, List, map, length, rules, ap, subst, sym, ◌∙◌, arith}
-use Rattle.v_design.specs.Accesses.{ObjectAccess}
+use Rattle.std.proofs.Common.{◌++◌, rules, ap, subst, sym, ◌∙◌}
 use Rattle.v_design.specs.Logs.{changes_of}
 use Rattle.v_design.specs.PlainDesigns.{design_of}
 use Rattle.causal_monitor.specs.Phases.{NameObjects}

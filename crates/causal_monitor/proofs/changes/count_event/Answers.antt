@@ -1,11 +1,10 @@
-use Rattle.std.proofs.Common.{◌≡◌, ◌<◌, ◌≤◌, ◌++◌, ℕ, List, map, take, length, get_or, rules, refl, ap, subst, sym, ◌∙◌, arith}
-use Rattle.std.proofs.lemmas.List.{get_or-map, length-map, take_all}
+use Rattle.std.proofs.Common.{◌<◌, ◌++◌, List, map, length, rules, subst, sym}
+use Rattle.std.proofs.lemmas.List.{length-map, take_all}
 use Rattle.v_design.specs.Accesses.{ObjectAccess}
 use Rattle.v_design.specs.Logs.{changes_of}
 use Rattle.v_design.specs.PlainDesigns.{design_of}
 use Rattle.causal_monitor.specs.Notes.{noted_access}
 use Rattle.causal_monitor.specs.Changes.{CountChanges}
-use Rattle.causal_monitor.specs.declared.noted.Noted.{Noted}
 use Rattle.causal_monitor.proofs.ChangeLaws.{AllHold-at, counts_more, read_noted}
 use Rattle.causal_monitor.proofs.changes.count_event.Goals as goal
 

@@ -1,4 +1,4 @@
-use Rattle.std.proofs.Common.{◌≡◌, ◌<◌, ◌+◌, ℕ, List, Option, Some, None, map, length, vec_len, refl, ap, sym, subst, ◌∙◌, rules, arith}
+use Rattle.std.proofs.Common.{◌≡◌, ◌<◌, ℕ, List, Option, Some, map, length, ap, sym, subst, ◌∙◌, rules, arith}
 use Rattle.v_design.specs.Logs.{conflict, LoggedPhase, PhaseAccess}
 use Rattle.causal_monitor.specs.Counted.{phase_access, IsNumbered}
 use Rattle.causal_monitor.specs.Links.{IsSearch, low_of, group_against, access_at}

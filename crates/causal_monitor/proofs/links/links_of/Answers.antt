@@ -1,8 +1,8 @@
-use Rattle.std.proofs.Common.{◌≡◌, ◌<◌, ◌+◌, ℕ, Bool, true, false, List, Option, Some, None, map, length, vec_len, cond, set, get_or, refl, ap, sym, subst, ◌∙◌, rules, arith}
+use Rattle.std.proofs.Common.{◌≡◌, ◌<◌, ◌+◌, ℕ, Bool, true, false, List, Option, Some, map, length, cond, set, ap, sym, subst, ◌∙◌, rules}
 use Rattle.v_design.specs.Logs.{PhaseAccess}
 use Rattle.causal_monitor.specs.declared.group.Group.{Group}
 use Rattle.causal_monitor.specs.Counted.{phase_access, numbered_object}
-use Rattle.causal_monitor.specs.Links.{AreLinks, AreLatest, IsLatest, stands_in, is_in_group, access_at, object_at}
+use Rattle.causal_monitor.specs.Links.{AreLinks, AreLatest, is_in_group, access_at, object_at}
 use Rattle.causal_monitor.proofs.LinkLaws.{AreLinks-push, AreLatest-here, AreLatest-more, table_read, read_access}
 use Rattle.causal_monitor.proofs.links.links_of.Goals as goal
 

@@ -1,5 +1,4 @@
-use Rattle.std.proofs.Common.{◌≡◌, ◌<◌, ◌≤◌, ℕ, length, true, rules, arith}
-use Rattle.v_design.specs.Logs.{orders}
+use Rattle.std.proofs.Common.{◌<◌, rules, arith}
 use Rattle.causal_monitor.proofs.OrderLaws.{jump_orders, jump_le, orders-parent, orders_trans}
 use Rattle.causal_monitor.proofs.order.jump_of.Goals as goal
 

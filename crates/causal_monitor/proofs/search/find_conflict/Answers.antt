@@ -1,4 +1,4 @@
-use Rattle.std.proofs.Common.{◌≡◌, ℕ, List, Option, map, length, ap, sym, subst, ◌∙◌, rules}
+use Rattle.std.proofs.Common.{List, map, sym, subst, rules}
 use Rattle.v_design.specs.Logs.{PhaseAccess}
 use Rattle.causal_monitor.specs.declared.numbered.Numbered.{Numbered}
 use Rattle.causal_monitor.specs.Counted.{phase_access}

@@ -1,9 +1,8 @@
-use Rattle.std.proofs.Common.{◌≡◌, ◌<◌, ℕ, List, Some, map, length, true, false, refl, ap, sym, subst, ◌∙◌, rules, arith}
+use Rattle.std.proofs.Common.{◌<◌, List, Some, length, false, ap, sym, subst, ◌∙◌, rules, arith}
 use Rattle.std.specs.Option.{ForSome}
 use Rattle.std.proofs.lemmas.List.{get_or_read}
 use Rattle.v_design.specs.Logs.{PhaseAccess, access_orders}
 use Rattle.causal_monitor.specs.declared.group.Group.TheVariants.{All}
-use Rattle.causal_monitor.specs.declared.numbered.Numbered.{Numbered}
 use Rattle.causal_monitor.specs.Counted.{phase_access, IsNumbered}
 use Rattle.causal_monitor.specs.Links.{access_at, object_at, IsLatest, stands_in}
 use Rattle.causal_monitor.specs.Index.{indexed_accesses}

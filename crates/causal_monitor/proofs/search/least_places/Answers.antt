@@ -1,7 +1,5 @@
-use Rattle.std.proofs.Common.{◌≡◌, ℕ, ◌+◌, List, map, length, sym, ◌∙◌, rules}
+use Rattle.std.proofs.Common.{sym, ◌∙◌, rules}
 use Rattle.std.proofs.lemmas.List.{length-map}
-use Rattle.v_design.specs.Logs.{PhaseAccess}
-use Rattle.causal_monitor.specs.Counted.{phase_access}
 use Rattle.causal_monitor.specs.Index.{indexed_accesses}
 use Rattle.causal_monitor.proofs.LinkLaws.{pair_found, pair_more}
 use Rattle.causal_monitor.proofs.search.least_places.Goals as goal

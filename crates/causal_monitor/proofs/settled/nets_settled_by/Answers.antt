@@ -1,6 +1,5 @@
-use Rattle.std.proofs.Common.{◌≡◌, ◌<◌, ◌++◌, [], ℕ, List, Bool, true, false, ap, sym, ◌∙◌, map, filter, take, length, get_or, min, rules, arith}
+use Rattle.std.proofs.Common.{◌++◌, [], ℕ, List, Bool, ap, sym, ◌∙◌, map, filter, get_or, rules}
 use Rattle.std.specs.Prelude.{nat_lt}
-use Rattle.std.proofs.lemmas.Bool.{lt-ltb, le-ltb, cases_lt}
 use Rattle.std.proofs.lemmas.List.{take_all}
 use Rattle.vf_base.specs.Base.{object_number}
 use Rattle.v_design.specs.Paths.{is_wild, net_pieces, paths}

@@ -1,5 +1,4 @@
-use Rattle.std.proofs.Common.{◌≡◌, ◌++◌, [], ap, sym, ◌∙◌, map, rules}
-use Rattle.vf_base.specs.Base.{object_number}
+use Rattle.std.proofs.Common.{◌++◌, [], ap, sym, ◌∙◌, rules}
 use Rattle.v_design.specs.Paths.{is_wild}
 use Rattle.v_design.specs.Logs.{phase_changes}
 use Rattle.v_design.specs.PlainDesigns.{design_of}

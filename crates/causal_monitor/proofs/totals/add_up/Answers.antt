@@ -1,4 +1,4 @@
-use Rattle.std.proofs.Common.{◌≡◌, ℕ, List, get_or, ap, rules, refl}
+use Rattle.std.proofs.Common.{get_or, ap, rules}
 use Rattle.v_design.specs.PlainDesigns.{design_of}
 use Rattle.causal_monitor.proofs.TotalLaws.{AddUp-more}
 use Rattle.causal_monitor.proofs.totals.add_up.Goals as goal

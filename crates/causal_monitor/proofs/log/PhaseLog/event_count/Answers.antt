@@ -1,6 +1,5 @@
 -- The causes that a log keeps are those that contracts see.
-use Rattle.std.proofs.Common.{◌≡◌, ◌+◌, ◌<◌, Some, subst, arith}
-use Rattle.v_design.specs.Logs.{cause_at}
+use Rattle.std.proofs.Common.{◌+◌, ◌<◌, subst, arith}
 use Rattle.causal_monitor.specs.Phases.{PhaseOfSlot, CausesComeBefore}
 use Rattle.causal_monitor.proofs.Kept.{causes_before}
 use Rattle.causal_monitor.proofs.log.PhaseLog.event_count.Goals as goal

@@ -1,6 +1,5 @@
-use Rattle.std.proofs.Common.{◌≡◌, ◌∷◌, ◌++◌, [], ap, sym, ◌∙◌, map}
+use Rattle.std.proofs.Common.{◌∷◌, ◌++◌, [], ap, ◌∙◌, map}
 use Rattle.v_design.specs.Plain.{node_of}
-use Rattle.v_design.specs.declared.plan.Node.{Node}
 use Rattle.causal_monitor.proofs.SmallRules.{small_parts}
 use Rattle.causal_monitor.proofs.tests.design.small.Goals as goal
 
