@@ -43,9 +43,9 @@ fn access(kind: AccessKind, line: Line) -> Access
 {
     Access {
         kind,
-        object: number(line.object),
-        process: ProcId(line.process),
-        line: line.line,
+        object: number(line.1),
+        process: ProcId(line.2),
+        line: line.3,
     }
 }
 
@@ -54,7 +54,7 @@ fn noted(line: Line) -> Noted
     ensures noted { IsNoted result }
     ensures object { object_number result.access.object < length small_design.objects }
 {
-    match line.what {
+    match line.0 {
         What::Read => Noted {
             access: access(AccessKind::Read, line),
             old: None,

@@ -24,14 +24,9 @@ pub(crate) enum What {
     Ended(Edge),
 }
 
-/// An access of a process, in a line.
+/// An access: what it does, the object, the process and the line.
 #[derive(Clone, Copy)]
-pub(crate) struct Line {
-    pub what: What,
-    pub object: Name,
-    pub process: u32,
-    pub line: u32,
-}
+pub(crate) struct Line(pub What, pub Name, pub u32, pub u32);
 
 /// The accesses of an event.
 #[derive(Clone, Copy)]
@@ -67,21 +62,11 @@ pub(crate) static ROWS: [Row; 15] = [
         events: &[
             Event {
                 cause: None,
-                accesses: Accesses::One(Line {
-                    what: What::Read,
-                    object: Name::A,
-                    process: 0,
-                    line: 3,
-                }),
+                accesses: Accesses::One(Line(What::Read, Name::A, 0, 3)),
             },
             Event {
                 cause: Some(0),
-                accesses: Accesses::One(Line {
-                    what: What::Write(Bit::Zero, Bit::One),
-                    object: Name::A,
-                    process: 0,
-                    line: 3,
-                }),
+                accesses: Accesses::One(Line(What::Write(Bit::Zero, Bit::One), Name::A, 0, 3)),
             },
             Event {
                 cause: Some(1),
@@ -89,57 +74,27 @@ pub(crate) static ROWS: [Row; 15] = [
             },
             Event {
                 cause: Some(1),
-                accesses: Accesses::One(Line {
-                    what: What::Read,
-                    object: Name::B,
-                    process: 1,
-                    line: 4,
-                }),
+                accesses: Accesses::One(Line(What::Read, Name::B, 1, 4)),
             },
             Event {
                 cause: Some(3),
-                accesses: Accesses::One(Line {
-                    what: What::Write(Bit::Zero, Bit::One),
-                    object: Name::P,
-                    process: 1,
-                    line: 4,
-                }),
+                accesses: Accesses::One(Line(What::Write(Bit::Zero, Bit::One), Name::P, 1, 4)),
             },
             Event {
                 cause: Some(4),
-                accesses: Accesses::One(Line {
-                    what: What::Await(Edge::Pos),
-                    object: Name::A,
-                    process: 1,
-                    line: 4,
-                }),
+                accesses: Accesses::One(Line(What::Await(Edge::Pos), Name::A, 1, 4)),
             },
             Event {
                 cause: Some(1),
-                accesses: Accesses::One(Line {
-                    what: What::Read,
-                    object: Name::P,
-                    process: 2,
-                    line: 5,
-                }),
+                accesses: Accesses::One(Line(What::Read, Name::P, 2, 5)),
             },
             Event {
                 cause: Some(6),
-                accesses: Accesses::One(Line {
-                    what: What::Write(Bit::Zero, Bit::One),
-                    object: Name::Q,
-                    process: 2,
-                    line: 5,
-                }),
+                accesses: Accesses::One(Line(What::Write(Bit::Zero, Bit::One), Name::Q, 2, 5)),
             },
             Event {
                 cause: Some(7),
-                accesses: Accesses::One(Line {
-                    what: What::Await(Edge::Pos),
-                    object: Name::A,
-                    process: 2,
-                    line: 5,
-                }),
+                accesses: Accesses::One(Line(What::Await(Edge::Pos), Name::A, 2, 5)),
             },
         ],
         expected: Some(Pair {
@@ -171,21 +126,11 @@ pub(crate) static ROWS: [Row; 15] = [
             },
             Event {
                 cause: None,
-                accesses: Accesses::One(Line {
-                    what: What::Read,
-                    object: Name::P,
-                    process: 1,
-                    line: 4,
-                }),
+                accesses: Accesses::One(Line(What::Read, Name::P, 1, 4)),
             },
             Event {
                 cause: Some(1),
-                accesses: Accesses::One(Line {
-                    what: What::Write(Bit::X, Bit::Zero),
-                    object: Name::Q,
-                    process: 1,
-                    line: 4,
-                }),
+                accesses: Accesses::One(Line(What::Write(Bit::X, Bit::Zero), Name::Q, 1, 4)),
             },
         ],
         expected: None,
@@ -197,12 +142,7 @@ pub(crate) static ROWS: [Row; 15] = [
         held: None,
         events: &[Event {
             cause: None,
-            accesses: Accesses::One(Line {
-                what: What::Write(Bit::Zero, Bit::One),
-                object: Name::P,
-                process: 0,
-                line: 3,
-            }),
+            accesses: Accesses::One(Line(What::Write(Bit::Zero, Bit::One), Name::P, 0, 3)),
         }],
         expected: None,
     },
@@ -214,21 +154,11 @@ pub(crate) static ROWS: [Row; 15] = [
         events: &[
             Event {
                 cause: None,
-                accesses: Accesses::One(Line {
-                    what: What::Write(Bit::X, Bit::Zero),
-                    object: Name::Q,
-                    process: 0,
-                    line: 3,
-                }),
+                accesses: Accesses::One(Line(What::Write(Bit::X, Bit::Zero), Name::Q, 0, 3)),
             },
             Event {
                 cause: None,
-                accesses: Accesses::One(Line {
-                    what: What::Write(Bit::Zero, Bit::One),
-                    object: Name::Q,
-                    process: 1,
-                    line: 4,
-                }),
+                accesses: Accesses::One(Line(What::Write(Bit::Zero, Bit::One), Name::Q, 1, 4)),
             },
         ],
         expected: Some(Pair {
@@ -252,21 +182,11 @@ pub(crate) static ROWS: [Row; 15] = [
     Row {
         time: 10,
         phase: 2,
-        held: Some(Line {
-            what: What::Await(Edge::Pos),
-            object: Name::G,
-            process: 1,
-            line: 6,
-        }),
+        held: Some(Line(What::Await(Edge::Pos), Name::G, 1, 6)),
         events: &[
             Event {
                 cause: None,
-                accesses: Accesses::One(Line {
-                    what: What::Write(Bit::Zero, Bit::One),
-                    object: Name::A,
-                    process: 0,
-                    line: 5,
-                }),
+                accesses: Accesses::One(Line(What::Write(Bit::Zero, Bit::One), Name::A, 0, 5)),
             },
             Event {
                 cause: Some(0),
@@ -274,21 +194,11 @@ pub(crate) static ROWS: [Row; 15] = [
             },
             Event {
                 cause: Some(0),
-                accesses: Accesses::One(Line {
-                    what: What::Write(Bit::Zero, Bit::One),
-                    object: Name::G,
-                    process: 0,
-                    line: 5,
-                }),
+                accesses: Accesses::One(Line(What::Write(Bit::Zero, Bit::One), Name::G, 0, 5)),
             },
             Event {
                 cause: Some(0),
-                accesses: Accesses::One(Line {
-                    what: What::Write(Bit::Zero, Bit::One),
-                    object: Name::B,
-                    process: 0,
-                    line: 5,
-                }),
+                accesses: Accesses::One(Line(What::Write(Bit::Zero, Bit::One), Name::B, 0, 5)),
             },
             Event {
                 cause: Some(3),
@@ -296,21 +206,11 @@ pub(crate) static ROWS: [Row; 15] = [
             },
             Event {
                 cause: Some(3),
-                accesses: Accesses::One(Line {
-                    what: What::Write(Bit::One, Bit::Zero),
-                    object: Name::G,
-                    process: 0,
-                    line: 5,
-                }),
+                accesses: Accesses::One(Line(What::Write(Bit::One, Bit::Zero), Name::G, 0, 5)),
             },
             Event {
                 cause: Some(2),
-                accesses: Accesses::One(Line {
-                    what: What::Read,
-                    object: Name::P,
-                    process: 1,
-                    line: 6,
-                }),
+                accesses: Accesses::One(Line(What::Read, Name::P, 1, 6)),
             },
             Event {
                 cause: Some(6),
@@ -318,12 +218,7 @@ pub(crate) static ROWS: [Row; 15] = [
             },
             Event {
                 cause: Some(7),
-                accesses: Accesses::One(Line {
-                    what: What::Await(Edge::Pos),
-                    object: Name::G,
-                    process: 1,
-                    line: 6,
-                }),
+                accesses: Accesses::One(Line(What::Await(Edge::Pos), Name::G, 1, 6)),
             },
         ],
         expected: Some(Pair {
@@ -347,30 +242,15 @@ pub(crate) static ROWS: [Row; 15] = [
     Row {
         time: 5,
         phase: 1,
-        held: Some(Line {
-            what: What::Await(Edge::Pos),
-            object: Name::G,
-            process: 1,
-            line: 5,
-        }),
+        held: Some(Line(What::Await(Edge::Pos), Name::G, 1, 5)),
         events: &[
             Event {
                 cause: None,
-                accesses: Accesses::One(Line {
-                    what: What::Read,
-                    object: Name::A,
-                    process: 0,
-                    line: 4,
-                }),
+                accesses: Accesses::One(Line(What::Read, Name::A, 0, 4)),
             },
             Event {
                 cause: Some(0),
-                accesses: Accesses::One(Line {
-                    what: What::Write(Bit::Zero, Bit::One),
-                    object: Name::A,
-                    process: 0,
-                    line: 4,
-                }),
+                accesses: Accesses::One(Line(What::Write(Bit::Zero, Bit::One), Name::A, 0, 4)),
             },
             Event {
                 cause: Some(1),
@@ -378,12 +258,7 @@ pub(crate) static ROWS: [Row; 15] = [
             },
             Event {
                 cause: Some(1),
-                accesses: Accesses::One(Line {
-                    what: What::Write(Bit::Zero, Bit::One),
-                    object: Name::G,
-                    process: 0,
-                    line: 4,
-                }),
+                accesses: Accesses::One(Line(What::Write(Bit::Zero, Bit::One), Name::G, 0, 4)),
             },
             Event {
                 cause: Some(1),
@@ -391,12 +266,7 @@ pub(crate) static ROWS: [Row; 15] = [
             },
             Event {
                 cause: Some(3),
-                accesses: Accesses::One(Line {
-                    what: What::Read,
-                    object: Name::P,
-                    process: 1,
-                    line: 5,
-                }),
+                accesses: Accesses::One(Line(What::Read, Name::P, 1, 5)),
             },
             Event {
                 cause: Some(5),
@@ -404,12 +274,7 @@ pub(crate) static ROWS: [Row; 15] = [
             },
             Event {
                 cause: Some(6),
-                accesses: Accesses::One(Line {
-                    what: What::Await(Edge::Pos),
-                    object: Name::G,
-                    process: 1,
-                    line: 5,
-                }),
+                accesses: Accesses::One(Line(What::Await(Edge::Pos), Name::G, 1, 5)),
             },
         ],
         expected: None,
@@ -418,30 +283,15 @@ pub(crate) static ROWS: [Row; 15] = [
     Row {
         time: 5,
         phase: 1,
-        held: Some(Line {
-            what: What::Await(Edge::Pos),
-            object: Name::G,
-            process: 1,
-            line: 5,
-        }),
+        held: Some(Line(What::Await(Edge::Pos), Name::G, 1, 5)),
         events: &[
             Event {
                 cause: None,
-                accesses: Accesses::One(Line {
-                    what: What::Read,
-                    object: Name::A,
-                    process: 0,
-                    line: 4,
-                }),
+                accesses: Accesses::One(Line(What::Read, Name::A, 0, 4)),
             },
             Event {
                 cause: Some(0),
-                accesses: Accesses::One(Line {
-                    what: What::Write(Bit::Zero, Bit::One),
-                    object: Name::A,
-                    process: 0,
-                    line: 4,
-                }),
+                accesses: Accesses::One(Line(What::Write(Bit::Zero, Bit::One), Name::A, 0, 4)),
             },
             Event {
                 cause: Some(1),
@@ -449,12 +299,7 @@ pub(crate) static ROWS: [Row; 15] = [
             },
             Event {
                 cause: Some(1),
-                accesses: Accesses::One(Line {
-                    what: What::Write(Bit::Zero, Bit::One),
-                    object: Name::G,
-                    process: 0,
-                    line: 4,
-                }),
+                accesses: Accesses::One(Line(What::Write(Bit::Zero, Bit::One), Name::G, 0, 4)),
             },
             Event {
                 cause: Some(1),
@@ -462,12 +307,7 @@ pub(crate) static ROWS: [Row; 15] = [
             },
             Event {
                 cause: Some(3),
-                accesses: Accesses::One(Line {
-                    what: What::Read,
-                    object: Name::P,
-                    process: 1,
-                    line: 5,
-                }),
+                accesses: Accesses::One(Line(What::Read, Name::P, 1, 5)),
             },
             Event {
                 cause: Some(5),
@@ -475,21 +315,11 @@ pub(crate) static ROWS: [Row; 15] = [
             },
             Event {
                 cause: Some(6),
-                accesses: Accesses::One(Line {
-                    what: What::Await(Edge::Pos),
-                    object: Name::G,
-                    process: 1,
-                    line: 5,
-                }),
+                accesses: Accesses::One(Line(What::Await(Edge::Pos), Name::G, 1, 5)),
             },
             Event {
                 cause: None,
-                accesses: Accesses::One(Line {
-                    what: What::Write(Bit::One, Bit::Zero),
-                    object: Name::B,
-                    process: 2,
-                    line: 6,
-                }),
+                accesses: Accesses::One(Line(What::Write(Bit::One, Bit::Zero), Name::B, 2, 6)),
             },
             Event {
                 cause: Some(8),
@@ -497,12 +327,7 @@ pub(crate) static ROWS: [Row; 15] = [
             },
             Event {
                 cause: Some(8),
-                accesses: Accesses::One(Line {
-                    what: What::Write(Bit::One, Bit::Zero),
-                    object: Name::G,
-                    process: 2,
-                    line: 6,
-                }),
+                accesses: Accesses::One(Line(What::Write(Bit::One, Bit::Zero), Name::G, 2, 6)),
             },
         ],
         expected: Some(Pair {
@@ -530,12 +355,7 @@ pub(crate) static ROWS: [Row; 15] = [
         events: &[
             Event {
                 cause: None,
-                accesses: Accesses::One(Line {
-                    what: What::Write(Bit::X, Bit::Zero),
-                    object: Name::P,
-                    process: 0,
-                    line: 3,
-                }),
+                accesses: Accesses::One(Line(What::Write(Bit::X, Bit::Zero), Name::P, 0, 3)),
             },
             Event {
                 cause: Some(0),
@@ -543,12 +363,7 @@ pub(crate) static ROWS: [Row; 15] = [
             },
             Event {
                 cause: None,
-                accesses: Accesses::One(Line {
-                    what: What::Await(Edge::Neg),
-                    object: Name::P,
-                    process: 1,
-                    line: 4,
-                }),
+                accesses: Accesses::One(Line(What::Await(Edge::Neg), Name::P, 1, 4)),
             },
         ],
         expected: Some(Pair {
@@ -576,12 +391,7 @@ pub(crate) static ROWS: [Row; 15] = [
         events: &[
             Event {
                 cause: None,
-                accesses: Accesses::One(Line {
-                    what: What::Write(Bit::One, Bit::Zero),
-                    object: Name::P,
-                    process: 0,
-                    line: 3,
-                }),
+                accesses: Accesses::One(Line(What::Write(Bit::One, Bit::Zero), Name::P, 0, 3)),
             },
             Event {
                 cause: Some(0),
@@ -589,21 +399,11 @@ pub(crate) static ROWS: [Row; 15] = [
             },
             Event {
                 cause: Some(0),
-                accesses: Accesses::One(Line {
-                    what: What::Write(Bit::Zero, Bit::One),
-                    object: Name::Q,
-                    process: 1,
-                    line: 4,
-                }),
+                accesses: Accesses::One(Line(What::Write(Bit::Zero, Bit::One), Name::Q, 1, 4)),
             },
             Event {
                 cause: Some(2),
-                accesses: Accesses::One(Line {
-                    what: What::Await(Edge::Neg),
-                    object: Name::P,
-                    process: 1,
-                    line: 4,
-                }),
+                accesses: Accesses::One(Line(What::Await(Edge::Neg), Name::P, 1, 4)),
             },
         ],
         expected: None,
@@ -617,18 +417,8 @@ pub(crate) static ROWS: [Row; 15] = [
             Event {
                 cause: None,
                 accesses: Accesses::Two(
-                    Line {
-                        what: What::Write(Bit::Zero, Bit::One),
-                        object: Name::P,
-                        process: 0,
-                        line: 3,
-                    },
-                    Line {
-                        what: What::Ended(Edge::Neg),
-                        object: Name::Q,
-                        process: 2,
-                        line: 5,
-                    },
+                    Line(What::Write(Bit::Zero, Bit::One), Name::P, 0, 3),
+                    Line(What::Ended(Edge::Neg), Name::Q, 2, 5),
                 ),
             },
             Event {
@@ -637,12 +427,7 @@ pub(crate) static ROWS: [Row; 15] = [
             },
             Event {
                 cause: None,
-                accesses: Accesses::One(Line {
-                    what: What::Write(Bit::One, Bit::Zero),
-                    object: Name::Q,
-                    process: 1,
-                    line: 4,
-                }),
+                accesses: Accesses::One(Line(What::Write(Bit::One, Bit::Zero), Name::Q, 1, 4)),
             },
             Event {
                 cause: Some(2),
@@ -650,37 +435,17 @@ pub(crate) static ROWS: [Row; 15] = [
             },
             Event {
                 cause: Some(0),
-                accesses: Accesses::One(Line {
-                    what: What::Read,
-                    object: Name::B,
-                    process: 2,
-                    line: 5,
-                }),
+                accesses: Accesses::One(Line(What::Read, Name::B, 2, 5)),
             },
             Event {
                 cause: Some(4),
-                accesses: Accesses::One(Line {
-                    what: What::Write(Bit::Zero, Bit::One),
-                    object: Name::B,
-                    process: 2,
-                    line: 5,
-                }),
+                accesses: Accesses::One(Line(What::Write(Bit::Zero, Bit::One), Name::B, 2, 5)),
             },
             Event {
                 cause: Some(5),
                 accesses: Accesses::Two(
-                    Line {
-                        what: What::Await(Edge::Pos),
-                        object: Name::P,
-                        process: 2,
-                        line: 5,
-                    },
-                    Line {
-                        what: What::Await(Edge::Neg),
-                        object: Name::Q,
-                        process: 2,
-                        line: 5,
-                    },
+                    Line(What::Await(Edge::Pos), Name::P, 2, 5),
+                    Line(What::Await(Edge::Neg), Name::Q, 2, 5),
                 ),
             },
         ],
@@ -710,28 +475,13 @@ pub(crate) static ROWS: [Row; 15] = [
             Event {
                 cause: None,
                 accesses: Accesses::Two(
-                    Line {
-                        what: What::Write(Bit::Zero, Bit::One),
-                        object: Name::P,
-                        process: 0,
-                        line: 3,
-                    },
-                    Line {
-                        what: What::Ended(Edge::Any),
-                        object: Name::Q,
-                        process: 1,
-                        line: 4,
-                    },
+                    Line(What::Write(Bit::Zero, Bit::One), Name::P, 0, 3),
+                    Line(What::Ended(Edge::Any), Name::Q, 1, 4),
                 ),
             },
             Event {
                 cause: Some(0),
-                accesses: Accesses::One(Line {
-                    what: What::Write(Bit::Zero, Bit::One),
-                    object: Name::Q,
-                    process: 0,
-                    line: 3,
-                }),
+                accesses: Accesses::One(Line(What::Write(Bit::Zero, Bit::One), Name::Q, 0, 3)),
             },
             Event {
                 cause: Some(1),
@@ -739,46 +489,21 @@ pub(crate) static ROWS: [Row; 15] = [
             },
             Event {
                 cause: Some(0),
-                accesses: Accesses::One(Line {
-                    what: What::Read,
-                    object: Name::P,
-                    process: 1,
-                    line: 4,
-                }),
+                accesses: Accesses::One(Line(What::Read, Name::P, 1, 4)),
             },
             Event {
                 cause: Some(3),
-                accesses: Accesses::One(Line {
-                    what: What::Read,
-                    object: Name::Q,
-                    process: 1,
-                    line: 4,
-                }),
+                accesses: Accesses::One(Line(What::Read, Name::Q, 1, 4)),
             },
             Event {
                 cause: Some(4),
-                accesses: Accesses::One(Line {
-                    what: What::Write(Bit::X, Bit::One),
-                    object: Name::B,
-                    process: 1,
-                    line: 4,
-                }),
+                accesses: Accesses::One(Line(What::Write(Bit::X, Bit::One), Name::B, 1, 4)),
             },
             Event {
                 cause: Some(5),
                 accesses: Accesses::Two(
-                    Line {
-                        what: What::Await(Edge::Any),
-                        object: Name::P,
-                        process: 1,
-                        line: 4,
-                    },
-                    Line {
-                        what: What::Await(Edge::Any),
-                        object: Name::Q,
-                        process: 1,
-                        line: 4,
-                    },
+                    Line(What::Await(Edge::Any), Name::P, 1, 4),
+                    Line(What::Await(Edge::Any), Name::Q, 1, 4),
                 ),
             },
         ],
@@ -807,21 +532,11 @@ pub(crate) static ROWS: [Row; 15] = [
         events: &[
             Event {
                 cause: None,
-                accesses: Accesses::One(Line {
-                    what: What::Read,
-                    object: Name::B,
-                    process: 1,
-                    line: 4,
-                }),
+                accesses: Accesses::One(Line(What::Read, Name::B, 1, 4)),
             },
             Event {
                 cause: Some(0),
-                accesses: Accesses::One(Line {
-                    what: What::Write(Bit::Zero, Bit::One),
-                    object: Name::P,
-                    process: 1,
-                    line: 4,
-                }),
+                accesses: Accesses::One(Line(What::Write(Bit::Zero, Bit::One), Name::P, 1, 4)),
             },
             Event {
                 cause: Some(1),
@@ -829,21 +544,11 @@ pub(crate) static ROWS: [Row; 15] = [
             },
             Event {
                 cause: None,
-                accesses: Accesses::One(Line {
-                    what: What::Read,
-                    object: Name::P,
-                    process: 2,
-                    line: 5,
-                }),
+                accesses: Accesses::One(Line(What::Read, Name::P, 2, 5)),
             },
             Event {
                 cause: Some(3),
-                accesses: Accesses::One(Line {
-                    what: What::Write(Bit::Zero, Bit::One),
-                    object: Name::Q,
-                    process: 2,
-                    line: 5,
-                }),
+                accesses: Accesses::One(Line(What::Write(Bit::Zero, Bit::One), Name::Q, 2, 5)),
             },
         ],
         expected: Some(Pair {
@@ -871,21 +576,11 @@ pub(crate) static ROWS: [Row; 15] = [
         events: &[
             Event {
                 cause: None,
-                accesses: Accesses::One(Line {
-                    what: What::Read,
-                    object: Name::P,
-                    process: 0,
-                    line: 3,
-                }),
+                accesses: Accesses::One(Line(What::Read, Name::P, 0, 3)),
             },
             Event {
                 cause: Some(0),
-                accesses: Accesses::One(Line {
-                    what: What::Write(Bit::Zero, Bit::Zero),
-                    object: Name::Q,
-                    process: 0,
-                    line: 3,
-                }),
+                accesses: Accesses::One(Line(What::Write(Bit::Zero, Bit::Zero), Name::Q, 0, 3)),
             },
             Event {
                 cause: Some(1),
@@ -893,21 +588,11 @@ pub(crate) static ROWS: [Row; 15] = [
             },
             Event {
                 cause: None,
-                accesses: Accesses::One(Line {
-                    what: What::Read,
-                    object: Name::B,
-                    process: 1,
-                    line: 4,
-                }),
+                accesses: Accesses::One(Line(What::Read, Name::B, 1, 4)),
             },
             Event {
                 cause: Some(3),
-                accesses: Accesses::One(Line {
-                    what: What::Write(Bit::Zero, Bit::One),
-                    object: Name::P,
-                    process: 1,
-                    line: 4,
-                }),
+                accesses: Accesses::One(Line(What::Write(Bit::Zero, Bit::One), Name::P, 1, 4)),
             },
         ],
         expected: Some(Pair {
@@ -935,21 +620,11 @@ pub(crate) static ROWS: [Row; 15] = [
         events: &[
             Event {
                 cause: None,
-                accesses: Accesses::One(Line {
-                    what: What::Read,
-                    object: Name::P,
-                    process: 0,
-                    line: 3,
-                }),
+                accesses: Accesses::One(Line(What::Read, Name::P, 0, 3)),
             },
             Event {
                 cause: None,
-                accesses: Accesses::One(Line {
-                    what: What::Read,
-                    object: Name::P,
-                    process: 1,
-                    line: 4,
-                }),
+                accesses: Accesses::One(Line(What::Read, Name::P, 1, 4)),
             },
         ],
         expected: None,
@@ -962,21 +637,11 @@ pub(crate) static ROWS: [Row; 15] = [
         events: &[
             Event {
                 cause: None,
-                accesses: Accesses::One(Line {
-                    what: What::Write(Bit::Zero, Bit::Zero),
-                    object: Name::P,
-                    process: 0,
-                    line: 3,
-                }),
+                accesses: Accesses::One(Line(What::Write(Bit::Zero, Bit::Zero), Name::P, 0, 3)),
             },
             Event {
                 cause: None,
-                accesses: Accesses::One(Line {
-                    what: What::Await(Edge::Any),
-                    object: Name::P,
-                    process: 1,
-                    line: 4,
-                }),
+                accesses: Accesses::One(Line(What::Await(Edge::Any), Name::P, 1, 4)),
             },
         ],
         expected: None,
