@@ -1,10 +1,12 @@
 -- What a log keeps while it grows.
-use Rattle.std.proofs.Common.{◌≡◌, ℕ, zero, suc, ◌+◌, ◌<◌, List, [], ◌∷◌, ◌++◌, length, map, get_or, refl, ap, arith}
+use Rattle.std.proofs.Common.{◌≡◌, ℕ, zero, suc, ◌+◌, ◌<◌, List, [], ◌∷◌, ◌++◌, length, map, get_or, refl, ap, arith, Some}
 use Rattle.std.specs.Option.{ForSome}
 use Rattle.v_design.specs.Lists.{AllHold}
 use Rattle.v_design.specs.Logs.{cause_at}
 use Rattle.causal_monitor.specs.declared.noted.Noted.{Noted}
 use Rattle.causal_monitor.specs.declared.log.Entry.{Entry}
+use Rattle.causal_monitor.specs.Notes.{noted_access}
+use Rattle.causal_monitor.specs.Phases.{accesses_at}
 use Rattle.causal_monitor.specs.Entries.{logged_event, logged_phase, CausesAreEarlier}
 
 -- one more of which it holds
@@ -34,3 +36,17 @@ pub cause_at-entry : (held : List Noted) (entries : List Entry) (event : ℕ) (d
 cause_at-entry held [] event d less = absurd (omega arith)
 cause_at-entry held (x ∷ entries) zero d less = refl
 cause_at-entry held (x ∷ entries) (suc event) d less = cause_at-entry held entries event d (omega arith)
+
+-- the accesses of an event are those of its entry
+pub accesses_at-entry : (held : List Noted) (entries : List Entry) (event : ℕ) (d : Entry) → event < length entries
+    → map noted_access (get_or entries event d).accesses ≡ accesses_at (logged_phase held entries) event
+accesses_at-entry held [] event d less = absurd (omega arith)
+accesses_at-entry held (x ∷ entries) zero d less = refl
+accesses_at-entry held (x ∷ entries) (suc event) d less = accesses_at-entry held entries event d (omega arith)
+
+-- each event comes after its cause
+pub causes_before : (held : List Noted) (n : ℕ) (entries : List Entry) → CausesAreEarlier n entries → (event cause : ℕ) → cause_at (logged_phase held entries) event ≡ Some cause
+    → cause < n + event
+causes_before held n [] h event cause is = absurd (let none : cause_at (logged_phase held []) event ≡ Some cause = is in cc)
+causes_before held n (x ∷ entries) h zero cause is = let less = h.0 cause is in omega arith
+causes_before held n (x ∷ entries) h (suc event) cause is = let less : cause < n + 1 + event = causes_before held (n + 1) entries h.1 event cause is in omega arith

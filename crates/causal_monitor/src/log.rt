@@ -5,7 +5,7 @@ ghost use Rattle.std.specs.Option.{ForSome};
 ghost use Rattle.v_design.specs.Lists.{AllHold};
 ghost use Rattle.v_design.specs.Logs.{cause_at};
 ghost use Rattle.causal_monitor.specs.Notes.{IsNoted, IsHeld, noted_access};
-ghost use Rattle.causal_monitor.specs.Phases.{with_event, with_held, empty_log};
+ghost use Rattle.causal_monitor.specs.Phases.{with_event, with_held, empty_log, accesses_at, CausesComeBefore};
 
 use crate::noted::Noted;
 use std::alloc::Global;
@@ -89,5 +89,44 @@ impl PhaseLog {
         ensures { result ≡ cause_at self.now.log event }
     {
         self.events[event as usize].cause
+    }
+
+    /// The time of the slot, in steps.
+    pub fn time(&self) -> u64
+        ensures { result ≡ self.now.time }
+    {
+        self.time
+    }
+
+    /// The number of the phase, from 1.
+    pub fn phase(&self) -> u32
+        ensures { result ≡ self.now.phase }
+    {
+        self.phase
+    }
+
+    /// The entries on net pieces of the waits that the phase began with.
+    pub fn held(&self) -> &[Noted]
+        ensures entries { map noted_access result.now ≡ self.now.log.held }
+        ensures held { AllHold IsHeld result.now }
+    {
+        &self.held
+    }
+
+    /// How many events are noted; each comes after its cause.
+    pub fn event_count(&self) -> u64
+        ensures count { result ≡ length self.now.log.events }
+        ensures earlier { CausesComeBefore self.now.log }
+    {
+        self.events.len() as u64
+    }
+
+    /// The accesses of an event that were noted, by its number.
+    pub fn accesses_of(&self, event: u64) -> &[Noted]
+        requires { event < length self.now.log.events }
+        ensures accesses { map noted_access result.now ≡ accesses_at self.now.log event }
+        ensures noted { AllHold IsNoted result.now }
+    {
+        self.events[event as usize].accesses.as_slice()
     }
 }
