@@ -1,0 +1,10 @@
+pub mod Classes
+pub mod Reading
+pub mod ClassLaws
+pub mod Given
+pub mod Exact
+pub mod Branches
+pub mod Repeat
+pub mod Separated
+pub mod SeparatedLaws
+pub mod Reads

@@ -1,0 +1,7 @@
+pub mod Spelling
+pub mod Heights
+pub mod Statements
+pub mod PartExact
+pub mod StatementExact
+pub mod PartReads
+pub mod StatementReads

@@ -1,0 +1,6 @@
+//! The statements that tokens spell (IEEE 1364-2001, annex A.6).
+//!
+//! `specs/Spelling` says by recursion on a statement's tree which tokens spell it, `specs/Heights` how many levels stand below it.
+//! `specs/Statements` has the readers, and `specs/StatementExact` shows that they are exact: what is read is spelled, within the levels that are
+//! left, and where reading stops, what stands before begins a statement.
+#![tactic(auto)]
