@@ -13,7 +13,7 @@ use Rattle.v_read.specs.Separated.{separated}
 use Rattle.v_expr.specs.Expressions.{expression}
 use Rattle.v_expr.specs.Parts.{target, range}
 use Rattle.v_stmt.specs.Statements.{statement}
-use Rattle.v_parse.specs.Spelling.{has_one_input, actual_place}
+use Rattle.v_parse.specs.Spelling.{parameter_word, direction_word, gate_word, has_one_input, actual_place}
 
 -- Parts of declarations
 
@@ -65,7 +65,7 @@ parameter k = do
 -- parameters behind their word
 unfoldable pub parameters : ℕ → Bool → Reader SourceParameters
 parameters k is_local = do
-  place ← step
+  place ← expect (parameter_word is_local)
   s ← signed
   w ← width k
   ps ← separated classes.Comma (parameter k)
@@ -80,11 +80,14 @@ group k = do
   p ← parameter k
   give (record { place = place; is_local = false; signed = s; range = w; parameters = p ∷ [] })
 
--- one more parameter in the last group
-abbrev pub with_parameter : List SourceParameters → SourceParameter → List SourceParameters
-with_parameter [] p = []
-with_parameter (g ∷ []) p = record { place = g.place; is_local = g.is_local; signed = g.signed; range = g.range; parameters = g.parameters ++ p ∷ [] } ∷ []
-with_parameter (g ∷ h ∷ groups) p = g ∷ with_parameter (h ∷ groups) p
+-- the last group with one more element
+abbrev pub with_last : {G P : Type 0} → (G → P → G) → List G → P → List G
+with_last more [] p = []
+with_last more (g ∷ []) p = more g p ∷ []
+with_last more (g ∷ h ∷ groups) p = g ∷ with_last more (h ∷ groups) p
+
+abbrev pub add_parameter : SourceParameters → SourceParameter → SourceParameters
+add_parameter g p = record { place = g.place; is_local = g.is_local; signed = g.signed; range = g.range; parameters = g.parameters ++ p ∷ [] }
 
 -- behind a comma stands a new group or a parameter of the last one
 abbrev pub group_by : ℕ → List SourceParameters → Option Class → Reader (Option (List SourceParameters))
@@ -93,7 +96,7 @@ group_by k groups (Some classes.Parameter) = do
   give (Some (groups ++ g ∷ []))
 group_by k groups _ = do
   p ← parameter k
-  give (Some (with_parameter groups p))
+  give (Some (with_last add_parameter groups p))
 
 abbrev pub groups_by : ℕ → List SourceParameters → Option Class → Reader (Option (List SourceParameters))
 groups_by k groups (Some classes.Comma) = do
@@ -140,7 +143,7 @@ sort direction = by_class (sort_by direction)
 -- ports before their names, from the word of their direction
 unfoldable pub ports_head : ℕ → Direction → Reader SourcePorts
 ports_head k direction = do
-  place ← step
+  place ← expect (direction_word direction)
   r ← sort direction
   s ← signed
   w ← width k
@@ -163,11 +166,8 @@ port k direction = do
   n ← named
   give (with_names g (n ∷ []))
 
--- one more name in the last group
-abbrev pub with_name : List SourcePorts → NamedPlace → List SourcePorts
-with_name [] n = []
-with_name (g ∷ []) n = with_names g (g.names ++ n ∷ []) ∷ []
-with_name (g ∷ h ∷ ports) n = g ∷ with_name (h ∷ ports) n
+abbrev pub add_name : SourcePorts → NamedPlace → SourcePorts
+add_name g n = with_names g (g.names ++ n ∷ [])
 
 abbrev pub another_port : ℕ → List SourcePorts → Direction → Reader (Option (List SourcePorts))
 another_port k ps direction = do
@@ -180,7 +180,7 @@ port_by k ps (Some classes.Input) = another_port k ps Input
 port_by k ps (Some classes.Output) = another_port k ps Output
 port_by k ps _ = do
   n ← named
-  give (Some (with_name ps n))
+  give (Some (with_last add_name ps n))
 
 abbrev pub ports_by : ℕ → List SourcePorts → Option Class → Reader (Option (List SourcePorts))
 ports_by k ps (Some classes.Comma) = do
@@ -400,7 +400,7 @@ port_item k direction = do
 
 unfoldable pub wire_item : ℕ → Reader SourceItem
 wire_item k = do
-  place ← step
+  place ← expect classes.Wire
   s ← signed
   w ← width k
   xs ← declared (wire k)
@@ -408,7 +408,7 @@ wire_item k = do
 
 unfoldable pub reg_item : ℕ → Reader SourceItem
 reg_item k = do
-  place ← step
+  place ← expect classes.Reg
   s ← signed
   w ← width k
   xs ← declared (reg k)
@@ -416,19 +416,19 @@ reg_item k = do
 
 unfoldable pub integer_item : ℕ → Reader SourceItem
 integer_item k = do
-  place ← step
+  place ← expect classes.Integer
   xs ← declared (reg k)
   give (IntegerItem place xs)
 
 unfoldable pub assign_item : ℕ → Reader SourceItem
 assign_item k = do
-  place ← step
+  place ← expect classes.AssignWord
   xs ← declared (assignment k)
   give (AssignItem place xs)
 
 unfoldable pub gate_item : ℕ → GateKind → Reader SourceItem
 gate_item k kind = do
-  place ← step
+  place ← expect (gate_word kind)
   xs ← declared (gate k kind)
   give (GateItem place kind xs)
 
@@ -441,13 +441,13 @@ instance_item k = do
 
 unfoldable pub initial_item : ℕ → Reader SourceItem
 initial_item k = do
-  place ← step
+  place ← expect classes.Initial
   s ← statement k
   give (InitialItem place s)
 
 unfoldable pub always_item : ℕ → Reader SourceItem
 always_item k = do
-  place ← step
+  place ← expect classes.Always
   s ← statement k
   give (AlwaysItem place s)
 

@@ -1,3 +1,4 @@
 pub mod Spelling
 pub mod Heights
 pub mod Items
+pub mod DeclarationExact
