@@ -284,24 +284,34 @@ gate k kind = do
 
 -- Connections
 
-abbrev pub actual_by : ℕ → Bool → Option Class → Reader (Option SourceExpression)
-actual_by k true class = expression k >>= λ e. give (Some e)
-actual_by k false (Some classes.RightParen) = give None
-actual_by k false class = expression k >>= λ e. give (Some e)
+abbrev pub actual_by : ℕ → Option Class → Reader (Option SourceExpression)
+actual_by k (Some classes.RightParen) = give None
+actual_by k class = expression k >>= λ e. give (Some e)
 
--- what is connected by name, where one must be there or may be
-unfoldable pub actual : ℕ → Bool → Reader (Option SourceExpression)
-actual k must = by_class (actual_by k must)
+-- what is connected by name, if anything is
+unfoldable pub actual : ℕ → Reader (Option SourceExpression)
+actual k = by_class (actual_by k)
 
--- a connection by name
-unfoldable pub connection : ℕ → Bool → Reader SourceConnection
-connection k must = do
+-- what a parameter is given
+unfoldable pub some_actual : ℕ → Reader (Option SourceExpression)
+some_actual k = expression k >>= λ e. give (Some e)
+
+-- a connection by name, with a reader of what is connected
+unfoldable pub connection : Reader (Option SourceExpression) → Reader SourceConnection
+connection connected = do
   dot ← expect classes.Dot
   n ← name
   opening ← expect classes.LeftParen
-  a ← actual k must
+  a ← connected
   closing ← expect classes.RightParen
   give (record { name = Some n.0; place = n.1; actual = a })
+
+-- connections by name, to the closing parenthesis
+unfoldable pub named_connections : Reader (Option SourceExpression) → Reader (List SourceConnection)
+named_connections connected = do
+  cs ← separated classes.Comma (connection connected)
+  closing ← expect classes.RightParen
+  give cs
 
 -- connections by position that a comma ends, and what stands behind the last of these commas
 pub record Placed : Type 0 where
@@ -312,59 +322,69 @@ pub record Placed : Type 0 where
 abbrev pub placed : SourcePlace → Option SourceExpression → SourceConnection
 placed next_place last = record { name = None; place = actual_place next_place last; actual = last }
 
+abbrev pub start_by : ℕ → Option Class → Reader Placed
+start_by k (Some classes.Comma) = do
+  comma ← step
+  give (record { ended = placed comma None ∷ []; last = None })
+start_by k class = expression k >>= λ e. give (record { ended = []; last = Some e })
+
+-- the first connection by position, or the comma behind it where nothing is connected
+unfoldable pub placed_start : ℕ → Reader Placed
+placed_start k = by_class (start_by k)
+
 abbrev pub one_more : ℕ → List SourceConnection → Option SourceExpression → Reader (Option Placed)
 one_more k ended None = expression k >>= λ e. give (Some (record { ended = ended; last = Some e }))
 one_more k ended (Some e) = give None
 
-abbrev pub comma_behind : ℕ → Bool → List SourceConnection → Option SourceExpression → Reader (Option Placed)
-comma_behind k true ended None = expression k >>= λ e. give (Some (record { ended = ended; last = Some e }))
-comma_behind k must ended last = do
+abbrev pub placed_by : ℕ → Placed → Option Class → Reader (Option Placed)
+placed_by k s (Some classes.Comma) = do
   comma ← step
-  give (Some (record { ended = ended ++ placed comma last ∷ []; last = None }))
+  give (Some (record { ended = s.ended ++ placed comma s.last ∷ []; last = None }))
+placed_by k s (Some classes.RightParen) = give None
+placed_by k s class = one_more k s.ended s.last
 
-abbrev pub closing_behind : ℕ → Bool → List SourceConnection → Option SourceExpression → Reader (Option Placed)
-closing_behind k true ended None = expression k >>= λ e. give (Some (record { ended = ended; last = Some e }))
-closing_behind k must ended last = give None
-
-abbrev pub placed_by : ℕ → Bool → Placed → Option Class → Reader (Option Placed)
-placed_by k must s (Some classes.Comma) = comma_behind k must s.ended s.last
-placed_by k must s (Some classes.RightParen) = closing_behind k must s.ended s.last
-placed_by k must s _ = one_more k s.ended s.last
-
-abbrev pub placed_turn : ℕ → Bool → Placed → Reader (Option Placed)
-placed_turn k must s = by_class (placed_by k must s)
+abbrev pub placed_turn : ℕ → Placed → Reader (Option Placed)
+placed_turn k s = by_class (placed_by k s)
 
 -- connections by position, to the closing parenthesis
-unfoldable pub placed_connections : ℕ → Bool → Reader (List SourceConnection)
-placed_connections k must = do
-  s ← repeat (placed_turn k must) (record { ended = []; last = None })
+unfoldable pub placed_connections : ℕ → Reader (List SourceConnection)
+placed_connections k = do
+  s ← placed_start k
+  t ← repeat (placed_turn k) s
   closing ← expect classes.RightParen
-  give (s.ended ++ placed closing s.last ∷ [])
+  give (t.ended ++ placed closing t.last ∷ [])
 
--- connections by name, to the closing parenthesis
-unfoldable pub named_connections : ℕ → Bool → Reader (List SourceConnection)
-named_connections k must = do
-  cs ← separated classes.Comma (connection k must)
+abbrev pub connections_by : ℕ → Option Class → Reader (List SourceConnection)
+connections_by k (Some classes.Dot) = named_connections (actual k)
+connections_by k (Some classes.RightParen) = do
+  closing ← step
+  give []
+connections_by k class = placed_connections k
+
+-- the connections of an instance, to the closing parenthesis
+unfoldable pub connections : ℕ → Reader (List SourceConnection)
+connections k = by_class (connections_by k)
+
+-- a connection by position that has its expression
+unfoldable pub given_expression : ℕ → Reader SourceConnection
+given_expression k = expression k >>= λ e. give (record { name = None; place = place_of_expression e; actual = Some e })
+
+unfoldable pub given_expressions : ℕ → Reader (List SourceConnection)
+given_expressions k = do
+  cs ← separated classes.Comma (given_expression k)
   closing ← expect classes.RightParen
   give cs
 
--- connections where each must have its expression, or where the parentheses may be empty
-abbrev pub connections_by : ℕ → Bool → Option Class → Reader (List SourceConnection)
-connections_by k must (Some classes.Dot) = named_connections k must
-connections_by k false (Some classes.RightParen) = do
-  closing ← step
-  give []
-connections_by k must _ = placed_connections k must
-
-unfoldable pub connections : ℕ → Bool → Reader (List SourceConnection)
-connections k must = by_class (connections_by k must)
+abbrev pub given_inside : ℕ → Option Class → Reader (List SourceConnection)
+given_inside k (Some classes.Dot) = named_connections (some_actual k)
+given_inside k class = given_expressions k
 
 abbrev pub given_by : ℕ → Option Class → Reader (List SourceConnection)
 given_by k (Some classes.Hash) = do
   hash ← step
   opening ← expect classes.LeftParen
-  connections k true
-given_by k _ = give []
+  by_class (given_inside k)
+given_by k class = give []
 
 -- the parameters that an instance is given
 unfoldable pub given : ℕ → Reader (List SourceConnection)
@@ -374,7 +394,7 @@ unfoldable pub inst : ℕ → Reader SourceInstance
 inst k = do
   n ← name
   opening ← expect classes.LeftParen
-  cs ← connections k false
+  cs ← connections k
   give (record { name = n.0; place = n.1; connections = cs })
 
 -- Items

@@ -2,3 +2,5 @@ pub mod Spelling
 pub mod Heights
 pub mod Items
 pub mod DeclarationExact
+pub mod ConnectionExact
+pub mod ItemExact

@@ -196,10 +196,14 @@ SpellsInstance inst ts =
     × (((inst.connections ≡ []) × (inside ≡ [])) ⊎ ((0 < length inside) × SpellsConnections close_place inst.connections inside))
     × (ts ≡ name_token inst.name inst.place ∷ token_of classes.LeftParen open_place ∷ (inside ++ token_of classes.RightParen close_place ∷ []))
 
+-- that something is connected
+abbrev pub IsGiven : SourceConnection → Type 0
+IsGiven connection = (actual : SourceExpression) × (connection.actual ≡ Some actual)
+
 -- each connection has its expression
 abbrev pub AreGiven : List SourceConnection → Type 0
 AreGiven [] = Unit {0}
-AreGiven (connection ∷ connections) = ((actual : SourceExpression) × (connection.actual ≡ Some actual)) × AreGiven connections
+AreGiven (connection ∷ connections) = IsGiven connection × AreGiven connections
 
 -- the parameters that an instance is given, each with its expression, or nothing
 abbrev pub SpellsGiven : List SourceConnection → List SourceToken → Type 0
