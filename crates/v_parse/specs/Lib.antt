@@ -4,3 +4,4 @@ pub mod Items
 pub mod DeclarationExact
 pub mod ConnectionExact
 pub mod ItemExact
+pub mod DeclarationReads

@@ -1,0 +1,142 @@
+-- Every spelled parameter, port, net and variable is read.
+use Rattle.std.proofs.Common.{◌≡◌, ℕ, zero, suc, ◌<◌, ◌≤◌, Bool, true, false, List, [], ◌∷◌, ◌++◌, length, Option, Some, None, Ok, refl, sym, ◌∙◌, ap, subst, arith, append_assoc, length-append, ◌⊎◌, inl, inr}
+use Rattle.std.proofs.lemmas.List.{append-nil}
+use Rattle.vf_base.specs.Base.{SourcePlace}
+use Rattle.v_tree.specs.Tokens.{SourceToken}
+use Rattle.v_tree.specs.declared.item.Direction.{Direction}
+use Rattle.v_tree.specs.declared.item.Direction.TheVariants.{Input, Output}
+use Rattle.v_tree.specs.Trees.{SourceExpression, NamedPlace, SourceRange, SourceParameter, SourceParameters, SourcePorts, SourceWire, SourceContent, NoContent, FirstContent, MemoryBounds, SourceReg, SourceHeads, PlainHeads, DeclaredHeads}
+use Rattle.v_read.specs.declared.class.Class.{Class}
+use Rattle.v_read.specs.declared.class.Class.TheVariants as classes
+use Rattle.v_read.specs.Classes.{same_class, token_of, name_token, IsName}
+use Rattle.v_read.specs.ClassLaws.{same_class-same, class_of-kind_of}
+use Rattle.v_read.specs.Reading.{Reader, ◌>>=◌, followed, give, next_class, is_class, expect, repeat}
+use Rattle.v_read.specs.Separated.{SpellsBehind, SpellsList, separated}
+use Rattle.v_read.specs.Exact.{Language}
+use Rattle.v_read.specs.SeparatedLaws.{EachFits}
+use Rattle.v_read.specs.Reads.{next-class, expect-reads, name-reads, turn-is, last-is, separated-reads}
+use Rattle.v_expr.specs.Spelling.{SpellsExpression, SpellsRange}
+use Rattle.v_expr.specs.Heights.{height_of, range_height}
+use Rattle.v_expr.specs.Expressions.{expression}
+use Rattle.v_expr.specs.ExpressionReads.{EndsBefore, expression-reads}
+use Rattle.v_expr.specs.PartLaws.{range-reads}
+use Rattle.v_parse.specs.Spelling.{SpellsNamed, SpellsSigned, SpellsWidth, SpellsValue, SpellsParameter, SpellsParameters, parameter_word, SpellsGroup, SpellsParameterList, direction_word, SpellsSort, SpellsPorts, SpellsInside, SpellsHeads, SpellsWire, SpellsContent, SpellsReg}
+use Rattle.v_parse.specs.Heights.{greatest, height_if_there, parameters_height, ports_height, heads_height, wire_height, content_height, reg_height}
+use Rattle.v_parse.specs.Items.{named, signed_by, signed, width_by, width, value_by, value, parameter, parameters, group, with_last, add_parameter, group_by, groups_by, groups_turn, groups, parameter_list_by, parameter_list, sort_by, sort, ports_head, with_names, ports, port, add_name, another_port, port_by, ports_by, ports_turn, declared_ports, heads_inside, heads_by, heads, wire, content_by, content, reg}
+use Rattle.v_parse.specs.DeclarationExact.{Any, ParameterWithin, PortsWithin, WireWithin, RegWithin}
+
+-- What stands behind an element
+
+abbrev pub is_closer : Option Class → Bool
+is_closer (Some classes.Comma) = true
+is_closer (Some classes.Semicolon) = true
+is_closer (Some classes.RightParen) = true
+is_closer _ = false
+
+-- a comma, a semicolon or a closing parenthesis stands behind an element
+abbrev pub Closes : Option Class → Type 0
+Closes class = is_closer class ≡ true
+
+pub closer-ends : (class : Option Class) → Closes class → EndsBefore 11 class
+closer-ends (Some classes.Comma) h = omega arith
+closer-ends (Some classes.Semicolon) h = omega arith
+closer-ends (Some classes.RightParen) h = omega arith
+closer-ends _ h = absurd (let p : false ≡ true = h in cc)
+
+pub not-class : (a b : Class) (class : Option Class) → same_class a b ≡ false → class ≡ Some a → class ≡ Some b → ⊥
+not-class a b class h e f = let same : a ≡ b = cc in let p : true ≡ false = sym (same_class-same a) ∙ ap (same_class a) same ∙ h in cc
+
+pub each-fits : {A : Type 0} (height : A → ℕ) (k : ℕ) (xs : List A) → greatest height xs ≤ k → EachFits (λ x. height x ≤ k) xs
+each-fits height k [] h = tt
+each-fits height k (x ∷ xs) h = (omega (arith, h), each-fits height k xs (omega (arith, h)))
+
+pub each-any : {A : Type 0} (xs : List A) → EachFits Any xs
+each-any [] = tt
+each-any (x ∷ xs) = (tt, each-any xs)
+
+-- a list begins as its elements do
+pub list-first : {A : Type 0} (L : Language A) (m class : Class) → ((x : A) (ts rest : List SourceToken) → L x ts → next_class (ts ++ rest) ≡ Some class)
+    → (xs : List A) (ts rest : List SourceToken) → SpellsList L m xs ts → next_class (ts ++ rest) ≡ Some class
+list-first L m class each [] ts rest h = absurd h
+list-first L m class each (x ∷ xs) ts rest h =
+    ap (λ f. next_class (f ++ rest)) h.4 ∙ ap next_class (append_assoc h.0 h.1 rest) ∙ each x h.0 (h.1 ++ rest) h.2
+
+-- Parts of declarations
+
+pub named-reads : (n : NamedPlace) (ts rest : List SourceToken) → SpellsNamed n ts → named (ts ++ rest) ≡ Ok (n, rest)
+unfolding named
+named-reads n ts rest h = ap (λ f. named (f ++ rest)) h.1 ∙ rw (name-reads n.name n.place rest h.0) refl
+
+pub named-first : (n : NamedPlace) (ts rest : List SourceToken) → SpellsNamed n ts → next_class (ts ++ rest) ≡ Some classes.Name
+named-first n ts rest h = ap (λ f. next_class (f ++ rest)) h.1 ∙ ap (λ (c : Class). Some c) h.0
+
+signed_by-other : (class : Option Class) (tokens : List SourceToken) → (class ≡ Some classes.Signed → ⊥) → signed_by class tokens ≡ Ok (false, tokens)
+signed_by-other (Some classes.Signed) tokens h = absurd (h refl)
+signed_by-other _ tokens h = refl
+
+pub signed-reads : (s : Bool) (ts tail : List SourceToken) → SpellsSigned s ts → (next_class tail ≡ Some classes.Signed → ⊥) → signed (ts ++ tail) ≡ Ok (s, tail)
+unfolding signed
+signed-reads false ts tail h other = ap (λ f. signed (f ++ tail)) h ∙ signed_by-other (next_class tail) tail other
+signed-reads true ts tail h other = ap (λ f. signed (f ++ tail)) h.1 ∙ rw (class_of-kind_of classes.Signed) refl
+
+width_by-other : (k : ℕ) (class : Option Class) (tokens : List SourceToken) → (class ≡ Some classes.LeftBracket → ⊥) → width_by k class tokens ≡ Ok (None, tokens)
+width_by-other k (Some classes.LeftBracket) tokens h = absurd (h refl)
+width_by-other k _ tokens h = refl
+
+pub width-reads : (k : ℕ) (w : Option SourceRange) (ts tail : List SourceToken) → SpellsWidth w ts → height_if_there range_height w ≤ k → (next_class tail ≡ Some classes.LeftBracket → ⊥)
+    → width k (ts ++ tail) ≡ Ok (w, tail)
+unfolding width
+width-reads k None ts tail h low other = ap (λ f. width k (f ++ tail)) h ∙ width_by-other k (next_class tail) tail other
+width-reads k (Some r) ts tail h low other =
+    ap (λ c. width_by k c (ts ++ tail)) (ap (λ f. next_class (f ++ tail)) h.6 ∙ refl)
+    ∙ ap (λ w. followed w (λ r. give (Some r))) (range-reads k r ts tail h low)
+
+-- before a name no range and no `signed` is left out
+width-first : (w : Option SourceRange) (ts tail : List SourceToken) → SpellsWidth w ts → next_class tail ≡ Some classes.Name → next_class (ts ++ tail) ≡ Some classes.Signed → ⊥
+width-first None ts tail h name e = not-class classes.Name classes.Signed (next_class tail) refl name (sym (ap (λ f. next_class (f ++ tail)) h) ∙ e)
+width-first (Some r) ts tail h name e = not-class classes.LeftBracket classes.Signed (next_class (ts ++ tail)) refl (ap (λ f. next_class (f ++ tail)) h.6) e
+
+-- `signed` and a range, before a name
+pub signs-read : (k : ℕ) (s : Bool) (w : Option SourceRange) (sign width_tokens tail : List SourceToken) → SpellsSigned s sign → SpellsWidth w width_tokens → height_if_there range_height w ≤ k
+    → next_class tail ≡ Some classes.Name
+    → (signed (sign ++ (width_tokens ++ tail)) ≡ Ok (s, width_tokens ++ tail)) × (width k (width_tokens ++ tail) ≡ Ok (w, tail))
+signs-read k s w sign width_tokens tail h g low name = (
+  signed-reads s sign (width_tokens ++ tail) h (width-first w width_tokens tail g name),
+  width-reads k w width_tokens tail g low (not-class classes.Name classes.LeftBracket (next_class tail) refl name),
+)
+
+value_by-closer : (k : ℕ) (class : Option Class) (tokens : List SourceToken) → Closes class → value_by k class tokens ≡ Ok (None, tokens)
+value_by-closer k (Some classes.Assign) tokens h = absurd (let p : false ≡ true = h in cc)
+value_by-closer k _ tokens h = refl
+
+pub value-reads : (k : ℕ) (v : Option SourceExpression) (ts rest : List SourceToken) → SpellsValue v ts → height_if_there height_of v ≤ k → Closes (next_class rest) → value k (ts ++ rest) ≡ Ok (v, rest)
+unfolding value
+value-reads k None ts rest h low ends = ap (λ f. value k (f ++ rest)) h ∙ value_by-closer k (next_class rest) rest ends
+value-reads k (Some e) ts rest h low ends =
+    ap (λ f. value k (f ++ rest)) h.3 ∙ ap (λ w. followed w (λ e. give (Some e))) (expression-reads k e h.1 rest h.2 low (closer-ends (next_class rest) ends))
+
+-- Parameters
+
+pub parameter-reads : (k : ℕ) (p : SourceParameter) (ts rest : List SourceToken) → SpellsParameter p ts → height_of p.value ≤ k → Closes (next_class rest) → parameter k (ts ++ rest) ≡ Ok (p, rest)
+unfolding parameter
+parameter-reads k p ts rest h low ends =
+    let read = expression-reads k p.value h.2 rest h.3 low (closer-ends (next_class rest) ends) in
+    ap (λ f. parameter k (f ++ rest)) h.4
+    ∙ rw (name-reads p.name p.place (token_of classes.Assign h.1 ∷ (h.2 ++ rest)) h.0, read) refl
+
+pub parameter-first : (p : SourceParameter) (ts rest : List SourceToken) → SpellsParameter p ts → next_class (ts ++ rest) ≡ Some classes.Name
+parameter-first p ts rest h = ap (λ f. next_class (f ++ rest)) h.4 ∙ ap (λ (c : Class). Some c) h.0
+
+pub parameters-reads : (k : ℕ) (g : SourceParameters) (ts rest : List SourceToken) → SpellsParameters (parameter_word g.is_local) g ts → parameters_height g ≤ k
+    → Closes (next_class rest) → is_class classes.Comma (next_class rest) ≡ false → parameters k g.is_local (ts ++ rest) ≡ Ok (g, rest)
+unfolding parameters
+parameters-reads k g ts rest h low ends other =
+    let word = token_of (parameter_word g.is_local) g.place in
+    let tail = h.2 ++ rest in
+    let first = list-first SpellsParameter classes.Comma classes.Name parameter-first g.parameters h.2 rest h.5 in
+    let signs = signs-read k g.signed g.range h.0 h.1 tail h.3 h.4 (omega (arith, low)) first in
+    let all = separated-reads (parameter k) SpellsParameter (ParameterWithin k) Closes classes.Comma refl (parameter-reads k) g.parameters h.2 rest h.5
+        (each-fits (λ (p : SourceParameter). height_of p.value) k g.parameters (omega (arith, low))) ends other in
+    ap (λ f. parameters k g.is_local (f ++ rest)) h.6
+    ∙ ap (λ f. parameters k g.is_local (word ∷ f)) (append_assoc h.0 (h.1 ++ h.2) rest ∙ ap (λ f. h.0 ++ f) (append_assoc h.1 h.2 rest))
+    ∙ rw (expect-reads (parameter_word g.is_local) g.place (h.0 ++ (h.1 ++ tail)), signs.0, signs.1, all) refl
