@@ -13,6 +13,7 @@ use Rattle.v_read.specs.ClassLaws.{same_class-same, class_of-kind_of}
 use Rattle.v_read.specs.Reading.{Reader, ◌>>=◌, followed, give, next_class, is_class, expect, repeat}
 use Rattle.v_read.specs.Separated.{SpellsBehind, SpellsList, separated}
 use Rattle.v_read.specs.Exact.{Language}
+use Rattle.v_read.specs.Branches.{nowhere}
 use Rattle.v_read.specs.SeparatedLaws.{EachFits}
 use Rattle.v_read.specs.Reads.{next-class, expect-reads, name-reads, turn-is, last-is, separated-reads}
 use Rattle.v_expr.specs.Spelling.{SpellsExpression, SpellsRange}
@@ -140,3 +141,73 @@ parameters-reads k g ts rest h low ends other =
     ap (λ f. parameters k g.is_local (f ++ rest)) h.6
     ∙ ap (λ f. parameters k g.is_local (word ∷ f)) (append_assoc h.0 (h.1 ++ h.2) rest ∙ ap (λ f. h.0 ++ f) (append_assoc h.1 h.2 rest))
     ∙ rw (expect-reads (parameter_word g.is_local) g.place (h.0 ++ (h.1 ++ tail)), signs.0, signs.1, all) refl
+
+-- Lists of groups
+
+-- a group with more elements, one behind the other
+abbrev pub adds : {G P : Type 0} → (G → P → G) → G → List P → G
+adds add g [] = g
+adds add g (p ∷ ps) = adds add (add g p) ps
+
+with_last-append : {G P : Type 0} (add : G → P → G) (done : List G) (g : G) (p : P) → with_last add (done ++ g ∷ []) p ≡ done ++ add g p ∷ []
+with_last-append add [] g p = refl
+with_last-append add (d ∷ []) g p = refl
+with_last-append add (d ∷ e ∷ done) g p = ap (λ gs. d ∷ gs) (with_last-append add (e ∷ done) g p)
+
+behind-closes : {A : Type 0} (L : Language A) (xs : List A) (ts rest : List SourceToken) → SpellsBehind L classes.Comma xs ts → Closes (next_class rest) → Closes (next_class (ts ++ rest))
+behind-closes L [] ts rest h c = subst (λ f. Closes (next_class (f ++ rest))) (sym h) c
+behind-closes L (x ∷ xs) ts rest h c = subst (λ f. Closes (next_class (f ++ rest))) (sym h.5) refl
+
+-- a loop over groups, each read as its first element is and then one element more at each turn
+module _ {G P : Type 0} (L : Language G) (M : Language P) (add : G → P → G) (F : P → Type 0) (fits : G → Type 0)
+    (group_reader : Reader G) (turn : List G → Reader (Option (List G)))
+    (one : (gs : List G) (p : P) (place : SourcePlace) (inside rest : List SourceToken) → M p inside → F p → Closes (next_class rest)
+        → turn gs (token_of classes.Comma place ∷ (inside ++ rest)) ≡ Ok (Some (with_last add gs p), rest))
+    (another : (gs : List G) (place : SourcePlace) (g : G) (ts : List SourceToken) → L g ts → fits g →
+        (first : G) × (ps : List P) × (head behind : List SourceToken) × (ts ≡ head ++ behind) × SpellsBehind M classes.Comma ps behind × EachFits F ps × (adds add first ps ≡ g)
+        × ((rest : List SourceToken) → Closes (next_class rest) → group_reader (head ++ rest) ≡ Ok (first, rest))
+        × ((rest : List SourceToken) → Closes (next_class rest) → turn gs (token_of classes.Comma place ∷ (head ++ rest)) ≡ Ok (Some (gs ++ first ∷ []), rest)))
+    (last : (gs : List G) (rest : List SourceToken) → is_class classes.Comma (next_class rest) ≡ false → turn gs rest ≡ Ok (None, rest)) where
+  elements : (ps : List P) (done : List G) (g : G) (ts rest : List SourceToken) → SpellsBehind M classes.Comma ps ts → EachFits F ps → Closes (next_class rest)
+      → repeat turn (done ++ g ∷ []) (ts ++ rest) ≡ repeat turn (done ++ adds add g ps ∷ []) rest
+  elements [] done g ts rest h f c = ap (λ e. repeat turn (done ++ g ∷ []) (e ++ rest)) h
+  elements (p ∷ ps) done g ts rest h f c =
+      let tokens = token_of classes.Comma h.0 ∷ (h.1 ++ (h.2 ++ rest)) in
+      ap (λ e. repeat turn (done ++ g ∷ []) (e ++ rest)) h.5
+      ∙ ap (λ e. repeat turn (done ++ g ∷ []) (token_of classes.Comma h.0 ∷ e)) (append_assoc h.1 h.2 rest)
+      ∙ turn-is turn (done ++ g ∷ []) (done ++ add g p ∷ []) tokens (h.2 ++ rest)
+          (one (done ++ g ∷ []) p h.0 h.1 (h.2 ++ rest) h.3 f.0 (behind-closes M ps h.2 rest h.4 c) ∙ ap (λ gs. Ok (Some gs, h.2 ++ rest)) (with_last-append add done g p))
+          (omega (arith, length-append h.1 (h.2 ++ rest)))
+      ∙ elements ps done (add g p) h.2 rest h.4 f.1 c
+
+  more_groups : (gs done : List G) (ts rest : List SourceToken) → SpellsBehind L classes.Comma gs ts → EachFits fits gs → Closes (next_class rest) → is_class classes.Comma (next_class rest) ≡ false
+      → repeat turn done (ts ++ rest) ≡ Ok (done ++ gs, rest)
+  more_groups [] done ts rest h f c other =
+      ap (λ e. repeat turn done (e ++ rest)) h ∙ last-is turn done rest (last done rest other) ∙ ap (λ w. Ok (w, rest)) (sym (append-nil done))
+  more_groups (g ∷ gs) done ts rest h f c other =
+      let a = another done h.0 g h.1 h.3 f.0 in
+      let back = a.3 ++ (h.2 ++ rest) in
+      let tokens = token_of classes.Comma h.0 ∷ (a.2 ++ back) in
+      let closes = behind-closes L gs h.2 rest h.4 c in
+      ap (λ e. repeat turn done (e ++ rest)) h.5
+      ∙ ap (λ e. repeat turn done (token_of classes.Comma h.0 ∷ e)) (append_assoc h.1 h.2 rest ∙ ap (λ e. e ++ (h.2 ++ rest)) a.4 ∙ append_assoc a.2 a.3 (h.2 ++ rest))
+      ∙ turn-is turn done (done ++ a.0 ∷ []) tokens back (a.9 back (behind-closes M a.1 a.3 (h.2 ++ rest) a.5 closes)) (omega (arith, length-append a.2 back))
+      ∙ elements a.1 done a.0 a.3 (h.2 ++ rest) a.5 a.6 closes
+      ∙ ap (λ e. repeat turn (done ++ e ∷ []) (h.2 ++ rest)) a.7
+      ∙ more_groups gs (done ++ g ∷ []) h.2 rest h.4 f.1 c other
+      ∙ ap (λ w. Ok (w, rest)) (append_assoc done (g ∷ []) gs)
+
+  -- the groups of a list are read
+  pub groups-read : (gs : List G) (ts rest : List SourceToken) → SpellsList L classes.Comma gs ts → EachFits fits gs → Closes (next_class rest) → is_class classes.Comma (next_class rest) ≡ false
+      → followed (group_reader (ts ++ rest)) (λ g. repeat turn (g ∷ [])) ≡ Ok (gs, rest)
+  groups-read [] ts rest h f c other = absurd h
+  groups-read (g ∷ gs) ts rest h f c other =
+      let a = another [] nowhere g h.0 h.2 f.0 in
+      let closes = behind-closes L gs h.1 rest h.3 c in
+      let back = a.3 ++ (h.1 ++ rest) in
+      ap (λ e. followed (group_reader (e ++ rest)) (λ g. repeat turn (g ∷ []))) h.4
+      ∙ ap (λ e. followed (group_reader e) (λ g. repeat turn (g ∷ []))) (append_assoc h.0 h.1 rest ∙ ap (λ e. e ++ (h.1 ++ rest)) a.4 ∙ append_assoc a.2 a.3 (h.1 ++ rest))
+      ∙ ap (λ e. followed e (λ g. repeat turn (g ∷ []))) (a.8 back (behind-closes M a.1 a.3 (h.1 ++ rest) a.5 closes))
+      ∙ elements a.1 [] a.0 a.3 (h.1 ++ rest) a.5 a.6 closes
+      ∙ ap (λ e. repeat turn (e ∷ []) (h.1 ++ rest)) a.7
+      ∙ more_groups gs (g ∷ []) h.1 rest h.3 f.1 c other
