@@ -211,3 +211,211 @@ module _ {G P : Type 0} (L : Language G) (M : Language P) (add : G → P → G) 
       ∙ elements a.1 [] a.0 a.3 (h.1 ++ rest) a.5 a.6 closes
       ∙ ap (λ e. repeat turn (e ∷ []) (h.1 ++ rest)) a.7
       ∙ more_groups gs (g ∷ []) h.1 rest h.3 f.1 c other
+
+-- Lists of parameters
+
+abbrev made : SourcePlace → Bool → Option SourceRange → List SourceParameter → SourceParameters
+made place s range ps = record { place = place; is_local = false; signed = s; range = range; parameters = ps }
+
+adds-made : (place : SourcePlace) (s : Bool) (range : Option SourceRange) (ps qs : List SourceParameter) → adds add_parameter (made place s range qs) ps ≡ made place s range (qs ++ ps)
+adds-made place s range [] qs = ap (made place s range) (sym (append-nil qs))
+adds-made place s range (p ∷ ps) qs = adds-made place s range ps (qs ++ p ∷ []) ∙ ap (made place s range) (append_assoc qs (p ∷ []) ps)
+
+group-reads : (k : ℕ) (place : SourcePlace) (s : Bool) (range : Option SourceRange) (p : SourceParameter) (sign width_tokens before rest : List SourceToken)
+    → SpellsSigned s sign → SpellsWidth range width_tokens → height_if_there range_height range ≤ k → SpellsParameter p before → height_of p.value ≤ k → Closes (next_class rest)
+    → group k (token_of classes.Parameter place ∷ (sign ++ (width_tokens ++ (before ++ rest)))) ≡ Ok (made place s range (p ∷ []), rest)
+unfolding group
+group-reads k place s range p sign width_tokens before rest h g low spelled fits c =
+    let signs = signs-read k s range sign width_tokens (before ++ rest) h g low (parameter-first p before rest spelled) in
+    rw (expect-reads classes.Parameter place (sign ++ (width_tokens ++ (before ++ rest))), signs.0, signs.1, parameter-reads k p before rest spelled fits c) refl
+
+parameter_one : (k : ℕ) (gs : List SourceParameters) (p : SourceParameter) (place : SourcePlace) (inside rest : List SourceToken) → SpellsParameter p inside → ParameterWithin k p → Closes (next_class rest)
+    → groups_turn k gs (token_of classes.Comma place ∷ (inside ++ rest)) ≡ Ok (Some (with_last add_parameter gs p), rest)
+parameter_one k gs p place inside rest s f c =
+    ap (λ class. group_by k gs class (inside ++ rest)) (parameter-first p inside rest s)
+    ∙ ap (λ w. followed w (λ p. give (Some (with_last add_parameter gs p)))) (parameter-reads k p inside rest s f c)
+
+abbrev GroupParts : ℕ → List SourceParameters → SourcePlace → SourceParameters → List SourceToken → Type 0
+GroupParts k gs place g ts =
+    (first : SourceParameters) × (ps : List SourceParameter) × (head behind : List SourceToken) × (ts ≡ head ++ behind) × SpellsBehind SpellsParameter classes.Comma ps behind
+    × EachFits (ParameterWithin k) ps × (adds add_parameter first ps ≡ g)
+    × ((rest : List SourceToken) → Closes (next_class rest) → group k (head ++ rest) ≡ Ok (first, rest))
+    × ((rest : List SourceToken) → Closes (next_class rest) → groups_turn k gs (token_of classes.Comma place ∷ (head ++ rest)) ≡ Ok (Some (gs ++ first ∷ []), rest))
+
+group_parts : (k : ℕ) (gs : List SourceParameters) (place : SourcePlace) (g : SourceParameters) (ts : List SourceToken) → SpellsGroup g ts → parameters_height g ≤ k → GroupParts k gs place g ts
+group_parts k gs place g ts h low = by g.parameters h.1.5 refl (each-fits (λ (p : SourceParameter). height_of p.value) k g.parameters (omega (arith, low)))
+  where
+    by : (all : List SourceParameter) → SpellsList SpellsParameter classes.Comma all h.1.2 → g.parameters ≡ all → EachFits (ParameterWithin k) all → GroupParts k gs place g ts
+    by [] listing same fits = absurd listing
+    by (p ∷ ps) listing same fits =
+        let head = token_of classes.Parameter g.place ∷ (h.1.0 ++ (h.1.1 ++ listing.0)) in
+        let whole : made g.place g.signed g.range g.parameters ≡ g = ap (λ b. record { place = g.place; is_local = b; signed = g.signed; range = g.range; parameters = g.parameters }) (sym h.0) in
+        let regrouped : (rest : List SourceToken) → head ++ rest ≡ token_of classes.Parameter g.place ∷ (h.1.0 ++ (h.1.1 ++ (listing.0 ++ rest))) =
+            λ rest. ap (λ f. token_of classes.Parameter g.place ∷ f) (append_assoc h.1.0 (h.1.1 ++ listing.0) rest ∙ ap (λ f. h.1.0 ++ f) (append_assoc h.1.1 listing.0 rest)) in
+        let reads : (rest : List SourceToken) → Closes (next_class rest) → group k (head ++ rest) ≡ Ok (made g.place g.signed g.range (p ∷ []), rest) =
+            λ rest c. ap (group k) (regrouped rest) ∙ group-reads k g.place g.signed g.range p h.1.0 h.1.1 listing.0 rest h.1.3 h.1.4 (omega (arith, low)) listing.2 fits.0 c in
+        (
+          made g.place g.signed g.range (p ∷ []),
+          ps,
+          head,
+          listing.1,
+          h.1.6 ∙ ap (λ f. token_of classes.Parameter g.place ∷ (h.1.0 ++ (h.1.1 ++ f))) listing.4 ∙ sym (regrouped listing.1),
+          listing.3,
+          fits.1,
+          adds-made g.place g.signed g.range ps (p ∷ []) ∙ ap (made g.place g.signed g.range) (sym same) ∙ whole,
+          reads,
+          λ rest c.
+              ap (λ class. group_by k gs class (head ++ rest)) (next-class classes.Parameter g.place ((h.1.0 ++ (h.1.1 ++ listing.0)) ++ rest))
+              ∙ ap (λ w. followed w (λ g. give (Some (gs ++ g ∷ [])))) (reads rest c),
+        )
+
+groups_last : (k : ℕ) (gs : List SourceParameters) (rest : List SourceToken) → is_class classes.Comma (next_class rest) ≡ false → groups_turn k gs rest ≡ Ok (None, rest)
+groups_last k gs rest h = by (next_class rest) h
+  where
+    by : (class : Option Class) → is_class classes.Comma class ≡ false → groups_by k gs class rest ≡ Ok (None, rest)
+    by (Some classes.Comma) e = absurd (let p : true ≡ false = e in cc)
+    by _ e = refl
+
+pub groups-reads : (k : ℕ) (gs : List SourceParameters) (ts rest : List SourceToken) → SpellsList SpellsGroup classes.Comma gs ts → greatest parameters_height gs ≤ k
+    → Closes (next_class rest) → is_class classes.Comma (next_class rest) ≡ false → groups k (ts ++ rest) ≡ Ok (gs, rest)
+unfolding groups
+groups-reads k gs ts rest h low c other =
+    groups-read SpellsGroup SpellsParameter add_parameter (ParameterWithin k) (λ g. parameters_height g ≤ k) (group k) (groups_turn k) (parameter_one k) (group_parts k) (groups_last k)
+    gs ts rest h (each-fits parameters_height k gs low) c other
+
+parameter_list_by-other : (k : ℕ) (class : Option Class) (tokens : List SourceToken) → (class ≡ Some classes.Hash → ⊥) → parameter_list_by k class tokens ≡ Ok ([], tokens)
+parameter_list_by-other k (Some classes.Hash) tokens h = absurd (h refl)
+parameter_list_by-other k _ tokens h = refl
+
+pub parameter_list-reads : (k : ℕ) (gs : List SourceParameters) (ts rest : List SourceToken) → SpellsParameterList gs ts → greatest parameters_height gs ≤ k → (next_class rest ≡ Some classes.Hash → ⊥)
+    → parameter_list k (ts ++ rest) ≡ Ok (gs, rest)
+unfolding parameter_list
+parameter_list-reads k [] ts rest h low other = ap (λ f. parameter_list k (f ++ rest)) h ∙ parameter_list_by-other k (next_class rest) rest other
+parameter_list-reads k (g ∷ gs) ts rest h low other =
+    let close = token_of classes.RightParen h.2 ∷ rest in
+    let read = groups-reads k (g ∷ gs) h.3 close h.4 low refl refl in
+    ap (λ f. parameter_list k (f ++ rest)) h.5
+    ∙ ap (λ f. parameter_list k (token_of classes.Hash h.0 ∷ token_of classes.LeftParen h.1 ∷ f)) (append_assoc h.3 (token_of classes.RightParen h.2 ∷ []) rest)
+    ∙ rw read refl
+
+-- Ports
+
+abbrev goes_on : Option Class → Bool
+goes_on (Some classes.Signed) = true
+goes_on (Some classes.LeftBracket) = true
+goes_on (Some classes.Name) = true
+goes_on _ = false
+
+width-goes_on : (w : Option SourceRange) (ts tail : List SourceToken) → SpellsWidth w ts → next_class tail ≡ Some classes.Name → goes_on (next_class (ts ++ tail)) ≡ true
+width-goes_on None ts tail h name = ap (λ f. goes_on (next_class (f ++ tail))) h ∙ ap goes_on name
+width-goes_on (Some r) ts tail h name = ap (λ f. goes_on (next_class (f ++ tail))) h.6
+
+signs-go_on : (s : Bool) (w : Option SourceRange) (sign width_tokens tail : List SourceToken) → SpellsSigned s sign → SpellsWidth w width_tokens → next_class tail ≡ Some classes.Name
+    → goes_on (next_class (sign ++ (width_tokens ++ tail))) ≡ true
+signs-go_on false w sign width_tokens tail h g name = ap (λ f. goes_on (next_class (f ++ (width_tokens ++ tail)))) h ∙ width-goes_on w width_tokens tail g name
+signs-go_on true w sign width_tokens tail h g name =
+    ap (λ f. goes_on (next_class (f ++ (width_tokens ++ tail)))) h.1 ∙ ap goes_on (next-class classes.Signed h.0 (width_tokens ++ tail))
+
+sort_by-other : (direction : Direction) (class : Option Class) (tokens : List SourceToken) → goes_on class ≡ true → sort_by direction class tokens ≡ Ok (false, tokens)
+sort_by-other Input (Some classes.Signed) tokens h = refl
+sort_by-other Input (Some classes.LeftBracket) tokens h = refl
+sort_by-other Input (Some classes.Name) tokens h = refl
+sort_by-other Output (Some classes.Signed) tokens h = refl
+sort_by-other Output (Some classes.LeftBracket) tokens h = refl
+sort_by-other Output (Some classes.Name) tokens h = refl
+sort_by-other direction _ tokens h = absurd (let p : false ≡ true = h in cc)
+
+sort-wire : (direction : Direction) (place : SourcePlace) (tail : List SourceToken) → sort direction (token_of classes.Wire place ∷ tail) ≡ Ok (false, tail)
+unfolding sort
+sort-wire Input place tail = rw (class_of-kind_of classes.Wire) refl
+sort-wire Output place tail = rw (class_of-kind_of classes.Wire) refl
+
+pub sort-reads : (direction : Direction) (r : Bool) (ts tail : List SourceToken) → SpellsSort direction r ts → goes_on (next_class tail) ≡ true → sort direction (ts ++ tail) ≡ Ok (r, tail)
+unfolding sort
+sort-reads direction false ts tail (inl e) h = ap (λ f. sort direction (f ++ tail)) e ∙ sort_by-other direction (next_class tail) tail h
+sort-reads direction false ts tail (inr s) h = ap (λ f. sort direction (f ++ tail)) s.1 ∙ sort-wire direction s.0 tail
+sort-reads Input true ts tail s h = absurd s
+sort-reads Output true ts tail s h = ap (λ f. sort Output (f ++ tail)) s.1 ∙ rw (class_of-kind_of classes.Reg) refl
+
+ports_head-reads : (k : ℕ) (direction : Direction) (place : SourcePlace) (r s : Bool) (range : Option SourceRange) (sort_tokens sign width_tokens tail : List SourceToken)
+    → SpellsSort direction r sort_tokens → SpellsSigned s sign → SpellsWidth range width_tokens → height_if_there range_height range ≤ k → next_class tail ≡ Some classes.Name
+    → ports_head k direction (token_of (direction_word direction) place ∷ (sort_tokens ++ (sign ++ (width_tokens ++ tail))))
+    ≡ Ok (record { place = place; direction = direction; is_reg = r; signed = s; range = range; names = [] }, tail)
+unfolding ports_head
+ports_head-reads k direction place r s range sort_tokens sign width_tokens tail sorting signing ranging low name =
+    let signs = signs-read k s range sign width_tokens tail signing ranging low name in
+    let sorted = sort-reads direction r sort_tokens (sign ++ (width_tokens ++ tail)) sorting (signs-go_on s range sign width_tokens tail signing ranging name) in
+    rw (expect-reads (direction_word direction) place (sort_tokens ++ (sign ++ (width_tokens ++ tail))), sorted, signs.0, signs.1) refl
+
+ports-regrouped : (word : SourceToken) (a b c d rest : List SourceToken) → (word ∷ (a ++ (b ++ (c ++ d)))) ++ rest ≡ word ∷ (a ++ (b ++ (c ++ (d ++ rest))))
+ports-regrouped word a b c d rest =
+    ap (λ f. word ∷ f) (append_assoc a (b ++ (c ++ d)) rest ∙ ap (λ f. a ++ f) (append_assoc b (c ++ d) rest ∙ ap (λ f. b ++ f) (append_assoc c d rest)))
+
+pub ports-reads : (k : ℕ) (g : SourcePorts) (ts rest : List SourceToken) → SpellsPorts g ts → ports_height g ≤ k → Closes (next_class rest) → is_class classes.Comma (next_class rest) ≡ false
+    → ports k g.direction (ts ++ rest) ≡ Ok (g, rest)
+unfolding ports
+ports-reads k g ts rest h low c other =
+    let word = token_of (direction_word g.direction) g.place in
+    let first = list-first SpellsNamed classes.Comma classes.Name named-first g.names h.3 rest h.7 in
+    let head = ports_head-reads k g.direction g.place g.is_reg g.signed g.range h.0 h.1 h.2 (h.3 ++ rest) h.4 h.5 h.6 low first in
+    let all = separated-reads named SpellsNamed Any Closes classes.Comma refl (λ n ts rest s f c. named-reads n ts rest s) g.names h.3 rest h.7 (each-any g.names) c other in
+    ap (λ f. ports k g.direction (f ++ rest)) h.8
+    ∙ ap (ports k g.direction) (ports-regrouped word h.0 h.1 h.2 h.3 rest)
+    ∙ rw (head, all) refl
+
+adds-names : (g : SourcePorts) (ns done : List NamedPlace) → adds add_name (with_names g done) ns ≡ with_names g (done ++ ns)
+adds-names g [] done = ap (with_names g) (sym (append-nil done))
+adds-names g (n ∷ ns) done = adds-names g ns (done ++ n ∷ []) ∙ ap (with_names g) (append_assoc done (n ∷ []) ns)
+
+name_one : (k : ℕ) (gs : List SourcePorts) (n : NamedPlace) (place : SourcePlace) (inside rest : List SourceToken) → SpellsNamed n inside → Any n → Closes (next_class rest)
+    → ports_turn k gs (token_of classes.Comma place ∷ (inside ++ rest)) ≡ Ok (Some (with_last add_name gs n), rest)
+name_one k gs n place inside rest s f c =
+    ap (λ class. port_by k gs class (inside ++ rest)) (named-first n inside rest s)
+    ∙ ap (λ w. followed w (λ n. give (Some (with_last add_name gs n)))) (named-reads n inside rest s)
+
+port_by-word : (k : ℕ) (gs : List SourcePorts) (direction : Direction) (tokens : List SourceToken) → port_by k gs (Some (direction_word direction)) tokens ≡ another_port k gs direction tokens
+port_by-word k gs Input tokens = refl
+port_by-word k gs Output tokens = refl
+
+abbrev PortParts : ℕ → List SourcePorts → SourcePlace → SourcePorts → List SourceToken → Type 0
+PortParts k gs place g ts =
+    (first : SourcePorts) × (ns : List NamedPlace) × (head behind : List SourceToken) × (ts ≡ head ++ behind) × SpellsBehind SpellsNamed classes.Comma ns behind
+    × EachFits Any ns × (adds add_name first ns ≡ g)
+    × ((rest : List SourceToken) → Closes (next_class rest) → port k g.direction (head ++ rest) ≡ Ok (first, rest))
+    × ((rest : List SourceToken) → Closes (next_class rest) → ports_turn k gs (token_of classes.Comma place ∷ (head ++ rest)) ≡ Ok (Some (gs ++ first ∷ []), rest))
+
+port_parts : (k : ℕ) (gs : List SourcePorts) (place : SourcePlace) (g : SourcePorts) (ts : List SourceToken) → SpellsPorts g ts → ports_height g ≤ k → PortParts k gs place g ts
+unfolding port
+port_parts k gs place g ts h low = by g.names h.7 refl
+  where
+    by : (all : List NamedPlace) → SpellsList SpellsNamed classes.Comma all h.3 → g.names ≡ all → PortParts k gs place g ts
+    by [] listing same = absurd listing
+    by (n ∷ ns) listing same =
+        let word = token_of (direction_word g.direction) g.place in
+        let head = word ∷ (h.0 ++ (h.1 ++ (h.2 ++ listing.0))) in
+        let reads : (rest : List SourceToken) → Closes (next_class rest) → port k g.direction (head ++ rest) ≡ Ok (with_names g (n ∷ []), rest) =
+            λ rest c.
+                let begun = ports_head-reads k g.direction g.place g.is_reg g.signed g.range h.0 h.1 h.2 (listing.0 ++ rest) h.4 h.5 h.6 low (named-first n listing.0 rest listing.2) in
+                ap (port k g.direction) (ports-regrouped word h.0 h.1 h.2 listing.0 rest) ∙ rw (begun, named-reads n listing.0 rest listing.2) refl in
+        (
+          with_names g (n ∷ []),
+          ns,
+          head,
+          listing.1,
+          h.8 ∙ ap (λ f. word ∷ (h.0 ++ (h.1 ++ (h.2 ++ f)))) listing.4 ∙ sym (ports-regrouped word h.0 h.1 h.2 listing.0 listing.1),
+          listing.3,
+          each-any ns,
+          adds-names g ns (n ∷ []) ∙ ap (with_names g) (sym same),
+          reads,
+          λ rest c.
+              ap (λ class. port_by k gs class (head ++ rest)) (next-class (direction_word g.direction) g.place ((h.0 ++ (h.1 ++ (h.2 ++ listing.0))) ++ rest))
+              ∙ port_by-word k gs g.direction (head ++ rest)
+              ∙ ap (λ w. followed w (λ p. give (Some (gs ++ p ∷ [])))) (reads rest c),
+        )
+
+ports_last : (k : ℕ) (gs : List SourcePorts) (rest : List SourceToken) → is_class classes.Comma (next_class rest) ≡ false → ports_turn k gs rest ≡ Ok (None, rest)
+ports_last k gs rest h = by (next_class rest) h
+  where
+    by : (class : Option Class) → is_class classes.Comma class ≡ false → ports_by k gs class rest ≡ Ok (None, rest)
+    by (Some classes.Comma) e = absurd (let p : true ≡ false = e in cc)
+    by _ e = refl
