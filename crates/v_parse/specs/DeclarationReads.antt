@@ -1,5 +1,5 @@
 -- Every spelled parameter, port, net and variable is read.
-use Rattle.std.proofs.Common.{◌≡◌, ℕ, zero, suc, ◌<◌, ◌≤◌, Bool, true, false, List, [], ◌∷◌, ◌++◌, length, Option, Some, None, Ok, refl, sym, ◌∙◌, ap, subst, arith, append_assoc, length-append, ◌⊎◌, inl, inr}
+use Rattle.std.proofs.Common.{◌≡◌, ℕ, zero, suc, ◌<◌, ◌≤◌, Bool, true, false, List, [], ◌∷◌, ◌++◌, length, Option, Some, None, Ok, Err, refl, sym, ◌∙◌, ap, subst, arith, append_assoc, length-append, ◌⊎◌, inl, inr}
 use Rattle.std.proofs.lemmas.List.{append-nil}
 use Rattle.vf_base.specs.Base.{SourcePlace}
 use Rattle.v_tree.specs.Tokens.{SourceToken}
@@ -10,7 +10,7 @@ use Rattle.v_read.specs.declared.class.Class.{Class}
 use Rattle.v_read.specs.declared.class.Class.TheVariants as classes
 use Rattle.v_read.specs.Classes.{same_class, token_of, name_token, IsName}
 use Rattle.v_read.specs.ClassLaws.{same_class-same, class_of-kind_of}
-use Rattle.v_read.specs.Reading.{Reader, ◌>>=◌, followed, give, next_class, is_class, expect, repeat}
+use Rattle.v_read.specs.Reading.{Reading, Reader, ◌>>=◌, followed, give, next_class, is_class, expect, repeat}
 use Rattle.v_read.specs.Separated.{SpellsBehind, SpellsList, separated}
 use Rattle.v_read.specs.Exact.{Language}
 use Rattle.v_read.specs.Branches.{nowhere}
@@ -160,12 +160,11 @@ behind-closes L (x ∷ xs) ts rest h c = subst (λ f. Closes (next_class (f ++ r
 
 -- a loop over groups, each read as its first element is and then one element more at each turn
 module _ {G P : Type 0} (L : Language G) (M : Language P) (add : G → P → G) (F : P → Type 0) (fits : G → Type 0)
-    (group_reader : Reader G) (turn : List G → Reader (Option (List G)))
+    (turn : List G → Reader (Option (List G)))
     (one : (gs : List G) (p : P) (place : SourcePlace) (inside rest : List SourceToken) → M p inside → F p → Closes (next_class rest)
         → turn gs (token_of classes.Comma place ∷ (inside ++ rest)) ≡ Ok (Some (with_last add gs p), rest))
     (another : (gs : List G) (place : SourcePlace) (g : G) (ts : List SourceToken) → L g ts → fits g →
         (first : G) × (ps : List P) × (head behind : List SourceToken) × (ts ≡ head ++ behind) × SpellsBehind M classes.Comma ps behind × EachFits F ps × (adds add first ps ≡ g)
-        × ((rest : List SourceToken) → Closes (next_class rest) → group_reader (head ++ rest) ≡ Ok (first, rest))
         × ((rest : List SourceToken) → Closes (next_class rest) → turn gs (token_of classes.Comma place ∷ (head ++ rest)) ≡ Ok (Some (gs ++ first ∷ []), rest)))
     (last : (gs : List G) (rest : List SourceToken) → is_class classes.Comma (next_class rest) ≡ false → turn gs rest ≡ Ok (None, rest)) where
   elements : (ps : List P) (done : List G) (g : G) (ts rest : List SourceToken) → SpellsBehind M classes.Comma ps ts → EachFits F ps → Closes (next_class rest)
@@ -191,26 +190,28 @@ module _ {G P : Type 0} (L : Language G) (M : Language P) (add : G → P → G) 
       let closes = behind-closes L gs h.2 rest h.4 c in
       ap (λ e. repeat turn done (e ++ rest)) h.5
       ∙ ap (λ e. repeat turn done (token_of classes.Comma h.0 ∷ e)) (append_assoc h.1 h.2 rest ∙ ap (λ e. e ++ (h.2 ++ rest)) a.4 ∙ append_assoc a.2 a.3 (h.2 ++ rest))
-      ∙ turn-is turn done (done ++ a.0 ∷ []) tokens back (a.9 back (behind-closes M a.1 a.3 (h.2 ++ rest) a.5 closes)) (omega (arith, length-append a.2 back))
+      ∙ turn-is turn done (done ++ a.0 ∷ []) tokens back (a.8 back (behind-closes M a.1 a.3 (h.2 ++ rest) a.5 closes)) (omega (arith, length-append a.2 back))
       ∙ elements a.1 done a.0 a.3 (h.2 ++ rest) a.5 a.6 closes
       ∙ ap (λ e. repeat turn (done ++ e ∷ []) (h.2 ++ rest)) a.7
       ∙ more_groups gs (done ++ g ∷ []) h.2 rest h.4 f.1 c other
       ∙ ap (λ w. Ok (w, rest)) (append_assoc done (g ∷ []) gs)
 
-  -- the groups of a list are read
-  pub groups-read : (gs : List G) (ts rest : List SourceToken) → SpellsList L classes.Comma gs ts → EachFits fits gs → Closes (next_class rest) → is_class classes.Comma (next_class rest) ≡ false
-      → followed (group_reader (ts ++ rest)) (λ g. repeat turn (g ∷ [])) ≡ Ok (gs, rest)
-  groups-read [] ts rest h f c other = absurd h
-  groups-read (g ∷ gs) ts rest h f c other =
-      let a = another [] nowhere g h.0 h.2 f.0 in
-      let closes = behind-closes L gs h.1 rest h.3 c in
-      let back = a.3 ++ (h.1 ++ rest) in
-      ap (λ e. followed (group_reader (e ++ rest)) (λ g. repeat turn (g ∷ []))) h.4
-      ∙ ap (λ e. followed (group_reader e) (λ g. repeat turn (g ∷ []))) (append_assoc h.0 h.1 rest ∙ ap (λ e. e ++ (h.1 ++ rest)) a.4 ∙ append_assoc a.2 a.3 (h.1 ++ rest))
-      ∙ ap (λ e. followed e (λ g. repeat turn (g ∷ []))) (a.8 back (behind-closes M a.1 a.3 (h.1 ++ rest) a.5 closes))
-      ∙ elements a.1 [] a.0 a.3 (h.1 ++ rest) a.5 a.6 closes
-      ∙ ap (λ e. repeat turn (e ∷ []) (h.1 ++ rest)) a.7
-      ∙ more_groups gs (g ∷ []) h.1 rest h.3 f.1 c other
+  -- the groups of a list are read, the first by a reader of its own
+  module _ (group_reader : Reader G) (Good : G → Type 0)
+      (begins : (g : G) (ts : List SourceToken) (s : L g ts) (f : fits g) → Good g → (rest : List SourceToken) → Closes (next_class rest)
+          → group_reader ((another [] nowhere g ts s f).2 ++ rest) ≡ Ok ((another [] nowhere g ts s f).0, rest)) where
+    pub groups-read : (g : G) (gs : List G) (ts rest : List SourceToken) → SpellsList L classes.Comma (g ∷ gs) ts → EachFits fits (g ∷ gs) → Good g → Closes (next_class rest)
+        → is_class classes.Comma (next_class rest) ≡ false → followed (group_reader (ts ++ rest)) (λ g. repeat turn (g ∷ [])) ≡ Ok (g ∷ gs, rest)
+    groups-read g gs ts rest h f good c other =
+        let a = another [] nowhere g h.0 h.2 f.0 in
+        let closes = behind-closes L gs h.1 rest h.3 c in
+        let back = a.3 ++ (h.1 ++ rest) in
+        ap (λ e. followed (group_reader (e ++ rest)) (λ g. repeat turn (g ∷ []))) h.4
+        ∙ ap (λ e. followed (group_reader e) (λ g. repeat turn (g ∷ []))) (append_assoc h.0 h.1 rest ∙ ap (λ e. e ++ (h.1 ++ rest)) a.4 ∙ append_assoc a.2 a.3 (h.1 ++ rest))
+        ∙ ap (λ e. followed e (λ g. repeat turn (g ∷ []))) (begins g h.0 h.2 f.0 good back (behind-closes M a.1 a.3 (h.1 ++ rest) a.5 closes))
+        ∙ elements a.1 [] a.0 a.3 (h.1 ++ rest) a.5 a.6 closes
+        ∙ ap (λ e. repeat turn (e ∷ []) (h.1 ++ rest)) a.7
+        ∙ more_groups gs (g ∷ []) h.1 rest h.3 f.1 c other
 
 -- Lists of parameters
 
@@ -279,9 +280,12 @@ groups_last k gs rest h = by (next_class rest) h
 pub groups-reads : (k : ℕ) (gs : List SourceParameters) (ts rest : List SourceToken) → SpellsList SpellsGroup classes.Comma gs ts → greatest parameters_height gs ≤ k
     → Closes (next_class rest) → is_class classes.Comma (next_class rest) ≡ false → groups k (ts ++ rest) ≡ Ok (gs, rest)
 unfolding groups
-groups-reads k gs ts rest h low c other =
-    groups-read SpellsGroup SpellsParameter add_parameter (ParameterWithin k) (λ g. parameters_height g ≤ k) (group k) (groups_turn k) (parameter_one k) (group_parts k) (groups_last k)
-    gs ts rest h (each-fits parameters_height k gs low) c other
+groups-reads k [] ts rest h low c other = absurd h
+groups-reads k (g ∷ gs) ts rest h low c other =
+    groups-read SpellsGroup SpellsParameter add_parameter (ParameterWithin k) (λ g. parameters_height g ≤ k) (groups_turn k) (parameter_one k)
+    (λ gs place g ts s f. let a = group_parts k gs place g ts s f in (a.0, a.1, a.2, a.3, a.4, a.5, a.6, a.7, a.9)) (groups_last k)
+    (group k) Any (λ g ts s f good. (group_parts k [] nowhere g ts s f).8)
+    g gs ts rest h (each-fits parameters_height k (g ∷ gs) low) tt c other
 
 parameter_list_by-other : (k : ℕ) (class : Option Class) (tokens : List SourceToken) → (class ≡ Some classes.Hash → ⊥) → parameter_list_by k class tokens ≡ Ok ([], tokens)
 parameter_list_by-other k (Some classes.Hash) tokens h = absurd (h refl)
@@ -419,3 +423,93 @@ ports_last k gs rest h = by (next_class rest) h
     by : (class : Option Class) → is_class classes.Comma class ≡ false → ports_by k gs class rest ≡ Ok (None, rest)
     by (Some classes.Comma) e = absurd (let p : true ≡ false = e in cc)
     by _ e = refl
+
+-- what stands behind the opening parenthesis of a list of declared ports
+inside_by-word : (k : ℕ) (direction : Direction) (tokens : List SourceToken) → heads_inside k (Some (direction_word direction)) tokens ≡ declared_ports k direction tokens
+inside_by-word k Input tokens = refl
+inside_by-word k Output tokens = refl
+
+-- the first group of ports tells which way its ports go
+ports-first : (g : SourcePorts) (gs : List SourcePorts) (ts rest : List SourceToken) → SpellsList SpellsPorts classes.Comma (g ∷ gs) ts → next_class (ts ++ rest) ≡ Some (direction_word g.direction)
+ports-first g gs ts rest h =
+    ap (λ f. next_class (f ++ rest)) h.4 ∙ ap next_class (append_assoc h.0 h.1 rest) ∙ ap (λ f. next_class (f ++ (h.1 ++ rest))) h.2.8
+    ∙ next-class (direction_word g.direction) g.place ((h.2.0 ++ (h.2.1 ++ (h.2.2 ++ h.2.3))) ++ (h.1 ++ rest))
+
+declared_ports-reads : (k : ℕ) (g : SourcePorts) (gs : List SourcePorts) (ts : List SourceToken) (close : SourcePlace) (rest : List SourceToken) → SpellsList SpellsPorts classes.Comma (g ∷ gs) ts
+    → greatest ports_height (g ∷ gs) ≤ k → declared_ports k g.direction (ts ++ token_of classes.RightParen close ∷ rest) ≡ Ok (DeclaredHeads (g ∷ gs), rest)
+unfolding declared_ports
+declared_ports-reads k g gs ts close rest h low =
+    let back = token_of classes.RightParen close ∷ rest in
+    let read = groups-read SpellsPorts SpellsNamed add_name Any (λ g. ports_height g ≤ k) (ports_turn k) (name_one k)
+        (λ gs place g ts s f. let a = port_parts k gs place g ts s f in (a.0, a.1, a.2, a.3, a.4, a.5, a.6, a.7, a.9)) (ports_last k)
+        (port k g.direction) (λ d. d.direction ≡ g.direction)
+        (λ d ts s f good rest c.
+            let a = port_parts k [] nowhere d ts s f in
+            ap (λ (w : Direction). port k w (a.2 ++ rest)) (sym good) ∙ a.8 rest c)
+        g gs ts back h (each-fits ports_height k (g ∷ gs) low) refl refl refl in
+    bound (port k g.direction) (λ p. repeat (ports_turn k) (p ∷ [])) (λ ps. expect classes.RightParen >>= λ closing. give (DeclaredHeads ps)) (ts ++ back) (g ∷ gs) back read
+  where
+    bound : {A B D : Type 0} (first : Reader A) (second : A → Reader B) (third : B → Reader D) (tokens : List SourceToken) (x : B) (rest : List SourceToken)
+        → followed (first tokens) second ≡ Ok (x, rest) → followed (first tokens) (λ a. second a >>= third) ≡ third x rest
+    bound {A} first second third tokens x rest e = sym (again (first tokens)) ∙ ap (λ r. followed r third) e
+      where
+        again : (r : Reading A) → followed (followed r second) third ≡ followed r (λ a. second a >>= third)
+        again (Ok y) = refl
+        again (Err stop) = refl
+
+pub heads-reads : (k : ℕ) (hs : SourceHeads) (ts rest : List SourceToken) → SpellsHeads hs ts → heads_height hs ≤ k → (next_class rest ≡ Some classes.LeftParen → ⊥) → heads k (ts ++ rest) ≡ Ok (hs, rest)
+unfolding heads
+heads-reads k (PlainHeads []) ts rest (inl e) low other = ap (λ f. heads k (f ++ rest)) e ∙ none (next_class rest) other
+  where
+    none : (class : Option Class) → (class ≡ Some classes.LeftParen → ⊥) → heads_by k class rest ≡ Ok (PlainHeads [], rest)
+    none (Some classes.LeftParen) h = absurd (h refl)
+    none _ h = refl
+heads-reads k (PlainHeads []) ts rest (inr h) low other =
+    ap (λ f. heads k (f ++ rest)) (h.4 ∙ ap (λ f. token_of classes.LeftParen h.0 ∷ (f ++ token_of classes.RightParen h.1 ∷ [])) h.3)
+heads-reads k (PlainHeads (n ∷ names)) ts rest h low other =
+    let close = token_of classes.RightParen h.1 ∷ rest in
+    let read = separated-reads named SpellsNamed Any Closes classes.Comma refl (λ n ts rest s f c. named-reads n ts rest s) (n ∷ names) h.2 close h.3 (each-any (n ∷ names)) refl refl in
+    ap (λ f. heads k (f ++ rest)) h.4
+    ∙ ap (λ f. heads k (token_of classes.LeftParen h.0 ∷ f)) (append_assoc h.2 (token_of classes.RightParen h.1 ∷ []) rest)
+    ∙ ap (λ class. heads_inside k class (h.2 ++ close)) (list-first SpellsNamed classes.Comma classes.Name named-first (n ∷ names) h.2 close h.3)
+    ∙ rw read refl
+heads-reads k (DeclaredHeads []) ts rest h low other = absurd h.3
+heads-reads k (DeclaredHeads (g ∷ gs)) ts rest h low other =
+    let close = token_of classes.RightParen h.1 ∷ rest in
+    ap (λ f. heads k (f ++ rest)) h.4
+    ∙ ap (λ f. heads k (token_of classes.LeftParen h.0 ∷ f)) (append_assoc h.2 (token_of classes.RightParen h.1 ∷ []) rest)
+    ∙ ap (λ class. heads_inside k class (h.2 ++ close)) (ports-first g gs h.2 close h.3)
+    ∙ inside_by-word k g.direction (h.2 ++ close)
+    ∙ declared_ports-reads k g gs h.2 h.1 rest h.3 low
+
+-- Nets and variables
+
+pub wire-reads : (k : ℕ) (w : SourceWire) (ts rest : List SourceToken) → SpellsWire w ts → wire_height w ≤ k → Closes (next_class rest) → wire k (ts ++ rest) ≡ Ok (w, rest)
+unfolding wire
+wire-reads k w ts rest h low c =
+    ap (λ f. wire k (f ++ rest)) h.3 ∙ rw (name-reads w.name w.place (h.1 ++ rest) h.0, value-reads k w.value h.1 rest h.2 low c) refl
+
+pub wire-first : (w : SourceWire) (ts rest : List SourceToken) → SpellsWire w ts → next_class (ts ++ rest) ≡ Some classes.Name
+wire-first w ts rest h = ap (λ f. next_class (f ++ rest)) h.3 ∙ ap (λ (c : Class). Some c) h.0
+
+content_by-closer : (k : ℕ) (class : Option Class) (tokens : List SourceToken) → Closes class → content_by k class tokens ≡ Ok (NoContent, tokens)
+content_by-closer k (Some classes.Assign) tokens h = absurd (let p : false ≡ true = h in cc)
+content_by-closer k (Some classes.LeftBracket) tokens h = absurd (let p : false ≡ true = h in cc)
+content_by-closer k _ tokens h = refl
+
+pub content-reads : (k : ℕ) (c : SourceContent) (ts rest : List SourceToken) → SpellsContent c ts → content_height c ≤ k → Closes (next_class rest) → content k (ts ++ rest) ≡ Ok (c, rest)
+unfolding content
+content-reads k NoContent ts rest h low ends = ap (λ f. content k (f ++ rest)) h ∙ content_by-closer k (next_class rest) rest ends
+content-reads k (FirstContent e) ts rest h low ends =
+    ap (λ f. content k (f ++ rest)) h.3 ∙ ap (λ w. followed w (λ e. give (FirstContent e))) (expression-reads k e h.1 rest h.2 low (closer-ends (next_class rest) ends))
+content-reads k (MemoryBounds r) ts rest h low ends =
+    ap (λ c. content_by k c (ts ++ rest)) (ap (λ f. next_class (f ++ rest)) h.6)
+    ∙ ap (λ w. followed w (λ r. give (MemoryBounds r))) (range-reads k r ts rest h low)
+
+pub reg-reads : (k : ℕ) (r : SourceReg) (ts rest : List SourceToken) → SpellsReg r ts → reg_height r ≤ k → Closes (next_class rest) → reg k (ts ++ rest) ≡ Ok (r, rest)
+unfolding reg
+reg-reads k r ts rest h low c =
+    ap (λ f. reg k (f ++ rest)) h.3 ∙ rw (name-reads r.name r.place (h.1 ++ rest) h.0, content-reads k r.content h.1 rest h.2 low c) refl
+
+pub reg-first : (r : SourceReg) (ts rest : List SourceToken) → SpellsReg r ts → next_class (ts ++ rest) ≡ Some classes.Name
+reg-first r ts rest h = ap (λ f. next_class (f ++ rest)) h.3 ∙ ap (λ (c : Class). Some c) h.0
