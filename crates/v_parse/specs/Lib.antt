@@ -5,3 +5,4 @@ pub mod DeclarationExact
 pub mod ConnectionExact
 pub mod ItemExact
 pub mod DeclarationReads
+pub mod ConnectionReads
