@@ -6,7 +6,7 @@ use Rattle.four_value.specs.declared.operator.GateKind.TheVariants.{And, Nand, O
 use Rattle.v_tree.specs.Tokens.{SourceToken}
 use Rattle.v_tree.specs.declared.item.Direction.{Direction}
 use Rattle.v_tree.specs.declared.item.Direction.TheVariants.{Input, Output}
-use Rattle.v_tree.specs.Trees.{SourceItem, ParameterItem, PortItem, WireItem, RegItem, IntegerItem, AssignItem, GateItem, InstanceItem, InitialItem, AlwaysItem, SourceWire, SourceReg, SourceAssignment, SourceGate, SourceInstance, SourceModule, SourceUnit}
+use Rattle.v_tree.specs.Trees.{SourceItem, ParameterItem, PortItem, WireItem, RegItem, IntegerItem, AssignItem, GateItem, InstanceItem, InitialItem, AlwaysItem, SourceRange, SourceWire, SourceReg, SourceAssignment, SourceGate, SourceInstance, SourceModule, SourceUnit}
 use Rattle.v_read.specs.declared.class.Class.{Class}
 use Rattle.v_read.specs.declared.class.Class.TheVariants as classes
 use Rattle.v_read.specs.Classes.{is_fixed, token_of, name_token}
@@ -170,7 +170,7 @@ each-append L [] front x inside h s = (inside, [], s, refl, ap (λ f. f ++ (insi
 each-append L (y ∷ xs) front x inside h s =
     (h.0, h.1 ++ (inside ++ []), h.2, each-append L xs h.1 x inside h.3 s, ap (λ f. f ++ (inside ++ [])) h.4 ∙ append_assoc h.0 h.1 (inside ++ []))
 
-declared-tokens : {A : Type 0} (word : Class) (place : SourcePlace) (s : Bool) (w : Option Rattle.v_tree.specs.Trees.SourceRange) (L : A → List SourceToken → Type 0) (xs : List A) (ts : List SourceToken)
+declared-tokens : {A : Type 0} (word : Class) (place : SourcePlace) (s : Bool) (w : Option SourceRange) (L : A → List SourceToken → Type 0) (xs : List A) (ts : List SourceToken)
     → SpellsDeclared word place s w L xs ts → 0 < length ts
 declared-tokens word place s w L xs ts h = omega (arith, ap length h.7)
 
@@ -231,7 +231,7 @@ module-exact {C} k =
 abbrev pub ModulesWithin : ℕ → List SourceModule → Type 0
 ModulesWithin k ms = greatest module_height ms ≤ k
 
-module-tokens : (m : SourceModule) (ts : List SourceToken) → SpellsModule m ts → 0 < length ts
+pub module-tokens : (m : SourceModule) (ts : List SourceToken) → SpellsModule m ts → 0 < length ts
 module-tokens m ts h = omega (arith, ap length h.10)
 
 modules_turn-exact : {C : Type 0} (k : ℕ) (ms : List SourceModule) (front : List SourceToken) → SpellsEach SpellsModule ms front

@@ -6,3 +6,4 @@ pub mod ConnectionExact
 pub mod ItemExact
 pub mod DeclarationReads
 pub mod ConnectionReads
+pub mod ItemReads
