@@ -21,7 +21,7 @@ use Rattle.v_read.specs.SeparatedLaws.{EachFits, exact-separated, turn-exact}
 use Rattle.v_expr.specs.Operators.{unary_of, binary_of, level_of}
 use Rattle.v_expr.specs.Spelling.{rank_of, place_of, SpellsExpression, SpellsIndex, SpellsParts, SpellsMoreParts}
 use Rattle.v_expr.specs.Heights.{height_of, index_height, heights_of}
-use Rattle.v_expr.specs.Expressions.{parts_of, bounds_by, bounds, index_by, index, braced_by, braced, prefixed_by, primary_by, primary, operator_of, joining, operand_rank, operand_by, operand_turn, operands, branches, choice_by, choice, inner_of, expression}
+use Rattle.v_expr.specs.Expressions.{parts_of, bounds_by, bounds, index_by, index, replication, concatenation, braced_by, braced, prefixed_by, primary_by, primary, operator_of, joining, operand_rank, operand_by, operand_turn, operands, branches, choice_by, choice, inner_of, expression}
 
 abbrev pub SpellsRanked : ℕ → Language SourceExpression
 SpellsRanked rank e ts = (rank_of e ≤ rank) × SpellsExpression e ts
@@ -189,7 +189,8 @@ module _ (k : ℕ) (inner : InnerExact k) where
   )
 
   concatenation-exact : {C : Type 0} (place : SourcePlace) (first : SourceExpression) (before : List SourceToken) → SpellsRanked 11 first before
-      → Exact (Started C k first) (λ m. braced_by (inner_of m) first place None) k (Braced place before) (Within k)
+      → Exact (Started C k first) (λ m. concatenation (inner_of m) first place) k (Braced place before) (Within k)
+  unfolding concatenation
   concatenation-exact {C} place first before spelled =
       exact-bind (exact-under (λ c. (c.0.1, (c.1, tt)))
       (exact-repeat {C = 0 < k} (λ m. element_turn classes.Comma (inner_of m 11)) {N = SpellsList (SpellsRanked 11) classes.Comma} {G = EachFits (Below k)}
@@ -199,9 +200,10 @@ module _ (k : ℕ) (inner : InnerExact k) where
       (λ c. let low : heights_of (parts_of parts) < k = parts-below k parts c.0.0.1 c.1 in omega (arith, low))))
 
   replication-exact : {C : Type 0} (place : SourcePlace) (first : SourceExpression) (before : List SourceToken) → SpellsRanked 11 first before → {class : Option Class} → class ≡ Some classes.LeftBrace
-      → Branch (Started C k first) (λ m. braced_by (inner_of m) first place (Some classes.LeftBrace)) k (Braced place before) (Within k) class
+      → Branch (Started C k first) (λ m. replication (inner_of m) first place) k (Braced place before) (Within k) class
+  unfolding replication
   replication-exact {C} place first before spelled {class} is =
-      subst (λ w. Branch (Started C k first) (λ m. braced_by (inner_of m) first place (Some classes.LeftBrace)) k (Braced place before) (Within k) w) (sym is)
+      subst (λ w. Branch (Started C k first) (λ m. replication (inner_of m) first place) k (Braced place before) (Within k) w) (sym is)
       (branch-step refl (λ opening.
       exact-bind (exact-under (λ c. c.0.1) (exact-separated (λ m. inner_of m 11) k (SpellsRanked 11) (Below k) classes.Comma refl (inner 11))) (λ parts inside all.
       exact-after classes.RightBrace refl (λ inner_closing.

@@ -1,5 +1,5 @@
 -- Every spelled expression is read.
-use Rattle.std.proofs.Common.{◌≡◌, ℕ, zero, suc, ◌<◌, ◌≤◌, List, [], ◌∷◌, ◌++◌, Option, Some, None, Ok, refl, sym, ◌∙◌, ap, subst, arith, append_assoc, length-append, lt-ltb, Bool, true, false, leb-true, leb-false, le-leb}
+use Rattle.std.proofs.Common.{◌≡◌, ℕ, max, zero, suc, ◌<◌, ◌≤◌, List, [], ◌∷◌, ◌++◌, Option, Some, None, Ok, refl, sym, ◌∙◌, ap, subst, arith, append_assoc, length-append, lt-ltb, Bool, true, false, leb-true, leb-false, le-leb}
 use Rattle.std.specs.Prelude.{nat_lt, nat_le, if◌then◌else◌}
 use Rattle.four_value.specs.declared.operator.UnaryOperator.{UnaryOperator}
 use Rattle.four_value.specs.declared.operator.BinaryOperator.{BinaryOperator}
@@ -10,14 +10,14 @@ use Rattle.v_read.specs.declared.class.Class.{Class}
 use Rattle.v_read.specs.declared.class.Class.TheVariants as classes
 use Rattle.v_read.specs.Classes.{token_of, name_token, IsName}
 use Rattle.v_read.specs.ClassLaws.{class_of-kind_of}
-use Rattle.v_read.specs.Reading.{followed, give, by_class, next_class, repeat}
+use Rattle.v_read.specs.Reading.{Reading, followed, give, by_class, next_class, repeat}
 use Rattle.v_read.specs.Separated.{SpellsBehind, SpellsList, element_turn, separated}
 use Rattle.v_read.specs.Reads.{turn-is, last-is, name-reads, separated-reads, behind-reads}
 use Rattle.v_read.specs.SeparatedLaws.{EachFits}
 use Rattle.v_expr.specs.Operators.{unary_of, binary_of, level_of}
 use Rattle.v_expr.specs.Spelling.{rank_of, SpellsExpression, SpellsIndex, SpellsParts, SpellsMoreParts}
 use Rattle.v_expr.specs.Heights.{height_of, index_height, heights_of}
-use Rattle.v_expr.specs.Expressions.{parts_of, bounds, index_by, index, braced_by, braced, prefixed_by, primary_by, primary, operator_of, joining, operand_rank, operand_by, operand_turn, operands, branches, choice_by, choice, inner_of, expression}
+use Rattle.v_expr.specs.Expressions.{parts_of, bounds, index_by, index, replication, concatenation, braced_by, braced, prefixed_by, primary_by, primary, operator_of, joining, operand_rank, operand_by, operand_turn, operands, branches, choice_by, choice, inner_of, expression}
 use Rattle.v_expr.specs.ExpressionExact.{SpellsRanked, Below, level_of-some}
 
 -- the level of an operator, or 12 where there is none
@@ -191,7 +191,7 @@ module _ (k : ℕ) (inner : InnerReads k) where
       by' class e = ap (λ o. prefixed_by k (inner_of k) o (token_of sign place ∷ rest)) e
 
   pub primary-reads : (e : SourceExpression) (ts rest : List SourceToken) → SpellsRanked 0 e ts → height_of e ≤ k → Ends 0 rest → primary k (inner_of k) (ts ++ rest) ≡ Ok (e, rest)
-  unfolding primary braced
+  unfolding primary braced concatenation replication
   primary-reads (Number place form value) ts rest s h ends = ap (λ f. primary k (inner_of k) (f ++ rest)) s.1
   primary-reads (Selected place name at) ts rest s h ends =
       let t = s.1 in
@@ -318,3 +318,14 @@ inner-reads (suc k) rank e ts rest s h ends = ranked-reads k (inner-reads k) ran
 pub expression-reads : (k : ℕ) (e : SourceExpression) (ts rest : List SourceToken) → SpellsExpression e ts → height_of e ≤ k → Ends 11 rest → expression k (ts ++ rest) ≡ Ok (e, rest)
 unfolding expression
 expression-reads k e ts rest s h ends = choice-reads k (inner-reads k) e ts rest (rank-top e, s) h ends
+
+same-read : (x y : SourceExpression × List SourceToken) → ◌≡◌ {A = Reading SourceExpression} (Ok x) (Ok y) → x ≡ y
+same-read x y p = cc
+
+-- tokens spell at most one expression
+pub expression-one : (d e : SourceExpression) (ts : List SourceToken) → SpellsExpression d ts → SpellsExpression e ts → d ≡ e
+expression-one d e ts s t =
+    let k = max (height_of d) (height_of e) in
+    let first : expression k (ts ++ []) ≡ Ok (d, []) = expression-reads k d ts [] s (omega arith) (omega arith) in
+    let second : expression k (ts ++ []) ≡ Ok (e, []) = expression-reads k e ts [] t (omega arith) (omega arith) in
+    ap (λ (x : SourceExpression × List SourceToken). x.0) (same-read (d, []) (e, []) (sym first ∙ second))

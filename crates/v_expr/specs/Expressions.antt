@@ -47,18 +47,26 @@ index_by k inner _ = give NoIndex
 unfoldable pub index : ℕ → Inner → Reader SourceIndex
 index k inner = by_class (index_by k inner)
 
--- behind the first expression in braces: what is repeated, or more parts
-abbrev pub braced_by : Inner → SourceExpression → SourcePlace → Option Class → Reader SourceExpression
-braced_by inner first place (Some classes.LeftBrace) = do
+-- what is repeated, behind the count
+unfoldable pub replication : Inner → SourceExpression → SourcePlace → Reader SourceExpression
+replication inner count place = do
   opening ← step
   parts ← separated classes.Comma (inner 11)
   inner_closing ← expect classes.RightBrace
   closing ← expect classes.RightBrace
-  give (Replicated place first (parts_of parts))
-braced_by inner first place _ = do
+  give (Replicated place count (parts_of parts))
+
+-- the parts behind a first one, and their end
+unfoldable pub concatenation : Inner → SourceExpression → SourcePlace → Reader SourceExpression
+concatenation inner first place = do
   parts ← repeat (element_turn classes.Comma (inner 11)) (first ∷ [])
   closing ← expect classes.RightBrace
   give (Concatenated place (parts_of parts))
+
+-- behind the first expression in braces: what is repeated, or more parts
+abbrev pub braced_by : Inner → SourceExpression → SourcePlace → Option Class → Reader SourceExpression
+braced_by inner first place (Some classes.LeftBrace) = replication inner first place
+braced_by inner first place _ = concatenation inner first place
 
 -- a concatenation or a replication behind its first expression
 unfoldable pub braced : Inner → SourceExpression → SourcePlace → Reader SourceExpression

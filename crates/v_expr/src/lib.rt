@@ -1,7 +1,17 @@
-//! Expressions, selects, targets, ranges and delays: how tokens spell them (IEEE 1364-2001, annex A.8 and clause 4).
+//! Expressions, selects, targets, ranges and delays: how tokens spell them, and reading them (IEEE 1364-2001, annex A.8 and clause 4).
 //!
-//! `specs/Spelling` says from the tree which tokens spell it, and `specs/Heights` how many levels stand below its outermost one.
-//! `specs/Expressions` and `specs/Parts` have the readers. `specs/ExpressionExact` and `specs/PartLaws` show that they are exact: what is
-//! read is spelled, and where reading stops, what stands before begins a spelling and none goes on through that token, or none of so few
-//! levels. `specs/ExpressionReads` shows that each spelled expression within the levels is read.
+//! `specs/Spelling` says from the tree which tokens spell it, and `specs/Heights` how many levels stand below its outermost one. The calls
+//! read from the left within a number of levels; each does what the reader of its name in `specs/Expressions` and `specs/Parts` does.
+//! `specs/ExpressionExact` and `specs/PartLaws` show that these readers are exact: what is read is spelled, and where reading stops, what
+//! stands before begins a spelling and none goes on through that token, or none of so few levels. `specs/ExpressionReads` shows that each
+//! spelled expression within the levels is read.
 #![tactic(auto)]
+
+mod expressions;
+mod operators;
+mod parts;
+
+pub use expressions::expression;
+pub use parts::{
+    delay, inner_delay, inner_expression, inner_select, inner_target, range, select, target,
+};

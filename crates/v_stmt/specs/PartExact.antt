@@ -21,7 +21,7 @@ use Rattle.v_expr.specs.ExpressionExact.{Below}
 use Rattle.v_expr.specs.PartLaws.{inner_expression-exact, inner_select-exact, inner_target-exact, inner_delay-exact}
 use Rattle.v_stmt.specs.Spelling.{SpellsLabel, SpellsColon, SpellsEdge, SpellsEntry, is_entry_separator, SpellsMoreEntries, SpellsEntries, name_entry, SpellsWaits, SpellsInnerDelay, is_balanced, SpellsArguments}
 use Rattle.v_stmt.specs.Heights.{entries_height, waits_height, delay_height}
-use Rattle.v_stmt.specs.Statements.{label_by, label, colon_by, colon, edged, entry_by, entry, another_entry, entries_by, entries_turn, entries, inside_by, waits_by, waits, assigned_delay_by, assigned_delay, skipped, arguments_by, arguments, condition, head_assignment}
+use Rattle.v_stmt.specs.Statements.{label_by, label, colon_by, colon, edged, entry_by, entry, another_entry, entries_by, entries_turn, entry_row, entries, inside_by, waits_by, waits, assigned_delay_by, assigned_delay, skipped, arguments_by, arguments, condition, head_assignment}
 
 -- What stands one level down
 
@@ -136,17 +136,20 @@ entries_turn-exact k es front here = exact-by_class (λ m. entries_by m es) ((No
 abbrev pub WaitsBelow : ℕ → SourceWaits → Type 0
 WaitsBelow k w = waits_height w < k
 
+entry_row-exact : (k : ℕ) → Exact (0 < k) entry_row k SpellsEntries (EntriesBelow k)
+unfolding entry_row
+entry_row-exact k =
+    exact-bind (entry-exact k) (λ e front spelled.
+    exact-under (λ c. (c.0, let h : select_height e.select < k = c.1 in omega arith))
+    (exact-repeat {C = 0 < k} entries_turn {N = SpellsEntries} {G = EntriesBelow k} (entries_turn-exact k) (e ∷ []) front
+    (front, [], spelled, refl, sym (append-nil front))))
+
 entries-exact : (k : ℕ) (opening : SourcePlace) → Exact (0 < k) entries k (behind (token_of classes.LeftParen opening ∷ []) SpellsWaits) (WaitsBelow k)
 unfolding entries
 entries-exact k opening =
-    exact-bind (entry-exact k) (λ e front spelled.
-    exact-bind (exact-under (λ c. (c.0, let h : select_height e.select < k = c.1 in omega arith))
-    (exact-repeat {C = 0 < k} entries_turn {N = SpellsEntries} {G = EntriesBelow k} (entries_turn-exact k) (e ∷ []) front
-    (front, [], spelled, refl, sym (append-nil front)))) (λ all more listed.
+    exact-bind (entry_row-exact k) (λ all inside listed.
     exact-after classes.RightParen refl (λ closing.
-    exact-give (OnEntries all)
-    (inr (opening, closing, front ++ more, listed, ap (λ f. token_of classes.LeftParen opening ∷ f) (sym (append_assoc front more (token_of classes.RightParen closing ∷ [])))))
-    (λ c. c.1))))
+    exact-give (OnEntries all) (inr (opening, closing, inside, listed, refl)) (λ c. c.1)))
 
 pub waits-exact : (k : ℕ) → Exact (0 < k) waits k SpellsWaits (WaitsBelow k)
 unfolding waits

@@ -22,7 +22,7 @@ use Rattle.v_expr.specs.ExpressionReads.{Ends, EndsBefore}
 use Rattle.v_expr.specs.PartLaws.{inner_expression-reads, inner_select-reads, inner_target-reads, inner_delay-reads}
 use Rattle.v_stmt.specs.Spelling.{SpellsLabel, SpellsColon, SpellsEdge, SpellsEntry, is_entry_separator, SpellsMoreEntries, SpellsEntries, name_entry, SpellsWaits, SpellsInnerDelay, is_balanced, SpellsArguments}
 use Rattle.v_stmt.specs.Heights.{entries_height, waits_height, delay_height}
-use Rattle.v_stmt.specs.Statements.{label_by, label, colon_by, colon, edged, entry_by, entry, another_entry, entries_by, entries_turn, entries, inside_by, waits_by, waits, assigned_delay_by, assigned_delay, skipped, arguments_by, arguments, condition, head_assignment}
+use Rattle.v_stmt.specs.Statements.{label_by, label, colon_by, colon, edged, entry_by, entry, another_entry, entries_by, entries_turn, entry_row, entries, inside_by, waits_by, waits, assigned_delay_by, assigned_delay, skipped, arguments_by, arguments, condition, head_assignment}
 use Rattle.v_stmt.specs.PartExact.{SpellsCondition, SpellsHead}
 
 -- What an expression begins with
@@ -168,17 +168,21 @@ more_entries-reads k (e ∷ es) done ts closing rest h low =
     ∙ more_entries-reads k es (done ++ e ∷ []) h.4 closing rest h.6 (omega arith)
     ∙ ap (λ w. Ok (w, token_of classes.RightParen closing ∷ rest)) (append_assoc done (e ∷ []) es)
 
+entry_row-reads : (k : ℕ) (es : List SourceEntry) (ts : List SourceToken) (closing : SourcePlace) (rest : List SourceToken) → SpellsEntries es ts → entries_height es < k
+    → entry_row k (ts ++ token_of classes.RightParen closing ∷ rest) ≡ Ok (es, token_of classes.RightParen closing ∷ rest)
+unfolding entry_row
+entry_row-reads k [] ts closing rest h low = absurd h
+entry_row-reads k (e ∷ es) ts closing rest h low =
+    let read = entry-reads k e h.0 (h.1 ++ token_of classes.RightParen closing ∷ rest) h.2 (omega arith) (more_entries-ends es h.1 (token_of classes.RightParen closing ∷ rest) h.3 (omega arith)) in
+    let more = more_entries-reads k es (e ∷ []) h.1 closing rest h.3 (omega arith) in
+    ap (λ f. entry_row k (f ++ token_of classes.RightParen closing ∷ rest)) h.4
+    ∙ ap (entry_row k) (append_assoc h.0 h.1 (token_of classes.RightParen closing ∷ rest))
+    ∙ rw (read, more) refl
+
 entries-reads : (k : ℕ) (es : List SourceEntry) (ts : List SourceToken) (closing : SourcePlace) (rest : List SourceToken) → SpellsEntries es ts → entries_height es < k
     → entries k (ts ++ token_of classes.RightParen closing ∷ rest) ≡ Ok (OnEntries es, rest)
 unfolding entries
-entries-reads k [] ts closing rest h low = absurd h
-entries-reads k (e ∷ es) ts closing rest h low =
-    let end = token_of classes.RightParen closing ∷ rest in
-    let read = entry-reads k e h.0 (h.1 ++ token_of classes.RightParen closing ∷ rest) h.2 (omega arith) (more_entries-ends es h.1 (token_of classes.RightParen closing ∷ rest) h.3 (omega arith)) in
-    let more = more_entries-reads k es (e ∷ []) h.1 closing rest h.3 (omega arith) in
-    ap (λ f. entries k (f ++ token_of classes.RightParen closing ∷ rest)) h.4
-    ∙ ap (entries k) (append_assoc h.0 h.1 (token_of classes.RightParen closing ∷ rest))
-    ∙ rw (read, more) refl
+entries-reads k es ts closing rest h low = rw (entry_row-reads k es ts closing rest h low) refl
 
 -- an entry begins with none of these
 entry-first : (e : SourceEntry) (ts rest : List SourceToken) → SpellsEntry e ts → next_class (ts ++ rest) ≡ Some classes.Star → ⊥

@@ -13,7 +13,7 @@ use Rattle.v_read.specs.declared.class.Class.{Class}
 use Rattle.v_read.specs.declared.class.Class.TheVariants as classes
 use Rattle.v_read.specs.Classes.{class_of, is_fixed, token_at, token_of, name_token, IsName}
 use Rattle.v_read.specs.ClassLaws.{name-kind}
-use Rattle.v_read.specs.Reading.{Reader, ◌>>=◌, give, wrong, place_of, by_class, name_in, repeat}
+use Rattle.v_read.specs.Reading.{Reader, ◌>>=◌, give, wrong, place_of, by_class, expect, step, name_in, repeat}
 use Rattle.v_read.specs.Separated.{SpellsBehind, SpellsList}
 use Rattle.v_read.specs.Exact.{Language, Family, Exact, behind, exact-bind, exact-under, exact-give, exact-weaken, exact-shift}
 use Rattle.v_read.specs.Branches.{nowhere, IsOf, Some-of, Branch, branch, branch-wrong, branch-step, branch-down, branch-ready, exact-by_class, exact-after, exact-pass, is-fixed-token}
@@ -27,7 +27,7 @@ use Rattle.v_stmt.specs.Spelling.{SpellsLabel, SpellsColon, SpellsWaits, SpellsI
 use Rattle.v_stmt.specs.Heights.{waits_height, delay_height, statement_height, body_height, items_height}
 use Rattle.v_expr.specs.Parts.{inner_expression, inner_target, inner_delay}
 use Rattle.v_expr.specs.PartLaws.{inner_expression-exact, inner_target-exact, inner_delay-exact}
-use Rattle.v_stmt.specs.Statements.{assigned_delay, arguments, task, Assigning, assigned, assignment_by, assignment, another, begins_statement, begins, body_by, body_turn, statements_list, block, condition, second_branch, else_by, conditional, Looping, loop, forever, head_assignment, for_loop, event, delayed, CasePart, item_before, items_list, default_item, labelled_item, item_by, item, items_by, items_turn, case, statement_by, below_of, statement}
+use Rattle.v_stmt.specs.Statements.{assigned_delay, arguments, task, assigned, assignment_by, assignment, another, begins_statement, begins, body_by, body_turn, statements_list, block, condition, second_branch, else_by, conditional, Looping, loop, forever, head_assignment, for_loop, event, delayed, CasePart, item_before, items_list, default_item, labelled_item, item_by, item, items_by, items_turn, case, statement_by, below_of, statement}
 use Rattle.v_stmt.specs.PartExact.{TargetBelow, WaitsBelow, DelayBelow, label-exact, colon-exact, a_name, a_name-is, a_select, waits-exact, assigned_delay-exact, SpellsCondition, condition-exact, SpellsHead, HeadBelow, head-exact, arguments-exact}
 
 abbrev pub StatementWithin : ℕ → SourceStatement → Type 0
@@ -213,36 +213,63 @@ some-tokens (FinishTask place) ts h = omega (arith, ap length h.6)
 
 -- Tasks and assignments
 
-task-exact : {C : Type 0} {k : ℕ} (class : Class) (made : SourcePlace → SourceStatement)
-    → ((place : SourcePlace) (ts : List SourceToken) → SpellsTask class place ts → SpellsStatement (made place) ts)
-    → ((place : SourcePlace) → statement_height (made place) ≤ 0) → Exact C (λ m. task class made) k SpellsStatement (StatementWithin k)
+-- how a statement is made of its delay and its value
+abbrev Assigning : Type 0
+Assigning = Option SourceExpression → SourceExpression → SourceStatement
+
+task-exact : {C : Type 0} {k : ℕ} (class : Class) → Exact C (λ m. task class) k (SpellsTask class) (λ place. Unit {0})
 unfolding task
-task-exact {C} {k} class made so low =
-    exact-bind (exact-pass class) (λ t front named.
+task-exact {C} {k} class =
+    exact-bind named-exact (λ place front named.
     exact-bind arguments-exact (λ nothing inside spelled.
     exact-after classes.Semicolon refl (λ closing.
-    exact-give (made (place_of t))
-    (so (place_of t) (front ++ (inside ++ token_of classes.Semicolon closing ∷ []))
-    (t, named.0, refl, closing, inside, spelled, ap (λ f. f ++ (inside ++ token_of classes.Semicolon closing ∷ [])) named.1))
-    (λ c. omega (arith, low (place_of t))))))
+    exact-give place
+    (named.0, named.1, named.2, closing, inside, spelled, ap (λ f. f ++ (inside ++ token_of classes.Semicolon closing ∷ [])) named.3)
+    (λ c. tt))))
+  where
+    Named : Language SourcePlace
+    Named place ts = (name : SourceToken) × (class_of name.kind ≡ class) × (place_of name ≡ place) × (ts ≡ name ∷ [])
+
+    named-exact : Exact C (λ m. expect class) k (λ place ts. (name : SourceToken) × (class_of name.kind ≡ class) × (place_of name ≡ place) × (ts ≡ name ∷ [])) (λ place. Unit {0})
+    named-exact = exact-bind (exact-pass class) (λ t front named. exact-give (place_of t) (t, named.0, refl, ap (λ f. f ++ []) named.1) (λ c. tt))
+
+task-branch : {C : Type 0} {k : ℕ} {seen : Option Class} (class : Class) (made : SourcePlace → SourceStatement)
+    → ((place : SourcePlace) (ts : List SourceToken) → SpellsTask class place ts → SpellsStatement (made place) ts)
+    → ((place : SourcePlace) → statement_height (made place) ≤ 0) → Branch C (λ m. task class >>= λ place. give (made place)) k SpellsStatement (StatementWithin k) seen
+task-branch class made so low = branch (exact-bind (task-exact class) (λ place front spelled.
+    exact-give (made place) (so place (front ++ []) (subst (SpellsTask class place) (sym (append-nil front)) spelled)) (λ c. omega (arith, low place))))
 
 module _ (k : ℕ) where
-  -- what stands behind the sign of an assignment, whose tokens are spelled so
+  -- these tokens spell what stands behind the sign of an assignment
+  SpellsAssigned : Language (Option SourceExpression × SourceExpression)
+  SpellsAssigned x ts =
+      (end_place : SourcePlace) × (between after : List SourceToken) × SpellsInnerDelay x.0 between × SpellsExpression x.1 after
+      × (ts ≡ between ++ (after ++ token_of classes.Semicolon end_place ∷ []))
+
+  assigned-exact : Exact (0 < k) assigned k SpellsAssigned (λ x. DelayBelow k x.0 × Below k x.1)
+  unfolding assigned SpellsAssigned
+  assigned-exact =
+      exact-bind (assigned_delay-exact k) (λ delay between delaying.
+      exact-bind (exact-under (λ c. c.0) (inner_expression-exact k)) (λ value after spelled.
+      exact-after classes.Semicolon refl (λ end_place.
+      exact-give (delay, value) (end_place, between, after, delaying, spelled, refl) (λ c. (c.0.1, c.1)))))
+
+  -- an assignment by its sign, behind a target that is spelled so
   assigned-branch : (t : SourceTarget) (before : List SourceToken) → SpellsTarget t before → (sign : Class) → is_fixed sign ≡ true → (made : Assigning)
       → ((delay : Option SourceExpression) (value : SourceExpression) (sign_place end_place : SourcePlace) (between after : List SourceToken) → SpellsInnerDelay delay between → SpellsExpression value after
       → SpellsStatement (made delay value) (before ++ token_of sign sign_place ∷ (between ++ (after ++ token_of classes.Semicolon end_place ∷ []))))
       → ((delay : Option SourceExpression) (value : SourceExpression) → statement_height (made delay value) ≡ suc (max (target_height t) (max (delay_height delay) (height_of value))))
-      → Branch ((0 < k) × TargetBelow k t) (λ m. assigned m made) k (behind before SpellsStatement) (StatementWithin k) (Some sign)
-  unfolding assigned
+      → Branch ((0 < k) × TargetBelow k t) (λ m. step >>= λ sign. assigned m >>= λ x. give (made x.0 x.1)) k (behind before SpellsStatement) (StatementWithin k) (Some sign)
+  unfolding SpellsAssigned
   assigned-branch t before targeted sign fixed made so high = branch-step fixed (λ sign_place.
-      exact-bind (exact-under (λ c. c.0) (assigned_delay-exact k)) (λ delay between delaying.
-      exact-bind (exact-under (λ c. c.0.0) (inner_expression-exact k)) (λ value after spelled.
-      exact-after classes.Semicolon refl (λ end_place.
-      exact-give (made delay value) (so delay value sign_place end_place between after delaying spelled)
+      exact-bind (exact-under (λ c. c.0) assigned-exact) (λ x front spelled.
+      exact-give (made x.0 x.1)
+      (subst (λ f. SpellsStatement (made x.0 x.1) (before ++ token_of sign sign_place ∷ f)) (sym (append-nil front ∙ spelled.5))
+      (so x.0 x.1 sign_place spelled.0 spelled.1 spelled.2 spelled.3 spelled.4))
       (λ c.
-      let first : target_height t < k = c.0.0.1 in
-      let second : delay_height delay < k = c.0.1 in
-      let third : height_of value < k = c.1 in omega (arith, high delay value))))))
+      let first : target_height t < k = c.0.1 in
+      let second : delay_height x.0 < k = c.1.0 in
+      let third : height_of x.1 < k = c.1.1 in omega (arith, high x.0 x.1))))
 
   -- an assignment behind its target
   signed : (t : SourceTarget) (before : List SourceToken) → SpellsTarget t before
@@ -682,8 +709,8 @@ module _ (k : ℕ) (below : BelowExact k) where
       each (Some classes.Hash) = delayed-branch
       each (Some classes.Name) = assignment-branch k classes.Name refl
       each (Some classes.LeftBrace) = assignment-branch k classes.LeftBrace refl
-      each (Some classes.IgnoredTask) = branch (task-exact classes.IgnoredTask IgnoredTask (λ place ts s. s) (λ place. omega arith))
-      each (Some classes.FinishTask) = branch (task-exact classes.FinishTask FinishTask (λ place ts s. s) (λ place. omega arith))
+      each (Some classes.IgnoredTask) = task-branch classes.IgnoredTask IgnoredTask (λ place ts s. s) (λ place. omega arith)
+      each (Some classes.FinishTask) = task-branch classes.FinishTask FinishTask (λ place ts s. s) (λ place. omega arith)
       each _ = branch-wrong some-statement
 
 pub below-exact : (k : ℕ) → BelowExact k

@@ -23,7 +23,7 @@ use Rattle.v_expr.specs.ExpressionReads.{EndsBefore}
 use Rattle.v_expr.specs.PartLaws.{inner_expression-reads, inner_target-reads, inner_delay-reads}
 use Rattle.v_stmt.specs.Spelling.{SpellsColon, SpellsTask, SpellsInnerDelay, case_word, defaults_in, items_in, is_unfinished, SpellsStatement, SpellsBody, SpellsItems}
 use Rattle.v_stmt.specs.Heights.{waits_height, delay_height, statement_height, body_height, items_height}
-use Rattle.v_stmt.specs.Statements.{assigned_delay, arguments, task, Assigning, assigned, assignment_by, assignment, another, begins_statement, begins, body_by, body_turn, statements_list, block, condition, second_branch, else_by, conditional, Looping, loop, forever, head_assignment, for_loop, event, delayed, CasePart, item_before, items_list, default_item, labelled_item, item_by, item, items_by, items_turn, case, statement_by, below_of, statement}
+use Rattle.v_stmt.specs.Statements.{assigned_delay, arguments, task, assigned, assignment_by, assignment, another, begins_statement, begins, body_by, body_turn, statements_list, block, condition, second_branch, else_by, conditional, Looping, loop, forever, head_assignment, for_loop, event, delayed, CasePart, item_before, items_list, default_item, labelled_item, item_by, item, items_by, items_turn, case, statement_by, below_of, statement}
 use Rattle.v_stmt.specs.PartExact.{SpellsCondition, SpellsHead}
 use Rattle.v_stmt.specs.StatementExact.{some-tokens, defaults-append}
 use Rattle.v_stmt.specs.PartReads.{begins_expression, leads, expression-first, leads-not, label-reads, colon-reads, waits-reads, assigned_delay-reads, condition-reads, head-reads, arguments-reads}
@@ -150,20 +150,18 @@ items_list-list (otherwise s rest) = ap (otherwise s) (items_list-list rest)
 
 -- Tasks and assignments
 
-task-reads : (class : Class) (made : SourcePlace → SourceStatement) (place : SourcePlace) (ts rest : List SourceToken) → SpellsTask class place ts → task class made (ts ++ rest) ≡ Ok (made place, rest)
+task-reads : (class : Class) (place : SourcePlace) (ts rest : List SourceToken) → SpellsTask class place ts → task class (ts ++ rest) ≡ Ok (place, rest)
 unfolding task
-task-reads class made place ts rest h =
-    let tail = token_of classes.Semicolon h.3 ∷ rest in
-    ap (λ f. task class made (f ++ rest)) h.6
-    ∙ rw (append_assoc h.4 (token_of classes.Semicolon h.3 ∷ []) rest, pass-reads class h.0 (h.4 ++ token_of classes.Semicolon h.3 ∷ rest) h.1, arguments-reads h.4 h.3 rest h.5) (ap (λ p. Ok (made p, rest)) h.2)
+task-reads class place ts rest h =
+    ap (λ f. task class (f ++ rest)) h.6
+    ∙ rw (append_assoc h.4 (token_of classes.Semicolon h.3 ∷ []) rest, pass-reads class h.0 (h.4 ++ token_of classes.Semicolon h.3 ∷ rest) h.1, arguments-reads h.4 h.3 rest h.5) (ap (λ p. Ok (p, rest)) h.2)
 
 module _ (k : ℕ) where
-  assigned-reads : (made : Assigning) (delay : Option SourceExpression) (value : SourceExpression) (sign : Class) (sign_place end_place : SourcePlace) (between after rest : List SourceToken)
+  assigned-reads : (delay : Option SourceExpression) (value : SourceExpression) (end_place : SourcePlace) (between after rest : List SourceToken)
       → SpellsInnerDelay delay between → SpellsExpression value after → delay_height delay < k → height_of value < k
-      → assigned k made (token_of sign sign_place ∷ (between ++ (after ++ token_of classes.Semicolon end_place ∷ rest))) ≡ Ok (made delay value, rest)
+      → assigned k (between ++ (after ++ token_of classes.Semicolon end_place ∷ rest)) ≡ Ok ((delay, value), rest)
   unfolding assigned
-  assigned-reads made delay value sign sign_place end_place between after rest d v delay_low low =
-      let tail = token_of classes.Semicolon end_place ∷ rest in
+  assigned-reads delay value end_place between after rest d v delay_low low =
       let not_hash = leads-not (next_class (after ++ token_of classes.Semicolon end_place ∷ rest)) (expression-first value after (token_of classes.Semicolon end_place ∷ rest) v) classes.Hash refl in
       let delaying = assigned_delay-reads k delay between (after ++ token_of classes.Semicolon end_place ∷ rest) d delay_low not_hash in
       let read = inner_expression-reads k value after (token_of classes.Semicolon end_place ∷ rest) v low (omega arith) in
@@ -471,7 +469,7 @@ module _ (k : ℕ) (below : BelowReads k) where
       ∙ ap (by_class (statement_by k (below_of k))) (grouped k h.3 h.4 h.5 (token_of classes.Assign h.1) (token_of classes.Semicolon h.2) rest)
       ∙ target-led k (below_of k) t h.3 (token_of classes.Assign h.1 ∷ (h.4 ++ (h.5 ++ token_of classes.Semicolon h.2 ∷ rest))) h.6
       ∙ assignment-reads k t h.3 (token_of classes.Assign h.1 ∷ (h.4 ++ (h.5 ++ token_of classes.Semicolon h.2 ∷ rest))) h.6 (omega arith) (omega arith)
-      ∙ assigned-reads k (BlockingStatement (place_of_target t) t) delay value classes.Assign h.1 h.2 h.4 h.5 rest h.7 h.8 (omega arith) (omega arith)
+      ∙ ap (λ r. followed r (λ x. give (BlockingStatement (place_of_target t) t x.0 x.1))) (assigned-reads k delay value h.2 h.4 h.5 rest h.7 h.8 (omega arith) (omega arith))
       ∙ ap (λ p. Ok (BlockingStatement p t delay value, rest)) h.0
   statement_by-reads (NonblockingStatement place t delay value) ts rest h low ends =
       let tail = token_of classes.LessEqual h.1 ∷ (h.4 ++ (h.5 ++ token_of classes.Semicolon h.2 ∷ rest)) in
@@ -479,12 +477,12 @@ module _ (k : ℕ) (below : BelowReads k) where
       ∙ ap (by_class (statement_by k (below_of k))) (grouped k h.3 h.4 h.5 (token_of classes.LessEqual h.1) (token_of classes.Semicolon h.2) rest)
       ∙ target-led k (below_of k) t h.3 (token_of classes.LessEqual h.1 ∷ (h.4 ++ (h.5 ++ token_of classes.Semicolon h.2 ∷ rest))) h.6
       ∙ assignment-reads k t h.3 (token_of classes.LessEqual h.1 ∷ (h.4 ++ (h.5 ++ token_of classes.Semicolon h.2 ∷ rest))) h.6 (omega arith) (omega arith)
-      ∙ assigned-reads k (NonblockingStatement (place_of_target t) t) delay value classes.LessEqual h.1 h.2 h.4 h.5 rest h.7 h.8 (omega arith) (omega arith)
+      ∙ ap (λ r. followed r (λ x. give (NonblockingStatement (place_of_target t) t x.0 x.1))) (assigned-reads k delay value h.2 h.4 h.5 rest h.7 h.8 (omega arith) (omega arith))
       ∙ ap (λ p. Ok (NonblockingStatement p t delay value, rest)) h.0
   statement_by-reads (IgnoredTask place) ts rest h low ends =
-      ap (λ c. statement_by k (below_of k) c (ts ++ rest)) (ap (λ f. next_class (f ++ rest)) h.6 ∙ ap (λ (c : Class). Some c) h.1) ∙ task-reads classes.IgnoredTask IgnoredTask place ts rest h
+      ap (λ c. statement_by k (below_of k) c (ts ++ rest)) (ap (λ f. next_class (f ++ rest)) h.6 ∙ ap (λ (c : Class). Some c) h.1) ∙ ap (λ r. followed r (λ place. give (IgnoredTask place))) (task-reads classes.IgnoredTask place ts rest h)
   statement_by-reads (FinishTask place) ts rest h low ends =
-      ap (λ c. statement_by k (below_of k) c (ts ++ rest)) (ap (λ f. next_class (f ++ rest)) h.6 ∙ ap (λ (c : Class). Some c) h.1) ∙ task-reads classes.FinishTask FinishTask place ts rest h
+      ap (λ c. statement_by k (below_of k) c (ts ++ rest)) (ap (λ f. next_class (f ++ rest)) h.6 ∙ ap (λ (c : Class). Some c) h.1) ∙ ap (λ r. followed r (λ place. give (FinishTask place))) (task-reads classes.FinishTask place ts rest h)
 
 pub below-reads : (k : ℕ) → BelowReads k
 unfolding below_of

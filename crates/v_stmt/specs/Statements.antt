@@ -14,7 +14,7 @@ use Rattle.v_read.specs.Reading.{Reader, ◌>>=◌, give, wrong, place_of, by_cl
 use Rattle.v_read.specs.Separated.{separated}
 use Rattle.v_expr.specs.Expressions.{parts_of}
 use Rattle.v_expr.specs.Parts.{inner_expression, inner_select, inner_target, inner_delay}
-use Rattle.v_stmt.specs.Spelling.{name_entry, defaults_in, is_unfinished}
+use Rattle.v_stmt.specs.Spelling.{is_entry_separator, name_entry, defaults_in, is_unfinished}
 
 -- Parts of statements
 
@@ -58,6 +58,11 @@ entry_by k _ = edged k Any
 unfoldable pub entry : ℕ → Reader SourceEntry
 entry k = by_class (entry_by k)
 
+-- whether a token between two entries comes next
+abbrev pub separates : Option Class → Bool
+separates None = false
+separates (Some class) = is_entry_separator class
+
 -- one more entry behind its separator
 abbrev pub another_entry : ℕ → List SourceEntry → Reader (Option (List SourceEntry))
 another_entry k entries = do
@@ -73,11 +78,16 @@ entries_by k entries _ = give None
 abbrev pub entries_turn : ℕ → List SourceEntry → Reader (Option (List SourceEntry))
 entries_turn k entries = by_class (entries_by k entries)
 
+-- entries with separators between them
+unfoldable pub entry_row : ℕ → Reader (List SourceEntry)
+entry_row k = do
+  first ← entry k
+  repeat (entries_turn k) (first ∷ [])
+
 -- the entries of an event control, and their end
 unfoldable pub entries : ℕ → Reader SourceWaits
 entries k = do
-  first ← entry k
-  all ← repeat (entries_turn k) (first ∷ [])
+  all ← entry_row k
   closing ← expect classes.RightParen
   give (OnEntries all)
 
@@ -115,6 +125,13 @@ assigned_delay_by k _ = give None
 unfoldable pub assigned_delay : ℕ → Reader (Option SourceExpression)
 assigned_delay k = by_class (assigned_delay_by k)
 
+-- how many parentheses are open behind a token of this class, or none where it closes the outermost one
+abbrev pub depth_behind : ℕ → Class → Option ℕ
+depth_behind depth class =
+    if same_class classes.LeftParen class then Some (depth + 1)
+    else (if same_class classes.RightParen class then (if nat_lt 0 depth then Some (depth - 1) else None)
+    else Some depth)
+
 -- any tokens up to the parenthesis that closes the outermost one of those that are left open, so many but one
 unfoldable pub skipped : ℕ → Reader (Unit {0})
 skipped depth [] = wrong []
@@ -123,42 +140,45 @@ skipped depth (t ∷ ts) =
     else (if same_class classes.RightParen (class_of t.kind) then (if nat_lt 0 depth then skipped (depth - 1) ts else give tt ts)
     else skipped depth ts)
 
+-- an opening parenthesis, and any tokens up to the one that closes it
+abbrev pub parenthesised : Reader (Unit {0})
+parenthesised = step >>= λ opening. skipped 0
+
 abbrev pub arguments_by : Option Class → Reader (Unit {0})
-arguments_by (Some classes.LeftParen) = do
-  opening ← step
-  skipped 0
+arguments_by (Some classes.LeftParen) = parenthesised
 arguments_by _ = give tt
 
 -- what stands behind the name of a system task
 unfoldable pub arguments : Reader (Unit {0})
 arguments = by_class arguments_by
 
--- a system task whose name is of this class
-unfoldable pub task : Class → (SourcePlace → SourceStatement) → Reader SourceStatement
-task class made = do
-  name ← pass class
+-- the place of a system task whose name is of this class
+unfoldable pub task : Class → Reader SourcePlace
+task class = do
+  place ← expect class
   nothing ← arguments
   closing ← expect classes.Semicolon
-  give (made (place_of name))
+  give place
 
 -- Statements
 
--- how a statement is made of its delay and its value
-abbrev pub Assigning : Type 0
-Assigning = Option SourceExpression → SourceExpression → SourceStatement
-
--- what stands behind the sign of an assignment
-unfoldable pub assigned : ℕ → Assigning → Reader SourceStatement
-assigned k made = do
-  sign ← step
+-- the delay and the value behind the sign of an assignment
+unfoldable pub assigned : ℕ → Reader (Option SourceExpression × SourceExpression)
+assigned k = do
   delay ← assigned_delay k
   value ← inner_expression k
   closing ← expect classes.Semicolon
-  give (made delay value)
+  give (delay, value)
 
 abbrev pub assignment_by : ℕ → SourceTarget → Option Class → Reader SourceStatement
-assignment_by k t (Some classes.Assign) = assigned k (BlockingStatement (place_of_target t) t)
-assignment_by k t (Some classes.LessEqual) = assigned k (NonblockingStatement (place_of_target t) t)
+assignment_by k t (Some classes.Assign) = do
+  sign ← step
+  x ← assigned k
+  give (BlockingStatement (place_of_target t) t x.0 x.1)
+assignment_by k t (Some classes.LessEqual) = do
+  sign ← step
+  x ← assigned k
+  give (NonblockingStatement (place_of_target t) t x.0 x.1)
 assignment_by k t _ = wrong
 
 -- an assignment, blocking or nonblocking
@@ -370,8 +390,8 @@ statement_by k below (Some classes.At) = event k below
 statement_by k below (Some classes.Hash) = delayed k below
 statement_by k below (Some classes.Name) = assignment k
 statement_by k below (Some classes.LeftBrace) = assignment k
-statement_by k below (Some classes.IgnoredTask) = task classes.IgnoredTask IgnoredTask
-statement_by k below (Some classes.FinishTask) = task classes.FinishTask FinishTask
+statement_by k below (Some classes.IgnoredTask) = task classes.IgnoredTask >>= λ place. give (IgnoredTask place)
+statement_by k below (Some classes.FinishTask) = task classes.FinishTask >>= λ place. give (FinishTask place)
 statement_by k below _ = wrong
 
 -- a statement one level down
