@@ -7,3 +7,5 @@ pub mod ItemExact
 pub mod DeclarationReads
 pub mod ConnectionReads
 pub mod ItemReads
+pub mod Verdict
+pub mod Judged
