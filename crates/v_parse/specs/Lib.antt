@@ -1,0 +1,11 @@
+pub mod Spelling
+pub mod Heights
+pub mod Items
+pub mod DeclarationExact
+pub mod ConnectionExact
+pub mod ItemExact
+pub mod DeclarationReads
+pub mod ConnectionReads
+pub mod ItemReads
+pub mod Verdict
+pub mod Judged
