@@ -1,3 +1,5 @@
 pub mod Growing
 pub mod Sorted
 pub mod Outputs
+pub mod SameEvents
+pub mod OneClass

@@ -6,6 +6,8 @@
 #![tactic(auto)]
 
 mod ascending;
+mod law;
 mod list;
 
+pub use law::one_class;
 pub use list::all_sites;
