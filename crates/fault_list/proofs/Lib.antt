@@ -3,3 +3,4 @@ pub mod Sorted
 pub mod Outputs
 pub mod SameEvents
 pub mod OneClass
+pub mod Standing

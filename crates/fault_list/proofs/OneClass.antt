@@ -159,13 +159,13 @@ labels-count : (values : ℕ → LogicValue) (terminals : Expressions) → lengt
 labels-count values no_expressions = refl
 labels-count values (more_expressions first rest) = let more : length (label_values values rest) ≡ expressions_count rest = labels-count values rest in omega arith
 
-one-output : (object : ℕ) (outputs : List ℕ) → length outputs ≡ 1 → has outputs object ≡ true → outputs ≡ object ∷ []
+pub one-output : (object : ℕ) (outputs : List ℕ) → length outputs ≡ 1 → has outputs object ≡ true → outputs ≡ object ∷ []
 one-output object [] one there = absurd (false≢true there)
 one-output object (a ∷ b ∷ rest) one there = absurd (omega arith)
 one-output object (a ∷ []) one there =
     elim (or_cases (nat_eq a object) false there) [ inl same ↦ ap (λ n. n ∷ []) (eqb-true a object same) | inr never ↦ absurd (false≢true never) ]
 
-first-of : (a b c d e : Bool) → (a && b && c && d && e) ≡ true → a ≡ true
+pub first-of : (a b c d e : Bool) → (a && b && c && d && e) ≡ true → a ≡ true
 first-of true b c d e all = refl
 first-of false b c d e all = all
 
