@@ -4,3 +4,5 @@ pub mod Outputs
 pub mod SameEvents
 pub mod OneClass
 pub mod Standing
+pub mod Held
+pub mod Meeting

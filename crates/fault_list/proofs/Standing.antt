@@ -99,7 +99,6 @@ pair-stands node number terminal object bit input output writes e =
     ∙ ap (λ n. record { site = OutputBit number object n; value = output }) (sym least)))
 
 module _ (design : FlatDesign) (rules : KeepsRules design) where
-
   writes-outputs : (k : ℕ) (node : FlatNode) → slice_get design.nodes k ≡ Some node → WritesOutputs node.kind node.outputs
   writes-outputs k node at = let kept : IsNodeOf design node = AllHold-slice_get (IsNodeOf design) design.nodes k node rules.nodes at in kept.outputs
 
@@ -154,13 +153,13 @@ module _ (design : FlatDesign) (rules : KeepsRules design) where
       let inside = and_parts (nat_le 1 terminal) (nat_le terminal (terminal_count node.kind)) three in
       let has_it : has node.outputs object ≡ true = subst (λ l. has l object ≡ true) (sym one) (or_left (nat_eq object object) (has objects object) (eq-eqb object object refl)) in
       let does : gate_forces node terminal input object 0 output ≡ true =
-          and_from (kind_forces node.kind input output && nat_le 1 terminal && nat_le terminal (terminal_count node.kind) && has node.outputs object) (nat_eq 0 0)
-          (and_from (kind_forces node.kind input output && nat_le 1 terminal && nat_le terminal (terminal_count node.kind)) (has node.outputs object)
-          (and_from (kind_forces node.kind input output && nat_le 1 terminal) (nat_le terminal (terminal_count node.kind))
-          (and_from (kind_forces node.kind input output) (nat_le 1 terminal) (output-kind node.kind input output two) inside.0) inside.1) has_it) refl in
+      and_from (kind_forces node.kind input output && nat_le 1 terminal && nat_le terminal (terminal_count node.kind) && has node.outputs object) (nat_eq 0 0)
+      (and_from (kind_forces node.kind input output && nat_le 1 terminal && nat_le terminal (terminal_count node.kind)) (has node.outputs object)
+      (and_from (kind_forces node.kind input output && nat_le 1 terminal) (nat_le terminal (terminal_count node.kind))
+      (and_from (kind_forces node.kind input output) (nat_le 1 terminal) (output-kind node.kind input output two) inside.0) inside.1) has_it) refl in
       let forced : node_forces (slice_get design.nodes number) terminal input object 0 output ≡ true = subst (λ o. node_forces o terminal input object 0 output ≡ true) (sym at) does in
       let pair : (nat_eq number number && node_forces (slice_get design.nodes number) terminal input object 0 output) ≡ true =
-          and_from (nat_eq number number) (node_forces (slice_get design.nodes number) terminal input object 0 output) (eq-eqb number number refl) forced in
+      and_from (nat_eq number number) (node_forces (slice_get design.nodes number) terminal input object 0 output) (eq-eqb number number refl) forced in
       joined_by (record { site = GateTerminal number terminal; value = input }) (record { site = OutputBit number object 0; value = output }) (record { site = OutputBit number object 0; value = output })
       (or_left (nat_eq number number && node_forces (slice_get design.nodes number) terminal input object 0 output) false pair) (same_fault _)
 

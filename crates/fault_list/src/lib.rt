@@ -6,8 +6,11 @@
 #![tactic(auto)]
 
 mod ascending;
+mod class;
+mod key;
 mod law;
 mod list;
 
+pub use class::{classes, representative};
 pub use law::one_class;
 pub use list::all_sites;
