@@ -10,7 +10,9 @@ mod class;
 mod key;
 mod law;
 mod list;
+mod name;
 
 pub use class::{classes, representative};
 pub use law::one_class;
-pub use list::all_sites;
+pub use list::{all_sites, width_of};
+pub use name::{append, append_number, write_site};
