@@ -6,3 +6,6 @@ pub mod OneClass
 pub mod Standing
 pub mod Held
 pub mod Meeting
+pub mod Decimals
+pub mod Finding
+pub mod Drivers

@@ -29,7 +29,7 @@ pub fn append_number(alloc: Global, out: &mut Vec<u8>, number: u64) -> Result<()
 }
 
 /// The declared index of a bit that is counted from the least significant, by the indexes of the first and the last bit.
-fn index_of_bit(high: u32, low: u32, bit: u32) -> u64
+pub fn index_of_bit(high: u32, low: u32, bit: u32) -> u64
     ensures { result ≡ index_of_bit high low bit }
 {
     if low <= high {
