@@ -19,3 +19,6 @@ pub use law::one_class;
 pub use list::{all_sites, width_of};
 pub use name::{append, append_number, write_site};
 pub use spelled::site_of;
+
+#[cfg(test)]
+mod tests;
