@@ -9,3 +9,4 @@ pub mod Meeting
 pub mod Decimals
 pub mod Finding
 pub mod Drivers
+pub mod NamesRead

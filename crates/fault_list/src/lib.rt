@@ -15,7 +15,7 @@ mod name;
 mod spelled;
 
 pub use class::{classes, representative};
-pub use law::one_class;
+pub use law::{names_read, one_class};
 pub use list::{all_sites, width_of};
 pub use name::{append, append_number, write_site};
 pub use spelled::site_of;
