@@ -10,3 +10,6 @@ mod report;
 
 pub use line::write_line;
 pub use report::write_report;
+
+#[cfg(test)]
+mod tests;
