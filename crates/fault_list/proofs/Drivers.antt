@@ -1,5 +1,5 @@
 -- The first node that drives an object.
-use Rattle.std.proofs.Common.{◌≡◌, ℕ, zero, suc, ◌+◌, ◌<◌, ◌≤◌, Bool, true, false, ◌||◌, List, [], ◌∷◌, length, Option, Some, None, refl, ap, sym, ◌∙◌, subst, arith, get_or, drop, drop-cons, map}
+use Rattle.std.proofs.Common.{◌≡◌, ℕ, ◌+◌, ◌<◌, ◌≤◌, Bool, true, false, ◌||◌, List, length, Option, Some, None, refl, ap, sym, ◌∙◌, arith, get_or, drop, map}
 use Rattle.std.specs.Prelude.{nat_eq}
 use Rattle.v_design.specs.Lists.{has, first_place, earlier_place}
 use Rattle.vf_base.specs.Base.{object_number}

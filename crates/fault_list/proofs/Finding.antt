@@ -1,5 +1,5 @@
 -- A search that has come to a place.
-use Rattle.std.proofs.Common.{◌≡◌, ℕ, zero, suc, ◌+◌, ◌-◌, ◌<◌, ◌≤◌, Bool, true, false, List, [], ◌∷◌, length, Option, Some, None, refl, ap, sym, ◌∙◌, subst, arith, cond, find, get_or, drop, drop-cons, map}
+use Rattle.std.proofs.Common.{◌≡◌, ℕ, zero, suc, ◌+◌, ◌-◌, ◌<◌, ◌≤◌, Bool, true, false, List, [], ◌∷◌, length, Option, Some, None, refl, ap, sym, ◌∙◌, arith, cond, find, get_or, drop, drop-cons, map}
 use Rattle.fault_list.specs.Spelled.{or_else, first_answer}
 use Rattle.v_design.specs.Expressions.{up_from}
 

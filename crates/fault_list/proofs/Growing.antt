@@ -1,9 +1,8 @@
 -- Lists that grow at their end, as a loop makes them.
-use Rattle.std.proofs.Common.{subst, take_all, Option, Some, None, ◌≡◌, ℕ, zero, suc, ◌+◌, ◌<◌, ◌≤◌, false, true, List, [], ◌∷◌, ◌++◌, length, get_or, take, map, refl, ap, sym, ◌∙◌, arith, append_assoc, append-nil}
+use Rattle.std.proofs.Common.{subst, take_all, ◌≡◌, ℕ, zero, suc, ◌+◌, ◌<◌, ◌≤◌, false, true, List, [], ◌∷◌, ◌++◌, length, get_or, take, map, refl, ap, sym, ◌∙◌, arith, append_assoc, append-nil}
 use Rattle.std.proofs.lemmas.List.{take_more, map_push, length-map, length-take-le, get_or-map}
 use Rattle.v_design.specs.Lists.{joined, map_numbered}
 use Rattle.v_design.specs.Expressions.{up_from}
-use Rattle.std.specs.Prelude.{slice_get}
 use Rattle.v_design.specs.Designs.{FaultSite, StuckAt, FlatObject}
 use Rattle.v_design.specs.Sites.{expressions_count}
 use Rattle.v_design.specs.Plain.{expressions_of, object_of}

@@ -1,11 +1,11 @@
 -- The fault that stands for a terminal's fault, over the code's nodes.
-use Rattle.std.proofs.Common.{◌≡◌, ℕ, Bool, true, false, ◌&&◌, List, [], ◌∷◌, map, length, Option, Some, None, refl, ap, sym, ◌∙◌, subst}
+use Rattle.std.proofs.Common.{◌≡◌, ℕ, Bool, true, false, ◌&&◌, List, [], ◌∷◌, map, length, Option, Some, None, refl, ap, sym, ◌∙◌}
 use Rattle.std.specs.Prelude.{slice_get, nat_le, Vec}
 use Rattle.std.specs.declared.alloc.Global.{Global}
 use Rattle.vf_base.specs.Base.{object_number}
 use Rattle.vf_base.specs.declared.ids.ObjectId.{ObjectId}
 use Rattle.four_value.specs.declared.operator.GateKind.{GateKind}
-use Rattle.v_design.specs.Designs.{StuckAt, OutputBit, GateTerminal}
+use Rattle.v_design.specs.Designs.{OutputBit, GateTerminal}
 use Rattle.v_design.specs.Plain.{node_kind_of}
 use Rattle.v_design.specs.Sites.{terminal_count}
 use Rattle.v_design.specs.declared.tree.FlatExpr.{FlatExpr}

@@ -14,7 +14,7 @@ use Rattle.fault_list.specs.declared.key.FaultKey.{FaultKey}
 use Rattle.fault_list.specs.declared.key.FaultKey.TheVariants.{Var, Out, Terminal}
 use Rattle.fault_list.specs.Keys.{key_fault}
 use Rattle.fault_list.specs.SameKeys.{same_key, met_at, met_place, IsMet}
-use Rattle.fault_list.specs.Classes.{standing, IsFirstOfClass, AreClasses}
+use Rattle.fault_list.specs.Classes.{standing, AreClasses}
 use Rattle.fault_list.proofs.Standing.{class-stands, stands-class}
 
 -- Keys

@@ -1,6 +1,6 @@
 -- A name that is written is read as its site.
-use Rattle.std.proofs.Common.{◌≡◌, ◌≢◌, ℕ, zero, suc, ◌+◌, ◌<◌, ◌≤◌, Bool, true, false, IsTrue, ◌||◌, ◌&&◌, List, [], ◌∷◌, ◌++◌, length, map, filter, get_or, Option, Some, None, refl, ap, sym, ◌∙◌, subst, arith, ◌⊎◌, inl, inr, ⊎_elim, cond, find}
-use Rattle.std.specs.Prelude.{slice_get, nat_eq, nat_lt, min}
+use Rattle.std.proofs.Common.{◌≡◌, ◌≢◌, ℕ, zero, suc, ◌+◌, ◌<◌, ◌≤◌, Bool, true, false, List, [], ◌∷◌, ◌++◌, length, map, filter, get_or, Option, Some, None, refl, ap, sym, ◌∙◌, subst, arith, ◌⊎◌, inl, inr, ⊎_elim, cond, find}
+use Rattle.std.specs.Prelude.{slice_get, nat_eq}
 use Rattle.std.specs.List.{Contains}
 use Rattle.std.specs.Option.{option_and_then, option_map}
 use Rattle.std.specs.Str.{bytes_eq}
@@ -10,13 +10,13 @@ use Rattle.v_design.specs.Lists.{joined, map_numbered, has, first_place, earlier
 use Rattle.v_design.specs.Expressions.{up_from}
 use Rattle.v_design.specs.Paths.{is_net, numbers_of, net_pieces}
 use Rattle.v_design.specs.Designs.{FlatObject, FlatNode, FlatDesign, FaultSite, VariableBit, OutputBit, GateTerminal, width_in}
-use Rattle.v_design.specs.WellFormed.{KeepsRules, IsNodeOf}
+use Rattle.v_design.specs.WellFormed.{KeepsRules}
 use Rattle.v_design.specs.Sites.{is_variable, bits_if, bit_name, terminal_name, site_name, variable_sites, output_sites, terminal_sites, terminal_count, sites_of, AllDiffer}
 use Rattle.v_design.specs.declared.logic.ObjectKind.{ObjectKind}
 use Rattle.v_design.specs.declared.logic.ObjectKind.TheVariants.{Var, Word, Net}
 use Rattle.fault_list.specs.RoundTrip.{HasNumber, NamesAreRead}
 use Rattle.fault_list.specs.Spelled.{or_else, first_answer, name_spelled, driver_of, site_by_kind, bit_spelled, object_spelled, numbered_terminals, terminal_spelled, node_spelled, site_spelled}
-use Rattle.fault_list.proofs.Outputs.{AllHold-slice_get, AllHold-has, nets_of_node, filter-has, has-filter}
+use Rattle.fault_list.proofs.Outputs.{filter-has, has-filter}
 
 -- Membership
 

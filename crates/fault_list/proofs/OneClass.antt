@@ -1,5 +1,5 @@
 -- The faulty machines of one class have the same events, and so one grade (gates by IEEE 1364-2001, clause 7).
-use Rattle.std.proofs.Common.{◌≡◌, ℕ, zero, suc, ◌+◌, ◌<◌, ◌≤◌, Bool, true, false, IsTrue, ◌||◌, ◌&&◌, not, List, [], ◌∷◌, ◌++◌, map, length, Option, Some, None, refl, ap, sym, ◌∙◌, subst, arith, inl, inr}
+use Rattle.std.proofs.Common.{◌≡◌, ℕ, suc, ◌+◌, ◌<◌, ◌≤◌, Bool, true, false, ◌&&◌, List, [], ◌∷◌, map, length, Option, Some, None, refl, ap, sym, ◌∙◌, subst, arith, inl, inr}
 use Rattle.std.specs.Prelude.{slice_get, nat_eq, nat_le, fold}
 use Rattle.std.proofs.lemmas.Bool.{and_parts, or_cases, eqb-true, eq-eqb, false≢true, leb-true}
 use Rattle.four_value.specs.Bits.{bit_of, and_bit, or_bit, xor_bit, not_bit, known_or_x}
@@ -11,14 +11,14 @@ use Rattle.four_value.specs.declared.operator.GateKind.TheVariants.{And, Nand, O
 use Rattle.v_design.specs.Lists.{has, map_numbered, zip_with}
 use Rattle.v_design.specs.Trees.{Expressions, no_expressions, more_expressions}
 use Rattle.v_design.specs.Expressions.{value_of}
-use Rattle.v_design.specs.Designs.{width_in, forced_output, FlatNode, FlatNodeKind, AssignNode, GateNode, BlockNode, FlatDesign, StuckAt, FaultSite, VariableBit, OutputBit, GateTerminal, TestPlan, Machine, faulty_machine, stuck_if, forced_if}
+use Rattle.v_design.specs.Designs.{width_in, forced_output, FlatNode, FlatNodeKind, AssignNode, GateNode, BlockNode, FlatDesign, StuckAt, FaultSite, VariableBit, OutputBit, GateTerminal, TestPlan, faulty_machine, stuck_if, forced_if}
 use Rattle.v_design.specs.Assignments.{gate_bit, label_values, node_value, run_statement, node_outputs, settled_from, first_contents, with_outputs, value_at}
 use Rattle.v_design.specs.States.{State, Event, Step, LaneStep, Evaluation, NetUpdate, start, after, with_node, evaluated}
 use Rattle.v_design.specs.Accesses.{accesses_of}
 use Rattle.v_design.specs.WellFormed.{TerminalsFit, IsSizedNode, KeepsRules, IsNodeOf}
 use Rattle.v_design.specs.CombinationalForm.{WritesOutputs}
 use Rattle.v_design.specs.Laws.{ClassesAgree}
-use Rattle.v_design.specs.Sites.{expressions_count, terminal_count, kind_forces, forces, node_forces, gate_forces, is_gate_pair, are_gate_pair, AreOneClass, same_fault, joined_by}
+use Rattle.v_design.specs.Sites.{expressions_count, terminal_count, kind_forces, forces, node_forces, gate_forces, is_gate_pair, same_fault, joined_by}
 use Rattle.v_design.specs.Grades.{grade}
 use Rattle.fault_list.proofs.Outputs.{AllHold-slice_get}
 use Rattle.fault_list.proofs.SameEvents.{grade-same}

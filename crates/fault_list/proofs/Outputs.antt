@@ -1,6 +1,6 @@
 -- A node's outputs in ascending order are the net pieces that it drives, in order.
-use Rattle.std.proofs.Common.{◌≡◌, ℕ, zero, suc, ◌+◌, ◌<◌, ◌≤◌, ◌↔◌, Bool, true, false, IsTrue, List, [], ◌∷◌, ◌++◌, length, get_or, filter, refl, ap, sym, ◌∙◌, subst, arith, inl, inr, Contains, cond, map}
-use Rattle.std.specs.Prelude.{◌||◌, ◌&&◌, nat_eq, Some, slice_get}
+use Rattle.std.proofs.Common.{◌≡◌, ℕ, zero, suc, ◌+◌, ◌<◌, ◌↔◌, Bool, true, false, IsTrue, List, [], ◌∷◌, length, get_or, filter, refl, ap, sym, ◌∙◌, subst, arith, inl, inr, Contains, cond, map}
+use Rattle.std.specs.Prelude.{◌||◌, nat_eq, Some, slice_get}
 use Rattle.std.specs.Option.{option_map}
 use Rattle.std.proofs.lemmas.Option.{slice_get_read, slice_get-map}
 use Rattle.v_design.specs.declared.plan.Node.{Node}

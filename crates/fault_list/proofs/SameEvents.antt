@@ -1,6 +1,6 @@
 -- Two faulty machines of one design whose events lead to the same states, with the same accesses, grade their faults alike.
-use Rattle.std.proofs.Common.{◌≡◌, ℕ, zero, suc, ◌+◌, Bool, true, false, ◌||◌, ◌&&◌, not, List, [], ◌∷◌, ◌++◌, map, Option, Some, None, refl, ap, sym, ◌∙◌, cond, find}
-use Rattle.std.specs.Prelude.{slice_get, nat_eq, nat_le}
+use Rattle.std.proofs.Common.{◌≡◌, ℕ, zero, suc, ◌+◌, Bool, true, false, ◌||◌, ◌&&◌, List, [], ◌∷◌, ◌++◌, map, Option, Some, None, refl, ap, ◌∙◌, cond, find}
+use Rattle.std.specs.Prelude.{slice_get, nat_le}
 use Rattle.four_value.specs.Values.{LogicValue}
 use Rattle.four_value.specs.declared.logic.Bit.{Bit}
 use Rattle.vf_base.specs.Base.{WatchedBit, ReportedPair}
@@ -11,7 +11,7 @@ use Rattle.v_design.specs.Runs.{Move, Happens, Turns, FirstSlot, slot_move, less
 use Rattle.v_design.specs.Accesses.{ObjectAccess, accesses_of, held_accesses, is_waiting}
 use Rattle.v_design.specs.Logs.{LoggedEvent, LoggedPhase, PhaseAccess, least_pair}
 use Rattle.v_design.specs.PhaseLogs.{NotedEvent, changes_one, changes_input, may_cause, cause_of, noted_at, writer_process, writer_line, note_of, noted_from, noted_events, logged, log_of, phase_race, is_step_of}
-use Rattle.v_design.specs.Grades.{Phase, cut, phases, race_of, first_race, SlotOutcome, Fine, Race, Hyper, race_or_fine, slot_outcome, Stop, first_stop, samples, some_sample, values_after, first_samples, first_strobe, is_hard, is_possible, verdict, verdict_by, FaultGrade, graded, grade_of_runs, grade}
+use Rattle.v_design.specs.Grades.{Phase, cut, phases, race_of, first_race, SlotOutcome, Fine, Race, Hyper, race_or_fine, slot_outcome, Stop, first_stop, samples, some_sample, values_after, first_samples, first_strobe, is_hard, is_possible, verdict, verdict_by, graded, grade_of_runs, grade}
 
 find-same : (p q : ℕ → Bool) (xs : List ℕ) → ((x : ℕ) → p x ≡ q x) → find p xs ≡ find q xs
 find-same p q [] same = refl

@@ -1,5 +1,5 @@
 -- Two faults are of one class exactly where one fault stands for both.
-use Rattle.std.proofs.Common.{◌≡◌, ℕ, zero, suc, ◌+◌, ◌<◌, ◌≤◌, Bool, true, false, IsTrue, ◌||◌, ◌&&◌, not, List, [], ◌∷◌, length, Option, Some, None, refl, ap, sym, ◌∙◌, subst, arith, inl, inr}
+use Rattle.std.proofs.Common.{◌≡◌, ℕ, Bool, true, false, ◌&&◌, List, [], ◌∷◌, length, Option, Some, None, refl, ap, sym, ◌∙◌, subst, inl, inr}
 use Rattle.std.specs.Prelude.{slice_get, nat_eq, nat_le}
 use Rattle.std.proofs.lemmas.Bool.{and_parts, and_from, or_cases, or_left, or_right, eqb-true, eq-eqb, false≢true}
 use Rattle.four_value.specs.declared.operator.GateKind.{GateKind}
@@ -11,7 +11,7 @@ use Rattle.v_design.specs.WellFormed.{KeepsRules, IsNodeOf}
 use Rattle.v_design.specs.Sites.{terminal_count, forces, kind_forces, node_forces, gate_forces, is_gate_pair, are_gate_pair, AreOneClass, same_fault, joined_by}
 use Rattle.fault_list.specs.Classes.{output_of, output_of_kind, held_fault, held_at, standing_site, standing}
 use Rattle.fault_list.proofs.Outputs.{AllHold-slice_get}
-use Rattle.fault_list.proofs.OneClass.{first-of, one-output}
+use Rattle.fault_list.proofs.OneClass.{one-output}
 
 forces-output : (kind : GateKind) (input output : Bool) → forces kind input output ≡ true → output_of kind input ≡ Some output
 forces-output And true true e = absurd (false≢true e)

@@ -1,5 +1,5 @@
 -- A name that is written is read as its site (the forms of names are this program's own).
-use Rattle.std.specs.Prelude.{◌≡◌, ℕ, ◌≤◌, Some}
+use Rattle.std.specs.Prelude.{◌≡◌, ◌≤◌, Some}
 use Rattle.std.specs.List.{Contains}
 use Rattle.v_design.specs.Designs.{FlatDesign, FaultSite, VariableBit, OutputBit, GateTerminal}
 use Rattle.v_design.specs.Sites.{sites_of, site_name}

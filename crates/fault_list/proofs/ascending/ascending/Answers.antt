@@ -1,6 +1,6 @@
-use Rattle.std.proofs.Common.{◌≡◌, ℕ, ◌≤◌, All, length, get_or, take, take_all, rules, arith, sym, ap, Contains, ◌∙◌, refl}
+use Rattle.std.proofs.Common.{◌≡◌, ℕ, take, take_all, rules, refl}
 use Rattle.std.specs.List.Sorted.{IsNonDecreasing}
-use Rattle.std.proofs.lemmas.List.Sorted.{All-permutation, Contains-permutation, IsPermutation-sym, IsNonDecreasingBy-from_sort}
+use Rattle.std.proofs.lemmas.List.Sorted.{Contains-permutation, IsPermutation-sym, IsNonDecreasingBy-from_sort}
 use Rattle.fault_list.proofs.Sorted.{Keeps-past, Keeps-same}
 use Rattle.fault_list.proofs.ascending.ascending.Goals as goal
 use Rattle.fault_list.proofs.ascending.ascending.Goals.{then-is_past+in_ok-push, else-is_past}

@@ -1,8 +1,7 @@
-use Rattle.std.proofs.Common.{◌∙◌, subst, take_all, List}
+use Rattle.std.proofs.Common.{◌∙◌, subst, take_all}
 use Rattle.std.specs.HashMap.{get}
 use Rattle.v_design.specs.PlainDesigns.{design_of}
 use Rattle.v_design.specs.RulesHold.{rules_hold}
-use Rattle.v_design.specs.declared.plan.Fault.{Fault}
 use Rattle.fault_list.specs.Listed.{stuck}
 use Rattle.fault_list.specs.SameKeys.{same_key}
 use Rattle.fault_list.proofs.Meeting.{Met, Met-step, classes-met}

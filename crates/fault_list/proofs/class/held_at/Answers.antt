@@ -1,6 +1,6 @@
 use Rattle.fault_list.proofs.Held.{held-yes, held-no}
 use Rattle.vf_base.specs.Base.{node_number}
-use Rattle.std.proofs.Common.{rules, sym, ◌∙◌, ◌≡◌, false, true, ◌&&◌}
+use Rattle.std.proofs.Common.{rules, ◌≡◌, false, true, ◌&&◌}
 use Rattle.std.specs.Prelude.{nat_le}
 use Rattle.fault_list.proofs.class.held_at.Goals as goal
 

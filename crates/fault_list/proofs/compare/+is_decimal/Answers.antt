@@ -1,4 +1,4 @@
-use Rattle.std.proofs.Common.{◌≡◌, ◌<◌, ◌^◌, ◌+◌, ◌%◌, ◌∙◌, sym, arith, rules}
+use Rattle.std.proofs.Common.{◌∙◌, sym, rules}
 use Rattle.fault_list.proofs.Decimals.{decimal-none, decimal-wrong, decimal-rest, decimal-one, empty-eq}
 use Rattle.fault_list.proofs.compare.+is_decimal.Goals as goal
 

@@ -1,6 +1,5 @@
-use Rattle.std.proofs.Common.{◌≡◌, ap, sym, ◌∙◌, ◌++◌, filter, List, IsTrue}
-use Rattle.std.specs.Prelude.{slice_get, Some, ℕ}
-use Rattle.vf_base.specs.Base.{node_number}
+use Rattle.std.proofs.Common.{◌≡◌, ap, ◌∙◌, ◌++◌, filter}
+use Rattle.std.specs.Prelude.{slice_get, Some}
 use Rattle.v_design.specs.Lists.{has}
 use Rattle.v_design.specs.Paths.{net_pieces}
 use Rattle.v_design.specs.Plain.{node_of}

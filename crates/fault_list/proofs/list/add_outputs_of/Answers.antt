@@ -1,6 +1,6 @@
-use Rattle.std.proofs.Common.{ℕ, List, ◌≡◌, ap, sym, ◌∙◌, ◌++◌, map, get_or}
+use Rattle.std.proofs.Common.{ap, ◌∙◌, ◌++◌, map, get_or}
 use Rattle.vf_base.specs.Base.{node_number}
-use Rattle.v_design.specs.Designs.{FaultSite, OutputBit, width_in}
+use Rattle.v_design.specs.Designs.{OutputBit, width_in}
 use Rattle.v_design.specs.Expressions.{up_from}
 use Rattle.v_design.specs.PlainDesigns.{design_of}
 use Rattle.fault_list.specs.Listed.{stuck, both}

@@ -1,4 +1,4 @@
-use Rattle.std.proofs.Common.{◌≡◌, [], ap, ◌∙◌, ◌++◌, map, rules, List, subst}
+use Rattle.std.proofs.Common.{◌≡◌, ap, ◌++◌, map, subst}
 use Rattle.v_design.specs.Lists.{joined, map_numbered}
 use Rattle.v_design.specs.Plain.{object_of, node_of}
 use Rattle.v_design.specs.PlainDesigns.{design_of}

@@ -1,4 +1,4 @@
-use Rattle.std.proofs.Common.{◌≡◌, ap, sym, ◌∙◌, map, List, ℕ, take, take_all, subst, Contains, ◌↔◌}
+use Rattle.std.proofs.Common.{◌≡◌, ap, ◌∙◌, map, take_all, subst, Contains, ◌↔◌}
 use Rattle.vf_base.specs.Base.{object_number}
 use Rattle.v_design.specs.Plain.{node_of}
 use Rattle.fault_list.proofs.Outputs.{outputs-in-order}

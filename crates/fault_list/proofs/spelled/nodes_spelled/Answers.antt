@@ -1,6 +1,5 @@
-use Rattle.std.proofs.Common.{◌∙◌, sym, ap, Some}
+use Rattle.std.proofs.Common.{◌∙◌, sym, ap}
 use Rattle.v_design.specs.Plain.{node_of, site_of}
-use Rattle.v_design.specs.PlainDesigns.{design_of}
 use Rattle.v_design.specs.declared.plan.Node.{Node}
 use Rattle.fault_list.specs.Spelled.{node_spelled}
 use Rattle.fault_list.proofs.Finding.{first-next, first-here}

@@ -1,7 +1,7 @@
-use Rattle.std.proofs.Common.{◌≡◌, ◌∙◌, ◌++◌, sym, ap, arith, true, false, find}
+use Rattle.std.proofs.Common.{◌≡◌, ◌∙◌, ◌++◌, sym, ap, false}
 use Rattle.std.specs.Str.{bytes_eq}
 use Rattle.v_design.specs.Sites.{index_of_bit, index_text}
-use Rattle.fault_list.proofs.Finding.{find-next, find-here, find-none}
+use Rattle.fault_list.proofs.Finding.{find-next}
 use Rattle.fault_list.proofs.spelled.place_spelled.Goals as goal
 
 pub places-preserved : goal.places-preserved

@@ -1,4 +1,4 @@
-use Rattle.std.proofs.Common.{◌∙◌, sym, ap, map, Some, List}
+use Rattle.std.proofs.Common.{◌∙◌, sym, ap, map}
 use Rattle.std.specs.Option.{option_map}
 use Rattle.vf_base.specs.Base.{object_number}
 use Rattle.v_design.specs.Designs.{FlatNode, OutputBit}
