@@ -1,0 +1,12 @@
+pub mod Growing
+pub mod Sorted
+pub mod Outputs
+pub mod SameEvents
+pub mod OneClass
+pub mod Standing
+pub mod Held
+pub mod Meeting
+pub mod Decimals
+pub mod Finding
+pub mod Drivers
+pub mod NamesRead

@@ -1,0 +1,6 @@
+pub mod Listed
+pub mod Classes
+pub mod Keys
+pub mod SameKeys
+pub mod Spelled
+pub mod RoundTrip

@@ -1,0 +1,4 @@
+pub mod Text
+pub mod Watched
+pub mod Lines
+pub mod Spelled
