@@ -1,7 +1,8 @@
 // What a step does to a state, once what it reads is known.
 
 ghost use Rattle.std.specs.Prelude.{◌≡◌, ◌≤◌, ◌<◌, ◌+◌, ◌-◌, ◌^◌, [], ◌∷◌, length, get_or, IsTrue, ◌↔◌, IfOk, vec_capacity};
-ghost use Rattle.process_code.specs.StatesOf.{KeepsRoom};
+ghost use Rattle.process_code.specs.StatesOf.{KeepsRoom, IsStateOf};
+ghost use Rattle.process_code.specs.declared.code.Code.{Code};
 ghost use Rattle.process_code.specs.Points.{point_of, said_by, said_delay, stage_after, after_turn, SaysInner, SaysAwait, SaysFinished, HasUpdates, TakesUpdate};
 
 use crate::state::{Did, ProcState, Stage};
@@ -18,7 +19,8 @@ impl ProcState {
 
     /// Makes a process ready that waits, sleeps or is postponed.
     pub fn wake(&mut self)
-        ensures { point_of self.new ≡ record (point_of self.old) { stage = Stage.Ready } }
+        ensures point { point_of self.new ≡ record (point_of self.old) { stage = Stage.Ready } }
+        ensures state { (code : Code) → IsStateOf code self.old → IsStateOf code self.new }
     {
         self.stage = Stage::Ready;
     }
@@ -114,6 +116,7 @@ impl ProcState {
         ensures point { IfOk result (λ copy. point_of copy ≡ point_of self.now) }
         ensures operands { IfOk result (λ copy. vec_capacity self.now.operands ≤ vec_capacity copy.operands) }
         ensures updates { IfOk result (λ copy. vec_capacity self.now.updates ≤ vec_capacity copy.updates) }
+        ensures state { IfOk result (λ copy. (code : Code) → IsStateOf code self.now → IsStateOf code copy) }
     {
         let operands = copied(alloc, &self.operands)?;
         let counts = copied(alloc, &self.counts)?;
