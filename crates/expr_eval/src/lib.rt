@@ -7,4 +7,5 @@
 mod operand;
 mod value;
 
-pub use value::{Stack, eval};
+pub use operand::{part_index, place_of_index, put_left, put_right, width_of_part, word_of_index};
+pub use value::{Stack, chosen, eval, is_signed, repeated_bits};

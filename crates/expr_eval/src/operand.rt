@@ -15,7 +15,7 @@ use v_design::{MemoryRef, PieceRef, Values, VectorRef};
 use vf_base::ObjectId;
 
 /// Bits with more significant ones put on their left.
-pub(crate) fn put_left(low: Option<Vec4>, high: Vec4) -> Vec4
+pub fn put_left(low: Option<Vec4>, high: Vec4) -> Vec4
     requires { length (bits_so_far low) + length high ≤ 128 }
     ensures { result ≡ bits_so_far low ++ high }
 {
@@ -29,7 +29,7 @@ pub(crate) fn put_left(low: Option<Vec4>, high: Vec4) -> Vec4
 }
 
 /// Bits with less significant ones put on their right.
-pub(crate) fn put_right(high: Option<Vec4>, low: Vec4) -> Vec4
+pub fn put_right(high: Option<Vec4>, low: Vec4) -> Vec4
     requires { length (bits_so_far high) + length low ≤ 128 }
     ensures { result ≡ low ++ bits_so_far high }
 {
@@ -61,7 +61,7 @@ pub(crate) fn vector_bits<V: Values>(pieces: &[PieceRef], values: &V) -> Vec4
 }
 
 /// The place of an index by the declared bounds; none outside them.
-pub(crate) fn place_of_index(high: u32, low: u32, index: u128) -> Option<u32>
+pub fn place_of_index(high: u32, low: u32, index: u128) -> Option<u32>
     ensures { result ≡ place_of high low index }
 {
     let (first, last) = (u128::from(high), u128::from(low));
@@ -110,7 +110,7 @@ pub(crate) fn bit_of_index<V: Values>(vector: &VectorRef, values: &V, index: Opt
 }
 
 /// The word of a memory that an index selects; none where it selects none.
-pub(crate) fn word_of_index(memory: &MemoryRef, index: Option<u128>) -> Option<ObjectId>
+pub fn word_of_index(memory: &MemoryRef, index: Option<u128>) -> Option<ObjectId>
     ensures { option_map object_number result ≡ word_at (memory_of memory.now) index }
 {
     let words = memory.words.as_slice();
@@ -128,7 +128,7 @@ pub(crate) fn word_of_index(memory: &MemoryRef, index: Option<u128>) -> Option<O
 }
 
 /// The index of a part-select's bit, counted from its least significant one.
-fn part_index(from: u32, to: u32, bit: u32) -> u32
+pub fn part_index(from: u32, to: u32, bit: u32) -> u32
     requires { bit < part_width from to }
     ensures { result ≡ get_or (part_indexes from to) bit 0 }
 {
@@ -136,7 +136,7 @@ fn part_index(from: u32, to: u32, bit: u32) -> u32
 }
 
 /// The number of bits of a part-select.
-pub(crate) fn width_of_part(from: u32, to: u32) -> u64
+pub fn width_of_part(from: u32, to: u32) -> u64
     ensures { result ≡ part_width from to }
 {
     if to <= from {

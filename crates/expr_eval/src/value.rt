@@ -44,7 +44,7 @@ pub fn eval<V: Values>(expr: &FlatExpr, values: &V, stack: &mut Stack) -> Vec4
 }
 
 /// Whether an expression is signed.
-fn is_signed(expr: &FlatExpr) -> bool
+pub fn is_signed(expr: &FlatExpr) -> bool
     ensures { result ≡ sign_of (expression_of expr.now) }
 {
     match expr {
@@ -62,7 +62,7 @@ fn is_signed(expr: &FlatExpr) -> bool
 }
 
 /// The bits so many times over.
-fn repeated_bits(count: u32, bits: Vec4) -> Vec4
+pub fn repeated_bits(count: u32, bits: Vec4) -> Vec4
     requires some { 1 ≤ count }
     requires few { count * length bits ≤ 128 }
     ensures { result ≡ repeated count bits }
@@ -78,7 +78,7 @@ fn repeated_bits(count: u32, bits: Vec4) -> Vec4
 }
 
 /// The one of two branches that a condition chooses, or both merged.
-fn chosen(condition: Vec4, first: Vec4, second: Vec4) -> Vec4
+pub fn chosen(condition: Vec4, first: Vec4, second: Vec4) -> Vec4
     requires { length first ≡ length second }
     ensures { result ≡ chosen_value (truth_of condition) first second }
 {

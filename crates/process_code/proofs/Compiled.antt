@@ -240,6 +240,9 @@ counts-more old new spots ways more in_step =
       led = λ i spot way low h w.
           let n : length new.spots.items ≡ length old.spots.items = ap length spots in
           absurd (omega (arith, n, low, slice_get_within new.spots.items i spot h));
+      falls = λ i spot low h.
+          let n : length new.spots.items ≡ length old.spots.items = ap length spots in
+          absurd (omega (arith, n, low, slice_get_within new.spots.items i spot h));
     }
 
 -- the numbers of the repeats around a repeat are below its own

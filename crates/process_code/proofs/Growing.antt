@@ -139,6 +139,7 @@ grows-refl b =
       kept = λ i h. refl;
       repeats = omega arith;
       led = λ i spot ways low h w. absurd (omega (arith, low, slice_get_within b.spots.items i spot h));
+      falls = λ i spot low h. absurd (omega (arith, low, slice_get_within b.spots.items i spot h));
     }
 
 -- the rests of a builder stay where it grows
@@ -166,6 +167,11 @@ grows-trans one two three in_step g h =
           elim (cases_lt i (length two.spots.items)) [
             | inl high ↦ led-within one two three in_step g h i spot ways low high s w
             | inr high ↦ h.led i spot ways high s w
+          ];
+      falls = λ i spot low s.
+          elim (cases_lt i (length two.spots.items)) [
+            | inl high ↦ g.falls i spot low (sym (slice_get-shorter two.spots.items h.added i high) ∙ ap (λ xs. slice_get xs i) (sym h.spots) ∙ s)
+            | inr high ↦ h.falls i spot high s
           ];
     }
 
@@ -220,6 +226,25 @@ own-led old placed grown new head next own ways after in_step p g t stands leads
     ]
 
 -- a spot is put before the rest of a position, other spots come behind it, and its ways are set
+-- the spot itself stands before an earlier position, and so do those behind it
+own-falls : (old placed grown new : Builder) (head : Head) (next own : ℕ) (ways : Ways) (after : List Part) →
+    Places old placed head next own → Grows placed grown → Turned grown new (length old.spots.items) ways → StandsAt (rests_in old) next after →
+    (i : ℕ) (spot : Spot) → length old.spots.items ≤ i → slice_get new.spots.items i ≡ Some spot → spot.next ≤ i
+own-falls old placed grown new head next own ways after p g t stands i spot low s =
+    let longer : length placed.spots.items ≡ length old.spots.items + 1 = ap length p.spots ∙ length-append old.spots.items (p.spot ∷ []) in
+    let there : slice_get new.spots.items (length old.spots.items) ≡ Some p.spot =
+    ap (λ xs. slice_get xs (length old.spots.items)) (t.spots ∙ g.spots)
+    ∙ slice_get-longer placed.spots.items g.added (length old.spots.items) p.spot
+    (ap (λ xs. slice_get xs (length old.spots.items)) p.spots ∙ slice_get-last old.spots.items p.spot) in
+    let within : next < length (rests_in old) = slice_get_within (rests_in old) next after stands in
+    elim (eq-or-lt_of_le low) [
+      | inl e ↦
+          let spot_is : p.spot ≡ spot = some-same (sym there ∙ ap (slice_get new.spots.items) e ∙ s) in
+          let next_is : spot.next ≡ next = ap (λ (x : Spot). x.next) (sym spot_is) ∙ p.next_is in
+          omega (arith, next_is, within, rests_of-length old.spots.items, low)
+      | inr lt ↦ g.falls i spot (omega (arith, longer, lt)) (ap (λ xs. slice_get xs i) (sym t.spots) ∙ s)
+    ]
+
 pub grows-own : (old placed grown new : Builder) (head : Head) (next own : ℕ) (ways : Ways) (after : List Part) → length old.spots.items ≡ length old.ways.items →
     Places old placed head next own → Grows placed grown → Turned grown new (length old.spots.items) ways →
     StandsAt (rests_in old) next after → PartLeads new.repeats (rests_in new) ways (part_of_head head) after → Grows old new
@@ -232,4 +257,5 @@ grows-own old placed grown new head next own ways after in_step p g t stands lea
           t.kept i (omega (arith, low)) ∙ g.kept i (omega (arith, low, longer)) ∙ ap (λ xs. slice_get xs i) p.ways ∙ slice_get-shorter old.ways.items (p.way ∷ []) i (omega (arith, low, in_step));
       repeats = omega (arith, p.repeats, g.repeats, t.repeats);
       led = own-led old placed grown new head next own ways after in_step p g t stands leads;
+      falls = own-falls old placed grown new head next own ways after p g t stands;
     }

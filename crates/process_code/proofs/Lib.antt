@@ -1,3 +1,4 @@
 pub mod Growing
 pub mod Compiled
 pub mod Equalities
+pub mod Spots

@@ -1,6 +1,7 @@
 -- The code of a process (IEEE 1364-2001, clause 9).
 use Rattle.std.specs.Prelude.{◌≡◌, ℕ, ◌≤◌, List, [], length, slice_get, Option, Some}
 use Rattle.v_design.specs.Plain.{statement_of}
+use Rattle.v_design.specs.Sized.{IsSizedStatement}
 use Rattle.v_design.specs.declared.plan.Process.{Process}
 use Rattle.process_code.specs.Rests.{Part, opened_parts}
 use Rattle.process_code.specs.Positions.{rests_of, StandsAt}
@@ -13,10 +14,13 @@ use Rattle.process_code.specs.declared.code.Code.{Code}
 abbrev pub rests_in_code : Code → List (List Part)
 rests_in_code code = rests_of code.spots.items
 
--- code stands for a process: it begins with the opened body, and the ways of each spot lead where its steps go
+-- code stands for a process: it begins with the opened body, and the ways of each spot lead where its steps go;
+-- each spot stands before an earlier position, and the process is sized
 pub record IsCodeOf (process : Process) (code : Code) : Type 0 where
   pub process_is : code.process.now ≡ process
   pub starts : StandsAt (rests_in_code code) code.start (opened_parts (statement_of process.body) [])
   pub in_step : length code.spots.items ≡ length code.ways.items
   pub led : (i : ℕ) (spot : Spot) (ways : Ways) → slice_get code.spots.items i ≡ Some spot → slice_get code.ways.items i ≡ Some ways →
       Leads code.repeats (rests_in_code code) spot ways
+  pub falls : (i : ℕ) (spot : Spot) → slice_get code.spots.items i ≡ Some spot → spot.next ≤ i
+  pub sized : IsSizedStatement (statement_of process.body)

@@ -23,7 +23,7 @@ pub record IsInStep (b : Builder) : Type 0 where
   pub ways : length b.spots.items ≡ length b.ways.items
   pub repeats : b.repeats ≤ length b.spots.items
 
--- more spots are added, each of which leads on, and what was there stays
+-- more spots are added, each of which leads on and stands before an earlier position, and what was there stays
 pub record Grows (old new : Builder) : Type 0 where
   pub added : List Spot
   pub spots : new.spots.items ≡ old.spots.items ++ added
@@ -31,6 +31,7 @@ pub record Grows (old new : Builder) : Type 0 where
   pub repeats : old.repeats ≤ new.repeats
   pub led : (i : ℕ) (spot : Spot) (ways : Ways) → length old.spots.items ≤ i → slice_get new.spots.items i ≡ Some spot → slice_get new.ways.items i ≡ Some ways →
       Leads new.repeats (rests_in new) spot ways
+  pub falls : (i : ℕ) (spot : Spot) → length old.spots.items ≤ i → slice_get new.spots.items i ≡ Some spot → spot.next ≤ i
 
 -- one spot more, whose ways are open
 pub record Places (old new : Builder) (head : Head) (next own : ℕ) : Type 0 where

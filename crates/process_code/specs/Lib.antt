@@ -7,3 +7,8 @@ pub mod Points
 pub mod StepLaws
 pub mod Sameness
 pub mod SamenessLaws
+pub mod Acts
+pub mod ActsLaws
+pub mod StatesOf
+pub mod UpdateLaws
+pub mod WithinLaws

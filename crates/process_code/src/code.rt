@@ -1,6 +1,8 @@
 // Compiled code: the rests that a process can come to, and the ways from each to the next.
 
 ghost use Rattle.std.specs.Prelude.{IfOk};
+ghost use Rattle.v_design.specs.Plain.{statement_of};
+ghost use Rattle.v_design.specs.Sized.{IsSizedStatement};
 ghost use Rattle.process_code.specs.Codes.{IsCodeOf};
 
 use crate::builder::Builder;
@@ -56,6 +58,7 @@ pub struct Code<'d> {
 ///
 /// Want of memory.
 pub fn compile<'d>(alloc: Global, process: &'d Process) -> Result<Code<'d>, NoMemory>
+    requires { IsSizedStatement (statement_of process.now.body) }
     ensures { IfOk result (λ code. IsCodeOf process.now code) }
 {
     let mut builder = Builder {

@@ -4,10 +4,13 @@
 mod builder;
 mod code;
 mod moves;
+mod room;
 mod same;
 mod state;
+mod stepping;
 #[cfg(test)]
 mod tests;
 
 pub use code::{Code, compile};
 pub use state::{Did, ProcState, RunEnd, Stage};
+pub use stepping::step;

@@ -1,6 +1,8 @@
 // What a step does to a state, once what it reads is known.
 
 ghost use Rattle.std.specs.Prelude.{◌≡◌, ◌≤◌, ◌<◌, ◌+◌, ◌-◌, ◌^◌, [], ◌∷◌, length, get_or, IsTrue, ◌↔◌, IfOk, vec_capacity};
+ghost use Rattle.process_code.specs.StatesOf.{KeepsRoom, IsStateOf};
+ghost use Rattle.process_code.specs.declared.code.Code.{Code};
 ghost use Rattle.process_code.specs.Points.{point_of, said_by, said_delay, stage_after, after_turn, SaysInner, SaysAwait, SaysFinished, HasUpdates, TakesUpdate};
 
 use crate::state::{Did, ProcState, Stage};
@@ -17,7 +19,8 @@ impl ProcState {
 
     /// Makes a process ready that waits, sleeps or is postponed.
     pub fn wake(&mut self)
-        ensures { point_of self.new ≡ record (point_of self.old) { stage = Stage.Ready } }
+        ensures point { point_of self.new ≡ record (point_of self.old) { stage = Stage.Ready } }
+        ensures state { (code : Code) → IsStateOf code self.old → IsStateOf code self.new }
     {
         self.stage = Stage::Ready;
     }
@@ -26,6 +29,7 @@ impl ProcState {
     pub(crate) fn go(&mut self, position: usize) -> Did
         ensures point { point_of self.new ≡ record (point_of self.old) { position = position; operands = [] } }
         ensures says { said_by result ≡ SaysInner }
+        ensures room { KeepsRoom self.old self.new }
     {
         self.position = position;
         self.operands.clear();
@@ -36,6 +40,7 @@ impl ProcState {
     pub(crate) fn begin_wait(&mut self, at: usize, position: usize) -> Did
         ensures point { point_of self.new ≡ record (point_of self.old) { stage = Stage.Waiting at; position = position; operands = [] } }
         ensures says { said_by result ≡ SaysAwait }
+        ensures room { KeepsRoom self.old self.new }
     {
         self.stage = Stage::Waiting(at);
         self.position = position;
@@ -47,6 +52,7 @@ impl ProcState {
     pub(crate) fn finish(&mut self) -> Did
         ensures point { point_of self.new ≡ record (point_of self.old) { stage = Stage.Done; operands = [] } }
         ensures says { said_by result ≡ SaysFinished }
+        ensures room { KeepsRoom self.old self.new }
     {
         self.stage = Stage::Done;
         self.operands.clear();
@@ -58,6 +64,7 @@ impl ProcState {
         requires { now ≤ 2 ^ 63 }
         ensures point { point_of self.new ≡ record (point_of self.old) { stage = stage_after now delay; position = position; operands = [] } }
         ensures says { said_by result ≡ said_delay now delay }
+        ensures room { KeepsRoom self.old self.new }
     {
         self.position = position;
         self.operands.clear();
@@ -76,6 +83,7 @@ impl ProcState {
         requires { number < length self.old.counts.items }
         ensures point { point_of self.new ≡ after_turn (point_of self.old) number inner next (get_or self.old.counts.items number 0) }
         ensures says { said_by result ≡ SaysInner }
+        ensures room { KeepsRoom self.old self.new }
     {
         let count = self.counts[number];
         if count == 0 {
@@ -90,7 +98,8 @@ impl ProcState {
     pub(crate) fn next_update(&mut self, now: u64) -> Did
         requires now { now ≤ 2 ^ 63 }
         requires some { HasUpdates self.old.updates.items }
-        ensures { TakesUpdate now (point_of self.old) (point_of self.new) (said_by result) }
+        ensures takes { TakesUpdate now (point_of self.old) (point_of self.new) (said_by result) }
+        ensures room { KeepsRoom self.old self.new }
     {
         self.operands.clear();
         match self.updates.remove(0) {
@@ -107,6 +116,7 @@ impl ProcState {
         ensures point { IfOk result (λ copy. point_of copy ≡ point_of self.now) }
         ensures operands { IfOk result (λ copy. vec_capacity self.now.operands ≤ vec_capacity copy.operands) }
         ensures updates { IfOk result (λ copy. vec_capacity self.now.updates ≤ vec_capacity copy.updates) }
+        ensures state { IfOk result (λ copy. (code : Code) → IsStateOf code self.now → IsStateOf code copy) }
     {
         let operands = copied(alloc, &self.operands)?;
         let counts = copied(alloc, &self.counts)?;

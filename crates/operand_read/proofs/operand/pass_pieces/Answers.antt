@@ -1,0 +1,13 @@
+use Rattle.std.proofs.Common.{◌≡◌, ◌≤◌, ◌<◌, ◌+◌, ◌-◌, ◌++◌, [], length, map, take, drop, arith, refl, sym, ◌∙◌, ap, length-drop}
+use Rattle.v_design.specs.Expressions.{Needs, Has, read_slices, whole_slices}
+use Rattle.v_design.specs.Lists.{joined}
+use Rattle.operand_read.specs.OperandLaws.{passes, stops}
+use Rattle.operand_read.proofs.operand.pass_pieces.Goals as goal
+
+pub returns-then-pieces-there-clause-has : goal.returns-then-pieces-there-clause-has
+returns-then-pieces-there-clause-has c =
+    passes c.args.pieces.now c.args.operands.now c.args.used.now c.saturating_sub-there.result (length c.args.operands.now - c.saturating_sub-there.result) c.saturating_sub-there.ensures refl c.if-pieces-there.true
+
+pub returns-else-pieces-there-clause-needs : goal.returns-else-pieces-there-clause-needs
+returns-else-pieces-there-clause-needs c =
+    stops c.args.pieces.now c.args.operands.now c.args.used.now c.saturating_sub-there.result _ c.saturating_sub-there.ensures c.if-pieces-there.false

@@ -1,0 +1,19 @@
+//! What a statement of a process gets from the operands that it has read.
+//!
+//! A process reads one object a step, in text order (IEEE 1364-2001, clauses 4 and 9). Each call here goes through an expression, a case
+//! or an assignment over the operands read so far: it answers what is to be read next, or the value, the chosen item or the updates.
+//! Evaluating takes no memory.
+#![tactic(auto)]
+
+mod choice;
+mod constant;
+mod expression;
+mod operand;
+mod part;
+mod room;
+mod target;
+
+pub use choice::read_choice;
+pub use expression::read_value;
+pub use room::{most_assignment_reads, most_case_reads, most_reads};
+pub use target::read_updates;
