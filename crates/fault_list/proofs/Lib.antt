@@ -6,3 +6,7 @@ pub mod OneClass
 pub mod Standing
 pub mod Held
 pub mod Meeting
+pub mod Decimals
+pub mod Finding
+pub mod Drivers
+pub mod NamesRead

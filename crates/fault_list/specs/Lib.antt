@@ -2,3 +2,5 @@ pub mod Listed
 pub mod Classes
 pub mod Keys
 pub mod SameKeys
+pub mod Spelled
+pub mod RoundTrip

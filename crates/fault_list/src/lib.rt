@@ -7,10 +7,18 @@
 
 mod ascending;
 mod class;
+mod compare;
 mod key;
 mod law;
 mod list;
+mod name;
+mod spelled;
 
 pub use class::{classes, representative};
-pub use law::one_class;
-pub use list::all_sites;
+pub use law::{names_read, one_class};
+pub use list::{all_sites, width_of};
+pub use name::{append, append_number, write_site};
+pub use spelled::{bit_spelled, joined_place, piece_bit, site_of};
+
+#[cfg(test)]
+mod tests;
