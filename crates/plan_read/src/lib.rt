@@ -16,3 +16,6 @@ mod watch;
 
 pub use fault::PlanFault;
 pub use read::read_plan;
+
+#[cfg(test)]
+mod tests;
