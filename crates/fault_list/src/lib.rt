@@ -18,7 +18,7 @@ pub use class::{classes, representative};
 pub use law::{names_read, one_class};
 pub use list::{all_sites, width_of};
 pub use name::{append, append_number, write_site};
-pub use spelled::site_of;
+pub use spelled::{bit_spelled, joined_place, piece_bit, site_of};
 
 #[cfg(test)]
 mod tests;

@@ -37,7 +37,7 @@ fn place_spelled(
 }
 
 /// The bit of an object that a word spells.
-fn bit_spelled(object: &Object, word: &[u8]) -> Option<u32>
+pub fn bit_spelled(object: &Object, word: &[u8]) -> Option<u32>
     ensures { result ≡ bit_spelled (object_of object.now) word.now }
 {
     let name = object.name.as_bytes();
@@ -156,7 +156,7 @@ fn nodes_spelled(design: &Design, word: &[u8]) -> Option<Site>
 }
 
 /// The object that holds the bit at a place of some pieces, and the bit in it.
-fn piece_bit(pieces: &[PieceRef], place: u32) -> Option<(ObjectId, u32)>
+pub fn piece_bit(pieces: &[PieceRef], place: u32) -> Option<(ObjectId, u32)>
     ensures { option_map held_bit result ≡ piece_bit (map piece_of pieces.now) place }
 {
     let mut left = place;
@@ -203,7 +203,7 @@ fn span(high: u32, low: u32) -> u64
 }
 
 /// The place of the bit of a joined name that a word spells.
-fn joined_place(name: &JoinedName, word: &[u8]) -> Option<u32>
+pub fn joined_place(name: &JoinedName, word: &[u8]) -> Option<u32>
     ensures { result ≡ place_spelled (name_joined name.now) word.now }
 {
     let count = span(name.high, name.low);

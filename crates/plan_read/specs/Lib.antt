@@ -1,4 +1,6 @@
 pub mod Text
+pub mod Forms
 pub mod Watched
-pub mod Lines
 pub mod Spelled
+pub mod Plain
+pub mod Steps

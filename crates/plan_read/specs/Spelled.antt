@@ -1,117 +1,216 @@
--- The plan that a text spells of a design, or the first line at fault with its reason (the format is this program's own).
-use Rattle.std.specs.Prelude.{◌≡◌, ℕ, zero, suc, ◌+◌, ◌*◌, ◌≤◌, ◌<◌, ◌↔◌, Bool, true, false, ◌||◌, List, [], ◌∷◌, ◌++◌, Option, Some, None, map, length, take, nat_lt, sum_by, slice_get, Contains}
-use Rattle.std.specs.List.{flat_map}
+-- The plan that a text spells over a design, or the first line at fault (the format is this program's own).
+use Rattle.std.specs.Prelude.{◌≡◌, ℕ, ◌+◌, ◌<◌, ◌≤◌, ◌↔◌, Bool, true, false, not, ◌&&◌, ◌||◌, List, [], ◌∷◌, ◌++◌, map, length, take, Contains, Option, Some, None, nat_lt, slice_get}
+use Rattle.std.specs.List.{list_any}
 use Rattle.vf_base.specs.Base.{WatchedBit}
-use Rattle.v_design.specs.Designs.{FlatDesign, StuckAt, TestPlan}
+use Rattle.v_design.specs.Lists.{joined}
+use Rattle.v_design.specs.Designs.{FlatDesign, FaultSite, StuckAt, TestPlan}
+use Rattle.v_design.specs.Sites.{faults_of}
 use Rattle.v_design.specs.WellFormed.{IsAscending}
+use Rattle.plan_read.specs.Watched.{bits_spelled}
+use Rattle.fault_list.specs.Spelled.{site_spelled}
+use Rattle.plan_read.specs.declared.fault.PlanFault.{PlanFault}
+use Rattle.plan_read.specs.declared.fault.PlanFault.TheVariants.{BadLine, UnknownSite, TooMany, TooLong, NoMemory}
 use Rattle.plan_read.specs.Text.{lines_of, words_of}
-use Rattle.plan_read.specs.Lines.{end_of, Entry, Watches, Strobes, Lists, Meaning, Adds, IsBad, IsUnknown, meaning}
+use Rattle.plan_read.specs.Forms.{PlanLine, Empty, Ends, Watches, Strobes, Lists, ListsAll, Formless, line_of, times_on}
 
--- Lines with words
+-- What a line gives
 
--- a line's words with its number, where it has words
-abbrev pub numbered_if : ℕ → List (List ℕ) → List (ℕ × List (List ℕ)) → List (ℕ × List (List ℕ))
-numbered_if number [] rest = rest
-numbered_if number (word ∷ words) rest = (number, word ∷ words) ∷ rest
+-- the bits that a line watches
+abbrev pub bits_on : FlatDesign → PlanLine → List WatchedBit
+bits_on design Empty = []
+bits_on design (Ends time) = []
+bits_on design (Watches name) = bits_spelled design name
+bits_on design (Strobes from step to) = []
+bits_on design (Lists name value) = []
+bits_on design ListsAll = []
+bits_on design Formless = []
 
--- the words of the lines that have some, each with the line's number
-abbrev pub numbered_lines : ℕ → List (List ℕ) → List (ℕ × List (List ℕ))
-numbered_lines number [] = []
-numbered_lines number (line ∷ lines) = numbered_if number (words_of line) (numbered_lines (number + 1) lines)
+-- the fault of a site, if there is one
+abbrev pub fault_at : Option FaultSite → Bool → List StuckAt
+fault_at None value = []
+fault_at (Some site) value = record { site = site; value = value } ∷ []
 
--- the lines of a text that have words, numbered from 1
-abbrev pub worded_lines : List ℕ → List (ℕ × List (List ℕ))
-worded_lines text = numbered_lines 1 (lines_of text)
+-- the faults that a line lists
+abbrev pub faults_on : FlatDesign → PlanLine → List StuckAt
+faults_on design Empty = []
+faults_on design (Ends time) = []
+faults_on design (Watches name) = []
+faults_on design (Strobes from step to) = []
+faults_on design (Lists name value) = fault_at (site_spelled design name) value
+faults_on design ListsAll = faults_of design
+faults_on design Formless = []
 
--- What lines add
+-- the end that a line gives
+abbrev pub end_on : PlanLine → Option ℕ
+end_on Empty = None
+end_on (Ends time) = Some time
+end_on (Watches name) = None
+end_on (Strobes from step to) = None
+end_on (Lists name value) = None
+end_on ListsAll = None
+end_on Formless = None
 
--- what a meaning adds
-abbrev pub entry_of : Meaning → List Entry
-entry_of (Adds entry) = entry ∷ []
-entry_of IsBad = []
-entry_of IsUnknown = []
+-- the first of two ends
+abbrev pub earlier_end : Option ℕ → Option ℕ → Option ℕ
+earlier_end (Some time) later = Some time
+earlier_end None later = later
 
--- so many times, from one on in steps
-abbrev pub times_from : ℕ → ℕ → ℕ → List ℕ
-times_from from step zero = []
-times_from from step (suc count) = from ∷ times_from (from + step) step count
+-- the end that the first line of the end gives
+abbrev pub end_of : List PlanLine → Option ℕ
+end_of [] = None
+end_of (line ∷ lines) = earlier_end (end_on line) (end_of lines)
 
--- the strobe times that an entry gives, as they are written
-abbrev pub times_of : Entry → List ℕ
-times_of (Watches bits) = []
-times_of (Strobes from step count) = times_from from step count
-times_of (Lists faults) = []
+-- all strobe times of some lines, as they are written
+abbrev pub times_of : List PlanLine → List ℕ
+times_of lines = joined (map times_on lines)
 
--- how many they are
-abbrev pub count_of_times : Entry → ℕ
-count_of_times (Watches bits) = 0
-count_of_times (Strobes from step count) = count
-count_of_times (Lists faults) = 0
+-- all bits that some lines watch, in their order
+abbrev pub bits_of : FlatDesign → List PlanLine → List WatchedBit
+bits_of design lines = joined (map (bits_on design) lines)
 
--- the bits that an entry watches
-abbrev pub bits_of : Entry → List WatchedBit
-bits_of (Watches bits) = bits
-bits_of (Strobes from step count) = []
-bits_of (Lists faults) = []
+-- all faults that some lines list, in their order
+abbrev pub listed_faults : FlatDesign → List PlanLine → List StuckAt
+listed_faults design lines = joined (map (faults_on design) lines)
 
--- the faults that an entry lists
-abbrev pub faults_in : Entry → List StuckAt
-faults_in (Watches bits) = []
-faults_in (Strobes from step count) = []
-faults_in (Lists faults) = faults
+-- Why a line is refused
 
--- whether some entries are past a limit: of strobe times as written, of watched bits, of faults
-abbrev pub are_too_many : List Entry → Bool
-are_too_many entries = nat_lt 65536 (sum_by count_of_times entries) || nat_lt 4096 (length (flat_map bits_of entries)) || nat_lt 65536 (length (flat_map faults_in entries))
+-- it is bad, its name is unknown, or there are too many strobes, watched bits or faults with it
+pub data PlanReason : Type 0 where
+  IsBad : PlanReason
+  IsUnknown : PlanReason
+  IsTooMany : PlanReason
 
--- Lines at fault
+-- the latest end of a plan
+abbrev pub latest_end : ℕ
+latest_end = 1000000000000
 
--- why a line is at fault
-pub data Reason : Type 0 where
-  BadForm : Reason
-  UnknownName : Reason
-  PastLimit : Reason
+-- before the end is given only the line of an end that isn't too late is good
+abbrev pub is_bad_first : PlanLine → Bool
+is_bad_first Empty = false
+is_bad_first (Ends time) = nat_lt latest_end time
+is_bad_first (Watches name) = true
+is_bad_first (Strobes from step to) = true
+is_bad_first (Lists name value) = true
+is_bad_first ListsAll = true
+is_bad_first Formless = true
 
--- past a limit, where a test holds
-abbrev pub past_if : Bool → Option Reason
-past_if true = Some PastLimit
-past_if false = None
+-- after it the other forms are good, and no strobe is past the end
+abbrev pub is_bad_after : ℕ → PlanLine → Bool
+is_bad_after end Empty = false
+is_bad_after end (Ends time) = true
+is_bad_after end (Watches name) = false
+is_bad_after end (Strobes from step to) = list_any (nat_lt end) (times_on (Strobes from step to))
+is_bad_after end (Lists name value) = false
+is_bad_after end ListsAll = false
+is_bad_after end Formless = true
 
--- the reason of a line: its form, then its name, then the limits with what it adds
-abbrev pub reason_of : Meaning → List Entry → Option Reason
-reason_of (Adds entry) entries = past_if (are_too_many entries)
-reason_of IsBad entries = Some BadForm
-reason_of IsUnknown entries = Some UnknownName
+-- whether a line is bad after the lines with an end, or without one
+abbrev pub is_bad : Option ℕ → PlanLine → Bool
+is_bad None line = is_bad_first line
+is_bad (Some end) line = is_bad_after end line
 
--- the meanings of some lines
-abbrev pub meanings : FlatDesign → ℕ → List (ℕ × List (List ℕ)) → List Meaning
-meanings design end lines = map (λ (line : ℕ × List (List ℕ)). meaning design end line.1) lines
+-- whether there are no bits
+abbrev pub are_none : List WatchedBit → Bool
+are_none [] = true
+are_none (bit ∷ bits) = false
 
--- what the first lines add, so many of them
-abbrev pub entries_up_to : List Meaning → ℕ → List Entry
-entries_up_to all count = flat_map entry_of (take count all)
+-- whether there is no site
+abbrev pub is_none : Option FaultSite → Bool
+is_none None = true
+is_none (Some site) = false
 
--- the reason of the line at a place among those that have words, the first apart
-abbrev pub reason_at : List Meaning → ℕ → Option Reason
-reason_at all place = elim (slice_get all place) [ None ↦ None | Some said ↦ reason_of said (entries_up_to all (place + 1)) ]
+-- whether a line's name spells nothing
+abbrev pub is_unknown : FlatDesign → PlanLine → Bool
+is_unknown design Empty = false
+is_unknown design (Ends time) = false
+is_unknown design (Watches name) = are_none (bits_spelled design name)
+is_unknown design (Strobes from step to) = false
+is_unknown design (Lists name value) = is_none (site_spelled design name)
+is_unknown design ListsAll = false
+is_unknown design Formless = false
 
--- a text with a line at fault: no line gives the end where the first with words should, or a later line is the first at fault
-pub data IsAtFault (design : FlatDesign) (text : List ℕ) : ℕ → Reason → Type 0 where
-  no_end : worded_lines text ≡ [] → IsAtFault design text (length (lines_of text) + 1) BadForm
-  bad_end : (first : ℕ × List (List ℕ)) (others : List (ℕ × List (List ℕ))) → worded_lines text ≡ first ∷ others → end_of first.1 ≡ None → IsAtFault design text first.0 BadForm
-  at_line : (first : ℕ × List (List ℕ)) (others : List (ℕ × List (List ℕ))) (end place : ℕ) (line : ℕ × List (List ℕ)) (reason : Reason) → worded_lines text ≡ first ∷ others → end_of first.1 ≡ Some end →
-      slice_get others place ≡ Some line → reason_at (meanings design end others) place ≡ Some reason →
-      ((earlier : ℕ) → earlier < place → reason_at (meanings design end others) earlier ≡ None) → IsAtFault design text line.0 reason
+-- the most strobe times, watched bits and faults of a plan
+abbrev pub most_strobes : ℕ
+most_strobes = 65536
 
--- the plan that a text spells: the first line with words gives the end, no line is at fault, and what is watched and listed stands in the order of the lines;
--- the strobes are the times in ascending order without repeats
-pub record IsPlanOfText (design : FlatDesign) (text : List ℕ) (plan : TestPlan) : Type 0 where
-  pub first : ℕ × List (List ℕ)
-  pub others : List (ℕ × List (List ℕ))
-  pub lines : worded_lines text ≡ first ∷ others
-  pub end : end_of first.1 ≡ Some plan.end
-  pub sound : (place : ℕ) → reason_at (meanings design plan.end others) place ≡ None
-  pub watched : plan.watched ≡ flat_map bits_of (flat_map entry_of (meanings design plan.end others))
-  pub faults : plan.faults ≡ flat_map faults_in (flat_map entry_of (meanings design plan.end others))
+abbrev pub most_watched : ℕ
+most_watched = 4096
+
+abbrev pub most_faults : ℕ
+most_faults = 65536
+
+-- whether some lines have too many strobe times, watched bits or faults
+abbrev pub are_too_many : FlatDesign → List PlanLine → Bool
+are_too_many design lines =
+    nat_lt most_strobes (length (times_of lines)) || nat_lt most_watched (length (bits_of design lines)) || nat_lt most_faults (length (listed_faults design lines))
+
+-- the first of three reasons: the line is bad, its name is unknown, there are too many
+abbrev pub first_reason : Bool → Bool → Bool → Option PlanReason
+first_reason true unknown many = Some IsBad
+first_reason false true many = Some IsUnknown
+first_reason false false true = Some IsTooMany
+first_reason false false false = None
+
+-- why a line is refused after some lines, if it is
+abbrev pub reason_of : FlatDesign → List PlanLine → PlanLine → Option PlanReason
+reason_of design before line = first_reason (is_bad (end_of before) line) (is_unknown design line) (are_too_many design (before ++ line ∷ []))
+
+-- no line is refused
+abbrev pub NoneRefused : FlatDesign → List PlanLine → Type 0
+NoneRefused design lines = (place : ℕ) (line : PlanLine) → slice_get lines place ≡ Some line → reason_of design (take place lines) line ≡ None
+
+-- the line with this number, from 1, is the first one that is refused
+pub record IsFirstRefused (design : FlatDesign) (lines : List PlanLine) (number : ℕ) (reason : PlanReason) : Type 0 where
+  pub place : ℕ
+  pub numbered : number ≡ place + 1
+  pub line : PlanLine
+  pub stands : slice_get lines place ≡ Some line
+  pub refused : reason_of design (take place lines) line ≡ Some reason
+  pub first : NoneRefused design (take place lines)
+
+-- The whole text
+
+-- what lines say
+abbrev pub lines_say : List (List ℕ) → List PlanLine
+lines_say lines = map (λ line. line_of (words_of line)) lines
+
+-- what the lines of a text say
+abbrev pub plan_lines : List ℕ → List PlanLine
+plan_lines text = lines_say (lines_of text)
+
+-- the most bytes of a plan
+abbrev pub most_bytes : ℕ
+most_bytes = 262144
+
+-- the lines spell the plan: none is refused, one gives the end, what is watched and what is listed stand in the order of the lines,
+-- and the strobes are the times in ascending order without repeats
+pub record LinesSpell (design : FlatDesign) (lines : List PlanLine) (plan : TestPlan) : Type 0 where
+  pub sound : NoneRefused design lines
+  pub end : end_of lines ≡ Some plan.end
+  pub watched : plan.watched ≡ bits_of design lines
+  pub faults : plan.faults ≡ listed_faults design lines
   pub ascending : IsAscending plan.strobes
-  pub times : (time : ℕ) → Contains plan.strobes time ↔ Contains (flat_map times_of (flat_map entry_of (meanings design plan.end others))) time
+  pub strobes : (time : ℕ) → Contains plan.strobes time ↔ Contains (times_of lines) time
+
+-- the lines give no end: none is refused, and none is the line of the end
+pub record HaveNoEnd (design : FlatDesign) (lines : List PlanLine) : Type 0 where
+  pub sound : NoneRefused design lines
+  pub endless : end_of lines ≡ None
+
+-- the text spells the plan over the design
+pub record Spells (design : FlatDesign) (text : List ℕ) (plan : TestPlan) : Type 0 where
+  pub short : length text ≤ most_bytes
+  pub lines : LinesSpell design (plan_lines text) plan
+
+-- the number of the line at which a text is bad: that of the first refused line, or the one after the last where there is no end
+pub data IsBadAt (design : FlatDesign) (text : List ℕ) (number : ℕ) : Type 0 where
+  bad_line : IsFirstRefused design (plan_lines text) number IsBad → IsBadAt design text number
+  no_end : number ≡ length (plan_lines text) + 1 → HaveNoEnd design (plan_lines text) → IsBadAt design text number
+
+-- the fault of a text: it is too long; else it is bad at a line, or has there an unknown name or one too many. Want of memory can come anywhere
+abbrev pub Refuses : FlatDesign → List ℕ → PlanFault → Type 0
+Refuses design text (BadLine number) = (length text ≤ most_bytes) × IsBadAt design text number
+Refuses design text (UnknownSite number) = (length text ≤ most_bytes) × IsFirstRefused design (plan_lines text) number IsUnknown
+Refuses design text (TooMany number) = (length text ≤ most_bytes) × IsFirstRefused design (plan_lines text) number IsTooMany
+Refuses design text TooLong = most_bytes < length text
+Refuses design text NoMemory = Unit {0}

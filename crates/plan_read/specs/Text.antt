@@ -1,6 +1,7 @@
--- The lines of a plan's text, the words of a line, and numbers (the format is this program's own).
-use Rattle.std.specs.Prelude.{ℕ, ◌+◌, ◌*◌, ◌-◌, List, [], ◌∷◌, Bool, true, false, ◌&&◌, ◌||◌, ◌==◌, nat_le, nat_lt, Option, Some, None, filter, length, take, slice_index, if◌then◌else◌}
+-- The lines of a plan, the words of a line, and numbers (the format is this program's own).
+use Rattle.std.specs.Prelude.{◌≡◌, ℕ, zero, suc, ◌+◌, ◌*◌, ◌-◌, ◌/◌, List, [], ◌∷◌, ◌++◌, Bool, true, false, ◌&&◌, ◌||◌, ◌==◌, nat_le, nat_lt, Option, Some, None, filter, map, length, take, slice_index, if◌then◌else◌, codes}
 use Rattle.std.specs.List.{slice_split}
+use Rattle.std.specs.Str.{bytes_eq}
 
 -- Bytes
 
@@ -56,6 +57,10 @@ is_word (b ∷ bs) = true
 -- the words of a line
 abbrev pub words_of : List ℕ → List (List ℕ)
 words_of line = filter is_word (slice_split is_space (before_comment line))
+
+-- the words of all lines
+abbrev pub words_of_lines : List ℕ → List (List (List ℕ))
+words_of_lines text = map words_of (lines_of text)
 
 -- Numbers
 

@@ -11,7 +11,7 @@ pub enum PlanFault {
     /// The line is of no form, or breaks a number's limit.
     #[error("line {0} is bad")]
     BadLine(u32),
-    /// The line's name is no object to watch, or no site.
+    /// The line's name is nothing to watch, or no site.
     #[error("line {0} has an unknown name")]
     UnknownSite(u32),
     /// With this line there are too many strobes, watched bits or faults.
