@@ -1,29 +1,28 @@
 -- Reading assignments, gates and connections is exact.
-use Rattle.std.proofs.Common.{◌≡◌, ℕ, zero, suc, ◌<◌, ◌≤◌, Bool, true, false, List, [], ◌∷◌, ◌++◌, length, Option, Some, None, refl, sym, ◌∙◌, ap, subst, arith, append_assoc, length-append, ◌⊎◌, inl, inr}
+use Rattle.std.proofs.Common.{◌≡◌, ℕ, ◌<◌, ◌≤◌, Bool, true, false, List, [], ◌∷◌, ◌++◌, length, Option, Some, None, refl, sym, ◌∙◌, ap, subst, arith, append_assoc, length-append, ◌⊎◌, inl, inr}
 use Rattle.std.specs.Prelude.{if◌then◌else◌}
 use Rattle.vf_base.specs.Base.{SourcePlace}
 use Rattle.four_value.specs.declared.operator.GateKind.{GateKind}
 use Rattle.v_tree.specs.Tokens.{SourceToken}
-use Rattle.v_tree.specs.Trees.{SourceExpression, place_of_expression, NamedPlace, SourceTarget, SourceAssignment, SourceGate, SourceConnection, SourceInstance}
+use Rattle.v_tree.specs.Trees.{SourceExpression, place_of_expression, SourceAssignment, SourceGate, SourceConnection, SourceInstance}
 use Rattle.v_read.specs.declared.class.Class.{Class}
 use Rattle.v_read.specs.declared.class.Class.TheVariants as classes
-use Rattle.v_read.specs.Classes.{is_fixed, token_of, name_token, IsName}
-use Rattle.v_read.specs.Reading.{Reader, ◌>>=◌, give, step, next_class, by_class, repeat}
+use Rattle.v_read.specs.Classes.{token_of, name_token, IsName}
+use Rattle.v_read.specs.Reading.{◌>>=◌, give}
 use Rattle.v_read.specs.Separated.{SpellsBehind, SpellsList, separated}
 use Rattle.v_read.specs.Exact.{Language, Family, Exact, behind, exact-bind, exact-under, exact-give, exact-weaken}
-use Rattle.v_read.specs.Branches.{nowhere, Some-of, Branch, branch, branch-wrong, branch-step, exact-by_class, exact-after, exact-name}
+use Rattle.v_read.specs.Branches.{nowhere, Some-of, Branch, branch, branch-step, exact-by_class, exact-after, exact-name}
 use Rattle.v_read.specs.Repeat.{append-nil, Turn, TurnFits, exact-repeat}
 use Rattle.v_read.specs.SeparatedLaws.{EachFits, exact-separated}
-use Rattle.v_expr.specs.Spelling.{SpellsExpression, SpellsTarget}
-use Rattle.v_expr.specs.Heights.{height_of, target_height}
+use Rattle.v_expr.specs.Spelling.{SpellsExpression}
+use Rattle.v_expr.specs.Heights.{height_of}
 use Rattle.v_expr.specs.Expressions.{expression}
-use Rattle.v_expr.specs.Parts.{target}
 use Rattle.v_expr.specs.ExpressionExact.{Within}
-use Rattle.v_expr.specs.PartLaws.{TargetWithin, expression-within, target-exact}
-use Rattle.v_stmt.specs.PartReads.{leads, expression-first}
+use Rattle.v_expr.specs.PartLaws.{expression-within, target-exact}
+use Rattle.v_stmt.specs.PartReads.{expression-first}
 use Rattle.v_parse.specs.Spelling.{SpellsNamed, SpellsAssignment, has_one_input, SpellsGateName, SpellsGate, SpellsActual, SpellsNamedConnection, actual_place, SpellsPlacedConnection, SpellsPlacedConnections, SpellsConnections, SpellsInstance, IsGiven, AreGiven, SpellsGiven}
 use Rattle.v_parse.specs.Heights.{greatest, height_if_there, assignment_height, gate_height, connection_height, instance_height}
-use Rattle.v_parse.specs.Items.{named, assignment, gate_name_by, gate_name, inputs, gate, actual_by, actual, some_actual, connection, named_connections, Placed, placed, start_by, placed_start, one_more, placed_by, placed_turn, placed_connections, connections_by, connections, given_expression, given_expressions, given_inside, given_by, given, inst}
+use Rattle.v_parse.specs.Items.{assignment, gate_name_by, gate_name, inputs, gate, actual_by, actual, some_actual, connection, named_connections, Placed, placed, start_by, placed_start, one_more, placed_by, placed_turn, placed_connections, connections_by, connections, given_expression, given_expressions, given_inside, given_by, given, inst}
 use Rattle.v_parse.specs.DeclarationExact.{Any, greatest-fits, greatest-append, named-exact}
 
 pub expression-tokens : (e : SourceExpression) (ts : List SourceToken) → SpellsExpression e ts → 0 < length ts
@@ -84,7 +83,7 @@ gate-exact k kind =
     exact-after classes.RightParen refl (λ closing.
     exact-give (record { name = n; output = t; inputs = es })
     (listing.0, opening, comma, closing, name, inside, after, naming, targeted, listing.1, refl)
-    (λ c. let all : greatest height_of es ≤ k = greatest-fits height_of k es c.1 in omega (arith, c.0.1)))))))) 
+    (λ c. let all : greatest height_of es ≤ k = greatest-fits height_of k es c.1 in omega (arith, c.0.1))))))))
 
 -- Connections by name
 
@@ -165,8 +164,7 @@ ended-append : (cs : List SourceConnection) (front : List SourceToken) (c : Sour
     → SpellsEnded cs front → SpellsPlacedConnection place c inside → SpellsEnded (cs ++ c ∷ []) (front ++ (inside ++ token_of classes.Comma place ∷ []))
 ended-append [] front c place inside h s = (place, inside, [], s, refl, ap (λ f. f ++ (inside ++ token_of classes.Comma place ∷ [])) h)
 ended-append (d ∷ cs) front c place inside h s =
-    let tail = inside ++ token_of classes.Comma place ∷ [] in
-    (
+    let tail = inside ++ token_of classes.Comma place ∷ [] in (
       h.0,
       h.1,
       h.2 ++ tail,
@@ -217,8 +215,7 @@ placed_turn-exact {C} k s front here = exact-by_class (λ m. placed_by m s) ((No
         → Branch (C × PlacedWithin k s) (λ m. one_more m s.ended last) k (Turn SpellsPlaced s front) (TurnFits (PlacedWithin k)) class
     more None none = branch (exact-bind (expression-within k) (λ e inside spelled.
         let empty : here.1 ≡ [] = subst (λ l. SpellsActual l here.1) none here.3 in
-        exact-give (Some (record { ended = s.ended; last = Some e }))
-        (
+        exact-give (Some (record { ended = s.ended; last = Some e })) (
           (
             here.0,
             inside ++ [],
@@ -261,12 +258,14 @@ placed_connections-exact {C} k =
     exact-bind (start-exact k) (λ s front spelled.
     exact-bind (exact-repeat {C = C} placed_turn {N = SpellsPlaced} {G = PlacedWithin k} (placed_turn-exact k) s front spelled) (λ t more placing.
     exact-after classes.RightParen refl (λ closing.
-    exact-give (t.ended ++ placed closing t.last ∷ [])
-    (
+    exact-give (t.ended ++ placed closing t.last ∷ []) (
       closing,
       front ++ more,
-      (placing.4, subst (SpellsPlacedConnections closing (t.ended ++ placed closing t.last ∷ [])) (sym placing.5)
-          (placed-closed closing t.ended (placed closing t.last) placing.0 placing.1 placing.2 (refl, refl, placing.3))),
+      (
+        placing.4,
+        subst (SpellsPlacedConnections closing (t.ended ++ placed closing t.last ∷ [])) (sym placing.5)
+            (placed-closed closing t.ended (placed closing t.last) placing.0 placing.1 placing.2 (refl, refl, placing.3)),
+      ),
       sym (append_assoc front more (token_of classes.RightParen closing ∷ [])),
     )
     (λ c. greatest-append connection_height k t.ended (placed closing t.last) c.1.0 c.1.1))))
@@ -305,8 +304,7 @@ inst-exact k =
     exact-bind exact-name (λ n front spelled.
     exact-after classes.LeftParen refl (λ opening.
     exact-bind (connections-exact k) (λ cs after connected.
-    exact-give (record { name = n.0; place = n.1; connections = cs })
-    (
+    exact-give (record { name = n.0; place = n.1; connections = cs }) (
       spelled.0,
       opening,
       connected.0,

@@ -1,5 +1,5 @@
 -- Every spelled assignment, gate and connection is read.
-use Rattle.std.proofs.Common.{◌≡◌, ℕ, zero, suc, ◌<◌, ◌≤◌, Bool, true, false, List, [], ◌∷◌, ◌++◌, length, Option, Some, None, Ok, Err, refl, sym, ◌∙◌, ap, subst, arith, append_assoc, length-append, ◌⊎◌, inl, inr}
+use Rattle.std.proofs.Common.{◌≡◌, ℕ, suc, ◌<◌, ◌≤◌, Bool, true, false, List, [], ◌∷◌, ◌++◌, length, Option, Some, None, Ok, Err, refl, sym, ◌∙◌, ap, subst, arith, append_assoc, length-append, inl, inr}
 use Rattle.std.proofs.lemmas.List.{append-nil}
 use Rattle.std.specs.Prelude.{if◌then◌else◌}
 use Rattle.vf_base.specs.Base.{SourcePlace}
@@ -11,19 +11,18 @@ use Rattle.v_read.specs.declared.class.Class.TheVariants as classes
 use Rattle.v_read.specs.Classes.{token_of, name_token}
 use Rattle.v_read.specs.Reading.{Reading, Reader, ◌>>=◌, followed, give, next_class, is_class, expect, repeat}
 use Rattle.v_read.specs.Separated.{SpellsBehind, SpellsList, separated}
-use Rattle.v_read.specs.Exact.{Language}
 use Rattle.v_read.specs.SeparatedLaws.{EachFits}
-use Rattle.v_read.specs.Reads.{expect-reads, name-reads, turn-is, last-is, separated-reads}
-use Rattle.v_expr.specs.Spelling.{SpellsExpression, SpellsTarget}
-use Rattle.v_expr.specs.Heights.{height_of, target_height}
+use Rattle.v_read.specs.Reads.{name-reads, turn-is, last-is, separated-reads}
+use Rattle.v_expr.specs.Spelling.{SpellsExpression}
+use Rattle.v_expr.specs.Heights.{height_of}
 use Rattle.v_expr.specs.Expressions.{expression}
 use Rattle.v_expr.specs.ExpressionExact.{Within}
-use Rattle.v_expr.specs.ExpressionReads.{Ends, EndsBefore, expression-reads}
+use Rattle.v_expr.specs.ExpressionReads.{expression-reads}
 use Rattle.v_expr.specs.PartLaws.{target-reads}
 use Rattle.v_stmt.specs.PartReads.{leads, expression-first}
-use Rattle.v_parse.specs.Spelling.{SpellsNamed, SpellsAssignment, has_one_input, SpellsGateName, SpellsGate, SpellsActual, SpellsNamedConnection, actual_place, SpellsPlacedConnection, SpellsPlacedConnections, SpellsConnections, SpellsInstance, IsGiven, AreGiven, SpellsGiven}
+use Rattle.v_parse.specs.Spelling.{SpellsAssignment, has_one_input, SpellsGateName, SpellsGate, SpellsActual, SpellsNamedConnection, actual_place, SpellsPlacedConnection, SpellsPlacedConnections, SpellsConnections, SpellsInstance, IsGiven, AreGiven, SpellsGiven}
 use Rattle.v_parse.specs.Heights.{greatest, height_if_there, assignment_height, gate_height, connection_height, instance_height}
-use Rattle.v_parse.specs.Items.{named, assignment, gate_name_by, gate_name, inputs, gate, actual_by, actual, some_actual, connection, named_connections, Placed, placed, start_by, placed_start, one_more, placed_by, placed_turn, placed_connections, connections_by, connections, given_expression, given_expressions, given_inside, given_by, given, inst}
+use Rattle.v_parse.specs.Items.{assignment, gate_name_by, gate_name, inputs, gate, actual_by, actual, some_actual, connection, named_connections, Placed, placed, start_by, placed_start, placed_by, placed_turn, placed_connections, connections_by, connections, given_expression, given_expressions, given_inside, given_by, given, inst}
 use Rattle.v_parse.specs.DeclarationExact.{Any}
 use Rattle.v_parse.specs.ConnectionExact.{SpellsInputs, ConnectionWithin, SpellsConnected}
 use Rattle.v_parse.specs.DeclarationReads.{Closes, closer-ends, each-fits, named-reads, named-first}
@@ -75,8 +74,8 @@ gate-reads k kind g ts rest h low c =
     let all = inputs-read k kind g.inputs h.6 close (h.0, h.9) (each-fits height_of k g.inputs (omega (arith, low))) refl refl in
     ap (λ f. gate k kind (f ++ rest)) h.10
     ∙ ap (gate k kind) (append_assoc h.4 (token_of classes.LeftParen h.1 ∷ (h.5 ++ token_of classes.Comma h.2 ∷ (h.6 ++ token_of classes.RightParen h.3 ∷ []))) rest
-        ∙ ap (λ f. h.4 ++ token_of classes.LeftParen h.1 ∷ f) (append_assoc h.5 (token_of classes.Comma h.2 ∷ (h.6 ++ token_of classes.RightParen h.3 ∷ [])) rest
-        ∙ ap (λ f. h.5 ++ token_of classes.Comma h.2 ∷ f) (append_assoc h.6 (token_of classes.RightParen h.3 ∷ []) rest)))
+    ∙ ap (λ f. h.4 ++ token_of classes.LeftParen h.1 ∷ f) (append_assoc h.5 (token_of classes.Comma h.2 ∷ (h.6 ++ token_of classes.RightParen h.3 ∷ [])) rest
+    ∙ ap (λ f. h.5 ++ token_of classes.Comma h.2 ∷ f) (append_assoc h.6 (token_of classes.RightParen h.3 ∷ []) rest)))
     ∙ rw (name, output, all) refl
 
 -- Connections by name
@@ -109,8 +108,8 @@ named_connections-reads : (k : ℕ) (cs : List SourceConnection) (ts : List Sour
 unfolding named_connections
 named_connections-reads k cs ts close rest h low =
     let read = separated-reads (connection (actual k)) SpellsNamedConnection (ConnectionWithin k) Any classes.Comma tt
-        (λ c ts rest s f e. connection-reads (actual k) c ts rest s (actual-reads k c.actual s.6 s.5 rest s.7 f))
-        cs ts (token_of classes.RightParen close ∷ rest) h (each-fits connection_height k cs low) tt refl in
+    (λ c ts rest s f e. connection-reads (actual k) c ts rest s (actual-reads k c.actual s.6 s.5 rest s.7 f))
+    cs ts (token_of classes.RightParen close ∷ rest) h (each-fits connection_height k cs low) tt refl in
     rw read refl
 
 named_connections-first : (cs : List SourceConnection) (ts rest : List SourceToken) → SpellsList SpellsNamedConnection classes.Comma cs ts → next_class (ts ++ rest) ≡ Some classes.Dot
@@ -186,15 +185,15 @@ placed-loop k (c ∷ d ∷ cs) ended ts close rest h low =
     ap (λ f. followed (repeat (placed_turn k) (record { ended = ended; last = None }) (f ++ token_of classes.RightParen close ∷ rest)) closing_of) h.5
     ∙ ap (λ f. followed (repeat (placed_turn k) (record { ended = ended; last = None }) f) closing_of) (append_assoc h.1 (token_of classes.Comma h.0 ∷ h.2) (token_of classes.RightParen close ∷ rest))
     ∙ ap (λ w. followed w closing_of) (placed-actual k ended c.actual h.1 (token_of classes.Comma h.0 ∷ tail) h.3.2 (omega (arith, low)) refl
-        ∙ placed-comma k (record { ended = ended; last = c.actual }) h.0 tail
-        ∙ ap (λ c. repeat (placed_turn k) (record { ended = ended ++ c ∷ []; last = None }) tail) (placed-is h.0 c h.3.0 h.3.1))
+    ∙ placed-comma k (record { ended = ended; last = c.actual }) h.0 tail
+    ∙ ap (λ c. repeat (placed_turn k) (record { ended = ended ++ c ∷ []; last = None }) tail) (placed-is h.0 c h.3.0 h.3.1))
     ∙ placed-loop k (d ∷ cs) (ended ++ c ∷ []) h.2 close rest h.4 (omega (arith, low))
     ∙ ap (λ cs. Ok (cs, rest)) (append_assoc ended (c ∷ []) (d ∷ cs))
 
 -- the first connection is read as a turn would read it
 placed-started : (k : ℕ) (a : Option SourceExpression) (ts tail : List SourceToken) → SpellsActual a ts → height_if_there height_of a ≤ k → Closes (next_class tail)
     → ((place : SourcePlace) (more : List SourceToken) → tail ≡ token_of classes.Comma place ∷ more
-        → followed (placed_start k (ts ++ tail)) (λ s. repeat (placed_turn k) s) ≡ repeat (placed_turn k) (record { ended = placed place a ∷ []; last = None }) more)
+    → followed (placed_start k (ts ++ tail)) (λ s. repeat (placed_turn k) s) ≡ repeat (placed_turn k) (record { ended = placed place a ∷ []; last = None }) more)
 unfolding placed_start
 placed-started k None ts tail h low c place more e =
     ap (λ f. followed (placed_start k (f ++ tail)) (λ s. repeat (placed_turn k) s)) h ∙ ap (λ f. followed (placed_start k f) (λ s. repeat (placed_turn k) s)) e ∙ by
@@ -234,7 +233,7 @@ placed_connections-reads k (c ∷ d ∷ cs) ts close rest h some low =
     ∙ ap (placed_connections k) (append_assoc h.1 (token_of classes.Comma h.0 ∷ h.2) (token_of classes.RightParen close ∷ rest))
     ∙ bound (placed_start k) (repeat (placed_turn k)) closing_of (h.1 ++ token_of classes.Comma h.0 ∷ tail)
     ∙ ap (λ w. followed w closing_of) (placed-started k c.actual h.1 (token_of classes.Comma h.0 ∷ tail) h.3.2 (omega (arith, low)) refl h.0 tail refl
-        ∙ ap (λ c. repeat (placed_turn k) (record { ended = c ∷ []; last = None }) tail) (placed-is h.0 c h.3.0 h.3.1))
+    ∙ ap (λ c. repeat (placed_turn k) (record { ended = c ∷ []; last = None }) tail) (placed-is h.0 c h.3.0 h.3.1))
     ∙ placed-loop k (d ∷ cs) (c ∷ []) h.2 close rest h.4 (omega (arith, low))
 
 -- Instances
@@ -315,7 +314,7 @@ given_expressions-reads : (k : ℕ) (cs : List SourceConnection) (ts : List Sour
 unfolding given_expressions
 given_expressions-reads k cs ts close rest h low =
     let read = separated-reads (given_expression k) GivenExpression (ConnectionWithin k) Closes classes.Comma refl (given_expression-reads k) cs ts (token_of classes.RightParen close ∷ rest) h
-        (each-fits connection_height k cs low) refl refl in
+    (each-fits connection_height k cs low) refl refl in
     rw read refl
 
 some_actual-reads : (k : ℕ) (a : Option SourceExpression) (e : SourceExpression) (ts : List SourceToken) (close : SourcePlace) (rest : List SourceToken) → a ≡ Some e → SpellsActual a ts
@@ -342,8 +341,8 @@ given_names-read : (k : ℕ) (cs : List SourceConnection) (ts : List SourceToken
 unfolding named_connections
 given_names-read k cs ts close rest h low =
     let read = separated-reads (connection (some_actual k)) GivenConnection (ConnectionWithin k) Any classes.Comma tt
-        (λ c ts rest s f e. connection-reads (some_actual k) c ts rest s.1 (some_actual-reads k c.actual s.0.0 s.1.6 s.1.5 rest s.0.1 s.1.7 f))
-        cs ts (token_of classes.RightParen close ∷ rest) h (each-fits connection_height k cs low) tt refl in
+    (λ c ts rest s f e. connection-reads (some_actual k) c ts rest s.1 (some_actual-reads k c.actual s.0.0 s.1.6 s.1.5 rest s.0.1 s.1.7 f))
+    cs ts (token_of classes.RightParen close ∷ rest) h (each-fits connection_height k cs low) tt refl in
     rw read refl
 
 given_inside-leads : (k : ℕ) (class : Option Class) (tokens : List SourceToken) → leads class ≡ true → given_inside k class tokens ≡ given_expressions k tokens
@@ -362,7 +361,7 @@ given_inside-reads k cs ts close rest g (inl h) low =
     ∙ given_names-read k cs ts close rest (given-names cs ts g h) low
 given_inside-reads k cs ts close rest g (inr h) low =
     given_inside-leads k (next_class (ts ++ token_of classes.RightParen close ∷ rest)) (ts ++ token_of classes.RightParen close ∷ rest)
-        (given_list-first cs ts (token_of classes.RightParen close ∷ rest) (given-list close cs ts g h))
+    (given_list-first cs ts (token_of classes.RightParen close ∷ rest) (given-list close cs ts g h))
     ∙ given_expressions-reads k cs ts close rest (given-list close cs ts g h) low
 
 pub given-reads : (k : ℕ) (cs : List SourceConnection) (ts rest : List SourceToken) → SpellsGiven cs ts → greatest connection_height cs ≤ k → (next_class rest ≡ Some classes.Hash → ⊥) → given k (ts ++ rest) ≡ Ok (cs, rest)

@@ -1,28 +1,23 @@
 -- Reading parameters, ports, nets and variables is exact.
-use Rattle.std.proofs.Common.{◌≡◌, ℕ, zero, suc, ◌<◌, ◌≤◌, Bool, true, false, List, [], ◌∷◌, ◌++◌, Option, Some, None, refl, sym, ◌∙◌, ap, subst, arith, append_assoc, ◌⊎◌, inl, inr}
+use Rattle.std.proofs.Common.{◌≡◌, ℕ, ◌≤◌, Bool, true, false, List, [], ◌∷◌, ◌++◌, Option, Some, None, refl, sym, ◌∙◌, ap, subst, arith, append_assoc, inl, inr}
 use Rattle.vf_base.specs.Base.{SourcePlace}
 use Rattle.v_tree.specs.Tokens.{SourceToken}
 use Rattle.v_tree.specs.declared.item.Direction.{Direction}
 use Rattle.v_tree.specs.declared.item.Direction.TheVariants.{Input, Output}
-use Rattle.v_tree.specs.declared.token.NumberForm.TheVariants.{Plain}
-use Rattle.v_tree.specs.declared.token.TokenKind.TheVariants as kinds
-use Rattle.v_tree.specs.Trees.{SourceExpression, Number, NamedPlace, SourceRange, SourceParameter, SourceParameters, SourcePorts, SourceWire, SourceContent, NoContent, FirstContent, MemoryBounds, SourceReg, SourceHeads, PlainHeads, DeclaredHeads}
+use Rattle.v_tree.specs.Trees.{SourceExpression, NamedPlace, SourceRange, SourceParameter, SourceParameters, SourcePorts, SourceWire, SourceContent, NoContent, FirstContent, MemoryBounds, SourceReg, SourceHeads, PlainHeads, DeclaredHeads}
 use Rattle.v_read.specs.declared.class.Class.{Class}
 use Rattle.v_read.specs.declared.class.Class.TheVariants as classes
-use Rattle.v_read.specs.Classes.{is_fixed, token_at, token_of, name_token, IsName}
-use Rattle.v_read.specs.Reading.{Reader, ◌>>=◌, give, step, name, by_class, repeat}
+use Rattle.v_read.specs.Classes.{is_fixed, token_of}
 use Rattle.v_read.specs.Separated.{SpellsBehind, SpellsList}
-use Rattle.v_read.specs.Exact.{Language, Family, Exact, behind, exact-bind, exact-under, exact-give, exact-weaken}
-use Rattle.v_read.specs.Branches.{nowhere, Some-of, Branch, branch, branch-wrong, branch-step, exact-by_class, exact-after, exact-expect, exact-name}
+use Rattle.v_read.specs.Exact.{Language, Exact, behind, exact-bind, exact-under, exact-give}
+use Rattle.v_read.specs.Branches.{nowhere, Some-of, Branch, branch, branch-wrong, branch-step, exact-by_class, exact-after, exact-name}
 use Rattle.v_read.specs.Repeat.{append-nil, Turn, TurnFits, exact-repeat}
-use Rattle.v_read.specs.SeparatedLaws.{EachFits, exact-separated, behind-append, list-append}
+use Rattle.v_read.specs.SeparatedLaws.{EachFits, exact-separated, list-append}
 use Rattle.v_expr.specs.Spelling.{SpellsExpression, SpellsRange}
 use Rattle.v_expr.specs.Heights.{height_of, range_height}
-use Rattle.v_expr.specs.Expressions.{expression}
-use Rattle.v_expr.specs.ExpressionExact.{Within}
-use Rattle.v_expr.specs.PartLaws.{RangeWithin, expression-within, range-exact}
-use Rattle.v_stmt.specs.PartExact.{a_name, a_name-is}
-use Rattle.v_parse.specs.Spelling.{SpellsNamed, SpellsSigned, SpellsWidth, SpellsValue, SpellsParameter, SpellsParameters, parameter_word, SpellsGroup, SpellsParameterList, direction_word, SpellsSort, SpellsPorts, SpellsInside, SpellsHeads, SpellsWire, SpellsContent, SpellsReg}
+use Rattle.v_expr.specs.PartLaws.{expression-within, range-exact}
+use Rattle.v_stmt.specs.PartExact.{a_name}
+use Rattle.v_parse.specs.Spelling.{SpellsNamed, SpellsSigned, SpellsWidth, SpellsValue, SpellsParameter, SpellsParameters, parameter_word, SpellsGroup, SpellsParameterList, direction_word, SpellsSort, SpellsPorts, SpellsHeads, SpellsWire, SpellsContent, SpellsReg}
 use Rattle.v_parse.specs.Heights.{greatest, height_if_there, parameters_height, ports_height, heads_height, wire_height, content_height, reg_height}
 use Rattle.v_parse.specs.Items.{named, signed_by, signed, width_by, width, value_by, value, parameter, parameters, group, with_last, add_parameter, group_by, groups_by, groups_turn, groups, parameter_list_by, parameter_list, sort_by, sort, ports_head, with_names, ports, port, add_name, another_port, port_by, ports_by, ports_turn, declared_ports, heads_inside, heads_by, heads, wire, content_by, content, reg}
 
@@ -149,8 +144,7 @@ module _ {G P : Type 0} (L : Language G) (M : Language P) (more : G → P → G)
   )
   last-grows (g ∷ d ∷ gs) front p place inside h s =
       let tail = token_of classes.Comma place ∷ (inside ++ []) in
-      let rest = last-grows (d ∷ gs) (h.3.1 ++ h.3.2) p place inside (h.3.1, h.3.2, h.3.3, h.3.4, refl) s in
-      (
+      let rest = last-grows (d ∷ gs) (h.3.1 ++ h.3.2) p place inside (h.3.1, h.3.2, h.3.3, h.3.4, refl) s in (
         h.0,
         token_of classes.Comma h.3.0 ∷ ((h.3.1 ++ h.3.2) ++ tail),
         h.2,
@@ -169,16 +163,18 @@ group-grows : (g : SourceParameters) (ts : List SourceToken) (p : SourceParamete
     → SpellsGroup g ts → SpellsParameter p inside → SpellsGroup (add_parameter g p) (ts ++ token_of classes.Comma place ∷ (inside ++ []))
 group-grows g ts p place inside h s =
     let tail = token_of classes.Comma place ∷ (inside ++ []) in
-    let t = h.1 in
-    (h.0, (
-      t.0,
-      t.1,
-      t.2 ++ tail,
-      t.3,
-      t.4,
-      list-append SpellsParameter classes.Comma g.parameters t.2 p place inside t.5 s,
-      ap (λ f. f ++ tail) t.6 ∙ ap (λ f. token_of classes.Parameter g.place ∷ f) (append_assoc t.0 (t.1 ++ t.2) tail ∙ ap (λ f. t.0 ++ f) (append_assoc t.1 t.2 tail)),
-    ))
+    let t = h.1 in (
+      h.0,
+      (
+        t.0,
+        t.1,
+        t.2 ++ tail,
+        t.3,
+        t.4,
+        list-append SpellsParameter classes.Comma g.parameters t.2 p place inside t.5 s,
+        ap (λ f. f ++ tail) t.6 ∙ ap (λ f. token_of classes.Parameter g.place ∷ f) (append_assoc t.0 (t.1 ++ t.2) tail ∙ ap (λ f. t.0 ++ f) (append_assoc t.1 t.2 tail)),
+      ),
+    )
 
 abbrev pub GroupsWithin : ℕ → List SourceParameters → Type 0
 GroupsWithin k gs = greatest parameters_height gs ≤ k
@@ -317,8 +313,7 @@ port-exact k direction =
 ports-grow : (g : SourcePorts) (ts : List SourceToken) (n : NamedPlace) (place : SourcePlace) (inside : List SourceToken)
     → SpellsPorts g ts → SpellsNamed n inside → SpellsPorts (add_name g n) (ts ++ token_of classes.Comma place ∷ (inside ++ []))
 ports-grow g ts n place inside h s =
-    let tail = token_of classes.Comma place ∷ (inside ++ []) in
-    (
+    let tail = token_of classes.Comma place ∷ (inside ++ []) in (
       h.0,
       h.1,
       h.2,

@@ -1,5 +1,5 @@
 -- Every spelled parameter, port, net and variable is read.
-use Rattle.std.proofs.Common.{◌≡◌, ℕ, zero, suc, ◌<◌, ◌≤◌, Bool, true, false, List, [], ◌∷◌, ◌++◌, length, Option, Some, None, Ok, Err, refl, sym, ◌∙◌, ap, subst, arith, append_assoc, length-append, ◌⊎◌, inl, inr}
+use Rattle.std.proofs.Common.{◌≡◌, ℕ, ◌≤◌, Bool, true, false, List, [], ◌∷◌, ◌++◌, Option, Some, None, Ok, Err, refl, sym, ◌∙◌, ap, subst, arith, append_assoc, length-append, inl, inr}
 use Rattle.std.proofs.lemmas.List.{append-nil}
 use Rattle.vf_base.specs.Base.{SourcePlace}
 use Rattle.v_tree.specs.Tokens.{SourceToken}
@@ -8,23 +8,21 @@ use Rattle.v_tree.specs.declared.item.Direction.TheVariants.{Input, Output}
 use Rattle.v_tree.specs.Trees.{SourceExpression, NamedPlace, SourceRange, SourceParameter, SourceParameters, SourcePorts, SourceWire, SourceContent, NoContent, FirstContent, MemoryBounds, SourceReg, SourceHeads, PlainHeads, DeclaredHeads}
 use Rattle.v_read.specs.declared.class.Class.{Class}
 use Rattle.v_read.specs.declared.class.Class.TheVariants as classes
-use Rattle.v_read.specs.Classes.{same_class, token_of, name_token, IsName}
+use Rattle.v_read.specs.Classes.{same_class, token_of}
 use Rattle.v_read.specs.ClassLaws.{same_class-same, class_of-kind_of}
 use Rattle.v_read.specs.Reading.{Reading, Reader, ◌>>=◌, followed, give, next_class, is_class, expect, repeat}
-use Rattle.v_read.specs.Separated.{SpellsBehind, SpellsList, separated}
+use Rattle.v_read.specs.Separated.{SpellsBehind, SpellsList}
 use Rattle.v_read.specs.Exact.{Language}
 use Rattle.v_read.specs.Branches.{nowhere}
 use Rattle.v_read.specs.SeparatedLaws.{EachFits}
 use Rattle.v_read.specs.Reads.{next-class, expect-reads, name-reads, turn-is, last-is, separated-reads}
-use Rattle.v_expr.specs.Spelling.{SpellsExpression, SpellsRange}
 use Rattle.v_expr.specs.Heights.{height_of, range_height}
-use Rattle.v_expr.specs.Expressions.{expression}
 use Rattle.v_expr.specs.ExpressionReads.{EndsBefore, expression-reads}
 use Rattle.v_expr.specs.PartLaws.{range-reads}
-use Rattle.v_parse.specs.Spelling.{SpellsNamed, SpellsSigned, SpellsWidth, SpellsValue, SpellsParameter, SpellsParameters, parameter_word, SpellsGroup, SpellsParameterList, direction_word, SpellsSort, SpellsPorts, SpellsInside, SpellsHeads, SpellsWire, SpellsContent, SpellsReg}
+use Rattle.v_parse.specs.Spelling.{SpellsNamed, SpellsSigned, SpellsWidth, SpellsValue, SpellsParameter, SpellsParameters, parameter_word, SpellsGroup, SpellsParameterList, direction_word, SpellsSort, SpellsPorts, SpellsHeads, SpellsWire, SpellsContent, SpellsReg}
 use Rattle.v_parse.specs.Heights.{greatest, height_if_there, parameters_height, ports_height, heads_height, wire_height, content_height, reg_height}
 use Rattle.v_parse.specs.Items.{named, signed_by, signed, width_by, width, value_by, value, parameter, parameters, group, with_last, add_parameter, group_by, groups_by, groups_turn, groups, parameter_list_by, parameter_list, sort_by, sort, ports_head, with_names, ports, port, add_name, another_port, port_by, ports_by, ports_turn, declared_ports, heads_inside, heads_by, heads, wire, content_by, content, reg}
-use Rattle.v_parse.specs.DeclarationExact.{Any, ParameterWithin, PortsWithin, WireWithin, RegWithin}
+use Rattle.v_parse.specs.DeclarationExact.{Any, ParameterWithin}
 
 -- What stands behind an element
 
@@ -137,7 +135,7 @@ parameters-reads k g ts rest h low ends other =
     let first = list-first SpellsParameter classes.Comma classes.Name parameter-first g.parameters h.2 rest h.5 in
     let signs = signs-read k g.signed g.range h.0 h.1 tail h.3 h.4 (omega (arith, low)) first in
     let all = separated-reads (parameter k) SpellsParameter (ParameterWithin k) Closes classes.Comma refl (parameter-reads k) g.parameters h.2 rest h.5
-        (each-fits (λ (p : SourceParameter). height_of p.value) k g.parameters (omega (arith, low))) ends other in
+    (each-fits (λ (p : SourceParameter). height_of p.value) k g.parameters (omega (arith, low))) ends other in
     ap (λ f. parameters k g.is_local (f ++ rest)) h.6
     ∙ ap (λ f. parameters k g.is_local (word ∷ f)) (append_assoc h.0 (h.1 ++ h.2) rest ∙ ap (λ f. h.0 ++ f) (append_assoc h.1 h.2 rest))
     ∙ rw (expect-reads (parameter_word g.is_local) g.place (h.0 ++ (h.1 ++ tail)), signs.0, signs.1, all) refl
@@ -162,10 +160,10 @@ behind-closes L (x ∷ xs) ts rest h c = subst (λ f. Closes (next_class (f ++ r
 module _ {G P : Type 0} (L : Language G) (M : Language P) (add : G → P → G) (F : P → Type 0) (fits : G → Type 0)
     (turn : List G → Reader (Option (List G)))
     (one : (gs : List G) (p : P) (place : SourcePlace) (inside rest : List SourceToken) → M p inside → F p → Closes (next_class rest)
-        → turn gs (token_of classes.Comma place ∷ (inside ++ rest)) ≡ Ok (Some (with_last add gs p), rest))
+    → turn gs (token_of classes.Comma place ∷ (inside ++ rest)) ≡ Ok (Some (with_last add gs p), rest))
     (another : (gs : List G) (place : SourcePlace) (g : G) (ts : List SourceToken) → L g ts → fits g →
-        (first : G) × (ps : List P) × (head behind : List SourceToken) × (ts ≡ head ++ behind) × SpellsBehind M classes.Comma ps behind × EachFits F ps × (adds add first ps ≡ g)
-        × ((rest : List SourceToken) → Closes (next_class rest) → turn gs (token_of classes.Comma place ∷ (head ++ rest)) ≡ Ok (Some (gs ++ first ∷ []), rest)))
+    (first : G) × (ps : List P) × (head behind : List SourceToken) × (ts ≡ head ++ behind) × SpellsBehind M classes.Comma ps behind × EachFits F ps × (adds add first ps ≡ g)
+    × ((rest : List SourceToken) → Closes (next_class rest) → turn gs (token_of classes.Comma place ∷ (head ++ rest)) ≡ Ok (Some (gs ++ first ∷ []), rest)))
     (last : (gs : List G) (rest : List SourceToken) → is_class classes.Comma (next_class rest) ≡ false → turn gs rest ≡ Ok (None, rest)) where
   elements : (ps : List P) (done : List G) (g : G) (ts rest : List SourceToken) → SpellsBehind M classes.Comma ps ts → EachFits F ps → Closes (next_class rest)
       → repeat turn (done ++ g ∷ []) (ts ++ rest) ≡ repeat turn (done ++ adds add g ps ∷ []) rest
@@ -175,8 +173,8 @@ module _ {G P : Type 0} (L : Language G) (M : Language P) (add : G → P → G) 
       ap (λ e. repeat turn (done ++ g ∷ []) (e ++ rest)) h.5
       ∙ ap (λ e. repeat turn (done ++ g ∷ []) (token_of classes.Comma h.0 ∷ e)) (append_assoc h.1 h.2 rest)
       ∙ turn-is turn (done ++ g ∷ []) (done ++ add g p ∷ []) tokens (h.2 ++ rest)
-          (one (done ++ g ∷ []) p h.0 h.1 (h.2 ++ rest) h.3 f.0 (behind-closes M ps h.2 rest h.4 c) ∙ ap (λ gs. Ok (Some gs, h.2 ++ rest)) (with_last-append add done g p))
-          (omega (arith, length-append h.1 (h.2 ++ rest)))
+      (one (done ++ g ∷ []) p h.0 h.1 (h.2 ++ rest) h.3 f.0 (behind-closes M ps h.2 rest h.4 c) ∙ ap (λ gs. Ok (Some gs, h.2 ++ rest)) (with_last-append add done g p))
+      (omega (arith, length-append h.1 (h.2 ++ rest)))
       ∙ elements ps done (add g p) h.2 rest h.4 f.1 c
 
   more_groups : (gs done : List G) (ts rest : List SourceToken) → SpellsBehind L classes.Comma gs ts → EachFits fits gs → Closes (next_class rest) → is_class classes.Comma (next_class rest) ≡ false
@@ -199,7 +197,7 @@ module _ {G P : Type 0} (L : Language G) (M : Language P) (add : G → P → G) 
   -- the groups of a list are read, the first by a reader of its own
   module _ (group_reader : Reader G) (Good : G → Type 0)
       (begins : (g : G) (ts : List SourceToken) (s : L g ts) (f : fits g) → Good g → (rest : List SourceToken) → Closes (next_class rest)
-          → group_reader ((another [] nowhere g ts s f).2 ++ rest) ≡ Ok ((another [] nowhere g ts s f).0, rest)) where
+      → group_reader ((another [] nowhere g ts s f).2 ++ rest) ≡ Ok ((another [] nowhere g ts s f).0, rest)) where
     pub groups-read : (g : G) (gs : List G) (ts rest : List SourceToken) → SpellsList L classes.Comma (g ∷ gs) ts → EachFits fits (g ∷ gs) → Good g → Closes (next_class rest)
         → is_class classes.Comma (next_class rest) ≡ false → followed (group_reader (ts ++ rest)) (λ g. repeat turn (g ∷ [])) ≡ Ok (g ∷ gs, rest)
     groups-read g gs ts rest h f good c other =
@@ -252,10 +250,9 @@ group_parts k gs place g ts h low = by g.parameters h.1.5 refl (each-fits (λ (p
         let head = token_of classes.Parameter g.place ∷ (h.1.0 ++ (h.1.1 ++ listing.0)) in
         let whole : made g.place g.signed g.range g.parameters ≡ g = ap (λ b. record { place = g.place; is_local = b; signed = g.signed; range = g.range; parameters = g.parameters }) (sym h.0) in
         let regrouped : (rest : List SourceToken) → head ++ rest ≡ token_of classes.Parameter g.place ∷ (h.1.0 ++ (h.1.1 ++ (listing.0 ++ rest))) =
-            λ rest. ap (λ f. token_of classes.Parameter g.place ∷ f) (append_assoc h.1.0 (h.1.1 ++ listing.0) rest ∙ ap (λ f. h.1.0 ++ f) (append_assoc h.1.1 listing.0 rest)) in
+        λ rest. ap (λ f. token_of classes.Parameter g.place ∷ f) (append_assoc h.1.0 (h.1.1 ++ listing.0) rest ∙ ap (λ f. h.1.0 ++ f) (append_assoc h.1.1 listing.0 rest)) in
         let reads : (rest : List SourceToken) → Closes (next_class rest) → group k (head ++ rest) ≡ Ok (made g.place g.signed g.range (p ∷ []), rest) =
-            λ rest c. ap (group k) (regrouped rest) ∙ group-reads k g.place g.signed g.range p h.1.0 h.1.1 listing.0 rest h.1.3 h.1.4 (omega (arith, low)) listing.2 fits.0 c in
-        (
+        λ rest c. ap (group k) (regrouped rest) ∙ group-reads k g.place g.signed g.range p h.1.0 h.1.1 listing.0 rest h.1.3 h.1.4 (omega (arith, low)) listing.2 fits.0 c in (
           made g.place g.signed g.range (p ∷ []),
           ps,
           head,
@@ -398,10 +395,9 @@ port_parts k gs place g ts h low = by g.names h.7 refl
         let word = token_of (direction_word g.direction) g.place in
         let head = word ∷ (h.0 ++ (h.1 ++ (h.2 ++ listing.0))) in
         let reads : (rest : List SourceToken) → Closes (next_class rest) → port k g.direction (head ++ rest) ≡ Ok (with_names g (n ∷ []), rest) =
-            λ rest c.
-                let begun = ports_head-reads k g.direction g.place g.is_reg g.signed g.range h.0 h.1 h.2 (listing.0 ++ rest) h.4 h.5 h.6 low (named-first n listing.0 rest listing.2) in
-                ap (port k g.direction) (ports-regrouped word h.0 h.1 h.2 listing.0 rest) ∙ rw (begun, named-reads n listing.0 rest listing.2) refl in
-        (
+        λ rest c.
+        let begun = ports_head-reads k g.direction g.place g.is_reg g.signed g.range h.0 h.1 h.2 (listing.0 ++ rest) h.4 h.5 h.6 low (named-first n listing.0 rest listing.2) in
+        ap (port k g.direction) (ports-regrouped word h.0 h.1 h.2 listing.0 rest) ∙ rw (begun, named-reads n listing.0 rest listing.2) refl in (
           with_names g (n ∷ []),
           ns,
           head,
@@ -441,12 +437,12 @@ unfolding declared_ports
 declared_ports-reads k g gs ts close rest h low =
     let back = token_of classes.RightParen close ∷ rest in
     let read = groups-read SpellsPorts SpellsNamed add_name Any (λ g. ports_height g ≤ k) (ports_turn k) (name_one k)
-        (λ gs place g ts s f. let a = port_parts k gs place g ts s f in (a.0, a.1, a.2, a.3, a.4, a.5, a.6, a.7, a.9)) (ports_last k)
-        (port k g.direction) (λ d. d.direction ≡ g.direction)
-        (λ d ts s f good rest c.
-            let a = port_parts k [] nowhere d ts s f in
-            ap (λ (w : Direction). port k w (a.2 ++ rest)) (sym good) ∙ a.8 rest c)
-        g gs ts back h (each-fits ports_height k (g ∷ gs) low) refl refl refl in
+    (λ gs place g ts s f. let a = port_parts k gs place g ts s f in (a.0, a.1, a.2, a.3, a.4, a.5, a.6, a.7, a.9)) (ports_last k)
+    (port k g.direction) (λ d. d.direction ≡ g.direction)
+    (λ d ts s f good rest c.
+    let a = port_parts k [] nowhere d ts s f in
+    ap (λ (w : Direction). port k w (a.2 ++ rest)) (sym good) ∙ a.8 rest c)
+    g gs ts back h (each-fits ports_height k (g ∷ gs) low) refl refl refl in
     bound (port k g.direction) (λ p. repeat (ports_turn k) (p ∷ [])) (λ ps. expect classes.RightParen >>= λ closing. give (DeclaredHeads ps)) (ts ++ back) (g ∷ gs) back read
   where
     bound : {A B D : Type 0} (first : Reader A) (second : A → Reader B) (third : B → Reader D) (tokens : List SourceToken) (x : B) (rest : List SourceToken)

@@ -1,29 +1,27 @@
 -- Reading items, modules and units is exact.
-use Rattle.std.proofs.Common.{◌≡◌, ℕ, zero, suc, ◌<◌, ◌≤◌, Bool, true, false, List, [], ◌∷◌, ◌++◌, length, Option, Some, None, refl, sym, ◌∙◌, ap, subst, arith, append_assoc, length-append, ◌⊎◌, inl, inr}
+use Rattle.std.proofs.Common.{◌≡◌, ℕ, ◌<◌, ◌≤◌, Bool, true, false, List, [], ◌∷◌, ◌++◌, length, Option, Some, None, refl, sym, ◌∙◌, ap, subst, arith, append_assoc, length-append}
 use Rattle.vf_base.specs.Base.{SourcePlace}
 use Rattle.four_value.specs.declared.operator.GateKind.{GateKind}
 use Rattle.four_value.specs.declared.operator.GateKind.TheVariants.{And, Nand, Or, Nor, Xor, Xnor, Buf, Not}
 use Rattle.v_tree.specs.Tokens.{SourceToken}
 use Rattle.v_tree.specs.declared.item.Direction.{Direction}
 use Rattle.v_tree.specs.declared.item.Direction.TheVariants.{Input, Output}
-use Rattle.v_tree.specs.Trees.{SourceItem, ParameterItem, PortItem, WireItem, RegItem, IntegerItem, AssignItem, GateItem, InstanceItem, InitialItem, AlwaysItem, SourceRange, SourceWire, SourceReg, SourceAssignment, SourceGate, SourceInstance, SourceModule, SourceUnit}
+use Rattle.v_tree.specs.Trees.{SourceItem, ParameterItem, PortItem, WireItem, RegItem, IntegerItem, AssignItem, GateItem, InstanceItem, InitialItem, AlwaysItem, SourceRange, SourceModule, SourceUnit}
 use Rattle.v_read.specs.declared.class.Class.{Class}
 use Rattle.v_read.specs.declared.class.Class.TheVariants as classes
 use Rattle.v_read.specs.Classes.{is_fixed, token_of, name_token}
-use Rattle.v_read.specs.Reading.{Reader, ◌>>=◌, give, next_class, by_class, repeat}
 use Rattle.v_read.specs.Separated.{SpellsList}
-use Rattle.v_read.specs.Exact.{Language, Family, Exact, behind, exact-bind, exact-under, exact-give, exact-weaken}
-use Rattle.v_read.specs.Branches.{nowhere, Some-of, Branch, branch, branch-wrong, exact-by_class, exact-after, exact-name, exact-end}
+use Rattle.v_read.specs.Exact.{Language, Family, Exact, exact-bind, exact-under, exact-give}
+use Rattle.v_read.specs.Branches.{Some-of, Branch, branch, branch-wrong, exact-by_class, exact-after, exact-name, exact-end}
 use Rattle.v_read.specs.Repeat.{append-nil, Turn, TurnFits, exact-repeat}
 use Rattle.v_read.specs.SeparatedLaws.{EachFits, exact-separated}
 use Rattle.v_stmt.specs.Spelling.{SpellsStatement}
-use Rattle.v_stmt.specs.Heights.{statement_height}
-use Rattle.v_stmt.specs.StatementExact.{StatementWithin, statement-exact}
-use Rattle.v_parse.specs.Spelling.{SpellsEach, SpellsSigned, SpellsWidth, parameter_word, SpellsParameters, direction_word, SpellsPorts, SpellsWire, SpellsReg, SpellsAssignment, gate_word, SpellsGate, SpellsInstance, SpellsGiven, SpellsDeclared, SpellsItem, SpellsParameterList, SpellsHeads, SpellsModule, SpellsUnit}
-use Rattle.v_parse.specs.Heights.{greatest, height_if_there, wire_height, reg_height, assignment_height, gate_height, connection_height, instance_height, item_height, module_height, unit_height}
-use Rattle.v_parse.specs.Items.{parameters, ports, signed, width, wire, reg, assignment, gate, given, inst, declared, parameter_item, port_item, wire_item, reg_item, integer_item, assign_item, gate_item, instance_item, initial_item, always_item, item_by, item, items_by, items_turn, module_reader, modules_by, modules_turn, unit_reader}
-use Rattle.v_parse.specs.DeclarationExact.{Any, greatest-fits, greatest-append, signed-exact, width-exact, parameters-exact, parameter_list-exact, ports-exact, heads-exact, WireWithin, wire-exact, RegWithin, reg-exact}
-use Rattle.v_parse.specs.ConnectionExact.{AssignmentWithin, assignment-exact, GateWithin, gate-exact, ConnectionsWithin, given-exact, InstanceWithin, inst-exact}
+use Rattle.v_stmt.specs.StatementExact.{statement-exact}
+use Rattle.v_parse.specs.Spelling.{SpellsEach, parameter_word, SpellsParameters, SpellsWire, SpellsReg, SpellsAssignment, gate_word, SpellsGate, SpellsInstance, SpellsDeclared, SpellsItem, SpellsModule, SpellsUnit}
+use Rattle.v_parse.specs.Heights.{greatest, wire_height, reg_height, assignment_height, gate_height, instance_height, item_height, module_height, unit_height}
+use Rattle.v_parse.specs.Items.{wire, reg, assignment, gate, inst, declared, parameter_item, port_item, wire_item, reg_item, integer_item, assign_item, gate_item, instance_item, initial_item, always_item, item_by, item, items_by, items_turn, module_reader, modules_by, modules_turn, unit_reader}
+use Rattle.v_parse.specs.DeclarationExact.{greatest-fits, greatest-append, signed-exact, width-exact, parameters-exact, parameter_list-exact, ports-exact, heads-exact, WireWithin, wire-exact, RegWithin, reg-exact}
+use Rattle.v_parse.specs.ConnectionExact.{AssignmentWithin, assignment-exact, GateWithin, gate-exact, given-exact, InstanceWithin, inst-exact}
 
 abbrev pub ItemWithin : ℕ → SourceItem → Type 0
 ItemWithin k i = item_height i ≤ k
@@ -212,8 +210,7 @@ module-exact {C} k =
     exact-after classes.Semicolon refl (λ header.
     exact-bind (exact-under (λ c. (tt, omega arith)) (exact-repeat {C = Unit {0}} items_turn {N = SpellsEach SpellsItem} {G = ItemsWithin k} (items_turn-exact k) [] [] refl)) (λ is inside each.
     exact-after classes.EndModule refl (λ ending.
-    exact-give (record { name = n.0; place = n.1; parameters = ps; heads = hs; items = is })
-    (
+    exact-give (record { name = n.0; place = n.1; parameters = ps; heads = hs; items = is }) (
       spelled.0,
       place,
       header,

@@ -1,5 +1,5 @@
 -- Every spelled item, module and unit is read.
-use Rattle.std.proofs.Common.{◌≡◌, ℕ, zero, suc, ◌<◌, ◌≤◌, Bool, true, false, List, [], ◌∷◌, ◌++◌, length, Option, Some, None, Ok, Err, refl, sym, ◌∙◌, ap, subst, arith, append_assoc, length-append, ◌⊎◌, inl, inr}
+use Rattle.std.proofs.Common.{◌≡◌, ℕ, ◌<◌, ◌≤◌, Bool, true, false, List, [], ◌∷◌, ◌++◌, length, Option, Some, Ok, refl, sym, ◌∙◌, ap, arith, append_assoc, length-append, inl, inr}
 use Rattle.std.proofs.lemmas.List.{append-nil}
 use Rattle.vf_base.specs.Base.{SourcePlace}
 use Rattle.four_value.specs.declared.operator.GateKind.{GateKind}
@@ -7,22 +7,19 @@ use Rattle.four_value.specs.declared.operator.GateKind.TheVariants.{And, Nand, O
 use Rattle.v_tree.specs.Tokens.{SourceToken}
 use Rattle.v_tree.specs.declared.item.Direction.{Direction}
 use Rattle.v_tree.specs.declared.item.Direction.TheVariants.{Input, Output}
-use Rattle.v_tree.specs.Trees.{SourceItem, ParameterItem, PortItem, WireItem, RegItem, IntegerItem, AssignItem, GateItem, InstanceItem, InitialItem, AlwaysItem, SourceParameters, Identifier, SourceInstance, SourceHeads, PlainHeads, DeclaredHeads, SourceModule, SourceUnit}
+use Rattle.v_tree.specs.Trees.{SourceItem, ParameterItem, PortItem, WireItem, RegItem, IntegerItem, AssignItem, GateItem, InstanceItem, InitialItem, AlwaysItem, Identifier, SourceInstance, SourceHeads, PlainHeads, DeclaredHeads, SourceModule, SourceUnit}
 use Rattle.v_read.specs.declared.class.Class.{Class}
 use Rattle.v_read.specs.declared.class.Class.TheVariants as classes
 use Rattle.v_read.specs.Classes.{token_of, name_token, IsName}
-use Rattle.v_read.specs.Reading.{Reader, ◌>>=◌, followed, give, next_class, is_class, expect, repeat}
-use Rattle.v_read.specs.Separated.{SpellsList, separated}
+use Rattle.v_read.specs.Reading.{Reader, followed, give, next_class, repeat}
+use Rattle.v_read.specs.Separated.{SpellsList}
 use Rattle.v_read.specs.Exact.{Language}
 use Rattle.v_read.specs.SeparatedLaws.{EachFits}
 use Rattle.v_read.specs.Reads.{next-class, expect-reads, name-reads, turn-is, last-is, separated-reads}
-use Rattle.v_stmt.specs.Spelling.{SpellsStatement, is_unfinished}
-use Rattle.v_stmt.specs.Heights.{statement_height}
-use Rattle.v_stmt.specs.Statements.{statement}
 use Rattle.v_stmt.specs.StatementReads.{statement-reads}
-use Rattle.v_parse.specs.Spelling.{SpellsEach, SpellsSigned, SpellsWidth, parameter_word, direction_word, SpellsWire, SpellsReg, SpellsAssignment, gate_word, SpellsGate, SpellsInstance, SpellsGiven, SpellsDeclared, SpellsItem, SpellsParameterList, SpellsHeads, SpellsModule, SpellsUnit}
-use Rattle.v_parse.specs.Heights.{greatest, height_if_there, parameters_height, wire_height, reg_height, assignment_height, gate_height, connection_height, instance_height, item_height, heads_height, module_height, unit_height}
-use Rattle.v_parse.specs.Items.{signed, width, parameters, ports, wire, reg, assignment, gate, given, inst, declared, parameter_item, port_item, wire_item, reg_item, integer_item, assign_item, gate_item, instance_item, initial_item, always_item, item_by, item, items_by, items_turn, parameter_list, heads, module_reader, modules_by, modules_turn, unit_reader}
+use Rattle.v_parse.specs.Spelling.{SpellsEach, parameter_word, direction_word, SpellsWire, SpellsReg, SpellsAssignment, gate_word, SpellsGate, SpellsInstance, SpellsItem, SpellsHeads, SpellsModule, SpellsUnit}
+use Rattle.v_parse.specs.Heights.{greatest, wire_height, reg_height, assignment_height, gate_height, instance_height, item_height, module_height, unit_height}
+use Rattle.v_parse.specs.Items.{wire, reg, assignment, gate, inst, declared, parameter_item, port_item, wire_item, reg_item, integer_item, assign_item, gate_item, instance_item, initial_item, always_item, item_by, item, items_by, items_turn, module_reader, modules_by, modules_turn, unit_reader}
 use Rattle.v_parse.specs.DeclarationExact.{WireWithin, RegWithin}
 use Rattle.v_parse.specs.ConnectionExact.{AssignmentWithin, GateWithin, InstanceWithin}
 use Rattle.v_parse.specs.ItemExact.{item-tokens, module-tokens}
@@ -142,8 +139,8 @@ item-reads k (ParameterItem g) ts rest h low other =
     let ending = token_of classes.Semicolon h.0 ∷ rest in
     let read = parameters-reads k g h.1 ending h.2 low refl refl in
     item-word k (parameter_word g.is_local) g.place ts ((h.2.0 ++ (h.2.1 ++ h.2.2)) ++ ending) rest
-        (ap (λ f. f ++ rest) (h.3 ∙ ap (λ f. f ++ token_of classes.Semicolon h.0 ∷ []) h.2.6)
-        ∙ append_assoc (token_of (parameter_word g.is_local) g.place ∷ (h.2.0 ++ (h.2.1 ++ h.2.2))) (token_of classes.Semicolon h.0 ∷ []) rest)
+    (ap (λ f. f ++ rest) (h.3 ∙ ap (λ f. f ++ token_of classes.Semicolon h.0 ∷ []) h.2.6)
+    ∙ append_assoc (token_of (parameter_word g.is_local) g.place ∷ (h.2.0 ++ (h.2.1 ++ h.2.2))) (token_of classes.Semicolon h.0 ∷ []) rest)
     ∙ parameter_by k g.is_local (token_of (parameter_word g.is_local) g.place ∷ ((h.2.0 ++ (h.2.1 ++ h.2.2)) ++ ending))
     ∙ ap (λ f. parameter_item k g.is_local (f ++ ending)) (sym h.2.6)
     ∙ rw read refl
@@ -151,8 +148,8 @@ item-reads k (PortItem g) ts rest h low other =
     let ending = token_of classes.Semicolon h.0 ∷ rest in
     let read = ports-reads k g h.1 ending h.2 low refl refl in
     item-word k (direction_word g.direction) g.place ts ((h.2.0 ++ (h.2.1 ++ (h.2.2 ++ h.2.3))) ++ ending) rest
-        (ap (λ f. f ++ rest) (h.3 ∙ ap (λ f. f ++ token_of classes.Semicolon h.0 ∷ []) h.2.8)
-        ∙ append_assoc (token_of (direction_word g.direction) g.place ∷ (h.2.0 ++ (h.2.1 ++ (h.2.2 ++ h.2.3)))) (token_of classes.Semicolon h.0 ∷ []) rest)
+    (ap (λ f. f ++ rest) (h.3 ∙ ap (λ f. f ++ token_of classes.Semicolon h.0 ∷ []) h.2.8)
+    ∙ append_assoc (token_of (direction_word g.direction) g.place ∷ (h.2.0 ++ (h.2.1 ++ (h.2.2 ++ h.2.3)))) (token_of classes.Semicolon h.0 ∷ []) rest)
     ∙ port_by-word k g.direction (token_of (direction_word g.direction) g.place ∷ ((h.2.0 ++ (h.2.1 ++ (h.2.2 ++ h.2.3))) ++ ending))
     ∙ ap (λ f. port_item k g.direction (f ++ ending)) (sym h.2.8)
     ∙ rw read refl
@@ -161,44 +158,44 @@ item-reads k (WireItem place s w xs) ts rest h low other =
     let signs = signs-read k s w h.1 h.2 (h.3 ++ ending) h.4 h.5 (omega (arith, low)) (list-first SpellsWire classes.Comma classes.Name wire-first xs h.3 ending h.6) in
     let all = declared-reads (wire k) SpellsWire (WireWithin k) (wire-reads k) xs h.3 h.0 rest h.6 (each-fits wire_height k xs (omega (arith, low))) in
     item-word k classes.Wire place ts (h.1 ++ (h.2 ++ (h.3 ++ ending))) rest
-        (ap (λ f. f ++ rest) h.7 ∙ regrouped (token_of classes.Wire place) h.1 h.2 h.3 (token_of classes.Semicolon h.0) rest)
+    (ap (λ f. f ++ rest) h.7 ∙ regrouped (token_of classes.Wire place) h.1 h.2 h.3 (token_of classes.Semicolon h.0) rest)
     ∙ rw (expect-reads classes.Wire place (h.1 ++ (h.2 ++ (h.3 ++ ending))), signs.0, signs.1, all) refl
 item-reads k (RegItem place s w xs) ts rest h low other =
     let ending = token_of classes.Semicolon h.0 ∷ rest in
     let signs = signs-read k s w h.1 h.2 (h.3 ++ ending) h.4 h.5 (omega (arith, low)) (list-first SpellsReg classes.Comma classes.Name reg-first xs h.3 ending h.6) in
     let all = declared-reads (reg k) SpellsReg (RegWithin k) (reg-reads k) xs h.3 h.0 rest h.6 (each-fits reg_height k xs (omega (arith, low))) in
     item-word k classes.Reg place ts (h.1 ++ (h.2 ++ (h.3 ++ ending))) rest
-        (ap (λ f. f ++ rest) h.7 ∙ regrouped (token_of classes.Reg place) h.1 h.2 h.3 (token_of classes.Semicolon h.0) rest)
+    (ap (λ f. f ++ rest) h.7 ∙ regrouped (token_of classes.Reg place) h.1 h.2 h.3 (token_of classes.Semicolon h.0) rest)
     ∙ rw (expect-reads classes.Reg place (h.1 ++ (h.2 ++ (h.3 ++ ending))), signs.0, signs.1, all) refl
 item-reads k (IntegerItem place xs) ts rest h low other =
     let ending = token_of classes.Semicolon h.0 ∷ rest in
     let all = declared-reads (reg k) SpellsReg (RegWithin k) (reg-reads k) xs h.3 h.0 rest h.6 (each-fits reg_height k xs low) in
     item-word k classes.Integer place ts (h.3 ++ ending) rest
-        (ap (λ f. f ++ rest) h.7 ∙ regrouped (token_of classes.Integer place) h.1 h.2 h.3 (token_of classes.Semicolon h.0) rest
-        ∙ ap (λ f. token_of classes.Integer place ∷ (f ++ (h.2 ++ (h.3 ++ ending)))) h.4 ∙ ap (λ f. token_of classes.Integer place ∷ (f ++ (h.3 ++ ending))) h.5)
+    (ap (λ f. f ++ rest) h.7 ∙ regrouped (token_of classes.Integer place) h.1 h.2 h.3 (token_of classes.Semicolon h.0) rest
+    ∙ ap (λ f. token_of classes.Integer place ∷ (f ++ (h.2 ++ (h.3 ++ ending)))) h.4 ∙ ap (λ f. token_of classes.Integer place ∷ (f ++ (h.3 ++ ending))) h.5)
     ∙ rw (expect-reads classes.Integer place (h.3 ++ ending), all) refl
 item-reads k (AssignItem place xs) ts rest h low other =
     let ending = token_of classes.Semicolon h.0 ∷ rest in
     let all = declared-reads (assignment k) SpellsAssignment (AssignmentWithin k) (assignment-reads k) xs h.3 h.0 rest h.6 (each-fits assignment_height k xs low) in
     item-word k classes.AssignWord place ts (h.3 ++ ending) rest
-        (ap (λ f. f ++ rest) h.7 ∙ regrouped (token_of classes.AssignWord place) h.1 h.2 h.3 (token_of classes.Semicolon h.0) rest
-        ∙ ap (λ f. token_of classes.AssignWord place ∷ (f ++ (h.2 ++ (h.3 ++ ending)))) h.4 ∙ ap (λ f. token_of classes.AssignWord place ∷ (f ++ (h.3 ++ ending))) h.5)
+    (ap (λ f. f ++ rest) h.7 ∙ regrouped (token_of classes.AssignWord place) h.1 h.2 h.3 (token_of classes.Semicolon h.0) rest
+    ∙ ap (λ f. token_of classes.AssignWord place ∷ (f ++ (h.2 ++ (h.3 ++ ending)))) h.4 ∙ ap (λ f. token_of classes.AssignWord place ∷ (f ++ (h.3 ++ ending))) h.5)
     ∙ rw (expect-reads classes.AssignWord place (h.3 ++ ending), all) refl
 item-reads k (GateItem place kind xs) ts rest h low other =
     let ending = token_of classes.Semicolon h.0 ∷ rest in
     let all = declared-reads (gate k kind) (SpellsGate kind) (GateWithin k) (gate-reads k kind) xs h.3 h.0 rest h.6 (each-fits gate_height k xs low) in
     item-word k (gate_word kind) place ts (h.3 ++ ending) rest
-        (ap (λ f. f ++ rest) h.7 ∙ regrouped (token_of (gate_word kind) place) h.1 h.2 h.3 (token_of classes.Semicolon h.0) rest
-        ∙ ap (λ f. token_of (gate_word kind) place ∷ (f ++ (h.2 ++ (h.3 ++ ending)))) h.4 ∙ ap (λ f. token_of (gate_word kind) place ∷ (f ++ (h.3 ++ ending))) h.5)
+    (ap (λ f. f ++ rest) h.7 ∙ regrouped (token_of (gate_word kind) place) h.1 h.2 h.3 (token_of classes.Semicolon h.0) rest
+    ∙ ap (λ f. token_of (gate_word kind) place ∷ (f ++ (h.2 ++ (h.3 ++ ending)))) h.4 ∙ ap (λ f. token_of (gate_word kind) place ∷ (f ++ (h.3 ++ ending))) h.5)
     ∙ gate_by k kind (token_of (gate_word kind) place ∷ (h.3 ++ ending))
     ∙ rw (expect-reads (gate_word kind) place (h.3 ++ ending), all) refl
 item-reads k (InstanceItem place module_name cs xs) ts rest h low other =
     let ending = token_of classes.Semicolon h.1 ∷ rest in
     let giving = given-reads k cs h.2 (h.3 ++ ending) h.4 (omega (arith, low))
-        (not-class classes.Name classes.Hash (next_class (h.3 ++ ending)) refl (list-first SpellsInstance classes.Comma classes.Name inst-first xs h.3 ending h.5)) in
+    (not-class classes.Name classes.Hash (next_class (h.3 ++ ending)) refl (list-first SpellsInstance classes.Comma classes.Name inst-first xs h.3 ending h.5)) in
     let all = declared-reads (inst k) SpellsInstance (InstanceWithin k) (inst-reads k) xs h.3 h.1 rest h.5 (each-fits instance_height k xs (omega (arith, low))) in
     item-named k place module_name ts (h.2 ++ (h.3 ++ ending)) rest
-        (ap (λ f. f ++ rest) h.6 ∙ ap (λ f. name_token module_name place ∷ f) (append_assoc h.2 (h.3 ++ token_of classes.Semicolon h.1 ∷ []) rest ∙ ap (λ f. h.2 ++ f) (append_assoc h.3 (token_of classes.Semicolon h.1 ∷ []) rest))) h.0
+    (ap (λ f. f ++ rest) h.6 ∙ ap (λ f. name_token module_name place ∷ f) (append_assoc h.2 (h.3 ++ token_of classes.Semicolon h.1 ∷ []) rest ∙ ap (λ f. h.2 ++ f) (append_assoc h.3 (token_of classes.Semicolon h.1 ∷ []) rest))) h.0
     ∙ rw (name-reads module_name place (h.2 ++ (h.3 ++ ending)) h.0, giving, all) refl
 item-reads k (InitialItem place s) ts rest h low other =
     item-word k classes.Initial place ts (h.0 ++ rest) rest (ap (λ f. f ++ rest) h.2)
@@ -244,8 +241,8 @@ items-read k (i ∷ is) done ts ending rest h low =
     ap (λ f. repeat (items_turn k) done (f ++ token_of classes.EndModule ending ∷ rest)) h.4
     ∙ ap (repeat (items_turn k) done) (append_assoc h.0 h.1 (token_of classes.EndModule ending ∷ rest))
     ∙ turn-is (items_turn k) done (done ++ i ∷ []) (h.0 ++ tail) tail
-        (items_by-leads k done (next_class (h.0 ++ tail)) (h.0 ++ tail) (item-leads i h.0 tail h.2) ∙ ap (λ w. followed w (λ i. give (Some (done ++ i ∷ [])))) read)
-        (shorter h.0 tail (item-tokens i h.0 h.2))
+    (items_by-leads k done (next_class (h.0 ++ tail)) (h.0 ++ tail) (item-leads i h.0 tail h.2) ∙ ap (λ w. followed w (λ i. give (Some (done ++ i ∷ [])))) read)
+    (shorter h.0 tail (item-tokens i h.0 h.2))
     ∙ items-read k is (done ++ i ∷ []) h.1 ending rest h.3 (omega (arith, low))
     ∙ ap (λ w. Ok (w, token_of classes.EndModule ending ∷ rest)) (append_assoc done (i ∷ []) is)
 
@@ -270,11 +267,17 @@ module-reads k m ts rest h low =
     let all = items-read k m.items [] h.6 h.3 rest h.9 (omega (arith, low)) in
     ap (λ f. module_reader k (f ++ rest)) h.10
     ∙ ap (λ f. module_reader k (token_of classes.Module h.1 ∷ name_token m.name m.place ∷ f))
-        (append_assoc h.4 (h.5 ++ token_of classes.Semicolon h.2 ∷ (h.6 ++ token_of classes.EndModule h.3 ∷ [])) rest
-        ∙ ap (λ f. h.4 ++ f) (append_assoc h.5 (token_of classes.Semicolon h.2 ∷ (h.6 ++ token_of classes.EndModule h.3 ∷ [])) rest
-        ∙ ap (λ f. h.5 ++ token_of classes.Semicolon h.2 ∷ f) (append_assoc h.6 (token_of classes.EndModule h.3 ∷ []) rest)))
-    ∙ rw (expect-reads classes.Module h.1 (name_token m.name m.place ∷ (h.4 ++ (h.5 ++ header))), name-reads m.name m.place (h.4 ++ (h.5 ++ header)) h.0, listing, heading, all,
-        expect-reads classes.EndModule h.3 rest) refl
+    (append_assoc h.4 (h.5 ++ token_of classes.Semicolon h.2 ∷ (h.6 ++ token_of classes.EndModule h.3 ∷ [])) rest
+    ∙ ap (λ f. h.4 ++ f) (append_assoc h.5 (token_of classes.Semicolon h.2 ∷ (h.6 ++ token_of classes.EndModule h.3 ∷ [])) rest
+    ∙ ap (λ f. h.5 ++ token_of classes.Semicolon h.2 ∷ f) (append_assoc h.6 (token_of classes.EndModule h.3 ∷ []) rest)))
+    ∙ rw (
+      expect-reads classes.Module h.1 (name_token m.name m.place ∷ (h.4 ++ (h.5 ++ header))),
+      name-reads m.name m.place (h.4 ++ (h.5 ++ header)) h.0,
+      listing,
+      heading,
+      all,
+      expect-reads classes.EndModule h.3 rest,
+    ) refl
 
 module-first : (m : SourceModule) (ts rest : List SourceToken) → SpellsModule m ts → next_class (ts ++ rest) ≡ Some classes.Module
 module-first m ts rest h =
@@ -287,8 +290,8 @@ modules-read k (m ∷ ms) done ts h low =
     let first : next_class (h.0 ++ h.1) ≡ Some classes.Module = module-first m h.0 h.1 h.2 in
     ap (repeat (modules_turn k) done) h.4
     ∙ turn-is (modules_turn k) done (done ++ m ∷ []) (h.0 ++ h.1) h.1
-        (ap (λ c. modules_by k done c (h.0 ++ h.1)) first ∙ ap (λ w. followed w (λ m. give (Some (done ++ m ∷ [])))) (module-reads k m h.0 h.1 h.2 (omega (arith, low))))
-        (shorter h.0 h.1 (module-tokens m h.0 h.2))
+    (ap (λ c. modules_by k done c (h.0 ++ h.1)) first ∙ ap (λ w. followed w (λ m. give (Some (done ++ m ∷ [])))) (module-reads k m h.0 h.1 h.2 (omega (arith, low))))
+    (shorter h.0 h.1 (module-tokens m h.0 h.2))
     ∙ modules-read k ms (done ++ m ∷ []) h.1 h.3 (omega (arith, low))
     ∙ ap (λ w. Ok (w, [])) (append_assoc done (m ∷ []) ms)
 

@@ -10,7 +10,7 @@ use Rattle.v_parse.specs.Heights.{unit_height}
 use Rattle.v_parse.specs.Items.{modules_turn, unit_reader}
 use Rattle.v_parse.specs.ItemExact.{UnitWithin, unit-exact}
 use Rattle.v_parse.specs.ItemReads.{unit-reads}
-use Rattle.v_parse.specs.Verdict.{Begins, BeginsWithin, NoneThrough, IsFirstWrong, IsFirstDeep}
+use Rattle.v_parse.specs.Verdict.{BeginsWithin, NoneThrough, IsFirstWrong, IsFirstDeep}
 
 -- nothing is left behind a unit
 unit-rest : (levels : ℕ) (tokens : List SourceToken) (u : SourceUnit) (rest : List SourceToken) → unit_reader levels tokens ≡ Ok (u, rest) → rest ≡ []

@@ -1,5 +1,5 @@
 -- Readers of one token, and readers that go on by the class of the next token.
-use Rattle.std.proofs.Common.{◌≡◌, ℕ, zero, suc, ◌<◌, ◌≤◌, Bool, true, false, List, [], ◌∷◌, ◌++◌, Option, Some, None, Ok, Err, refl, sym, ◌∙◌, ap, subst, arith, ltb-true, lt-ltb, ◌⊎◌, inl, inr}
+use Rattle.std.proofs.Common.{◌≡◌, ℕ, ◌<◌, Bool, true, false, List, [], ◌∷◌, ◌++◌, Option, Some, None, Ok, Err, refl, sym, ◌∙◌, ap, subst, arith, ltb-true, lt-ltb, inl}
 use Rattle.std.specs.Prelude.{nat_lt, if◌then◌else◌}
 use Rattle.vf_base.specs.Base.{SourcePlace}
 use Rattle.four_value.specs.Values.{LogicValue}
@@ -11,9 +11,9 @@ use Rattle.v_tree.specs.Trees.{Identifier}
 use Rattle.v_read.specs.declared.class.Class.{Class}
 use Rattle.v_read.specs.declared.class.Class.TheVariants as classes
 use Rattle.v_read.specs.Classes.{class_of, kind_of, is_fixed, same_class, token_at, token_of, name_token, number_token, IsName}
-use Rattle.v_read.specs.ClassLaws.{same_class-true, same_class-same, class_of-kind_of, kind_of-class_of, name-kind, number-kind}
+use Rattle.v_read.specs.ClassLaws.{same_class-true, class_of-kind_of, kind_of-class_of, name-kind, number-kind}
 use Rattle.v_read.specs.Reading.{Why, Wrong, Deep, Reading, Reader, followed, ◌>>=◌, give, wrong, deep, place_of, next_class, by_class, pass, expect, step, down, ready, name_in, name, number_in, number, end}
-use Rattle.v_read.specs.Exact.{Language, Family, SameNext, Found, Stops, Tells, Exact, behind, both_tell, exact-bind, exact-under, exact-give}
+use Rattle.v_read.specs.Exact.{Language, Family, SameNext, Stops, Tells, Exact, behind, both_tell, exact-bind, exact-under, exact-give}
 
 -- Languages of one token
 

@@ -1,5 +1,5 @@
 -- A class and its kinds of tokens.
-use Rattle.std.proofs.Common.{◌≡◌, ℕ, Bool, true, false, List, [], ◌∷◌, map, Option, Some, None, refl, sym, ◌∙◌, ap, ◌⊎◌, inl, inr, codes, if◌then◌else◌}
+use Rattle.std.proofs.Common.{◌≡◌, ℕ, Bool, true, false, List, [], ◌∷◌, Option, Some, None, refl, sym, ◌∙◌, ap, ◌⊎◌, inl, inr, if◌then◌else◌}
 use Rattle.std.specs.List.{list_any}
 use Rattle.std.specs.Str.{bytes_eq}
 use denote.Enum.Bare.{same_true, true_same}
@@ -13,7 +13,7 @@ use Rattle.v_tree.specs.declared.token.Mark.TheVariants as marks
 use Rattle.v_read.specs.declared.class.Class.{Class}
 use Rattle.v_read.specs.declared.class.Class.TheVariants as classes
 use Rattle.v_read.specs.contracts.class.Class.{the_type}
-use Rattle.v_read.specs.Classes.{same_class, grammar_words, refused_words, ignored_tasks, finish_tasks, class_among, grammar_class, is_refused_word, other_class, class_or, word_class, system_class, class_of_mark, class_of, kind_of, is_fixed}
+use Rattle.v_read.specs.Classes.{same_class, grammar_words, ignored_tasks, finish_tasks, class_among, grammar_class, is_refused_word, other_class, class_or, word_class, system_class, class_of_mark, class_of, kind_of, is_fixed}
 use Rattle.v_read.specs.Reading.{name_in, number_in}
 
 -- two classes that are the same are equal, and the other way round

@@ -1,5 +1,5 @@
 -- Reading from left to right: a value and the tokens after it, or where and why reading stops.
-use Rattle.std.specs.Prelude.{◌≡◌, ℕ, zero, suc, Bool, false, List, [], ◌∷◌, length, Option, Some, None, Result, Ok, Err, nat_lt, if◌then◌else◌}
+use Rattle.std.specs.Prelude.{ℕ, zero, suc, Bool, false, List, [], ◌∷◌, length, Option, Some, None, Result, Ok, Err, nat_lt, if◌then◌else◌}
 use Rattle.vf_base.specs.Base.{SourcePlace, source_place}
 use Rattle.four_value.specs.Values.{LogicValue}
 use Rattle.v_tree.specs.declared.token.NumberForm.{NumberForm}

@@ -1,22 +1,21 @@
 -- What is spelled is read, and what the turns of a loop read.
-use Rattle.std.proofs.Common.{◌≡◌, ℕ, ◌<◌, ◌≤◌, Bool, true, false, List, [], ◌∷◌, ◌++◌, length, Option, Some, None, Ok, Err, refl, sym, ◌∙◌, ap, subst, arith, append_assoc, length-append, lt-ltb}
+use Rattle.std.proofs.Common.{◌≡◌, ℕ, ◌<◌, true, false, List, [], ◌∷◌, ◌++◌, length, Option, Some, None, Ok, Err, refl, sym, ◌∙◌, ap, subst, arith, append_assoc, length-append, lt-ltb}
 use Rattle.std.proofs.lemmas.List.{append-nil}
-use Rattle.std.specs.Prelude.{nat_lt, if◌then◌else◌}
+use Rattle.std.specs.Prelude.{if◌then◌else◌}
 use Rattle.vf_base.specs.Base.{SourcePlace}
 use Rattle.four_value.specs.Values.{LogicValue}
 use Rattle.v_tree.specs.declared.token.NumberForm.{NumberForm}
-use Rattle.v_tree.specs.declared.token.TokenKind.TheVariants as kinds
 use Rattle.v_tree.specs.Tokens.{SourceToken}
 use Rattle.v_tree.specs.Trees.{Identifier}
 use Rattle.v_read.specs.declared.class.Class.{Class}
 use Rattle.v_read.specs.declared.class.Class.TheVariants as classes
 use Rattle.v_read.specs.declared.stop.Stop.{Stop}
 use Rattle.v_read.specs.declared.stop.Stop.TheVariants as stops
-use Rattle.v_read.specs.Classes.{class_of, same_class, token_at, token_of, name_token, number_token, IsName}
+use Rattle.v_read.specs.Classes.{class_of, same_class, token_of, name_token, number_token, IsName}
 use Rattle.v_read.specs.ClassLaws.{same_class-same, class_of-kind_of}
 use Rattle.v_read.specs.Reading.{Wrong, Deep, Reader, Reading, Stopped, followed, ◌>>=◌, give, wrong, deep, turned, place_of, next_class, is_class, pass, expect, step, ready, down, name, number, repeat}
 use Rattle.v_read.specs.Exact.{Language}
-use Rattle.v_read.specs.Separated.{SpellsBehind, SpellsList, element_by, element_turn, separated}
+use Rattle.v_read.specs.Separated.{SpellsBehind, SpellsList, element_turn, separated}
 use Rattle.v_read.specs.SeparatedLaws.{EachFits}
 use Rattle.v_read.specs.Repeat.{repeat-turn}
 use Rattle.v_read.specs.Given.{Fails}

@@ -1,13 +1,13 @@
 -- Reading a list with a token of one class between its elements is exact.
-use Rattle.std.proofs.Common.{◌≡◌, ℕ, ◌<◌, Bool, true, false, List, [], ◌∷◌, ◌++◌, length, Option, Some, None, refl, sym, ◌∙◌, ap, subst, arith, append_assoc}
+use Rattle.std.proofs.Common.{◌≡◌, ℕ, Bool, true, false, List, [], ◌∷◌, ◌++◌, Option, Some, None, refl, sym, ◌∙◌, ap, subst, arith, append_assoc}
 use Rattle.std.proofs.lemmas.List.{append-nil}
 use Rattle.std.specs.Prelude.{if◌then◌else◌}
 use Rattle.vf_base.specs.Base.{SourcePlace}
 use Rattle.v_tree.specs.Tokens.{SourceToken}
 use Rattle.v_read.specs.declared.class.Class.{Class}
-use Rattle.v_read.specs.Classes.{is_fixed, same_class, token_of}
+use Rattle.v_read.specs.Classes.{is_fixed, token_of}
 use Rattle.v_read.specs.ClassLaws.{same_class-true}
-use Rattle.v_read.specs.Reading.{◌>>=◌, give, is_class, step, repeat}
+use Rattle.v_read.specs.Reading.{◌>>=◌, give, is_class, step}
 use Rattle.v_read.specs.Exact.{Language, Family, Exact, exact-bind, exact-under, exact-give}
 use Rattle.v_read.specs.Branches.{Branch, branch, branch-step, exact-by_class}
 use Rattle.v_read.specs.Repeat.{Turn, TurnFits, exact-repeat}

@@ -1,22 +1,21 @@
 -- Reading the parts of statements is exact.
-use Rattle.std.proofs.Common.{◌≡◌, ℕ, zero, suc, ◌+◌, ◌-◌, ◌<◌, ◌≤◌, Bool, true, false, List, [], ◌∷◌, ◌++◌, length, Option, Some, None, Ok, Err, refl, sym, ◌∙◌, ap, subst, arith, append_assoc, ltb-true, lt-ltb, ◌⊎◌, inl, inr}
+use Rattle.std.proofs.Common.{◌≡◌, ℕ, zero, suc, ◌+◌, ◌-◌, ◌<◌, Bool, true, false, List, [], ◌∷◌, ◌++◌, Option, Some, None, Ok, Err, refl, sym, ◌∙◌, ap, subst, arith, append_assoc, lt-ltb, ◌⊎◌, inl, inr}
 use Rattle.std.specs.Prelude.{nat_lt, if◌then◌else◌}
 use Rattle.vf_base.specs.Base.{SourcePlace}
 use Rattle.four_value.specs.declared.logic.Edge.{Edge}
 use Rattle.four_value.specs.declared.logic.Edge.TheVariants.{Any, Pos, Neg}
 use Rattle.v_tree.specs.Tokens.{SourceToken}
-use Rattle.v_tree.specs.Trees.{SourceExpression, NoIndex, SourceSelect, SourceTarget, OneSelect, SourceEntry, SourceWaits, OnAnyRead, OnEntries}
+use Rattle.v_tree.specs.Trees.{SourceExpression, NoIndex, SourceSelect, SourceTarget, SourceEntry, SourceWaits, OnAnyRead, OnEntries}
 use Rattle.v_read.specs.declared.class.Class.{Class}
 use Rattle.v_read.specs.declared.class.Class.TheVariants as classes
-use Rattle.v_read.specs.Classes.{class_of, kind_of, is_fixed, same_class, token_of, name_token, IsName}
+use Rattle.v_read.specs.Classes.{class_of, is_fixed, same_class, token_of, name_token, IsName}
 use Rattle.v_read.specs.ClassLaws.{same_class-true, class_of-kind_of}
-use Rattle.v_read.specs.Reading.{Why, Wrong, Deep, Reading, Reader, followed, ◌>>=◌, give, wrong, place_of, by_class, step, repeat}
-use Rattle.v_read.specs.Exact.{Language, Family, SameNext, Stops, Tells, Exact, behind, exact-bind, exact-under, exact-give, exact-weaken, exact-shift}
+use Rattle.v_read.specs.Reading.{Why, Wrong, Deep, Reading, give, wrong, place_of}
+use Rattle.v_read.specs.Exact.{Language, SameNext, Stops, Tells, Exact, behind, exact-bind, exact-under, exact-give, exact-weaken}
 use Rattle.v_read.specs.Branches.{nowhere, Some-of, Branch, branch, branch-wrong, branch-step, exact-by_class, exact-after, exact-name, is-fixed-token}
 use Rattle.v_read.specs.Repeat.{append-nil, Turn, TurnFits, exact-repeat}
 use Rattle.v_expr.specs.Spelling.{SpellsExpression, SpellsSelect, SpellsTarget, SpellsDelay}
-use Rattle.v_expr.specs.Heights.{height_of, select_height, target_height}
-use Rattle.v_expr.specs.Parts.{inner_expression, inner_select, inner_target, inner_delay}
+use Rattle.v_expr.specs.Heights.{select_height, target_height}
 use Rattle.v_expr.specs.ExpressionExact.{Below}
 use Rattle.v_expr.specs.PartLaws.{inner_expression-exact, inner_select-exact, inner_target-exact, inner_delay-exact}
 use Rattle.v_stmt.specs.Spelling.{SpellsLabel, SpellsColon, SpellsEdge, SpellsEntry, is_entry_separator, SpellsMoreEntries, SpellsEntries, name_entry, SpellsWaits, SpellsInnerDelay, is_balanced, SpellsArguments}

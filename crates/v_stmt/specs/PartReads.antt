@@ -1,5 +1,5 @@
 -- Each spelled part of a statement is read.
-use Rattle.std.proofs.Common.{◌≡◌, ℕ, zero, suc, ◌+◌, ◌-◌, ◌<◌, ◌≤◌, Bool, true, false, List, [], ◌∷◌, ◌++◌, length, Option, Some, None, Ok, refl, sym, ◌∙◌, ap, subst, arith, append_assoc, length-append, lt-ltb, eqb-true, ◌⊎◌, inl, inr}
+use Rattle.std.proofs.Common.{◌≡◌, ℕ, ◌+◌, ◌-◌, ◌<◌, Bool, true, false, List, [], ◌∷◌, ◌++◌, Option, Some, None, Ok, refl, sym, ◌∙◌, ap, subst, arith, append_assoc, length-append, eqb-true, inl, inr}
 use Rattle.std.specs.Prelude.{nat_lt, if◌then◌else◌}
 use Rattle.vf_base.specs.Base.{SourcePlace}
 use Rattle.four_value.specs.declared.logic.Edge.{Edge}
@@ -9,20 +9,18 @@ use Rattle.v_tree.specs.Tokens.{SourceToken}
 use Rattle.v_tree.specs.Trees.{SourceExpression, Number, Selected, Parenthesised, Prefixed, Infixed, Chosen, Concatenated, Replicated, SourceSelect, SourceTarget, SourceEntry, SourceWaits, OnAnyRead, OnEntries}
 use Rattle.v_read.specs.declared.class.Class.{Class}
 use Rattle.v_read.specs.declared.class.Class.TheVariants as classes
-use Rattle.v_read.specs.Classes.{class_of, same_class, token_of, name_token, IsName}
-use Rattle.v_read.specs.ClassLaws.{class_of-kind_of, same_class-same}
-use Rattle.v_read.specs.Reading.{Reading, Reader, followed, give, wrong, next_class, by_class, repeat}
-use Rattle.v_read.specs.Repeat.{append-nil}
-use Rattle.v_read.specs.Reads.{next-class, expect-reads, name-reads, turn-is, last-is}
+use Rattle.v_read.specs.Classes.{class_of, same_class, token_of, name_token}
+use Rattle.v_read.specs.ClassLaws.{class_of-kind_of}
+use Rattle.v_read.specs.Reading.{Reading, followed, give, next_class, by_class, repeat}
+use Rattle.v_read.specs.Reads.{next-class, name-reads, turn-is, last-is}
 use Rattle.v_expr.specs.Operators.{unary_of}
 use Rattle.v_expr.specs.Spelling.{SpellsExpression, SpellsSelect}
 use Rattle.v_expr.specs.Heights.{height_of, select_height, target_height}
-use Rattle.v_expr.specs.Parts.{inner_expression, inner_select, inner_target, inner_delay}
 use Rattle.v_expr.specs.ExpressionReads.{Ends, EndsBefore}
 use Rattle.v_expr.specs.PartLaws.{inner_expression-reads, inner_select-reads, inner_target-reads, inner_delay-reads}
 use Rattle.v_stmt.specs.Spelling.{SpellsLabel, SpellsColon, SpellsEdge, SpellsEntry, is_entry_separator, SpellsMoreEntries, SpellsEntries, name_entry, SpellsWaits, SpellsInnerDelay, is_balanced, SpellsArguments}
 use Rattle.v_stmt.specs.Heights.{entries_height, waits_height, delay_height}
-use Rattle.v_stmt.specs.Statements.{label_by, label, colon_by, colon, edged, entry_by, entry, another_entry, entries_by, entries_turn, entry_row, entries, inside_by, waits_by, waits, assigned_delay_by, assigned_delay, skipped, arguments_by, arguments, condition, head_assignment}
+use Rattle.v_stmt.specs.Statements.{label_by, label, colon_by, colon, edged, entry_by, entry, another_entry, entries_by, entries_turn, entry_row, entries, inside_by, waits_by, waits, assigned_delay_by, assigned_delay, skipped, arguments, condition, head_assignment}
 use Rattle.v_stmt.specs.PartExact.{SpellsCondition, SpellsHead}
 
 -- What an expression begins with

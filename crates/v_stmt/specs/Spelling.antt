@@ -1,12 +1,12 @@
 -- How statements are spelled, by recursion on their trees, with their places (IEEE 1364-2001, annex A.6).
-use Rattle.std.specs.Prelude.{◌≡◌, ℕ, zero, suc, ◌+◌, ◌-◌, ◌≤◌, Bool, true, false, nat_lt, ◌==◌, List, [], ◌∷◌, ◌++◌, Option, Some, None, ◌⊎◌, if◌then◌else◌}
+use Rattle.std.specs.Prelude.{◌≡◌, ℕ, suc, ◌+◌, ◌-◌, ◌≤◌, Bool, true, false, nat_lt, ◌==◌, List, [], ◌∷◌, ◌++◌, Option, Some, None, ◌⊎◌, if◌then◌else◌}
 use Rattle.vf_base.specs.Base.{SourcePlace}
 use Rattle.four_value.specs.declared.logic.Edge.{Edge}
 use Rattle.four_value.specs.declared.logic.Edge.TheVariants.{Any, Pos, Neg}
 use Rattle.four_value.specs.declared.operator.CaseKind.{CaseKind}
 use Rattle.four_value.specs.declared.operator.CaseKind.TheVariants.{Exact, IgnoreZ, IgnoreXz}
 use Rattle.v_tree.specs.Tokens.{SourceToken}
-use Rattle.v_tree.specs.Trees.{Identifier, SourceExpression, NoIndex, SourceSelect, SourceTarget, SourceEntry, SourceWaits, OnAnyRead, OnEntries, SourceStatement, NullStatement, BlockStatement, IfStatement, IfElseStatement, CaseStatement, ForStatement, WhileStatement, RepeatStatement, ForeverStatement, WaitStatement, EventStatement, DelayStatement, BlockingStatement, NonblockingStatement, IgnoredTask, FinishTask, SourceStatements, no_source_statements, more_source_statements, SourceCaseItems, no_source_items, labelled, otherwise, place_of_target}
+use Rattle.v_tree.specs.Trees.{Identifier, SourceExpression, NoIndex, SourceEntry, SourceWaits, OnAnyRead, OnEntries, SourceStatement, NullStatement, BlockStatement, IfStatement, IfElseStatement, CaseStatement, ForStatement, WhileStatement, RepeatStatement, ForeverStatement, WaitStatement, EventStatement, DelayStatement, BlockingStatement, NonblockingStatement, IgnoredTask, FinishTask, SourceStatements, no_source_statements, more_source_statements, SourceCaseItems, no_source_items, labelled, otherwise, place_of_target}
 use Rattle.v_read.specs.declared.class.Class.{Class}
 use Rattle.v_read.specs.declared.class.Class.TheVariants as classes
 use Rattle.v_read.specs.Classes.{class_of, same_class, token_of, name_token, IsName}

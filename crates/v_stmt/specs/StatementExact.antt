@@ -1,5 +1,5 @@
 -- Reading statements is exact.
-use Rattle.std.proofs.Common.{◌≡◌, ℕ, zero, suc, ◌+◌, ◌<◌, ◌≤◌, max, Bool, true, false, List, [], ◌∷◌, ◌++◌, length, Option, Some, None, refl, sym, ◌∙◌, ap, subst, arith, append_assoc, length-append, ltb-false, inl, inr}
+use Rattle.std.proofs.Common.{◌≡◌, ℕ, zero, suc, ◌+◌, ◌<◌, ◌≤◌, max, Bool, true, false, List, [], ◌∷◌, ◌++◌, length, Option, Some, None, refl, sym, ◌∙◌, ap, subst, arith, append_assoc, length-append, ltb-false, inl}
 use Rattle.std.specs.Prelude.{nat_lt, if◌then◌else◌}
 use Rattle.vf_base.specs.Base.{SourcePlace}
 use Rattle.four_value.specs.declared.operator.CaseKind.{CaseKind}
@@ -8,27 +8,27 @@ use Rattle.v_tree.specs.declared.token.NumberForm.TheVariants.{Plain}
 use Rattle.v_tree.specs.declared.token.TokenKind.{TokenKind}
 use Rattle.v_tree.specs.declared.token.TokenKind.TheVariants as kinds
 use Rattle.v_tree.specs.Tokens.{SourceToken}
-use Rattle.v_tree.specs.Trees.{SourceExpression, Number, NoIndex, SourceTarget, OneSelect, JoinedSelects, OnAnyRead, SourceStatement, NullStatement, BlockStatement, IfStatement, IfElseStatement, CaseStatement, ForStatement, WhileStatement, RepeatStatement, ForeverStatement, WaitStatement, EventStatement, DelayStatement, BlockingStatement, NonblockingStatement, IgnoredTask, FinishTask, no_source_statements, SourceCaseItems, no_source_items, labelled, otherwise, place_of_target}
+use Rattle.v_tree.specs.Trees.{SourceExpression, Number, NoIndex, SourceTarget, OneSelect, JoinedSelects, OnAnyRead, SourceStatement, NullStatement, BlockStatement, IfStatement, IfElseStatement, CaseStatement, ForStatement, WhileStatement, RepeatStatement, ForeverStatement, WaitStatement, EventStatement, DelayStatement, BlockingStatement, NonblockingStatement, IgnoredTask, FinishTask, no_source_statements, no_source_items, otherwise, place_of_target}
 use Rattle.v_read.specs.declared.class.Class.{Class}
 use Rattle.v_read.specs.declared.class.Class.TheVariants as classes
 use Rattle.v_read.specs.Classes.{class_of, is_fixed, token_at, token_of, name_token, IsName}
 use Rattle.v_read.specs.ClassLaws.{name-kind}
-use Rattle.v_read.specs.Reading.{Reader, ◌>>=◌, give, wrong, place_of, by_class, expect, step, name_in, repeat}
+use Rattle.v_read.specs.Reading.{◌>>=◌, give, wrong, place_of, by_class, expect, step, name_in, repeat}
 use Rattle.v_read.specs.Separated.{SpellsBehind, SpellsList}
-use Rattle.v_read.specs.Exact.{Language, Family, Exact, behind, exact-bind, exact-under, exact-give, exact-weaken, exact-shift}
-use Rattle.v_read.specs.Branches.{nowhere, IsOf, Some-of, Branch, branch, branch-wrong, branch-step, branch-down, branch-ready, exact-by_class, exact-after, exact-pass, is-fixed-token}
+use Rattle.v_read.specs.Exact.{Language, Exact, behind, exact-bind, exact-under, exact-give, exact-weaken, exact-shift}
+use Rattle.v_read.specs.Branches.{nowhere, Some-of, Branch, branch, branch-wrong, branch-step, branch-down, branch-ready, exact-by_class, exact-after, exact-pass, is-fixed-token}
 use Rattle.v_read.specs.Repeat.{append-nil, Turn, TurnFits, exact-repeat}
-use Rattle.v_read.specs.SeparatedLaws.{EachFits, exact-separated}
-use Rattle.v_expr.specs.Spelling.{SpellsExpression, SpellsParts, SpellsMoreParts, SpellsTarget, SpellsDelay}
+use Rattle.v_read.specs.SeparatedLaws.{exact-separated}
+use Rattle.v_expr.specs.Spelling.{SpellsExpression, SpellsParts, SpellsMoreParts, SpellsTarget}
 use Rattle.v_expr.specs.Heights.{height_of, heights_of, target_height}
 use Rattle.v_expr.specs.Expressions.{parts_of}
 use Rattle.v_expr.specs.ExpressionExact.{Below, parts-below}
-use Rattle.v_stmt.specs.Spelling.{SpellsLabel, SpellsColon, SpellsWaits, SpellsInnerDelay, SpellsArguments, SpellsTask, case_word, defaults_in, items_in, is_unfinished, SpellsStatement, SpellsBody, SpellsItems}
+use Rattle.v_stmt.specs.Spelling.{SpellsLabel, SpellsInnerDelay, SpellsTask, case_word, defaults_in, items_in, is_unfinished, SpellsStatement, SpellsBody, SpellsItems}
 use Rattle.v_stmt.specs.Heights.{waits_height, delay_height, statement_height, body_height, items_height}
-use Rattle.v_expr.specs.Parts.{inner_expression, inner_target, inner_delay}
+use Rattle.v_expr.specs.Parts.{inner_expression}
 use Rattle.v_expr.specs.PartLaws.{inner_expression-exact, inner_target-exact, inner_delay-exact}
-use Rattle.v_stmt.specs.Statements.{assigned_delay, arguments, task, assigned, assignment_by, assignment, another, begins_statement, begins, body_by, body_turn, statements_list, block_body, block, condition, second_branch, else_by, conditional, Looping, looped, forever, head_assignment, for_loop, event, delayed, CasePart, item_before, items_list, default_item, has_default, labelled_item, item_by, item, items_by, items_turn, items, case, simple_by, statement_by, below_of, statement}
-use Rattle.v_stmt.specs.PartExact.{TargetBelow, WaitsBelow, DelayBelow, label-exact, colon-exact, a_name, a_name-is, a_select, waits-exact, assigned_delay-exact, SpellsCondition, condition-exact, SpellsHead, HeadBelow, head-exact, arguments-exact}
+use Rattle.v_stmt.specs.Statements.{task, assigned, assignment_by, assignment, another, begins_statement, begins, body_by, body_turn, statements_list, block_body, block, condition, second_branch, else_by, conditional, Looping, looped, forever, for_loop, event, delayed, CasePart, item_before, items_list, default_item, labelled_item, item_by, item, items_by, items_turn, items, case, statement_by, below_of, statement}
+use Rattle.v_stmt.specs.PartExact.{TargetBelow, DelayBelow, label-exact, colon-exact, a_name, a_name-is, a_select, waits-exact, assigned_delay-exact, condition-exact, head-exact, arguments-exact}
 
 abbrev pub StatementWithin : ℕ → SourceStatement → Type 0
 StatementWithin k s = statement_height s ≤ k

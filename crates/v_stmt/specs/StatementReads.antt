@@ -1,5 +1,5 @@
 -- Each spelled statement is read.
-use Rattle.std.proofs.Common.{◌≡◌, ℕ, zero, suc, ◌+◌, ◌<◌, ◌≤◌, Bool, true, false, List, [], ◌∷◌, ◌++◌, length, Option, Some, None, Ok, refl, sym, ◌∙◌, ap, subst, arith, append_assoc, length-append, lt-ltb, le-ltb, ◌⊎◌, inl, inr}
+use Rattle.std.proofs.Common.{◌≡◌, ℕ, zero, suc, ◌+◌, ◌<◌, ◌≤◌, true, false, List, [], ◌∷◌, ◌++◌, Option, Some, None, Ok, refl, sym, ◌∙◌, ap, subst, arith, append_assoc, length-append, lt-ltb, ◌⊎◌, inl, inr}
 use Rattle.std.proofs.lemmas.List.{append-nil}
 use Rattle.std.specs.Prelude.{nat_lt, if◌then◌else◌}
 use Rattle.vf_base.specs.Base.{SourcePlace}
@@ -10,23 +10,22 @@ use Rattle.v_tree.specs.Trees.{SourceExpression, SourceExpressions, no_parts, mo
 use Rattle.v_read.specs.declared.class.Class.{Class}
 use Rattle.v_read.specs.declared.class.Class.TheVariants as classes
 use Rattle.v_read.specs.Classes.{class_of, token_of}
-use Rattle.v_read.specs.Reading.{Reader, Reading, followed, ◌>>=◌, give, wrong, place_of, next_class, by_class, step, repeat}
-use Rattle.v_read.specs.Separated.{SpellsBehind, SpellsList, separated}
+use Rattle.v_read.specs.Reading.{Reader, followed, give, wrong, next_class, by_class, repeat}
+use Rattle.v_read.specs.Separated.{SpellsBehind, SpellsList}
 use Rattle.v_read.specs.SeparatedLaws.{EachFits}
-use Rattle.v_read.specs.Reads.{next-class, expect-reads, pass-reads, ready-reads, down-reads, turn-is, last-is, separated-reads}
-use Rattle.v_expr.specs.Spelling.{SpellsExpression, SpellsParts, SpellsMoreParts, SpellsTarget, SpellsDelay}
+use Rattle.v_read.specs.Reads.{next-class, expect-reads, pass-reads, ready-reads, turn-is, last-is, separated-reads}
+use Rattle.v_expr.specs.Spelling.{SpellsExpression, SpellsParts, SpellsMoreParts, SpellsTarget}
 use Rattle.v_expr.specs.Heights.{height_of, heights_of, target_height}
 use Rattle.v_expr.specs.Expressions.{parts_of}
-use Rattle.v_expr.specs.Parts.{inner_expression, inner_target, inner_delay}
+use Rattle.v_expr.specs.Parts.{inner_expression}
 use Rattle.v_expr.specs.ExpressionExact.{Below}
 use Rattle.v_expr.specs.ExpressionReads.{EndsBefore}
 use Rattle.v_expr.specs.PartLaws.{inner_expression-reads, inner_target-reads, inner_delay-reads}
 use Rattle.v_stmt.specs.Spelling.{SpellsColon, SpellsTask, SpellsInnerDelay, case_word, defaults_in, items_in, is_unfinished, SpellsStatement, SpellsBody, SpellsItems}
-use Rattle.v_stmt.specs.Heights.{waits_height, delay_height, statement_height, body_height, items_height}
-use Rattle.v_stmt.specs.Statements.{assigned_delay, arguments, task, assigned, assignment_by, assignment, another, begins_statement, begins, body_by, body_turn, statements_list, block_body, block, condition, second_branch, else_by, conditional, Looping, looped, forever, head_assignment, for_loop, event, delayed, CasePart, item_before, items_list, default_item, has_default, labelled_item, item_by, item, items_by, items_turn, items, case, simple_by, statement_by, below_of, statement}
-use Rattle.v_stmt.specs.PartExact.{SpellsCondition, SpellsHead}
+use Rattle.v_stmt.specs.Heights.{delay_height, statement_height, body_height, items_height}
+use Rattle.v_stmt.specs.Statements.{task, assigned, assignment_by, assignment, another, begins_statement, begins, body_by, body_turn, statements_list, block_body, block, condition, second_branch, else_by, conditional, Looping, looped, forever, head_assignment, for_loop, event, delayed, CasePart, items_list, default_item, labelled_item, item_by, item, items_by, items_turn, items, case, statement_by, below_of, statement}
 use Rattle.v_stmt.specs.StatementExact.{some-tokens, defaults-append}
-use Rattle.v_stmt.specs.PartReads.{begins_expression, leads, expression-first, leads-not, label-reads, colon-reads, waits-reads, assigned_delay-reads, condition-reads, head-reads, arguments-reads}
+use Rattle.v_stmt.specs.PartReads.{leads, expression-first, leads-not, label-reads, colon-reads, waits-reads, assigned_delay-reads, condition-reads, head-reads, arguments-reads}
 
 -- What a statement begins with, and what may stand behind it
 

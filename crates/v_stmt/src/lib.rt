@@ -2,5 +2,9 @@
 //!
 //! `specs/Spelling` says by recursion on a statement's tree which tokens spell it, `specs/Heights` how many levels stand below it.
 //! `specs/Statements` has the readers, and `specs/StatementExact` shows that they are exact: what is read is spelled, within the levels that are
-//! left, and where reading stops, what stands before begins a statement.
+//! left, and where reading stops, what stands before begins a statement. The calls read the parts of statements that have no statement in them.
 #![tactic(auto)]
+
+mod parts;
+
+pub use parts::{assignment, colon, condition, head_assignment, label, task, waits};

@@ -1,4 +1,4 @@
-use Rattle.std.proofs.Common.{◌≡◌, sym, ◌∙◌, ap}
+use Rattle.std.proofs.Common.{sym, ◌∙◌, ap}
 use Rattle.v_tree.specs.Tokens.{SourceToken}
 use Rattle.v_read.specs.Classes.{class_of}
 use Rattle.v_read.specs.ClassLaws.{same_class-true}
