@@ -13,7 +13,7 @@ use Rattle.v_design.specs.Designs.{FlatDesign}
 use Rattle.v_design.specs.Paths.{net_pieces, is_wild, paths}
 use Rattle.v_design.specs.Accesses.{ObjectAccess}
 use Rattle.v_design.specs.Logs.{LoggedEvent, LoggedPhase, PhaseAccess, change_of, changes_of, phase_changes, settles_of, counted_accesses, event_accesses, log_accesses}
-use Rattle.net_graph.specs.ListLaws.{has-append}
+use Rattle.graph_order.specs.ListLaws.{has-append}
 use Rattle.net_graph.specs.RuleLaws.{numbers_of-bound}
 use Rattle.causal_monitor.specs.declared.noted.Noted.{Noted}
 use Rattle.causal_monitor.specs.declared.numbered.Numbered.{Numbered}

@@ -10,7 +10,7 @@ use Rattle.v_design.specs.Designs.{FlatObject, FlatDesign}
 use Rattle.v_design.specs.Paths.{numbers_of, net_pieces, is_net}
 use Rattle.v_design.specs.Accesses.{ObjectAccess}
 use Rattle.v_design.specs.Logs.{LoggedEvent, LoggedPhase, change_of, changes_of, phase_changes}
-use Rattle.net_graph.specs.ListLaws.{still_has}
+use Rattle.graph_order.specs.ListLaws.{still_has}
 use Rattle.causal_monitor.specs.declared.noted.Noted.{Noted}
 use Rattle.causal_monitor.specs.Notes.{noted_access}
 use Rattle.causal_monitor.specs.Phases.{accesses_at, NameObjects, IsLogOf}

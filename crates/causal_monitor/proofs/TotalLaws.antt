@@ -13,7 +13,7 @@ use Rattle.v_design.specs.Lists.{has, without_repeats}
 use Rattle.v_design.specs.Designs.{FlatObject, FlatNode, FlatDesign}
 use Rattle.v_design.specs.Paths.{net_pieces, numbers_of, is_net, paths, paths_within, paths_through, path_weight, one_if, is_wild, is_wild_class, class_of_paths}
 use Rattle.v_design.specs.WellFormed.{KeepsRules}
-use Rattle.net_graph.specs.ListLaws.{sum_by-none, sum_by-agree_has, has-without_repeats}
+use Rattle.graph_order.specs.ListLaws.{sum_by-none, sum_by-agree_has, has-without_repeats}
 use Rattle.net_graph.specs.PathLaws.{paths_through-other, paths_through-output}
 use Rattle.net_graph.specs.Tables.{readers_of, readers_from, before_if}
 use Rattle.causal_monitor.specs.Changes.{weighted, CountChanges, AreTotals, AddsPaths, settled_nets}
