@@ -6,5 +6,6 @@
 #![tactic(auto)]
 
 mod parts;
+mod pieces;
 
 pub use parts::{assignment, colon, condition, head_assignment, label, task, waits};
