@@ -7,11 +7,13 @@ ghost use Rattle.v_read.specs.Given.{Gives};
 ghost use Rattle.v_read.specs.Separated.{separated};
 ghost use Rattle.v_read.specs.declared.class.Class.TheVariants as classes;
 ghost use Rattle.v_parse.specs.Items as read;
+ghost use Rattle.v_parse.specs.Spelling.{parameter_word, direction_word};
 
 use std::alloc::Global;
 use v_expr::{expression, range};
-use v_read::{Class, Lexeme, Stop, expect, name, next_class, step};
-use v_tree::{Content, Direction, Expr, Name, Param, Range, Reg, Wire};
+use v_read::{Class, Lexeme, Stop, expect, is_next, name, next_class, step};
+use v_tree::{Content, Direction, Expr, Name, Param, Params, Ports, Range, Reg, Wire};
+use vf_base::Seq;
 
 /// A name with its place.
 #[tactic(auto, unfolding(crate::specs::Items::named))]
@@ -183,4 +185,211 @@ pub fn reg<'t>(
         },
         rest,
     ))
+}
+
+/// Names, with a comma between them.
+#[tactic(auto, unfolding(v_read::specs::Separated::separated))]
+pub fn names<'t>(
+    alloc: Global,
+    tokens: &'t [Lexeme<'t>],
+) -> Result<(Seq<Name>, &'t [Lexeme<'t>]), Stop<'t>>
+    ensures reads { Gives (λ x. (map name_of x.0, x.1.now)) result (separated classes.Comma read.named tokens.now) }
+    ensures shorter { IfOk result (λ x. length x.1.now < length tokens.now) }
+{
+    let (first, mut rest) = named(alloc, tokens)?;
+    let mut names = Vec::new(alloc);
+    names.push(first)?;
+    'names: while is_next(rest, Class::Comma) {
+        let (_, after) = step(rest)?;
+        let (next, after) = named(alloc, after)?;
+        names.push(next)?;
+        rest = after;
+    }
+    Ok((Seq::from_vec(names), rest))
+}
+
+/// Parameters, with a comma between them.
+#[tactic(auto, unfolding(v_read::specs::Separated::separated))]
+pub fn params<'t>(
+    alloc: Global,
+    tokens: &'t [Lexeme<'t>],
+    levels: u32,
+) -> Result<(Seq<Param>, &'t [Lexeme<'t>]), Stop<'t>>
+    requires { levels < 256 }
+    ensures reads { Gives (λ x. (map parameter_of x.0, x.1.now)) result (separated classes.Comma (read.parameter levels) tokens.now) }
+    ensures shorter { IfOk result (λ x. length x.1.now < length tokens.now) }
+{
+    let (first, mut rest) = parameter(alloc, tokens, levels)?;
+    let mut params = Vec::new(alloc);
+    params.push(first)?;
+    'params: while is_next(rest, Class::Comma) {
+        let (_, after) = step(rest)?;
+        let (next, after) = parameter(alloc, after, levels)?;
+        params.push(next)?;
+        rest = after;
+    }
+    Ok((Seq::from_vec(params), rest))
+}
+
+/// Nets, with a comma between them.
+#[tactic(auto, unfolding(v_read::specs::Separated::separated))]
+pub fn wires<'t>(
+    alloc: Global,
+    tokens: &'t [Lexeme<'t>],
+    levels: u32,
+) -> Result<(Seq<Wire>, &'t [Lexeme<'t>]), Stop<'t>>
+    requires { levels < 256 }
+    ensures reads { Gives (λ x. (map wire_of x.0, x.1.now)) result (separated classes.Comma (read.wire levels) tokens.now) }
+    ensures shorter { IfOk result (λ x. length x.1.now < length tokens.now) }
+{
+    let (first, mut rest) = wire(alloc, tokens, levels)?;
+    let mut wires = Vec::new(alloc);
+    wires.push(first)?;
+    'wires: while is_next(rest, Class::Comma) {
+        let (_, after) = step(rest)?;
+        let (next, after) = wire(alloc, after, levels)?;
+        wires.push(next)?;
+        rest = after;
+    }
+    Ok((Seq::from_vec(wires), rest))
+}
+
+/// Variables, with a comma between them.
+#[tactic(auto, unfolding(v_read::specs::Separated::separated))]
+pub fn regs<'t>(
+    alloc: Global,
+    tokens: &'t [Lexeme<'t>],
+    levels: u32,
+) -> Result<(Seq<Reg>, &'t [Lexeme<'t>]), Stop<'t>>
+    requires { levels < 256 }
+    ensures reads { Gives (λ x. (map reg_of x.0, x.1.now)) result (separated classes.Comma (read.reg levels) tokens.now) }
+    ensures shorter { IfOk result (λ x. length x.1.now < length tokens.now) }
+{
+    let (first, mut rest) = reg(alloc, tokens, levels)?;
+    let mut regs = Vec::new(alloc);
+    regs.push(first)?;
+    'regs: while is_next(rest, Class::Comma) {
+        let (_, after) = step(rest)?;
+        let (next, after) = reg(alloc, after, levels)?;
+        regs.push(next)?;
+        rest = after;
+    }
+    Ok((Seq::from_vec(regs), rest))
+}
+
+/// The word before parameters.
+fn parameter_word(is_local: bool) -> Class
+    ensures { result ≡ parameter_word is_local }
+{
+    if is_local {
+        Class::LocalParameter
+    } else {
+        Class::Parameter
+    }
+}
+
+/// The word of a direction.
+fn direction_word(direction: Direction) -> Class
+    ensures { result ≡ direction_word direction }
+{
+    match direction {
+        Direction::Input => Class::Input,
+        Direction::Output => Class::Output,
+    }
+}
+
+/// Parameters behind their word.
+#[tactic(auto, unfolding(crate::specs::Items::parameters))]
+pub fn parameters<'t>(
+    alloc: Global,
+    tokens: &'t [Lexeme<'t>],
+    is_local: bool,
+    levels: u32,
+) -> Result<(Params, &'t [Lexeme<'t>]), Stop<'t>>
+    requires { levels < 256 }
+    ensures reads { Gives (λ x. (parameters_of x.0, x.1.now)) result (read.parameters levels is_local tokens.now) }
+    ensures shorter { IfOk result (λ x. length x.1.now < length tokens.now) }
+{
+    let (place, rest) = expect(tokens, parameter_word(is_local))?;
+    let (signed, rest) = signed(rest)?;
+    let (range, rest) = width(alloc, rest, levels)?;
+    let (params, rest) = params(alloc, rest, levels)?;
+    Ok((
+        Params {
+            place,
+            is_local,
+            signed,
+            range,
+            params,
+        },
+        rest,
+    ))
+}
+
+/// Ports before their names.
+#[tactic(auto, unfolding(crate::specs::Items::ports_head))]
+fn ports_head<'t>(
+    alloc: Global,
+    tokens: &'t [Lexeme<'t>],
+    direction: Direction,
+    levels: u32,
+) -> Result<(Ports, &'t [Lexeme<'t>]), Stop<'t>>
+    requires { levels < 256 }
+    ensures reads { Gives (λ x. (ports_of x.0, x.1.now)) result (read.ports_head levels direction tokens.now) }
+    ensures shorter { IfOk result (λ x. length x.1.now < length tokens.now) }
+{
+    let (place, rest) = expect(tokens, direction_word(direction))?;
+    let (is_reg, rest) = sort(rest, direction)?;
+    let (signed, rest) = signed(rest)?;
+    let (range, rest) = width(alloc, rest, levels)?;
+    Ok((
+        Ports {
+            place,
+            direction,
+            is_reg,
+            signed,
+            range,
+            names: Seq::from_vec(Vec::new(alloc)),
+        },
+        rest,
+    ))
+}
+
+/// Ports with these names.
+fn with_names(head: Ports, names: Seq<Name>) -> Ports
+    ensures { ports_of result ≡ read.with_names (ports_of head) (map name_of names) }
+{
+    let Ports {
+        place,
+        direction,
+        is_reg,
+        signed,
+        range,
+        names: _,
+    } = head;
+    Ports {
+        place,
+        direction,
+        is_reg,
+        signed,
+        range,
+        names,
+    }
+}
+
+/// Ports with their names.
+#[tactic(auto, unfolding(crate::specs::Items::ports))]
+pub fn ports<'t>(
+    alloc: Global,
+    tokens: &'t [Lexeme<'t>],
+    direction: Direction,
+    levels: u32,
+) -> Result<(Ports, &'t [Lexeme<'t>]), Stop<'t>>
+    requires { levels < 256 }
+    ensures reads { Gives (λ x. (ports_of x.0, x.1.now)) result (read.ports levels direction tokens.now) }
+    ensures shorter { IfOk result (λ x. length x.1.now < length tokens.now) }
+{
+    let (head, rest) = ports_head(alloc, tokens, direction, levels)?;
+    let (names, rest) = names(alloc, rest)?;
+    Ok((with_names(head, names), rest))
 }

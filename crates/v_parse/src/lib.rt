@@ -7,4 +7,4 @@
 
 mod declarations;
 
-pub use declarations::{content, named, parameter, reg, signed, sort, value, width, wire};
+pub use declarations::{parameters, ports, regs, signed, width, wires};
