@@ -14,7 +14,8 @@ use Rattle.graph_order.specs.ListLaws.{still_has}
 use Rattle.causal_monitor.specs.declared.noted.Noted.{Noted}
 use Rattle.causal_monitor.specs.Notes.{noted_access}
 use Rattle.causal_monitor.specs.Phases.{accesses_at, NameObjects, IsLogOf}
-use Rattle.causal_monitor.specs.Changes.{weighted, CountChanges}
+use Rattle.net_graph.specs.Tables.{weighted}
+use Rattle.causal_monitor.specs.Changes.{CountChanges}
 
 true_false : true ≡ false → ⊥
 true_false e = cc

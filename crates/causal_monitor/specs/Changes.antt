@@ -5,12 +5,7 @@ use Rattle.vf_base.specs.declared.ids.ObjectId.{ObjectId}
 use Rattle.v_design.specs.Lists.{has}
 use Rattle.v_design.specs.Designs.{FlatDesign}
 use Rattle.v_design.specs.Paths.{paths, net_pieces, is_wild}
-use Rattle.net_graph.specs.Tables.{object_lists}
-
--- the sum over objects, from a number on, of f, each as often as a table says
-abbrev pub weighted : (ℕ → ℕ) → ℕ → List ℕ → ℕ
-weighted f number [] = 0
-weighted f number (count ∷ counts) = count * f number + weighted f (number + 1) counts
+use Rattle.net_graph.specs.Tables.{weighted, object_lists}
 
 -- how often each object is among some changes: with these numbers each sum over the changes comes out, cut at 2, and each object that changed has one
 pub record CountChanges (changes counts : List ℕ) : Type 0 where
@@ -29,6 +24,6 @@ settled_nets design changes object = filter (λ net. is_wild design changes net 
 abbrev pub AreSettled : FlatDesign → List ℕ → List (Vec ObjectId Global) → Type 0
 AreSettled design changes lists = (object : ℕ) → has changes object ≡ true → get_or (object_lists lists) object [] ≡ settled_nets design changes object
 
--- the totals with the paths from an object that changed so often
-abbrev pub AddsPaths : FlatDesign → ℕ → ℕ → List ℕ → List ℕ → Type 0
-AddsPaths design from count before later = (object : ℕ) → object < length later → min 2 (get_or later object 0) ≡ min 2 (get_or before object 0 + count * paths design from object)
+-- no path leads from an object to one of some net pieces
+abbrev pub ReachesNone : FlatDesign → ℕ → List ℕ → Type 0
+ReachesNone design from nets = (net : ℕ) → has nets net ≡ true → 0 < paths design from net → ⊥

@@ -69,9 +69,9 @@ fn phase_accesses(alloc: Global, log: &PhaseLog, graph: &Graph) -> Result<Vec<Nu
     let objects = graph.design.objects.as_slice().len();
     let mut counts = vec![in alloc; 0u8; objects]?;
     count_changes(graph.design, log, &mut counts);
-    let mut marks = Marks::new(alloc, graph)?;
     let mut totals = vec![in alloc; 0u8; objects]?;
-    add_up(graph, log, &counts, &mut marks, &mut totals);
+    add_up(graph, log, &counts, &mut totals);
+    let mut marks = Marks::new(alloc, graph)?;
     let settled = all_settled(alloc, graph, log, &counts, &totals, &mut marks)?;
     let list = numbered_accesses(alloc, graph.design, log, &totals, &settled)?;
     Ok(list)

@@ -1,13 +1,13 @@
 // The wild net pieces that a change settles.
 
-ghost use Rattle.std.specs.Prelude.{◌≡◌, ℕ, ◌<◌, ◌&&◌, ◌++◌, [], ◌∷◌, map, filter, length, vec_len, get_or, IfOk};
+ghost use Rattle.std.specs.Prelude.{◌≡◌, ℕ, ◌<◌, ◌&&◌, ◌++◌, [], ◌∷◌, false, map, filter, length, vec_len, get_or, IfOk};
 ghost use Rattle.vf_base.specs.Base.{object_number};
 ghost use Rattle.v_design.specs.Lists.{has};
 ghost use Rattle.v_design.specs.Paths.{paths, net_pieces, is_wild};
 ghost use Rattle.v_design.specs.Logs.{phase_changes};
 ghost use Rattle.v_design.specs.PlainDesigns.{design_of};
 ghost use Rattle.net_graph.specs.Tables.{before_if};
-ghost use Rattle.causal_monitor.specs.Changes.{CountChanges, AreTotals, AreSettled, settled_nets};
+ghost use Rattle.causal_monitor.specs.Changes.{CountChanges, AreTotals, AreSettled, ReachesNone, settled_nets};
 
 use crate::log::PhaseLog;
 use crate::totals::is_wild_net;
@@ -69,7 +69,7 @@ fn nets_settled_by<'d>(
     Ok(nets)
 }
 
-/// The wild net pieces that a change of an object settles, if it changed.
+/// The wild net pieces that a change of an object settles, if it changed and reaches one.
 fn nets_settled_if<'d>(
     alloc: Global,
     graph: &Graph<'d>,
@@ -77,15 +77,20 @@ fn nets_settled_if<'d>(
     wild: &[ObjectId],
     from: ObjectId,
     count: u8,
+    reaches: bool,
     marks: &mut Marks<'d>,
 ) -> Result<Vec<ObjectId>, NoMemory>
     requires from { object_number from < length (design_of graph.now.design.now).objects }
     requires wild { map object_number wild.now ≡ filter (is_wild (design_of graph.now.design.now) (phase_changes (design_of graph.now.design.now) log.now.log)) (net_pieces (design_of graph.now.design.now)) }
     requires belongs { marks.old.design.now ≡ graph.now.design.now }
+    requires reaches { reaches ≡ false → ReachesNone (design_of graph.now.design.now) (object_number from) (map object_number wild.now) }
     ensures nets { IfOk result (λ nets. 0 < count → map object_number nets.items ≡ settled_nets (design_of graph.now.design.now) (phase_changes (design_of graph.now.design.now) log.now.log) (object_number from)) }
     ensures belongs { marks.new.design.now ≡ graph.now.design.now }
 {
     if count == 0 {
+        return Ok(Vec::new(alloc));
+    }
+    if !reaches {
         return Ok(Vec::new(alloc));
     }
     let nets = nets_settled_by(alloc, graph, log, wild, from, marks)?;
@@ -110,10 +115,20 @@ pub(crate) fn all_settled<'d>(
     ensures settled { IfOk result (λ lists. AreSettled (design_of graph.now.design.now) (phase_changes (design_of graph.now.design.now) log.now.log) lists.items) }
 {
     let wild = wild_nets(alloc, graph.design, log, totals)?;
+    let reaching = graph.reaching(alloc, &wild)?;
     let mut lists = Vec::new(alloc);
     'objects: for (number, count) in counts.iter().enumerate() {
         let from = ObjectId(number as u32);
-        let nets = nets_settled_if(alloc, graph, log, &wild, from, *count, marks)?;
+        let nets = nets_settled_if(
+            alloc,
+            graph,
+            log,
+            &wild,
+            from,
+            *count,
+            reaching[number],
+            marks,
+        )?;
         lists.push(nets)?;
     }
     Ok(lists)

@@ -5,7 +5,8 @@ ghost use Rattle.std.specs.Option.{option_map};
 ghost use Rattle.vf_base.specs.Base.{process_number};
 ghost use Rattle.v_design.specs.Lists.{AllHold, change_at};
 ghost use Rattle.v_design.specs.Plain.{update_of};
-ghost use Rattle.event_queue.specs.Queues.{repeated, nothing_held, held_at, with_holding, with_later, ComesAfter, HoldsNothing, next_time, next_region, released, held_after};
+ghost use Rattle.v_design.specs.States.{some_in, is_due};
+ghost use Rattle.event_queue.specs.Queues.{HeldProcess, is_postponed, repeated, nothing_held, held_at, with_holding, with_later, ComesAfter, HoldsNothing, next_time, next_region, released, held_after};
 ghost use Rattle.event_queue.specs.Arranged.{processes_where, wakes_at, TakesPostponed, TakesLanes};
 ghost use Rattle.event_queue.specs.declared.held.Holding.TheVariants as Holding;
 ghost use Rattle.event_queue.specs.Regions.{turn_region};
@@ -114,6 +115,21 @@ impl Queue {
         ensures { result ≡ next_time self.now }
     {
         earlier(first_time(&self.sleepers), first_time(&self.lanes))
+    }
+
+    /// Whether a process is postponed.
+    pub fn has_postponed(&self) -> bool
+        ensures { result ≡ some_in (λ (h : HeldProcess). is_postponed h.holding) self.now }
+    {
+        !self.postponed.as_slice().is_empty()
+    }
+
+    /// Whether an update is due now.
+    pub fn has_due(&self, now: u64) -> bool
+        requires { AllHold (ComesAfter now) self.now }
+        ensures { result ≡ some_in (λ (h : HeldProcess). some_in (is_due now) h.later) self.now }
+    {
+        self.lanes.contains_key(&now)
     }
 
     /// Takes what the next turn activates; `None` where nothing is held.

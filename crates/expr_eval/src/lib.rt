@@ -5,6 +5,8 @@
 #![tactic(auto)]
 
 mod operand;
+#[cfg(test)]
+mod tests;
 mod value;
 
 pub use operand::{part_index, place_of_index, put_left, put_right, width_of_part, word_of_index};

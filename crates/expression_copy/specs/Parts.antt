@@ -1,27 +1,18 @@
 -- Parts with the same views.
-use Rattle.std.proofs.Common.{◌≡◌, List, [], ◌∷◌, map, refl, sym, ◌∙◌, ap, Global}
+use Rattle.std.proofs.Common.{◌≡◌, map, sym, ◌∙◌, ap, Global}
 use Rattle.std.specs.declared.vec.Vec.{Vec}
 use Rattle.std.specs.declared.boxed.Box.{Box}
 use Rattle.vf_base.specs.Base.{source_place}
 use Rattle.vf_base.specs.declared.ids.Place.{Place}
 use Rattle.v_tree.specs.Trees as plain
-use Rattle.v_tree.specs.Views.{expression_of, expressions_of, expressions_of_row}
-use Rattle.v_tree.specs.ViewLaws.{expressions-hidden}
+use Rattle.v_tree.specs.Views.{expression_of, expressions_of_row}
+use Rattle.v_tree.specs.ViewLaws.{row-seen}
 use Rattle.v_tree.specs.declared.expression.Expr.{Expr}
 use Rattle.v_tree.specs.declared.expression.Expr.TheVariants as code
 use Rattle.v_tree.specs.declared.expression.Expr.TheBlock.{hidden-the_row-Expr-0}
 
--- parts in a row
-abbrev pub parts_of : List plain.SourceExpression → plain.SourceExpressions
-parts_of [] = plain.no_parts
-parts_of (e ∷ es) = plain.more_parts e (parts_of es)
-
-pub parts-map : (xs : List Expr) → expressions_of xs ≡ parts_of (map expression_of xs)
-parts-map [] = refl
-parts-map (e ∷ es) = ap (plain.more_parts (expression_of e)) (parts-map es)
-
 copied-parts : (a b : Vec Expr Global) → map expression_of a.items ≡ map expression_of b.items → expressions_of_row (hidden-the_row-Expr-0 a) ≡ expressions_of_row (hidden-the_row-Expr-0 b)
-copied-parts a b e = expressions-hidden a ∙ parts-map a.items ∙ ap parts_of e ∙ sym (parts-map b.items) ∙ sym (expressions-hidden b)
+copied-parts a b e = row-seen a ∙ ap plain.parts_of e ∙ sym (row-seen b)
 
 pub copied-concat : (place : Place) (a b : Vec Expr Global) → map expression_of a.items ≡ map expression_of b.items → expression_of (code.Concat place a) ≡ expression_of (code.Concat place b)
 copied-concat place a b e = ap (plain.Concatenated (source_place place)) (copied-parts a b e)

@@ -10,3 +10,5 @@ pub mod Decimals
 pub mod Finding
 pub mod Drivers
 pub mod NamesRead
+pub mod Answered
+pub mod Counting

@@ -16,135 +16,8 @@ use Rattle.v_design.specs.declared.logic.ObjectKind.{ObjectKind}
 use Rattle.v_design.specs.declared.logic.ObjectKind.TheVariants.{Var, Word, Net}
 use Rattle.fault_list.specs.RoundTrip.{HasNumber, NamesAreRead}
 use Rattle.fault_list.specs.Spelled.{or_else, first_answer, name_spelled, driver_of, site_by_kind, bit_spelled, object_spelled, numbered_terminals, terminal_spelled, node_spelled, site_spelled}
-use Rattle.fault_list.proofs.Outputs.{filter-has, has-filter}
-
--- Membership
-
--- an element stands in a list
-pub data In {A : Type 0} (x : A) : List A → Type 0 where
-  here : (xs : List A) → In x (x ∷ xs)
-  there : (y : A) (xs : List A) → In x xs → In x (y ∷ xs)
-
-in-left : {A : Type 0} (x : A) (xs ys : List A) → In x xs → In x (xs ++ ys)
-in-left x _ ys (here xs) = here (xs ++ ys)
-in-left x _ ys (there y xs h) = there y (xs ++ ys) (in-left x xs ys h)
-
-in-right : {A : Type 0} (x : A) (xs ys : List A) → In x ys → In x (xs ++ ys)
-in-right x [] ys h = h
-in-right x (y ∷ xs) ys h = there y (xs ++ ys) (in-right x xs ys h)
-
-in-append : {A : Type 0} (x : A) (xs ys : List A) → In x (xs ++ ys) → (In x xs) ⊎ (In x ys)
-in-append x [] ys h = inr h
-in-append x (y ∷ xs) ys (here _) = inl (here xs)
-in-append x (y ∷ xs) ys (there _ _ h) = ⊎_elim (λ (l : In x xs). inl (there y xs l)) (λ (r : In x ys). inr r) (in-append x xs ys h)
-
-in-map : {A B : Type 0} (f : A → B) (x : A) (xs : List A) → In x xs → In (f x) (map f xs)
-in-map f x _ (here xs) = here (map f xs)
-in-map f x _ (there y xs h) = there (f y) (map f xs) (in-map f x xs h)
-
-in-cons : {A : Type 0} (x y : A) (xs : List A) → In x (y ∷ xs) → (y ≡ x) ⊎ (In x xs)
-in-cons x _ _ (here xs) = inl refl
-in-cons x y xs (there _ _ h) = inr h
-
--- what stands in a mapped list comes of an element
-map-in : {A B : Type 0} (f : A → B) (y : B) (xs : List A) → In y (map f xs) → (x : A) × (In x xs) × (f x ≡ y)
-map-in f y [] h = elim h [ ]
-map-in f y (x ∷ xs) (here _) = (x, here xs, refl)
-map-in f y (x ∷ xs) (there _ _ h) = let r = map-in f y xs h in (r.0, there x xs r.1, r.2)
-
-in-joined : {A : Type 0} (x : A) (l : List A) (lists : List (List A)) → In x l → In l lists → In x (joined lists)
-in-joined x l _ h (here rest) = in-left x l (joined rest) h
-in-joined x l _ h (there m rest at) = in-right x m (joined rest) (in-joined x l rest h at)
-
-joined-in : {A : Type 0} (x : A) (lists : List (List A)) → In x (joined lists) → (l : List A) × (In x l) × (In l lists)
-joined-in x [] h = elim h [ ]
-joined-in x (l ∷ lists) h =
-    ⊎_elim (λ (a : In x l). (l, a, here lists)) (λ (b : In x (joined lists)). let r = joined-in x lists b in (r.0, r.1, there l lists r.2)) (in-append x l (joined lists) h)
-
--- numbered lists
-in-numbered : {A B : Type 0} (f : ℕ → A → List B) (y : B) (n i : ℕ) (x : A) (xs : List A) → slice_get xs i ≡ Some x → In y (f (n + i) x) → In y (joined (map_numbered f n xs))
-in-numbered f y n i x [] at h = absurd (cc)
-in-numbered f y n zero x (z ∷ zs) at h =
-    let same : z ≡ x = cc in let e : n + 0 ≡ n = omega arith in
-    in-left y (f n z) (joined (map_numbered f (n + 1) zs)) (subst (λ w. In y (f n w)) (sym same) (subst (λ k. In y (f k x)) e h))
-in-numbered f y n (suc i) x (z ∷ zs) at h =
-    let e : n + suc i ≡ n + 1 + i = omega arith in
-    in-right y (f n z) (joined (map_numbered f (n + 1) zs)) (in-numbered f y (n + 1) i x zs at (subst (λ k. In y (f k x)) e h))
-
-numbered-in : {A B : Type 0} (f : ℕ → A → List B) (y : B) (n : ℕ) (xs : List A) → In y (joined (map_numbered f n xs)) → (i : ℕ) × (x : A) × (slice_get xs i ≡ Some x) × In y (f (n + i) x)
-numbered-in f y n [] h = elim h [ ]
-numbered-in f y n (z ∷ zs) h =
-    ⊎_elim (λ (a : In y (f n z)). let e : n ≡ n + 0 = omega arith in (0, z, refl, subst (λ k. In y (f k z)) e a))
-    (λ (b : In y (joined (map_numbered f (n + 1) zs))).
-    let r = numbered-in f y (n + 1) zs b in let e : n + 1 + r.0 ≡ n + suc r.0 = omega arith in
-    (suc r.0, r.1, r.2, subst (λ k. In y (f k r.1)) e r.3))
-    (in-append y (f n z) (joined (map_numbered f (n + 1) zs)) h)
-
-in-contains : {A : Type 0} (xs : List A) (x : A) → Contains xs x → In x xs
-in-contains {A} xs x c = by xs c.0 c.1 c.2
-  where
-    by : (ys : List A) (i : ℕ) → i < length ys → get_or ys i x ≡ x → In x ys
-    by [] i low at = absurd (omega arith)
-    by (y ∷ ys) zero low at = subst (λ z. In x (z ∷ ys)) (sym at) (here ys)
-    by (y ∷ ys) (suc i) low at = there y ys (by ys i (omega arith) at)
-
--- Ranges
-
-up-in : (start count n : ℕ) → In n (up_from start count) → (start ≤ n) × (n < start + count)
-up-in start zero n h = elim h [ ]
-up-in start (suc count) n (here _) = (omega arith, omega arith)
-up-in start (suc count) n (there _ _ h) = let r = up-in (start + 1) count n h in (omega arith, omega arith)
-
-in-up : (start count n : ℕ) → start ≤ n → n < start + count → In n (up_from start count)
-in-up start zero n low high = absurd (omega arith)
-in-up start (suc count) n low high =
-    ⊎_elim (λ (e : start ≡ n). subst (λ k. In k (start ∷ up_from (start + 1) count)) e (here (up_from (start + 1) count)))
-    (λ (l : start + 1 ≤ n). there start (up_from (start + 1) count) (in-up (start + 1) count n l (omega arith))) (first-or-later start n low)
-  where
-    first-or-later : (a b : ℕ) → a ≤ b → (a ≡ b) ⊎ (a + 1 ≤ b)
-    first-or-later a b le = grind arith
-
--- Searches
-
-find-sound : (p : ℕ → Bool) (xs : List ℕ) (n : ℕ) → find p xs ≡ Some n → (In n xs) × (p n ≡ true)
-find-sound p [] n e = absurd (cc)
-find-sound p (x ∷ xs) n e =
-    elim (p x) as (λ b. p x ≡ b → cond b (Some x) (find p xs) ≡ Some n → (In n (x ∷ xs)) × (p n ≡ true)) [
-      | true ↦ λ passes h. let same : x ≡ n = cc in (subst (λ k. In k (x ∷ xs)) same (here xs), ap p (sym same) ∙ passes)
-      | false ↦ λ fails h. let r = find-sound p xs n h in (there x xs r.0, r.1)
-    ] refl e
-
-find-complete : (p : ℕ → Bool) (xs : List ℕ) (n : ℕ) → In n xs → p n ≡ true → (m : ℕ) × (find p xs ≡ Some m)
-find-complete p [] n h passes = elim h [ ]
-find-complete p (x ∷ xs) n h passes =
-    elim (p x) as (λ b. p x ≡ b → (m : ℕ) × (cond b (Some x) (find p xs) ≡ Some m)) [
-      | true ↦ λ is. (x, refl)
-      | false ↦ λ is. ⊎_elim (λ (a : x ≡ n). absurd (false≢true (sym is ∙ (ap p a ∙ passes)))) (λ (b : In n xs). find-complete p xs n b passes) (in-cons n x xs h)
-    ] refl
-
--- the first answer comes of an element
-answer-sound : {A B : Type 0} (f : ℕ → A → Option B) (n : ℕ) (xs : List A) (y : B) → first_answer f n xs ≡ Some y → (i : ℕ) × (x : A) × (slice_get xs i ≡ Some x) × (f (n + i) x ≡ Some y)
-answer-sound f n [] y e = absurd (cc)
-answer-sound {A} {B} f n (x ∷ xs) y e =
-    elim (f n x) as (λ o. f n x ≡ o → or_else o (first_answer f (n + 1) xs) ≡ Some y → (i : ℕ) × (z : A) × (slice_get (x ∷ xs) i ≡ Some z) × (f (n + i) z ≡ Some y)) [
-      | None ↦ λ is h. let r = answer-sound f (n + 1) xs y h in let e' : n + 1 + r.0 ≡ n + suc r.0 = omega arith in (suc r.0, r.1, r.2, subst (λ k. f k r.1 ≡ Some y) e' r.3)
-      | Some w ↦ λ is h. let same : w ≡ y = cc in let e' : n ≡ n + 0 = omega arith in (0, x, refl, subst (λ k. f k x ≡ Some y) e' (is ∙ ap (λ v. Some v) same))
-    ] refl e
-
-answer-complete : {A B : Type 0} (f : ℕ → A → Option B) (n i : ℕ) (x : A) (xs : List A) (y : B) → slice_get xs i ≡ Some x → f (n + i) x ≡ Some y → (z : B) × (first_answer f n xs ≡ Some z)
-answer-complete f n i x [] y at e = absurd (cc)
-answer-complete f n zero x (w ∷ ws) y at e =
-    let same : w ≡ x = cc in let k : n + 0 ≡ n = omega arith in
-    let first : f n w ≡ Some y = subst (λ v. f n v ≡ Some y) (sym same) (subst (λ m. f m x ≡ Some y) k e) in
-    (y, ap (λ o. or_else o (first_answer f (n + 1) ws)) first)
-answer-complete {A} {B} f n (suc i) x (w ∷ ws) y at e =
-    let k : n + suc i ≡ n + 1 + i = omega arith in
-    let r = answer-complete f (n + 1) i x ws y at (subst (λ m. f m x ≡ Some y) k e) in
-    elim (f n w) as (λ o. (z : B) × (or_else o (first_answer f (n + 1) ws) ≡ Some z)) [ None ↦ r | Some v ↦ (v, refl) ]
-
-AllHold-in : {A : Type 0} (P : A → Type 0) (xs : List A) (x : A) → AllHold P xs → In x xs → P x
-AllHold-in P [] x all h = elim h [ ]
-AllHold-in P (y ∷ ys) x all h = ⊎_elim (λ (e : y ≡ x). subst P e all.0) (λ (l : In x ys). AllHold-in P ys x all.1 l) (in-cons x y ys h)
+use Rattle.fault_list.specs.Members.{In, here, there, in-left, in-right, in-append, in-map, in-cons, map-in, in-joined, joined-in, in-numbered, numbered-in, in-contains, up-in, in-up, find-sound, find-complete, answer-sound, answer-complete, AllHold-in, has-filter, has-number, width-at, driver-complete, has-in}
+use Rattle.fault_list.specs.ListedSites.{kind-in, terminal-in}
 
 -- no two elements have one name
 differ-one : (f : FaultSite → List ℕ) (xs : List FaultSite) (x y : FaultSite) → AllDiffer (map f xs) → In x xs → In y xs → f x ≡ f y → x ≡ y
@@ -157,73 +30,6 @@ differ-one f (z ∷ zs) x y differ hx hy e =
     (λ (b : In y zs). differ-one f zs x y differ.1 a b e) (in-cons y z zs hy))
     (in-cons x z zs hx)
 
--- Objects and nodes
-
-numbers-has : (test : FlatObject → Bool) (n i : ℕ) (object : FlatObject) (objects : List FlatObject) → slice_get objects i ≡ Some object → test object ≡ true → has (numbers_of test n objects) (n + i) ≡ true
-numbers-has test n i object [] at e = absurd (cc)
-numbers-has test n zero object (o ∷ os) at e =
-    let same : o ≡ object = cc in let k : n ≡ n + 0 = omega arith in
-    subst (λ b. has (elim b [ true ↦ n ∷ numbers_of test (n + 1) os | false ↦ numbers_of test (n + 1) os ]) (n + 0) ≡ true) (sym (ap test same ∙ e))
-    (or_left (nat_eq n (n + 0)) (has (numbers_of test (n + 1) os) (n + 0)) (eq-eqb n (n + 0) k))
-numbers-has test n (suc i) object (o ∷ os) at e =
-    let k : n + 1 + i ≡ n + suc i = omega arith in
-    let rest : has (numbers_of test (n + 1) os) (n + suc i) ≡ true = subst (λ m. has (numbers_of test (n + 1) os) m ≡ true) k (numbers-has test (n + 1) i object os at e) in
-    elim (test o) as (λ b. has (elim b [ true ↦ n ∷ numbers_of test (n + 1) os | false ↦ numbers_of test (n + 1) os ]) (n + suc i) ≡ true) [
-      | true ↦ or_right (nat_eq n (n + suc i)) (has (numbers_of test (n + 1) os) (n + suc i)) rest
-      | false ↦ rest
-    ]
-
-one-later : (test : FlatObject → Bool) (n m : ℕ) (o : FlatObject) (os : List FlatObject) → ((i : ℕ) × (object : FlatObject) × (m ≡ n + 1 + i) × (slice_get os i ≡ Some object) × (test object ≡ true)) →
-    (i : ℕ) × (object : FlatObject) × (m ≡ n + i) × (slice_get (o ∷ os) i ≡ Some object) × (test object ≡ true)
-one-later test n m o os r = let k : m ≡ n + suc r.0 = omega (arith, r.2) in (suc r.0, r.1, k, r.3, r.4)
-
-has-number : (test : FlatObject → Bool) (n m : ℕ) (objects : List FlatObject) → has (numbers_of test n objects) m ≡ true → (i : ℕ) × (object : FlatObject) × (m ≡ n + i) × (slice_get objects i ≡ Some object) × (test object ≡ true)
-has-number test n m [] e = absurd (false≢true e)
-has-number test n m (o ∷ os) e =
-    elim (test o) as (λ b. test o ≡ b → has (elim b [ true ↦ n ∷ numbers_of test (n + 1) os | false ↦ numbers_of test (n + 1) os ]) m ≡ true →
-    (i : ℕ) × (object : FlatObject) × (m ≡ n + i) × (slice_get (o ∷ os) i ≡ Some object) × (test object ≡ true)) [
-      | true ↦ λ is h. ⊎_elim (λ (a : nat_eq n m ≡ true). let k : n ≡ m = eqb-true n m a in (0, o, omega arith, refl, is))
-          (λ (b : has (numbers_of test (n + 1) os) m ≡ true). one-later test n m o os (has-number test (n + 1) m os b)) (or_cases (nat_eq n m) (has (numbers_of test (n + 1) os) m) h)
-      | false ↦ λ is h. one-later test n m o os (has-number test (n + 1) m os h)
-    ] refl e
-
-width-at : (objects : List FlatObject) (o : ℕ) (object : FlatObject) → slice_get objects o ≡ Some object → get_or (map (λ (x : FlatObject). x.width) objects) o 0 ≡ object.width
-width-at [] o object at = absurd (cc)
-width-at (x ∷ xs) zero object at = let same : x ≡ object = cc in ap (λ (y : FlatObject). y.width) same
-width-at (x ∷ xs) (suc o) object at = width-at xs o object at
-
-first-is : (o : Option ℕ) (n : ℕ) → earlier_place true o ≡ Some n → 0 ≡ n
-first-is o n e = cc
-
-driver-later : (object : ℕ) (x : FlatNode) (xs : List FlatNode) (n : ℕ) (o : Option ℕ) →
-    ((k : ℕ) → first_place (λ (node : FlatNode). has node.outputs object) xs ≡ Some k → (node : FlatNode) × (slice_get xs k ≡ Some node) × (has node.outputs object ≡ true)) →
-    first_place (λ (node : FlatNode). has node.outputs object) xs ≡ o → earlier_place false o ≡ Some n → (node : FlatNode) × (slice_get (x ∷ xs) n ≡ Some node) × (has node.outputs object ≡ true)
-driver-later object x xs n None more is h = absurd (cc)
-driver-later object x xs n (Some k) more is h =
-    let r = more k is in let next : k + 1 ≡ n = cc in let e : suc k ≡ n = omega (arith, next) in
-    (r.0, subst (λ m. slice_get (x ∷ xs) m ≡ Some r.0) e r.1, r.2)
-
-driver-sound : (object : ℕ) (nodes : List FlatNode) (n : ℕ) → first_place (λ (node : FlatNode). has node.outputs object) nodes ≡ Some n → (node : FlatNode) × (slice_get nodes n ≡ Some node) × (has node.outputs object ≡ true)
-driver-sound object [] n e = absurd (cc)
-driver-sound object (x ∷ xs) n e =
-    elim (has x.outputs object) as (λ b. has x.outputs object ≡ b → earlier_place b (first_place (λ (node : FlatNode). has node.outputs object) xs) ≡ Some n →
-    (node : FlatNode) × (slice_get (x ∷ xs) n ≡ Some node) × (has node.outputs object ≡ true)) [
-      | true ↦ λ is h. let same : 0 ≡ n = first-is (first_place (λ (node : FlatNode). has node.outputs object) xs) n h in (x, subst (λ k. slice_get (x ∷ xs) k ≡ Some x) same refl, is)
-      | false ↦ λ is h. driver-later object x xs n (first_place (λ (node : FlatNode). has node.outputs object) xs) (λ k at. driver-sound object xs k at) refl h
-    ] refl e
-
-driver-complete : (object : ℕ) (nodes : List FlatNode) (n : ℕ) (node : FlatNode) → slice_get nodes n ≡ Some node → has node.outputs object ≡ true →
-    (k : ℕ) × (first_place (λ (m : FlatNode). has m.outputs object) nodes ≡ Some k)
-driver-complete object [] n node at e = absurd (cc)
-driver-complete object (x ∷ xs) zero node at e =
-    let same : x ≡ node = cc in (0, ap (λ b. earlier_place b (first_place (λ (m : FlatNode). has m.outputs object) xs)) (ap (λ (m : FlatNode). has m.outputs object) same ∙ e))
-driver-complete object (x ∷ xs) (suc n) node at e =
-    let r = driver-complete object xs n node at e in
-    elim (has x.outputs object) as (λ b. (k : ℕ) × (earlier_place b (first_place (λ (m : FlatNode). has m.outputs object) xs) ≡ Some k)) [
-      | true ↦ (0, refl)
-      | false ↦ (r.0 + 1, ap (earlier_place false) r.1)
-    ]
-
 -- What is read is a site of that name
 
 module _ (design : FlatDesign) (rules : KeepsRules design) (word : List ℕ) where
@@ -233,65 +39,15 @@ module _ (design : FlatDesign) (rules : KeepsRules design) (word : List ℕ) whe
   is-variable : (kind : ObjectKind) → kind ≡ Var → is_variable kind ≡ true
   is-variable kind e = ap is_variable e
 
-  variable-in : (number bit : ℕ) (object : FlatObject) → slice_get design.objects number ≡ Some object → object.kind ≡ Var → bit < object.width → In (VariableBit number bit) (sites_of design)
-  variable-in number bit object at kind low =
-      let inside : In (VariableBit number bit) (variable_sites number object) =
-      subst (λ b. In (VariableBit number bit) (bits_if b (VariableBit number) object.width)) (sym (ap is_variable kind))
-      (in-map (VariableBit number) bit (up_from 0 object.width) (in-up 0 object.width bit (omega arith) (omega arith))) in
-      let zero_on : number ≡ 0 + number = omega arith in
-      in-left (VariableBit number bit) (joined (map_numbered variable_sites 0 design.objects)) (joined (map_numbered (output_sites design) 0 design.nodes) ++ joined (map_numbered terminal_sites 0 design.nodes))
-      (in-numbered variable_sites (VariableBit number bit) 0 number object design.objects at (subst (λ k. In (VariableBit number bit) (variable_sites k object)) zero_on inside))
-
-  in-has : (xs : List ℕ) (n : ℕ) → has xs n ≡ true → In n xs
-  in-has [] n e = absurd (false≢true e)
-  in-has (x ∷ xs) n e =
-      ⊎_elim (λ (a : nat_eq x n ≡ true). subst (λ k. In k (x ∷ xs)) (eqb-true x n a) (here xs)) (λ (b : has xs n ≡ true). there x xs (in-has xs n b)) (or_cases (nat_eq x n) (has xs n) e)
-
-  has-in : (xs : List ℕ) (n : ℕ) → In n xs → has xs n ≡ true
-  has-in [] n h = elim h [ ]
-  has-in (x ∷ xs) n h = ⊎_elim (λ (a : x ≡ n). or_left (nat_eq x n) (has xs n) (eq-eqb x n a)) (λ (b : In n xs). or_right (nat_eq x n) (has xs n) (has-in xs n b)) (in-cons n x xs h)
-
-  output-in : (node number bit : ℕ) (found : FlatNode) (object : FlatObject) → slice_get design.nodes node ≡ Some found → has found.outputs number ≡ true → slice_get design.objects number ≡ Some object →
-      object.kind ≡ Net → bit < object.width → In (OutputBit node number bit) (sites_of design)
-  output-in node number bit found object at drives there_at kind low =
-      let zero_on : number ≡ 0 + number = omega arith in
-      let is_piece : has (net_pieces design) number ≡ true =
-      subst (λ k. has (net_pieces design) k ≡ true) (sym zero_on) (numbers-has (λ (o : FlatObject). is_net o.kind) 0 number object design.objects there_at (ap is_net kind)) in
-      let width : width_in design number ≡ object.width = width-at design.objects number object there_at in
-      let kept : In number (filter (has found.outputs) (net_pieces design)) = in-has (filter (has found.outputs) (net_pieces design)) number (filter-has (has found.outputs) (net_pieces design) number is_piece drives) in
-      let bits : In (OutputBit node number bit) (map (OutputBit node number) (up_from 0 (width_in design number))) =
-      in-map (OutputBit node number) bit (up_from 0 (width_in design number)) (in-up 0 (width_in design number) bit (omega arith) (omega (arith, width))) in
-      let inside : In (OutputBit node number bit) (output_sites design node found) =
-      in-joined (OutputBit node number bit) (map (OutputBit node number) (up_from 0 (width_in design number)))
-      (map (λ object. map (OutputBit node object) (up_from 0 (width_in design object))) (filter (has found.outputs) (net_pieces design))) bits
-      (in-map (λ object. map (OutputBit node object) (up_from 0 (width_in design object))) number (filter (has found.outputs) (net_pieces design)) kept) in
-      let node_on : node ≡ 0 + node = omega arith in
-      in-right (OutputBit node number bit) (joined (map_numbered variable_sites 0 design.objects)) (joined (map_numbered (output_sites design) 0 design.nodes) ++ joined (map_numbered terminal_sites 0 design.nodes))
-      (in-left (OutputBit node number bit) (joined (map_numbered (output_sites design) 0 design.nodes)) (joined (map_numbered terminal_sites 0 design.nodes))
-      (in-numbered (output_sites design) (OutputBit node number bit) 0 node found design.nodes at (subst (λ k. In (OutputBit node number bit) (output_sites design k found)) node_on inside)))
-
-  terminal-in : (node terminal : ℕ) (found : FlatNode) → slice_get design.nodes node ≡ Some found → 1 ≤ terminal → terminal < 1 + terminal_count found.kind → In (GateTerminal node terminal) (sites_of design)
-  terminal-in node terminal found at low high =
-      let node_on : node ≡ 0 + node = omega arith in
-      let inside : In (GateTerminal node terminal) (terminal_sites node found) = in-map (GateTerminal node) terminal (up_from 1 (terminal_count found.kind)) (in-up 1 (terminal_count found.kind) terminal low high) in
-      in-right (GateTerminal node terminal) (joined (map_numbered variable_sites 0 design.objects)) (joined (map_numbered (output_sites design) 0 design.nodes) ++ joined (map_numbered terminal_sites 0 design.nodes))
-      (in-right (GateTerminal node terminal) (joined (map_numbered (output_sites design) 0 design.nodes)) (joined (map_numbered terminal_sites 0 design.nodes))
-      (in-numbered terminal_sites (GateTerminal node terminal) 0 node found design.nodes at (subst (λ k. In (GateTerminal node terminal) (terminal_sites k found)) node_on inside)))
-
-  kind-sound : (kind : ObjectKind) (number bit : ℕ) (object : FlatObject) (site : FaultSite) → slice_get design.objects number ≡ Some object → object.kind ≡ kind → bit < object.width →
-      bit_name (Some object) bit ≡ word → site_by_kind design kind number bit ≡ Some site → (In site (sites_of design)) × (site_name design site ≡ word)
-  kind-sound Var number bit object site at is low named e =
-      let same : VariableBit number bit ≡ site = cc in
-      (subst (λ s. In s (sites_of design)) same (variable-in number bit object at is low), subst (λ s. site_name design s ≡ word) same (ap (λ o. bit_name o bit) at ∙ named))
-  kind-sound Word number bit object site at is low named e = absurd (cc)
-  kind-sound Net number bit object site at is low named e = driven (driver_of design number) refl e
+  kind-named : (kind : ObjectKind) (number bit : ℕ) (object : FlatObject) (site : FaultSite) → slice_get design.objects number ≡ Some object → bit_name (Some object) bit ≡ word →
+      site_by_kind design kind number bit ≡ Some site → site_name design site ≡ word
+  kind-named Var number bit object site at named e = let same : VariableBit number bit ≡ site = cc in subst (λ s. site_name design s ≡ word) same (ap (λ o. bit_name o bit) at ∙ named)
+  kind-named Word number bit object site at named e = absurd (cc)
+  kind-named Net number bit object site at named e = driven (driver_of design number) e
     where
-      driven : (o : Option ℕ) → driver_of design number ≡ o → option_map (λ node. OutputBit node number bit) o ≡ Some site → (In site (sites_of design)) × (site_name design site ≡ word)
-      driven None found h = absurd (cc)
-      driven (Some node) found h =
-          let same : OutputBit node number bit ≡ site = cc in
-          let r = driver-sound number design.nodes node found in
-          (subst (λ s. In s (sites_of design)) same (output-in node number bit r.0 object r.1 r.2 at is low), subst (λ s. site_name design s ≡ word) same (ap (λ o. bit_name o bit) at ∙ named))
+      driven : (o : Option ℕ) → option_map (λ node. OutputBit node number bit) o ≡ Some site → site_name design site ≡ word
+      driven None h = absurd (cc)
+      driven (Some node) h = let same : OutputBit node number bit ≡ site = cc in subst (λ s. site_name design s ≡ word) same (ap (λ o. bit_name o bit) at ∙ named)
 
   object-sound : (number : ℕ) (object : FlatObject) (site : FaultSite) → slice_get design.objects number ≡ Some object → object_spelled design word number object ≡ Some site →
       (In site (sites_of design)) × (site_name design site ≡ word)
@@ -302,7 +58,7 @@ module _ (design : FlatDesign) (rules : KeepsRules design) (word : List ℕ) whe
       by (Some bit) found h =
           let r = find-sound (λ b. bytes_eq (bit_name (Some object) b) word) (up_from 0 object.width) bit found in
           let range = up-in 0 object.width bit r.0 in
-          kind-sound object.kind number bit object site at refl (omega (arith, range.1)) (same-text (bit_name (Some object) bit) r.1) h
+          (kind-in design object.kind number bit object site at refl (omega (arith, range.1)) h, kind-named object.kind number bit object site at (same-text (bit_name (Some object) bit) r.1) h)
 
   node-sound : (number : ℕ) (node : FlatNode) (site : FaultSite) → slice_get design.nodes number ≡ Some node → node_spelled word number node ≡ Some site → (In site (sites_of design)) × (site_name design site ≡ word)
   node-sound number node site at e = by (terminal_spelled node word) refl e
@@ -313,7 +69,7 @@ module _ (design : FlatDesign) (rules : KeepsRules design) (word : List ℕ) whe
           let same : GateTerminal number terminal ≡ site = cc in
           let r = find-sound (λ t. bytes_eq (terminal_name (Some node) t) word) (up_from 1 (numbered_terminals node)) terminal found in
           let range = up-in 1 (numbered_terminals node) terminal r.0 in (
-            subst (λ s. In s (sites_of design)) same (terminal-in number terminal node at range.0 (omega (arith, range.1))),
+            subst (λ s. In s (sites_of design)) same (terminal-in design number terminal node at range.0 (omega (arith, range.1))),
             subst (λ s. site_name design s ≡ word) same (ap (λ o. terminal_name o terminal) at ∙ same-text (terminal_name (Some node) terminal) r.1),
           )
 

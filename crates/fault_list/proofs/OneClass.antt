@@ -159,7 +159,7 @@ labels-count : (values : ℕ → LogicValue) (terminals : Expressions) → lengt
 labels-count values no_expressions = refl
 labels-count values (more_expressions first rest) = let more : length (label_values values rest) ≡ expressions_count rest = labels-count values rest in omega arith
 
-pub one-output : (object : ℕ) (outputs : List ℕ) → length outputs ≡ 1 → has outputs object ≡ true → outputs ≡ object ∷ []
+pub one-output : (object : ℕ) (outputs : List ℕ) → length outputs ≤ 1 → has outputs object ≡ true → outputs ≡ object ∷ []
 one-output object [] one there = absurd (false≢true there)
 one-output object (a ∷ b ∷ rest) one there = absurd (omega arith)
 one-output object (a ∷ []) one there =
@@ -188,7 +188,7 @@ at-gate design node t object input output values rules forced = by_kind node.kin
         let high_part = and_parts (forces kind input output && nat_le 1 t && nat_le t (expressions_count terminals)) (has node.outputs object) has_part.0 in
         let low_part = and_parts (forces kind input output && nat_le 1 t) (nat_le t (expressions_count terminals)) high_part.0 in
         let force_part = and_parts (forces kind input output) (nat_le 1 t) low_part.0 in
-        let single : length node.outputs ≡ 1 = subst (λ k. WritesOutputs k node.outputs) is rules.outputs in
+        let single : length node.outputs ≤ 1 = subst (λ k. WritesOutputs k node.outputs) is rules.outputs in
         let one : node.outputs ≡ object ∷ [] = one-output object node.outputs single high_part.1 in
         let labels : List LogicValue = label_values (value_at values) terminals in
         let counted : length labels ≡ expressions_count terminals = labels-count (value_at values) terminals in

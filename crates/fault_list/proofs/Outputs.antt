@@ -10,6 +10,7 @@ use Rattle.v_design.specs.Lists.{has, AllHold}
 use Rattle.v_design.specs.Designs.{FlatObject, FlatNode, FlatDesign}
 use Rattle.v_design.specs.Paths.{numbers_of, net_pieces}
 use Rattle.v_design.specs.WellFormed.{IsAscending, IsNodeOf, KeepsRules}
+use Rattle.fault_list.specs.Members.{has-filter, filter-has}
 
 pub same_bool : (a b : Bool) → (a ≡ true → b ≡ true) → (b ≡ true → a ≡ true) → a ≡ b
 same_bool true b to from = sym (to refl)
@@ -34,7 +35,7 @@ pub Contains-has : (xs : List ℕ) (n : ℕ) → Contains xs n → has xs n ≡ 
 Contains-has xs n c = at-has xs c.0 n c.1 c.2
 
 -- what is less than a number isn't it
-AllHold-absent : (x : ℕ) (xs : List ℕ) → AllHold (λ later. x < later) xs → has xs x ≡ false
+pub AllHold-absent : (x : ℕ) (xs : List ℕ) → AllHold (λ later. x < later) xs → has xs x ≡ false
 AllHold-absent x [] all = refl
 AllHold-absent x (y ∷ ys) all =
     same_bool (has (y ∷ ys) x) false
@@ -128,32 +129,11 @@ numbers-ascending test number (object ∷ objects) =
       | false ↦ rest
     ]
 
+-- the net pieces are ascending
+pub net_pieces-ascending : (design : FlatDesign) → IsAscending (net_pieces design)
+net_pieces-ascending design = numbers-ascending _ 0 design.objects
+
 -- Outputs
-
-pub has-filter : (test : ℕ → Bool) (xs : List ℕ) (n : ℕ) → has (filter test xs) n ≡ true → (has xs n ≡ true) × (test n ≡ true)
-has-filter test [] n e = absurd (false≢true e)
-has-filter test (x ∷ xs) n e =
-    elim (test x) as (λ b. test x ≡ b → has (cond b (x ∷ filter test xs) (filter test xs)) n ≡ true → (has (x ∷ xs) n ≡ true) × (test n ≡ true)) [
-      | true ↦ λ passes h. elim (or_cases (nat_eq x n) (has (filter test xs) n) h) [
-        | inl same ↦ (or_left (nat_eq x n) (has xs n) same, ap test (sym (eqb-true x n same)) ∙ passes)
-        | inr there ↦ let r = has-filter test xs n there in (or_right (nat_eq x n) (has xs n) r.0, r.1)
-      ]
-      | false ↦ λ fails h. let r = has-filter test xs n h in (or_right (nat_eq x n) (has xs n) r.0, r.1)
-    ] refl e
-
-pub filter-has : (test : ℕ → Bool) (xs : List ℕ) (n : ℕ) → has xs n ≡ true → test n ≡ true → has (filter test xs) n ≡ true
-filter-has test [] n e passes = absurd (false≢true e)
-filter-has test (x ∷ xs) n e passes =
-    elim (test x) as (λ b. test x ≡ b → has (cond b (x ∷ filter test xs) (filter test xs)) n ≡ true) [
-      | true ↦ λ is. elim (or_cases (nat_eq x n) (has xs n) e) [
-        | inl same ↦ or_left (nat_eq x n) (has (filter test xs) n) same
-        | inr there ↦ or_right (nat_eq x n) (has (filter test xs) n) (filter-has test xs n there passes)
-      ]
-      | false ↦ λ is. elim (or_cases (nat_eq x n) (has xs n) e) [
-        | inl same ↦ absurd (false≢true (sym is ∙ (ap test (eqb-true x n same) ∙ passes)))
-        | inr there ↦ filter-has test xs n there passes
-      ]
-    ] refl
 
 -- a fact of each number, of one that the list has
 pub AllHold-has : (P : ℕ → Type 0) (xs : List ℕ) (n : ℕ) → AllHold P xs → has xs n ≡ true → P n

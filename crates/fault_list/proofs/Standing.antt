@@ -1,5 +1,5 @@
 -- Two faults are of one class exactly where one fault stands for both.
-use Rattle.std.proofs.Common.{◌≡◌, ℕ, Bool, true, false, ◌&&◌, List, [], ◌∷◌, length, Option, Some, None, refl, ap, sym, ◌∙◌, subst, inl, inr}
+use Rattle.std.proofs.Common.{◌≡◌, ℕ, ◌≤◌, Bool, true, false, ◌&&◌, List, [], ◌∷◌, length, Option, Some, None, refl, ap, sym, ◌∙◌, subst, inl, inr}
 use Rattle.std.specs.Prelude.{slice_get, nat_eq, nat_le}
 use Rattle.std.proofs.lemmas.Bool.{and_parts, and_from, or_cases, or_left, or_right, eqb-true, eq-eqb, false≢true}
 use Rattle.four_value.specs.declared.operator.GateKind.{GateKind}
@@ -75,8 +75,8 @@ output-kind (AssignNode value places) input output e = absurd (cc)
 output-kind (GateNode kind terminals) input output e = output-forces kind input output e
 output-kind (BlockNode statement) input output e = absurd (cc)
 
--- a node that forces has one output
-forces-single : (kind : FlatNodeKind) (outputs : List ℕ) (input output : Bool) → WritesOutputs kind outputs → kind_forces kind input output ≡ true → length outputs ≡ 1
+-- a node that forces has one output at most
+forces-single : (kind : FlatNodeKind) (outputs : List ℕ) (input output : Bool) → WritesOutputs kind outputs → kind_forces kind input output ≡ true → length outputs ≤ 1
 forces-single (AssignNode value places) outputs input output writes e = absurd (false≢true e)
 forces-single (GateNode kind terminals) outputs input output writes e = writes
 forces-single (BlockNode statement) outputs input output writes e = absurd (false≢true e)

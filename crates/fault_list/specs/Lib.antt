@@ -4,3 +4,5 @@ pub mod Keys
 pub mod SameKeys
 pub mod Spelled
 pub mod RoundTrip
+pub mod Members
+pub mod ListedSites

@@ -8,6 +8,7 @@
 mod ascending;
 mod class;
 mod compare;
+mod count;
 mod key;
 mod law;
 mod list;
@@ -15,10 +16,11 @@ mod name;
 mod spelled;
 
 pub use class::{classes, representative};
+pub use count::count_sites;
 pub use law::{names_read, one_class};
 pub use list::{all_sites, width_of};
 pub use name::{append, append_number, write_site};
-pub use spelled::{bit_spelled, joined_place, piece_bit, site_of};
+pub use spelled::{bit_spelled, joined_place, node_spelled, piece_bit, site_of};
 
 #[cfg(test)]
 mod tests;

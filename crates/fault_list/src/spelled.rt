@@ -1,6 +1,6 @@
 // The site that a word spells, found without memory by going through the design.
 
-ghost use Rattle.std.specs.Prelude.{◌≡◌, ℕ, ◌+◌, ◌∷◌, ◌<◌, ◌≤◌, ◌^◌, ◌++◌, length, option_map, map, find};
+ghost use Rattle.std.specs.Prelude.{◌≡◌, ℕ, ◌+◌, ◌∷◌, ◌<◌, ◌≤◌, ◌^◌, ◌++◌, length, option_map, map, find, Contains, IfSome};
 ghost use Rattle.std.specs.Str.{bytes_eq};
 ghost use Rattle.vf_base.specs.Base.{object_number, node_number};
 ghost use Rattle.v_design.specs.Expressions.{up_from};
@@ -8,7 +8,7 @@ ghost use Rattle.v_design.specs.Sized.{span};
 ghost use Rattle.v_design.specs.Lists.{has, first_place};
 ghost use Rattle.v_design.specs.Plain.{site_of, object_of, node_of, node_kind_of, name_joined, piece_of};
 ghost use Rattle.v_design.specs.PlainDesigns.{design_of};
-ghost use Rattle.v_design.specs.Sites.{index_of_bit, index_text, terminal_count};
+ghost use Rattle.v_design.specs.Sites.{index_of_bit, index_text, terminal_count, sites_of};
 ghost use Rattle.fault_list.specs.Spelled.{or_else, first_answer, numbered_terminals, driver_of, site_by_kind, site_at, bit_spelled, object_spelled, terminal_spelled, node_spelled, piece_bit, held_bit, place_spelled, place_site, name_spelled, site_spelled};
 
 use crate::compare::{is_bit_name, is_terminal_name};
@@ -108,7 +108,7 @@ fn objects_spelled(design: &Design, word: &[u8]) -> Option<Site>
 }
 
 /// The number of a node's input terminals.
-fn terminals_len(kind: &NodeKind) -> usize
+pub(crate) fn terminals_len(kind: &NodeKind) -> usize
     ensures { result ≡ terminal_count (node_kind_of kind.now) }
 {
     match kind {
@@ -130,7 +130,7 @@ fn numbered_terminals(node: &Node) -> u32
 }
 
 /// The site of the terminal of a gate that a word spells.
-fn node_spelled(number: NodeId, node: &Node, word: &[u8]) -> Option<Site>
+pub fn node_spelled(number: NodeId, node: &Node, word: &[u8]) -> Option<Site>
     ensures { option_map site_of result ≡ node_spelled word.now (node_number number) (node_of node.now) }
 {
     let name = node.name.as_bytes();
@@ -235,9 +235,8 @@ fn names_spelled(design: &Design, word: &[u8]) -> Option<Site>
     None
 }
 
-/// The site that a word spells: NAME or NAME[INDEX] for a bit, by an object's own name or one that is joined into objects with its own index,
-/// or GATE.TERMINAL; None exactly where the word spells no site. It takes no memory.
-pub fn site_of(design: &Design, word: &[u8]) -> Option<Site>
+/// The site that a word spells, by the names of objects, of gates and of joined names in turn.
+fn answer_of(design: &Design, word: &[u8]) -> Option<Site>
     ensures { option_map site_of result ≡ site_spelled (design_of design.now) word.now }
 {
     if let Some(site) = objects_spelled(design, word) {
@@ -247,4 +246,13 @@ pub fn site_of(design: &Design, word: &[u8]) -> Option<Site>
         return Some(site);
     }
     names_spelled(design, word)
+}
+
+/// The site that a word spells: NAME or NAME[INDEX] for a bit, by an object's own name or one that is joined into objects with its own index,
+/// or GATE.TERMINAL; None exactly where the word spells no site. It is one of the design's sites. It takes no memory.
+pub fn site_of(design: &Design, word: &[u8]) -> Option<Site>
+    ensures spelled { option_map site_of result ≡ site_spelled (design_of design.now) word.now }
+    ensures listed { IfSome result (λ site. Contains (sites_of (design_of design.now)) (site_of site)) }
+{
+    answer_of(design, word)
 }

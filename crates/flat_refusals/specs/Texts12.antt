@@ -4,11 +4,12 @@ use Rattle.v_design.specs.declared.logic.ObjectKind.TheVariants.{Var, Net}
 use Rattle.four_value.specs.declared.operator.UnaryOperator.TheVariants.{BitwiseNot}
 use Rattle.v_tree.specs.declared.token.NumberForm.TheVariants.{Plain}
 use Rattle.v_tree.specs.declared.item.Direction.TheVariants.{Input, Output}
-use Rattle.v_tree.specs.Trees.{Number, Selected, Prefixed, NoIndex, IndexAt, IndexRange, OneSelect, OnAnyRead, EventStatement, BlockingStatement, NoContent, MemoryBounds, ParameterItem, WireItem, RegItem, AssignItem, InstanceItem, AlwaysItem, PlainHeads, DeclaredHeads, SourceUnit}
+use Rattle.v_tree.specs.Trees.{Number, Selected, Prefixed, NoIndex, IndexAt, IndexRange, OneSelect, OnAnyRead, EventStatement, BlockingStatement, NoContent, MemoryBounds, ParameterItem, PortItem, WireItem, RegItem, IntegerItem, AssignItem, InstanceItem, AlwaysItem, PlainHeads, DeclaredHeads, SourceUnit}
+use Rattle.v_names.specs.Faults.{DeclaredTwice}
 use Rattle.v_elab.specs.declared.Mode.TheVariants.{Usual}
 use Rattle.v_elab.specs.Refusals.{TwoDrivers, LoopAt}
 use Rattle.v_elab.specs.Flat.{flat}
-use Rattle.flat_rows.specs.Build.{at, summary_of}
+use Rattle.flat_rows.specs.Build.{at, faulty, summary_of}
 
 -- module sub(input a, input [3:0] v, output y, output reg [1:0] z); parameter W = 2; localparam L = 3; endmodule
 -- module top;
@@ -252,9 +253,30 @@ Found128 = flat source128 (codes "top") Usual ≡ Err (LoopAt (at 2 9))
 found128 : Found128
 found128 = refl
 
+-- module top(q); output [31:0] q; integer q; endmodule
+abbrev source129 : SourceUnit
+source129 = record {
+  modules = (record {
+    name = (codes "top");
+    place = (at 1 8);
+    parameters = ([]);
+    heads = (PlainHeads (record { name = (codes "q"); place = (at 1 12) } ∷ []));
+    items =
+        ((PortItem (record { place = (at 1 16); direction = Output; is_reg = false; signed = false; range = (Some (record { place = (at 1 23); high = (Number (at 1 24) Plain (bits_of 32 31)); low = (Number (at 1 27) Plain (bits_of 32 0)) })); names = (record { name = (codes "q"); place = (at 1 30) } ∷ []) })) ∷
+        (IntegerItem (at 1 33) (record { name = (codes "q"); place = (at 1 41); content = NoContent } ∷ [])) ∷
+        []);
+  } ∷ []);
+}
+
+abbrev pub Found129 : Type 0
+Found129 = flat source129 (codes "top") Usual ≡ Err (faulty 1 41 DeclaredTwice)
+
+found129 : Found129
+found129 = refl
+
 -- what the definitions give of the texts above
 abbrev pub Holds : Type 0
-Holds = Found120 × Found121 × Found122 × Found123 × Found124 × Found125 × Found126 × Found127 × Found128
+Holds = Found120 × Found121 × Found122 × Found123 × Found124 × Found125 × Found126 × Found127 × Found128 × Found129
 
 pub holds : Holds
-holds = (found120, found121, found122, found123, found124, found125, found126, found127, found128)
+holds = (found120, found121, found122, found123, found124, found125, found126, found127, found128, found129)

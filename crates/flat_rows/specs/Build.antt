@@ -4,7 +4,7 @@ use Rattle.vf_base.specs.Base.{SourcePlace}
 use Rattle.v_design.specs.declared.logic.ObjectKind.{ObjectKind}
 use Rattle.v_design.specs.declared.logic.ObjectKind.TheVariants.{Var, Word, Net}
 use Rattle.v_design.specs.Designs.{FlatObject, NameJoined, FlatNodeKind, AssignNode, GateNode, BlockNode, FlatNode, FlatProcess, FlatDesign, TestPlan}
-use Rattle.v_design.specs.Trees.{Piece}
+use Rattle.v_design.specs.Trees.{Piece, Entry, Statement, EventControl}
 use Rattle.v_design.specs.Grades.{FaultGrade, grade}
 use Rattle.v_tree.specs.Trees.{SourceExpression, SourceExpressions, no_parts, more_parts, SourceStatement, SourceStatements, no_source_statements, more_source_statements}
 use Rattle.v_names.specs.Faults.{Wrong}
@@ -84,3 +84,13 @@ summary_of (Err refusal) = Err refusal
 abbrev pub grades_of : Result FlatDesign Refusal → TestPlan → Result (List (Option FaultGrade)) Refusal
 grades_of (Ok design) plan = Ok (map (grade design plan) plan.faults)
 grades_of (Err refusal) plan = Err refusal
+
+-- the objects of the entries of an event control
+abbrev pub entry_objects : Statement → List ℕ
+entry_objects (EventControl place entries body) = map (λ (e : Entry). e.object) entries
+entry_objects _ = []
+
+-- what each process waits for where it begins with an event control
+abbrev pub waited_for : Result FlatDesign Refusal → Result (List (List ℕ)) Refusal
+waited_for (Ok design) = Ok (map (λ (p : FlatProcess). entry_objects p.body) design.processes)
+waited_for (Err refusal) = Err refusal

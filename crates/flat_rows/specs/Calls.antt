@@ -1,5 +1,5 @@
 -- Small answers of the definitions that stand below the flat design.
-use Rattle.std.specs.Prelude.{◌≡◌, refl, ℕ, true, false, List, [], ◌∷◌, codes, Some, None, Ok, Err}
+use Rattle.std.specs.Prelude.{◌≡◌, refl, ℕ, ◌+◌, true, false, List, [], ◌∷◌, codes, Some, None, Ok, Err}
 use Rattle.four_value.specs.Values.{bits_of}
 use Rattle.four_value.specs.declared.logic.Bit.TheVariants.{Zero, X}
 use Rattle.four_value.specs.declared.operator.BinaryOperator.TheVariants.{Add, Less, ShiftLeft}
@@ -15,6 +15,7 @@ use Rattle.v_ports.specs.Pieces.{cut_pieces}
 use Rattle.v_ports.specs.JoinedObjects.{joined_objects}
 use Rattle.v_comb.specs.CombinationalForm.{block_form, NetForm, ProcessForm, Star, NamesWaited}
 use Rattle.v_elab.specs.declared.Mode.TheVariants.{Usual}
+use Rattle.v_elab.specs.Parts.{Part, ProcessPart, nodes_of_part, processes_of_part}
 use Rattle.v_elab.specs.Flat.{flat}
 use Rattle.flat_rows.specs.Build.{at, parts, steps, faulty}
 
@@ -135,9 +136,19 @@ UnknownParameter = flat (record {
 unknown_parameter : UnknownParameter
 unknown_parameter = refl
 
+-- in the walk a block that by itself is of combinational form counts neither as a node nor as a process
+abbrev pub UncountedBlock : Type 0
+UncountedBlock = nodes_of_part block + processes_of_part block ≡ 0
+  where
+    block : Part
+    block = ProcessPart (record { always = true; place = at 1 1; path = []; scope = []; body = body; targets = Some (codes "y" ∷ []) })
+
+uncounted_block : UncountedBlock
+uncounted_block = refl
+
 -- what the definitions give of the texts above
 abbrev pub Holds : Type 0
-Holds = Joins × JoinsTwice × Cut × CutTwice × SizedSum × Compared × UnsizedPart × FormOfStar × FormOfList × NegativeIndex × UnknownParameter
+Holds = Joins × JoinsTwice × Cut × CutTwice × SizedSum × Compared × UnsizedPart × FormOfStar × FormOfList × NegativeIndex × UnknownParameter × UncountedBlock
 
 pub holds : Holds
-holds = (joins, joins_twice, cut, cut_twice, sized_sum, compared, unsized_part, form_of_star, form_of_list, negative_index, unknown_parameter)
+holds = (joins, joins_twice, cut, cut_twice, sized_sum, compared, unsized_part, form_of_star, form_of_list, negative_index, unknown_parameter, uncounted_block)

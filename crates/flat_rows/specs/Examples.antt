@@ -10,6 +10,7 @@ use Rattle.flat_rows.specs.CircleOpened as circle_opened_texts
 use Rattle.flat_rows.specs.Connections as connections_texts
 use Rattle.flat_rows.specs.CutPiece as cut_piece_texts
 use Rattle.flat_rows.specs.DeepInstances as deep_instances_texts
+use Rattle.flat_rows.specs.DefaultInText as default_in_text_texts
 use Rattle.flat_rows.specs.EdgesOnPieces as edges_on_pieces_texts
 use Rattle.flat_rows.specs.EmptyBlock as empty_block_texts
 use Rattle.flat_rows.specs.Integers as integers_texts
@@ -21,7 +22,9 @@ use Rattle.flat_rows.specs.MemoryTooLong as memory_too_long_texts
 use Rattle.flat_rows.specs.NandGate as nand_gate_texts
 use Rattle.flat_rows.specs.NegativeBound as negative_bound_texts
 use Rattle.flat_rows.specs.NoSuchTop as no_such_top_texts
+use Rattle.flat_rows.specs.OutOfRangeDrive as out_of_range_drive_texts
 use Rattle.flat_rows.specs.ParentReg as parent_reg_texts
+use Rattle.flat_rows.specs.ReadByOtherName as read_by_other_name_texts
 use Rattle.flat_rows.specs.SignedParameters as signed_parameters_texts
 use Rattle.flat_rows.specs.SignedShift as signed_shift_texts
 use Rattle.flat_rows.specs.StarWait as star_wait_texts
@@ -45,6 +48,7 @@ pub record WorkedTexts : Type 0 where
   pub connections : connections_texts.Holds
   pub cut_piece : cut_piece_texts.Holds
   pub deep_instances : deep_instances_texts.Holds
+  pub default_in_text : default_in_text_texts.Holds
   pub edges_on_pieces : edges_on_pieces_texts.Holds
   pub empty_block : empty_block_texts.Holds
   pub integers : integers_texts.Holds
@@ -56,7 +60,9 @@ pub record WorkedTexts : Type 0 where
   pub nand_gate : nand_gate_texts.Holds
   pub negative_bound : negative_bound_texts.Holds
   pub no_such_top : no_such_top_texts.Holds
+  pub out_of_range_drive : out_of_range_drive_texts.Holds
   pub parent_reg : parent_reg_texts.Holds
+  pub read_by_other_name : read_by_other_name_texts.Holds
   pub signed_parameters : signed_parameters_texts.Holds
   pub signed_shift : signed_shift_texts.Holds
   pub star_wait : star_wait_texts.Holds
@@ -80,6 +86,7 @@ worked_texts = record {
   connections = connections_texts.holds;
   cut_piece = cut_piece_texts.holds;
   deep_instances = deep_instances_texts.holds;
+  default_in_text = default_in_text_texts.holds;
   edges_on_pieces = edges_on_pieces_texts.holds;
   empty_block = empty_block_texts.holds;
   integers = integers_texts.holds;
@@ -91,7 +98,9 @@ worked_texts = record {
   nand_gate = nand_gate_texts.holds;
   negative_bound = negative_bound_texts.holds;
   no_such_top = no_such_top_texts.holds;
+  out_of_range_drive = out_of_range_drive_texts.holds;
   parent_reg = parent_reg_texts.holds;
+  read_by_other_name = read_by_other_name_texts.holds;
   signed_parameters = signed_parameters_texts.holds;
   signed_shift = signed_shift_texts.holds;
   star_wait = star_wait_texts.holds;

@@ -31,4 +31,7 @@ pub mod CircleOpened
 pub mod DeepInstances
 pub mod LevelsOfModules
 pub mod EmptyBlock
+pub mod ReadByOtherName
+pub mod OutOfRangeDrive
+pub mod DefaultInText
 pub mod Examples

@@ -1,9 +1,11 @@
 -- Marking what reaches a net piece, from the last node back (continuous assignments and gates of IEEE 1364-2001, clause 6 and clause 7).
-use Rattle.std.proofs.Common.{◌≡◌, ℕ, suc, ◌+◌, ◌<◌, ◌≤◌, Bool, true, false, List, [], ◌∷◌, ◌++◌, length, get_or, take, drop, set, map, refl, ap, sym, ◌∙◌, subst, inl, inr, arith, zero-add}
+use Rattle.std.proofs.Common.{◌≡◌, ℕ, zero, suc, ◌+◌, ◌<◌, ◌≤◌, Bool, true, false, List, [], ◌∷◌, ◌++◌, length, get_or, take, drop, set, map, replicate, refl, ap, sym, ◌∙◌, subst, inl, inr, arith, zero-add}
 use Rattle.std.specs.Prelude.{Some, slice_get, nat_eq, nat_lt, ◌||◌, ◌&&◌, not, filter, cond}
-use Rattle.std.specs.List.{list_any}
-use Rattle.std.proofs.lemmas.Bool.{cases_Bool, cases_eq, both_ways, eq-eqb, ne_eqb, or_left, or_right, and_from, and_left, and_right}
-use Rattle.std.proofs.lemmas.List.{get_or-set_same, get_or-set_other, length-set, drop_all, take_more, take_all, length-take-le}
+use Rattle.std.specs.List.{All, list_any}
+use Rattle.vf_base.specs.declared.ids.ObjectId.{ObjectId}
+use Rattle.vf_base.specs.Base.{object_number}
+use Rattle.std.proofs.lemmas.Bool.{cases_Bool, cases_eq, both_ways, eq-eqb, ne_eqb, or_left, or_right, and_from, and_left, and_right, lt-ltb, ltb-true, cases_lt}
+use Rattle.std.proofs.lemmas.List.{get_or-set_same, get_or-set_other, get_or_past, length-set, drop_all, take_more, take_all, length-take-le}
 use Rattle.std.proofs.lemmas.Option.{slice_get_within, get_or_from_slice_get, slice_get_read, slice_get-map}
 use Rattle.std.specs.Option.{option_map}
 use Rattle.v_design.specs.declared.plan.Object.{Object}
@@ -12,12 +14,12 @@ use Rattle.std.proofs.lemmas.List.Elements.{filter-append}
 use Rattle.std.proofs.Math.Logic.{∥∥₁_elim}
 use Rattle.std.specs.Coded.{le_prop}
 use Rattle.std.proofs.Math.Bool.{Bool-set}
-use Rattle.v_design.specs.Lists.{has}
+use Rattle.v_design.specs.Lists.{AllHold, has}
 use Rattle.v_design.specs.Designs.{FlatNode, FlatObject, FlatDesign}
 use Rattle.v_design.specs.Paths.{is_net, numbers_of, paths, cone}
 use Rattle.v_design.specs.WellFormed.{KeepsRules}
 use Rattle.graph_order.specs.ListLaws.{AllHold-has, now_has, still_has}
-use Rattle.net_graph.specs.PathLaws.{reaches_in, reaches_in-paths, slice_get_dropped}
+use Rattle.net_graph.specs.PathLaws.{reaches_some, reaches_in-some, reaches_some-in, reaches_in-paths, slice_get_dropped}
 use Rattle.net_graph.specs.RuleLaws.{outputs_are_objects}
 use Rattle.net_graph.specs.Tables.{before_if}
 
@@ -47,22 +49,13 @@ Marks-more objects before later x had within = record {
       ];
 }
 
--- marked is what reaches an object through the nodes from a number on
-abbrev pub AreReached : List FlatNode → ℕ → ℕ → List Bool → Type 0
-AreReached nodes k net marked = (o : ℕ) → o < length marked → get_or marked o false ≡ reaches_in (drop k nodes) net o
+-- marked is what reaches an object that passes a test through the nodes from a number on
+abbrev pub AreReached : List FlatNode → ℕ → (ℕ → Bool) → List Bool → Type 0
+AreReached nodes k test marked = (o : ℕ) → o < length marked → get_or marked o false ≡ reaches_some (drop k nodes) test o
 
--- the object itself, past the last node
-pub AreReached-none : (nodes : List FlatNode) (k net : ℕ) (before : List Bool) → length nodes ≤ k → ((o : ℕ) → o < length before → get_or before o false ≡ false) → net < length before →
-    AreReached nodes k net (set before net true)
-AreReached-none nodes k net before past blank within o low =
-    elim (cases_eq o net) [
-      | inl same ↦
-          ap (λ j. get_or (set before net true) j false) same ∙ get_or-set_same before net true false within
-          ∙ sym (ap (λ l. reaches_in l net o) (drop_all k nodes past) ∙ eq-eqb o net same)
-      | inr other ↦
-          get_or-set_other before net o true false other ∙ blank o (omega (arith, length-set before net true))
-          ∙ sym (ap (λ l. reaches_in l net o) (drop_all k nodes past) ∙ ne_eqb o net other)
-    ]
+-- the objects that pass, past the last node
+pub AreReached-start : (nodes : List FlatNode) (k : ℕ) (marked : List Bool) → length nodes ≤ k → AreReached nodes k (λ o. get_or marked o false) marked
+AreReached-start nodes k marked past o low = sym (ap (λ l. reaches_some l (λ x. get_or marked x false) o) (drop_all k nodes past))
 
 any_agree : (f g : ℕ → Bool) (xs : List ℕ) → ((x : ℕ) → has xs x ≡ true → f x ≡ g x) → list_any f xs ≡ list_any g xs
 any_agree f g [] same = refl
@@ -70,48 +63,70 @@ any_agree f g (x ∷ xs) same =
     ap (λ b. b || list_any f xs) (same x (or_left (nat_eq x x) (has xs x) (eq-eqb x x refl)))
     ∙ ap (λ b. g x || b) (any_agree f g xs (λ y e. same y (or_right (nat_eq x y) (has xs y) e)))
 
+reaches_some-agree : (nodes : List FlatNode) (f g : ℕ → Bool) → ((x : ℕ) → f x ≡ g x) → (o : ℕ) → reaches_some nodes f o ≡ reaches_some nodes g o
+reaches_some-agree [] f g same o = same o
+reaches_some-agree (n ∷ rest) f g same o =
+    ap (λ b. b || (has n.inputs o && list_any (reaches_some rest f) n.outputs)) (reaches_some-agree rest f g same o)
+    ∙ ap (λ b. reaches_some rest g o || (has n.inputs o && b)) (any_agree (reaches_some rest f) (reaches_some rest g) n.outputs (λ x e. reaches_some-agree rest f g same x))
+
+-- only the object itself was marked
+pub reached-net : (nodes : List FlatNode) (net : ℕ) (before later : List Bool) → net < length before → ((o : ℕ) → o < length before → get_or before o false ≡ false) →
+    AreReached nodes 0 (λ o. get_or (set before net true) o false) later → AreReached nodes 0 (λ o. nat_eq o net) later
+reached-net nodes net before later within blank had o low =
+    had o low ∙ reaches_some-agree nodes (λ x. get_or (set before net true) x false) (λ x. nat_eq x net) one_marked o
+  where
+    unmarked : (x : ℕ) → get_or before x false ≡ false
+    unmarked x = elim (cases_lt x (length before)) [ inl below ↦ blank x below | inr past ↦ get_or_past before x false past ]
+
+    one_marked : (x : ℕ) → get_or (set before net true) x false ≡ nat_eq x net
+    one_marked x =
+        elim (cases_eq x net) [
+          | inl same ↦ ap (λ j. get_or (set before net true) j false) same ∙ get_or-set_same before net true false within ∙ sym (eq-eqb x net same)
+          | inr other ↦ get_or-set_other before net x true false other ∙ unmarked x ∙ sym (ne_eqb x net other)
+        ]
+
 unfed : (r f : Bool) → f ≡ false → r ≡ (r || f)
 unfed true f e = refl
 unfed false f e = sym e
 
 -- one more node, of which an output is marked
-pub AreReached-marked : (nodes : List FlatNode) (k net : ℕ) (n : FlatNode) (before later : List Bool) → slice_get nodes k ≡ Some n → AreReached nodes (k + 1) net before →
-    ((o : ℕ) → has n.outputs o ≡ true → o < length before) → list_any (λ o. get_or before o false) n.outputs ≡ true → Marks n.inputs before later → AreReached nodes k net later
-AreReached-marked nodes k net n before later at had outputs some marks o low =
+pub AreReached-marked : (nodes : List FlatNode) (k : ℕ) (test : ℕ → Bool) (n : FlatNode) (before later : List Bool) → slice_get nodes k ≡ Some n → AreReached nodes (k + 1) test before →
+    ((o : ℕ) → has n.outputs o ≡ true → o < length before) → list_any (λ o. get_or before o false) n.outputs ≡ true → Marks n.inputs before later → AreReached nodes k test later
+AreReached-marked nodes k test n before later at had outputs some marks o low =
     let rest : List FlatNode = drop (k + 1) nodes in
     let here : drop k nodes ≡ n ∷ drop (k + 1) nodes = slice_get_dropped nodes k n at in
-    let feeds : list_any (reaches_in (drop (k + 1) nodes) net) n.outputs ≡ true = sym (any_agree (λ x. get_or before x false) (reaches_in (drop (k + 1) nodes) net) n.outputs (λ x e. had x (outputs x e))) ∙ some in
+    let feeds : list_any (reaches_some (drop (k + 1) nodes) test) n.outputs ≡ true = sym (any_agree (λ x. get_or before x false) (reaches_some (drop (k + 1) nodes) test) n.outputs (λ x e. had x (outputs x e))) ∙ some in
     elim (cases_Bool (has n.inputs o)) [
       | inl reads ↦
           marks.marked o low reads
-          ∙ sym (ap (λ l. reaches_in l net o) here ∙ or_right (reaches_in (drop (k + 1) nodes) net o) (has n.inputs o && list_any (reaches_in (drop (k + 1) nodes) net) n.outputs) (and_from (has n.inputs o) (list_any (reaches_in (drop (k + 1) nodes) net) n.outputs) reads feeds))
+          ∙ sym (ap (λ l. reaches_some l test o) here ∙ or_right (reaches_some (drop (k + 1) nodes) test o) (has n.inputs o && list_any (reaches_some (drop (k + 1) nodes) test) n.outputs) (and_from (has n.inputs o) (list_any (reaches_some (drop (k + 1) nodes) test) n.outputs) reads feeds))
       | inr other ↦
           marks.kept o low other ∙ had o (omega (arith, marks.same_length))
-          ∙ unfed (reaches_in (drop (k + 1) nodes) net o) (has n.inputs o && list_any (reaches_in (drop (k + 1) nodes) net) n.outputs) (and_left (has n.inputs o) (list_any (reaches_in (drop (k + 1) nodes) net) n.outputs) other)
-          ∙ sym (ap (λ l. reaches_in l net o) here)
+          ∙ unfed (reaches_some (drop (k + 1) nodes) test o) (has n.inputs o && list_any (reaches_some (drop (k + 1) nodes) test) n.outputs) (and_left (has n.inputs o) (list_any (reaches_some (drop (k + 1) nodes) test) n.outputs) other)
+          ∙ sym (ap (λ l. reaches_some l test o) here)
     ]
 
 -- one more node, of which no output is marked
-pub AreReached-unmarked : (nodes : List FlatNode) (k net : ℕ) (n : FlatNode) (before later : List Bool) → slice_get nodes k ≡ Some n → AreReached nodes (k + 1) net before →
-    ((o : ℕ) → has n.outputs o ≡ true → o < length before) → list_any (λ o. get_or before o false) n.outputs ≡ false → later ≡ before → AreReached nodes k net later
-AreReached-unmarked nodes k net n before later at had outputs none same o low =
+pub AreReached-unmarked : (nodes : List FlatNode) (k : ℕ) (test : ℕ → Bool) (n : FlatNode) (before later : List Bool) → slice_get nodes k ≡ Some n → AreReached nodes (k + 1) test before →
+    ((o : ℕ) → has n.outputs o ≡ true → o < length before) → list_any (λ o. get_or before o false) n.outputs ≡ false → later ≡ before → AreReached nodes k test later
+AreReached-unmarked nodes k test n before later at had outputs none same o low =
     let here : drop k nodes ≡ n ∷ drop (k + 1) nodes = slice_get_dropped nodes k n at in
-    let feeds : list_any (reaches_in (drop (k + 1) nodes) net) n.outputs ≡ false = sym (any_agree (λ x. get_or before x false) (reaches_in (drop (k + 1) nodes) net) n.outputs (λ x e. had x (outputs x e))) ∙ none in
+    let feeds : list_any (reaches_some (drop (k + 1) nodes) test) n.outputs ≡ false = sym (any_agree (λ x. get_or before x false) (reaches_some (drop (k + 1) nodes) test) n.outputs (λ x e. had x (outputs x e))) ∙ none in
     ap (λ l. get_or l o false) same ∙ had o (subst (λ l. o < length l) same low)
-    ∙ unfed (reaches_in (drop (k + 1) nodes) net o) (has n.inputs o && list_any (reaches_in (drop (k + 1) nodes) net) n.outputs) (and_right (has n.inputs o) (list_any (reaches_in (drop (k + 1) nodes) net) n.outputs) feeds)
-    ∙ sym (ap (λ l. reaches_in l net o) here)
+    ∙ unfed (reaches_some (drop (k + 1) nodes) test o) (has n.inputs o && list_any (reaches_some (drop (k + 1) nodes) test) n.outputs) (and_right (has n.inputs o) (list_any (reaches_some (drop (k + 1) nodes) test) n.outputs) feeds)
+    ∙ sym (ap (λ l. reaches_some l test o) here)
 
 -- one more node, whichever
-pub AreReached-more : (design : FlatDesign) → ∥ KeepsRules design ∥₁ → (k net : ℕ) (n : FlatNode) (before later : List Bool) → slice_get design.nodes k ≡ Some n →
-    length before ≡ length design.objects → AreReached design.nodes (k + 1) net before →
+pub AreReached-more : (design : FlatDesign) → ∥ KeepsRules design ∥₁ → (k : ℕ) (test : ℕ → Bool) (n : FlatNode) (before later : List Bool) → slice_get design.nodes k ≡ Some n →
+    length before ≡ length design.objects → AreReached design.nodes (k + 1) test before →
     (list_any (λ o. get_or before o false) n.outputs ≡ true → Marks n.inputs before later) → (list_any (λ o. get_or before o false) n.outputs ≡ false → later ≡ before) →
-    AreReached design.nodes k net later
-AreReached-more design rules k net n before later at sized had marked unmarked =
+    AreReached design.nodes k test later
+AreReached-more design rules k test n before later at sized had marked unmarked =
     let outputs : (o : ℕ) → has n.outputs o ≡ true → o < length before =
     λ o e. ∥∥₁_elim rules le_prop (λ kept. subst (λ l. o < l) (sym sized) (AllHold-has (λ x. x < length design.objects) n.outputs o (outputs_are_objects design k n kept at) e)) in
     elim (cases_Bool (list_any (λ o. get_or before o false) n.outputs)) [
-      | inl some ↦ AreReached-marked design.nodes k net n before later at had outputs some (marked some)
-      | inr none ↦ AreReached-unmarked design.nodes k net n before later at had outputs none (unmarked none)
+      | inl some ↦ AreReached-marked design.nodes k test n before later at had outputs some (marked some)
+      | inr none ↦ AreReached-unmarked design.nodes k test n before later at had outputs none (unmarked none)
     ]
 
 -- Collecting the variables and memory words
@@ -143,7 +158,7 @@ filtered_one test false c n e = refl
 
 -- one more object: it is a source where it is no net piece and is marked
 pub sources_before-more : (design : FlatDesign) → ∥ KeepsRules design ∥₁ → (net k : ℕ) (object : FlatObject) (marked : List Bool) (sources later : List ℕ) → slice_get design.objects k ≡ Some object →
-    k < length marked → AreReached design.nodes 0 net marked → sources ≡ sources_before design net k →
+    k < length marked → AreReached design.nodes 0 (λ o. nat_eq o net) marked → sources ≡ sources_before design net k →
     later ≡ sources ++ before_if (not (is_net object.kind) && get_or marked k false) k [] → later ≡ sources_before design net (k + 1)
 sources_before-more design rules net k object marked sources later at low reached had pushed =
     let within : k < length design.objects = slice_get_within design.objects k object at in
@@ -169,3 +184,51 @@ sources_before-all design net k past =
 pub object_in : (objects list : List Object) (k : ℕ) (object : Object) → list ≡ objects → k < length list → object ≡ get_or list k object → slice_get (map object_of objects) k ≡ Some (object_of object)
 object_in objects list k object same low at =
     subst (λ l. slice_get (map object_of l) k ≡ Some (object_of object)) same (slice_get-map object_of list k ∙ ap (option_map object_of) (slice_get_read list (length list) k object refl low at))
+
+-- What reaches some of several objects
+
+-- marks of the objects from which a path leads to one of several
+pub record ReachSome (design : FlatDesign) (nets : List ℕ) (marked : List Bool) : Type 0 where
+  pub reaching : (object net : ℕ) → object < length marked → has nets net ≡ true → 0 < paths design object net → get_or marked object false ≡ true
+  pub only : (object : ℕ) → object < length marked → get_or marked object false ≡ true → (net : ℕ) × (has nets net ≡ true) × (0 < paths design object net)
+
+-- in a blank list nothing is marked
+pub none-marked : (marked : List Bool) (count : ℕ) → marked ≡ replicate count false → (o : ℕ) → get_or marked o false ≡ false
+none-marked marked count blank o = ap (λ l. get_or l o false) blank ∙ get_or-replicate-any count o
+  where
+    get_or-replicate-any : (n i : ℕ) → get_or (replicate n false) i false ≡ false
+    get_or-replicate-any zero i = refl
+    get_or-replicate-any (suc n) zero = refl
+    get_or-replicate-any (suc n) (suc i) = get_or-replicate-any n i
+
+-- the numbers of objects that are all below a count
+pub all-below : (nets : List ObjectId) (count length : ℕ) → length ≡ count → All (λ net. object_number net < count) nets → AllHold (λ net. net < length) (map object_number nets)
+all-below [] count length e each = tt
+all-below (x ∷ nets) count length e each = (omega (arith, e, each 0 x (omega arith)), all-below nets count length e (λ k d low. each (suc k) d (omega arith)))
+
+-- several objects were marked, and all nodes gone through
+pub ReachSome-all : (design : FlatDesign) → ∥ KeepsRules design ∥₁ → (nets : List ℕ) (blank before later : List Bool) → ((o : ℕ) → get_or blank o false ≡ false) → AllHold (λ net. net < length blank) nets →
+    Marks nets blank before → AreReached design.nodes 0 (λ o. get_or before o false) later → ReachSome design nets later
+ReachSome-all design rules nets blank before later none below marks had = record {
+  reaching = λ object net low listed path.
+      had object low
+      ∙ reaches_in-some design.nodes (λ o. get_or before o false) net object (marks.marked net (omega (arith, marks.same_length, AllHold-has (λ x. x < length blank) nets net below listed)) listed)
+      (∥∥₁_elim rules (Bool-set _ _) (λ kept. reaches_in-paths design.nodes kept.ranked object net ∙ lt-ltb 0 (paths design object net) path));
+  only = λ object low marked.
+      let found = reaches_some-in design.nodes (λ o. get_or before o false) object (sym (had object low) ∙ marked) in (
+        found.0,
+        listed found.0 found.1,
+        ∥∥₁_elim rules le_prop (λ kept. ltb-true 0 (paths design object found.0) (sym (reaches_in-paths design.nodes kept.ranked object found.0) ∙ found.2)),
+      );
+}
+  where
+    listed : (net : ℕ) → get_or before net false ≡ true → has nets net ≡ true
+    listed net is =
+        elim (cases_Bool (has nets net)) [
+          | inl there ↦ there
+          | inr other ↦
+              elim (cases_lt net (length before)) [
+                | inl low ↦ absurd (both_ways (get_or before net false) (marks.kept net low other ∙ none net) is)
+                | inr past ↦ absurd (both_ways (get_or before net false) (get_or_past before net false past) is)
+              ]
+        ]

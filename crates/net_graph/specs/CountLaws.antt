@@ -23,7 +23,7 @@ sum_capped c p (x ∷ xs) same =
     let rest : min 2 (sum_by c xs) ≡ min 2 (sum_by p xs) = sum_capped c p xs (λ y e. same y (or_right (nat_eq x y) (has xs y) e)) in
     omega (arith, sum_by-cons c x xs, sum_by-cons p x xs)
 
-weight_capped : (kind : FlatNodeKind) (a b : ℕ) → min 2 a ≡ min 2 b → min 2 (path_weight kind * a) ≡ min 2 (path_weight kind * b)
+pub weight_capped : (kind : FlatNodeKind) (a b : ℕ) → min 2 a ≡ min 2 b → min 2 (path_weight kind * a) ≡ min 2 (path_weight kind * b)
 weight_capped (AssignNode value places) a b e = omega arith
 weight_capped (GateNode kind terminals) a b e = omega arith
 weight_capped (BlockNode statement) a b e = omega arith

@@ -7,3 +7,4 @@ pub mod ConeLaws
 pub mod Loops
 pub mod WiringLaws
 pub mod RankLaws
+pub mod SpreadLaws

@@ -155,10 +155,14 @@ paths_before-all nodes below from k o h = paths_before-driven nodes below from k
 
 -- What reaches an object, looking forward
 
--- whether an object reaches another through some nodes, each of which stands above those that feed it
+-- whether an object reaches one that passes a test through some nodes, each of which stands above those that feed it
+abbrev pub reaches_some : List FlatNode → (ℕ → Bool) → ℕ → Bool
+reaches_some [] test o = test o
+reaches_some (node ∷ rest) test o = reaches_some rest test o || (has node.inputs o && list_any (reaches_some rest test) node.outputs)
+
+-- whether an object reaches another
 abbrev pub reaches_in : List FlatNode → ℕ → ℕ → Bool
-reaches_in [] net o = nat_eq o net
-reaches_in (node ∷ rest) net o = reaches_in rest net o || (has node.inputs o && list_any (reaches_in rest net) node.outputs)
+reaches_in nodes net o = reaches_some nodes (λ x. nat_eq x net) o
 
 some_output : (test : ℕ → Bool) (xs : List ℕ) → list_any test xs ≡ true → (x : ℕ) × (has xs x ≡ true) × (test x ≡ true)
 some_output test [] e = absurd (cc)
@@ -300,3 +304,35 @@ reaches_in-paths nodes below from net =
     let end : reaches_in (drop (length nodes) nodes) net net ≡ true = subst (λ l. reaches_in l net net ≡ true) (sym (drop_all (length nodes) nodes (omega arith))) (eq-eqb net net refl) in
     let some : 0 < all_paths nodes from net = ltb-true 0 (all_paths nodes from net) h in
     path-reaches nodes below from net (length nodes) (omega arith) net end (omega arith))
+
+-- what reaches an object that passes the test reaches some such
+pub reaches_in-some : (nodes : List FlatNode) (test : ℕ → Bool) (net o : ℕ) → test net ≡ true → reaches_in nodes net o ≡ true → reaches_some nodes test o ≡ true
+reaches_in-some [] test net o passes r = ap test (eqb-true o net r) ∙ passes
+reaches_in-some (n ∷ rest) test net o passes r =
+    elim (or_cases (reaches_in rest net o) (has n.inputs o && list_any (reaches_in rest net) n.outputs) r) [
+      | inl later ↦ or_left (reaches_some rest test o) (has n.inputs o && list_any (reaches_some rest test) n.outputs) (reaches_in-some rest test net o passes later)
+      | inr here ↦
+          let parts = and_parts (has n.inputs o) (list_any (reaches_in rest net) n.outputs) here in
+          let out = some_output (reaches_in rest net) n.outputs parts.1 in
+          or_right (reaches_some rest test o) (has n.inputs o && list_any (reaches_some rest test) n.outputs)
+          (and_from (has n.inputs o) (list_any (reaches_some rest test) n.outputs) parts.0 (output_passes (reaches_some rest test) n.outputs out.0 out.1 (reaches_in-some rest test net out.0 passes out.2)))
+    ]
+
+-- what reaches some object that passes the test reaches one
+pub reaches_some-in : (nodes : List FlatNode) (test : ℕ → Bool) (o : ℕ) → reaches_some nodes test o ≡ true → (net : ℕ) × (test net ≡ true) × (reaches_in nodes net o ≡ true)
+reaches_some-in [] test o r = (o, r, eq-eqb o o refl)
+reaches_some-in (n ∷ rest) test o r =
+    elim (or_cases (reaches_some rest test o) (has n.inputs o && list_any (reaches_some rest test) n.outputs) r) [
+      | inl later ↦
+          let found = reaches_some-in rest test o later in
+          (found.0, found.1, or_left (reaches_in rest found.0 o) (has n.inputs o && list_any (reaches_in rest found.0) n.outputs) found.2)
+      | inr here ↦
+          let parts = and_parts (has n.inputs o) (list_any (reaches_some rest test) n.outputs) here in
+          let out = some_output (reaches_some rest test) n.outputs parts.1 in
+          let found = reaches_some-in rest test out.0 out.2 in (
+            found.0,
+            found.1,
+            or_right (reaches_in rest found.0 o) (has n.inputs o && list_any (reaches_in rest found.0) n.outputs)
+                (and_from (has n.inputs o) (list_any (reaches_in rest found.0) n.outputs) parts.0 (output_passes (reaches_in rest found.0) n.outputs out.0 out.1 found.2)),
+          )
+    ]

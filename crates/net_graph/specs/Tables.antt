@@ -1,5 +1,5 @@
 -- What a graph keeps of a design: each node's inputs once, and who reads an object (continuous assignments and gates of IEEE 1364-2001, clause 6 and clause 7).
-use Rattle.std.specs.Prelude.{◌≡◌, ℕ, ◌+◌, ◌<◌, Bool, true, false, List, [], ◌∷◌, map, length, min, Vec, get_or}
+use Rattle.std.specs.Prelude.{◌≡◌, ℕ, ◌+◌, ◌*◌, ◌<◌, Bool, true, false, List, [], ◌∷◌, map, length, min, Vec, get_or}
 use Rattle.std.specs.declared.alloc.Global.{Global}
 use Rattle.vf_base.specs.declared.ids.ObjectId.{ObjectId}
 use Rattle.vf_base.specs.declared.ids.NodeId.{NodeId}
@@ -45,3 +45,12 @@ ListReaders design lists = (object : ℕ) → object < length lists → get_or l
 -- numbers of paths from one object, each at most 2
 abbrev pub AreCounts : FlatDesign → ℕ → List ℕ → Type 0
 AreCounts design from counts = (object : ℕ) → object < length counts → get_or counts object 0 ≡ min 2 (paths design from object)
+
+-- the sum over objects, from a number on, of f, each as often as a table says
+abbrev pub weighted : (ℕ → ℕ) → ℕ → List ℕ → ℕ
+weighted f number [] = 0
+weighted f number (count ∷ counts) = count * f number + weighted f (number + 1) counts
+
+-- for each object the paths to it from all objects, those from each as often as a table says, told apart up to 2
+abbrev pub AreTotalPaths : FlatDesign → List ℕ → List ℕ → Type 0
+AreTotalPaths design counts totals = (object : ℕ) → object < length totals → min 2 (get_or totals object 0) ≡ min 2 (weighted (λ from. paths design from object) 0 counts)

@@ -1,11 +1,11 @@
 // The cone of a net piece: the variables and memory words that reach it.
 
-ghost use Rattle.std.specs.Prelude.{◌≡◌, ℕ, ◌<◌, ◌≤◌, ◌&&◌, ◌++◌, [], true, false, map, length, IfOk, vec_len, get_or, not};
+ghost use Rattle.std.specs.Prelude.{◌≡◌, ℕ, ◌<◌, ◌≤◌, ◌&&◌, ◌++◌, [], true, false, map, length, IfOk, vec_len, get_or, not, nat_eq};
 ghost use Rattle.std.specs.List.{All, list_any};
 ghost use Rattle.vf_base.specs.Base.{object_number};
 ghost use Rattle.v_design.specs.Paths.{cone, is_net};
 ghost use Rattle.v_design.specs.PlainDesigns.{design_of};
-ghost use Rattle.net_graph.specs.ConeLaws.{Marks, AreReached};
+ghost use Rattle.net_graph.specs.ConeLaws.{Marks, AreReached, ReachSome};
 ghost use Rattle.net_graph.specs.Tables.{before_if};
 
 use crate::graph::Graph;
@@ -51,21 +51,30 @@ fn mark_node(node: &Node, marked: &mut Vec<bool>)
     }
 }
 
-/// Marks the objects that reach a net piece, from the last node back.
-fn mark_reaching(design: &Design, net: ObjectId, marked: &mut Vec<bool>)
-    requires sized { vec_len marked.old ≡ length (design_of design.now).objects }
-    requires is_net { object_number net < vec_len marked.old }
-    requires blank { (o : ℕ) → o < length marked.old.items → get_or marked.old.items o false ≡ false }
+/// Marks besides the objects that reach a marked one, from the last node back.
+fn mark_sources(design: &Design, marked: &mut Vec<bool>)
+    requires { vec_len marked.old ≡ length (design_of design.now).objects }
     ensures same { vec_len marked.new ≡ vec_len marked.old }
-    ensures reached { AreReached (design_of design.now).nodes 0 (object_number net) marked.new.items }
+    ensures reached { AreReached (design_of design.now).nodes 0 (λ o. get_or marked.old.items o false) marked.new.items }
 {
     let nodes = design.nodes.as_slice();
-    marked[net.0 as usize] = true;
     let mut left = nodes.len();
     'nodes: while left > 0 {
         left -= 1;
         mark_node(&nodes[left], marked);
     }
+}
+
+/// Marks the objects that reach a net piece.
+fn mark_reaching(design: &Design, net: ObjectId, marked: &mut Vec<bool>)
+    requires sized { vec_len marked.old ≡ length (design_of design.now).objects }
+    requires is_net { object_number net < vec_len marked.old }
+    requires blank { (o : ℕ) → o < length marked.old.items → get_or marked.old.items o false ≡ false }
+    ensures same { vec_len marked.new ≡ vec_len marked.old }
+    ensures reached { AreReached (design_of design.now).nodes 0 (λ o. nat_eq o (object_number net)) marked.new.items }
+{
+    marked[net.0 as usize] = true;
+    mark_sources(design, marked);
 }
 
 /// Whether an object is a variable or a memory word, and marked.
@@ -104,5 +113,17 @@ impl<'d> Graph<'d> {
             push_if(wanted, ObjectId(number as u32), &mut sources)?;
         }
         Ok(sources)
+    }
+
+    /// For each object whether a path of nodes leads from it to one of some objects.
+    pub fn reaching(&self, alloc: Global, nets: &[ObjectId]) -> Result<Vec<bool>, NoMemory>
+        requires { All (λ net. object_number net < length (design_of self.now.design.now).objects) nets.now }
+        ensures count { IfOk result (λ marked. vec_len marked ≡ length (design_of self.now.design.now).objects) }
+        ensures reaching { IfOk result (λ marked. ReachSome (design_of self.now.design.now) (map object_number nets.now) marked.items) }
+    {
+        let mut marked = vec![in alloc; false; self.design.objects.as_slice().len()]?;
+        mark_all(nets, &mut marked);
+        mark_sources(self.design, &mut marked);
+        Ok(marked)
     }
 }

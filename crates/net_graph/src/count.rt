@@ -39,7 +39,7 @@ fn capped_sum(inputs: &[ObjectId], counts: &Vec<u8>) -> u8
 }
 
 /// The paths through a node, over the counts of its inputs, cut at 2; a combinational block on a path makes two of it.
-fn paths_through_node(node: &Node, inputs: &[ObjectId], counts: &Vec<u8>) -> u8
+pub(crate) fn paths_through_node(node: &Node, inputs: &[ObjectId], counts: &Vec<u8>) -> u8
     requires { All (λ input. object_number input < vec_len counts.now) inputs.now }
     ensures { result ≡ min 2 (path_weight (node_of node.now).kind * sum_by (λ object. get_or counts.now.items object 0) (map object_number inputs.now)) }
 {

@@ -12,6 +12,7 @@ mod cone;
 mod count;
 mod graph;
 mod rank;
+mod spread;
 #[cfg(test)]
 mod tests;
 

@@ -105,6 +105,16 @@ fn all_placed(placed: &[bool]) -> bool
     true
 }
 
+/// A depth as a rank. One that 32 bits don't hold needs more nodes than memory holds.
+fn as_rank(depth: usize) -> Result<u32, NoMemory>
+    ensures { IfOk result (λ rank. rank ≡ depth) }
+{
+    match u32::try_from(depth) {
+        Ok(rank) => Ok(rank),
+        Err(_) => Err(NoMemory),
+    }
+}
+
 /// The ranks of nodes, from the depths of their vertices.
 fn ranks_of(
     alloc: Global,
@@ -112,16 +122,15 @@ fn ranks_of(
     objects: usize,
     depths: &Vec<usize>,
 ) -> Result<Vec<u32>, NoMemory>
-    requires few { length nodes.now < 2 ^ 32 }
-    requires few_objects { objects < 2 ^ 32 }
+    requires few { objects < 2 ^ 32 }
     requires sized { vec_len depths.now ≡ objects + length nodes.now }
     requires ranks { AreRanks (map node_of nodes.now) (λ number. get_or depths.now.items (objects + number) 0) }
     ensures { IfOk result (λ ranks. ranks.items ≡ map (rank_in (map node_of nodes.now)) (map node_of nodes.now)) }
 {
     let mut ranks = Vec::new(alloc);
     'nodes: for number in 0..nodes.len() {
-        let depth = depths[objects + number];
-        ranks.push(depth as u32)?;
+        let rank = as_rank(depths[objects + number])?;
+        ranks.push(rank)?;
     }
     Ok(ranks)
 }
@@ -129,9 +138,9 @@ fn ranks_of(
 /// The rank of each node: one more than the greatest rank of a node that drives one of its inputs, and 0 where there is none.
 ///
 /// `objects` is the number of objects, and the nodes may be in any order. `Err(Loop)` tells the least object that reaches itself through
-/// nodes, and comes exactly where there is one, unless memory runs out.
+/// nodes, and comes exactly where there is one, unless memory runs out. A rank that 32 bits don't hold is want of memory too: it needs more nodes
+/// than memory holds.
 pub fn ranks(alloc: Global, nodes: &[Node], objects: u32) -> Result<Vec<u32>, RankFault>
-    requires few { length nodes.now < 2 ^ 32 }
     requires there { AreAmong objects (map node_of nodes.now) }
     ensures ranked { IfOk result (λ ranks. ranks.items ≡ map (rank_in (map node_of nodes.now)) (map node_of nodes.now)) }
     ensures acyclic { IfOk result (λ _. (object : ℕ) → IsLooping (map node_of nodes.now) object → ⊥) }

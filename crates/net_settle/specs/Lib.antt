@@ -1,2 +1,4 @@
 pub mod Marked
 pub mod MarkLaws
+pub mod Rooms
+pub mod NodeLaws

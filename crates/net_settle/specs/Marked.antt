@@ -24,6 +24,11 @@ MarksReaders design object before later = (node : ℕ) → marked_at later node 
 abbrev pub NoneMarked : List Bool → Type 0
 NoneMarked marks = (node : ℕ) → marked_at marks node ≡ false
 
+-- the least marked node
+pub record IsLeastMarked (node : ℕ) (marks : List Bool) : Type 0 where
+  pub is_marked : marked_at marks node ≡ true
+  pub none_below : (lower : ℕ) → lower < node → marked_at marks lower ≡ false
+
 -- the least marked node, and its mark is taken away
 pub record TakesLeast (node : ℕ) (before later : List Bool) : Type 0 where
   pub was_marked : marked_at before node ≡ true

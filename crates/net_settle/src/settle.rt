@@ -1,12 +1,12 @@
 // The nodes that are still to be evaluated.
 
-ghost use Rattle.std.specs.Prelude.{◌≡◌, ℕ, ◌<◌, ◌≤◌, true, false, length, map, IfOk, IsTrue, ◌↔◌, MatchOption, vec_len};
+ghost use Rattle.std.specs.Prelude.{◌≡◌, ℕ, ◌<◌, ◌≤◌, true, false, length, map, IfOk, IsTrue, ◌↔◌, MatchOption, vec_len, slice_set};
 ghost use Rattle.std.specs.List.{All};
 ghost use Rattle.vf_base.specs.Base.{object_number, node_number};
 ghost use Rattle.v_design.specs.Lists.{has};
 ghost use Rattle.v_design.specs.PlainDesigns.{design_of};
 ghost use Rattle.net_graph.specs.ConeLaws.{Marks};
-ghost use Rattle.net_settle.specs.Marked.{marked_at, MarksReaders, NoneMarked, TakesLeast};
+ghost use Rattle.net_settle.specs.Marked.{marked_at, MarksReaders, NoneMarked, IsLeastMarked, TakesLeast};
 
 use net_graph::Graph;
 use std::alloc::Global;
@@ -99,6 +99,24 @@ impl<'d> Settle<'d> {
         })
     }
 
+    /// The marks of a design whose nets are settled: no node is marked.
+    ///
+    /// # Errors
+    ///
+    /// Want of memory.
+    pub fn settled(alloc: Global, graph: &'d Graph<'d>) -> Result<Settle<'d>, NoMemory>
+        ensures belongs { IfOk result (λ settle. settle.graph.now.design.now ≡ graph.now.design.now) }
+        ensures none { IfOk result (λ settle. NoneMarked settle.marks.items) }
+    {
+        let nodes = graph.design.nodes.as_slice().len();
+        Ok(Settle {
+            graph,
+            marks: vec![in alloc; false; nodes]?,
+            least: 0,
+            past: 0,
+        })
+    }
+
     /// Marks the nodes that read an object, which has changed.
     pub fn change(&mut self, object: ObjectId)
         requires { object_number object < length (design_of self.old.graph.now.design.now).objects }
@@ -118,6 +136,29 @@ impl<'d> Settle<'d> {
         ensures { IsTrue result ↔ NoneMarked self.now.marks.items }
     {
         first_marked(&self.marks, self.least, self.past) == self.past
+    }
+
+    /// The least marked node; none where no node is marked. It changes no mark, and a later look begins where this one ended.
+    pub fn least_marked(&mut self) -> Option<NodeId>
+        ensures belongs { self.new.graph.now ≡ self.old.graph.now }
+        ensures same { self.new.marks.items ≡ self.old.marks.items }
+        ensures least { MatchOption result (NoneMarked self.old.marks.items) (λ node. IsLeastMarked (node_number node) self.old.marks.items) }
+    {
+        let least = first_marked(&self.marks, self.least, self.past);
+        self.least = least;
+        if least == self.past {
+            return None;
+        }
+        Some(NodeId(least as u32))
+    }
+
+    /// Takes away the mark of a node.
+    pub fn unmark(&mut self, node: NodeId)
+        requires { node_number node < length (design_of self.old.graph.now.design.now).nodes }
+        ensures belongs { self.new.graph.now ≡ self.old.graph.now }
+        ensures unmarked { self.new.marks.items ≡ slice_set self.old.marks.items (node_number node) false }
+    {
+        self.marks[node.0 as usize] = false;
     }
 
     /// Takes away the least mark and gives its node; none where no node is marked.

@@ -1,6 +1,7 @@
 -- The parts of a value that outputs get (IEEE 1364-2001, clause 6.1).
 use Rattle.std.proofs.Common.{◌≡◌, ℕ, zero, suc, ◌+◌, ◌<◌, ◌≤◌, List, [], ◌∷◌, ◌++◌, length, get_or, take, set, map, refl, ap, sym, ◌∙◌, arith}
 use Rattle.std.proofs.lemmas.List.{take_more, take_more_set, length-take-le, length_push}
+use Rattle.four_value.specs.Values.{LogicValue}
 use Rattle.v_design.specs.Lists.{zip_with}
 
 pub zip_with-push : {A B C : Type 0} (f : A → B → C) (xs : List A) (ys : List B) (x : A) (y : B) → length xs ≡ length ys → zip_with f (xs ++ x ∷ []) (ys ++ y ∷ []) ≡ zip_with f xs ys ++ f x y ∷ []
@@ -31,3 +32,15 @@ parts-more f g outputs places results i o p r low same room is_o is_p is_r had =
     ∙ ap (zip_with f (take i outputs ++ o ∷ [])) (sym (zip_with-push g (take i outputs) (take i places) o p (omega arith)))
     ∙ ap (λ l. zip_with f (take i outputs ++ o ∷ []) (zip_with g (take i outputs ++ o ∷ []) l)) (sym other)
     ∙ ap (λ l. zip_with f l (zip_with g l (take (i + 1) places))) (sym one)
+
+-- one output more is forced
+pub forced-more : (f : ℕ → LogicValue → LogicValue) (outputs : List ℕ) (old held : List LogicValue) (i o : ℕ) (r : LogicValue) → i < length outputs → length outputs ≤ length old → length held ≡ length old →
+    get_or outputs i 0 ≡ o → r ≡ f o (get_or old i []) → take i held ≡ zip_with f (take i outputs) (take i old) → take (i + 1) (set held i r) ≡ zip_with f (take (i + 1) outputs) (take (i + 1) old)
+forced-more f outputs old held i o r low enough alike is_o is_r had =
+    let short : length (take i outputs) ≡ length (take i old) = length-take-le i outputs (omega arith) ∙ sym (length-take-le i old (omega arith)) in
+    take_more_set held i r (omega arith)
+    ∙ ap (λ l. l ++ r ∷ []) had
+    ∙ ap (λ x. zip_with f (take i outputs) (take i old) ++ x ∷ []) is_r
+    ∙ sym (zip_with-push f (take i outputs) (take i old) o (get_or old i []) short)
+    ∙ ap (λ l. zip_with f l (take i old ++ get_or old i [] ∷ [])) (sym (take_more outputs i 0 low ∙ ap (λ x. take i outputs ++ x ∷ []) is_o))
+    ∙ ap (zip_with f (take (i + 1) outputs)) (sym (take_more old i [] (omega arith)))

@@ -16,7 +16,7 @@ ghost use Rattle.node_eval.specs.Gates.{gate_start, gate_step, gate_end, termina
 
 use expr_eval::{Stack, eval};
 use four_value::{Bit, GateKind};
-use v_design::{FlatExpr, Values, View};
+use v_design::{Fault, FlatExpr, Site, Values, View};
 use vf_base::NodeId;
 
 /// The output of a gate before its first terminal.
@@ -53,6 +53,21 @@ fn gate_end(kind: GateKind, bit: Bit) -> Bit
     }
 }
 
+/// What a gate sees at one of its terminals, counted from 1, in place of a bit. A gate may have any number of terminals.
+fn forced_at(view: &View, node: NodeId, terminal: usize, bit: Bit) -> Bit
+    ensures { result ≡ forced_terminal (machine_of view.now).fault (node_number node) terminal bit }
+{
+    match view.fault {
+        Some(
+            Fault {
+                site: Site::Terminal(gate, number),
+                value: stuck,
+            },
+        ) if gate == node && number as usize == terminal => Bit::from_bool(stuck),
+        _ => bit,
+    }
+}
+
 /// The output of a gate over its terminals, each as the view forces it.
 pub fn gate_output<V: Values>(
     view: &View,
@@ -62,7 +77,6 @@ pub fn gate_output<V: Values>(
     values: &V,
     stack: &mut Stack,
 ) -> Bit
-    requires few { length terminals.now + 1 < 2 ^ 32 }
     requires sized { AreTerminals (expressions_of terminals.now) }
     requires there { AreThere (V.values values.now) (named_in_parts (expressions_of terminals.now)) }
     requires room { levels_of_parts (expressions_of terminals.now) ≤ stack.old.depth }
@@ -72,7 +86,7 @@ pub fn gate_output<V: Values>(
     let mut bit = gate_start(kind);
     'terminals: for (number, terminal) in terminals.iter().enumerate() {
         let seen = eval(terminal, values, stack).bit(0);
-        let forced = view.forced_terminal(node, number as u32 + 1, seen);
+        let forced = forced_at(view, node, number + 1, seen);
         bit = gate_step(kind, bit, forced);
     }
     gate_end(kind, bit)

@@ -1,6 +1,6 @@
 -- Lists that are cut to a length (nothing of the language).
-use Rattle.std.proofs.Common.{◌≡◌, ℕ, zero, suc, ◌+◌, ◌-◌, ◌<◌, ◌≤◌, List, [], ◌∷◌, ◌++◌, length, get_or, take, drop, refl, ap, sym, ◌∙◌, subst, arith}
-use Rattle.std.proofs.lemmas.List.{take_all, take_at, take-append-le, drop_more, take_more, append-nil, append_assoc}
+use Rattle.std.proofs.Common.{◌≡◌, ℕ, zero, suc, ◌+◌, ◌<◌, ◌≤◌, List, [], ◌∷◌, ◌++◌, length, get_or, take, drop, refl, ap, sym, ◌∙◌, arith}
+use Rattle.std.proofs.lemmas.List.{take_all, drop_more, take_more, append-nil, append_assoc}
 use Rattle.four_value.specs.declared.logic.Bit.TheVariants.{X}
 use Rattle.std.proofs.Math.Seq.{take-append-add}
 use Rattle.four_value.specs.Values.{LogicValue, part_of, bit_at}

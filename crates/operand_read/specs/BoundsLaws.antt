@@ -1,12 +1,11 @@
 -- Each statement reads what it names, and no more operands than there is room for (IEEE 1364-2001, clause 4).
-use Rattle.std.proofs.Common.{◌≡◌, ℕ, zero, suc, ◌+◌, ◌-◌, ◌<◌, ◌≤◌, min, Bool, true, false, List, [], ◌∷◌, ◌++◌, length, map, Option, Some, None, refl, ap, sym, ◌∙◌, subst, arith}
+use Rattle.std.proofs.Common.{◌≡◌, ℕ, zero, suc, ◌+◌, ◌-◌, ◌<◌, ◌≤◌, min, Bool, true, false, List, [], ◌∷◌, ◌++◌, length, map, Option, Some, None, refl, ap, subst, arith}
 use Rattle.std.specs.Prelude.{if◌then◌else◌, slice_get, nat_le}
-use Rattle.std.proofs.lemmas.List.{length-map}
 use Rattle.four_value.specs.Values.{LogicValue, natural_number}
 use Rattle.four_value.specs.declared.operator.CaseKind.{CaseKind}
 use Rattle.v_design.specs.Lists.{AllHold}
 use Rattle.v_design.specs.Trees.{Piece, Vector, Memory, Expression, Constant, Name, BitSelect, PartSelect, WordSelect, Unary, Binary, Conditional, Concatenation, Replication, Expressions, no_expressions, more_expressions, Target, WholeTarget, BitTarget, PartTarget, WordTarget, Statement, CaseItems, no_items, more_items}
-use Rattle.v_design.specs.Reads.{named_in, named_in_parts, named_in_target, named_in_targets, named_by_items, named_by, variable_piece}
+use Rattle.v_design.specs.Reads.{named_in, named_in_parts, named_in_target, named_in_targets, named_by_items, named_by}
 use Rattle.v_design.specs.Assignments.{read_index, read_indexes, read_assignment}
 use Rattle.v_design.specs.Processes.{read_case, read_items}
 use Rattle.v_design.specs.Expressions.{Slice, sign_of, is_constant, index_number, no_values, place_of_number, part_places, some_place_within, word_at, memory_pieces, whole_slices, slices_at, bit_slices, Progress, Needs, Has, then_with, read_slice, read_slices, read_expression, read_parts, read_each}

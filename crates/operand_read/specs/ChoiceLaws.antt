@@ -1,5 +1,5 @@
 -- Items of a case, targets and parts of them, by their numbers (IEEE 1364-2001, clauses 9.2 and 9.5).
-use Rattle.std.proofs.Common.{◌≡◌, ℕ, zero, suc, ◌+◌, ◌-◌, ◌<◌, ◌≤◌, Bool, true, false, List, [], ◌∷◌, ◌++◌, length, get_or, take, drop, map, Option, Some, None, refl, ap, sym, ◌∙◌, subst, arith, inl, inr}
+use Rattle.std.proofs.Common.{◌≡◌, ℕ, zero, suc, ◌+◌, ◌<◌, ◌≤◌, Bool, true, false, List, [], ◌∷◌, length, get_or, drop, map, Option, Some, None, refl, ap, sym, ◌∙◌, subst, arith, inl, inr}
 use Rattle.std.proofs.lemmas.List.{drop_more, length-map}
 use Rattle.std.proofs.Math.ListN.{get_or-map}
 use Rattle.std.proofs.lemmas.List.Sums.{sum_by-cons}
@@ -9,7 +9,7 @@ use Rattle.four_value.specs.declared.operator.CaseKind.{CaseKind}
 use Rattle.v_design.specs.declared.tree.FlatExpr.{FlatExpr}
 use Rattle.v_design.specs.declared.tree.FlatTarget.{FlatTarget}
 use Rattle.v_design.specs.declared.tree.CaseItem.{CaseItem}
-use Rattle.v_design.specs.Trees.{Expressions, Statement, CaseItems, more_items, Target, WholeTarget, BitTarget, PartTarget, WordTarget}
+use Rattle.v_design.specs.Trees.{Statement, CaseItems, Target, WholeTarget, BitTarget, PartTarget, WordTarget}
 use Rattle.v_design.specs.Lists.{AllHold}
 use Rattle.v_design.specs.Plain.{expression_of, expressions_of, statement_of, target_of}
 use Rattle.v_design.specs.PlainLemmas.{items_of}

@@ -6,3 +6,4 @@ pub mod Choices
 pub mod Bounds
 pub mod ChoiceLaws
 pub mod BoundsLaws
+pub mod PieceLaws

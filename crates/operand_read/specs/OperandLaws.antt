@@ -1,14 +1,13 @@
 -- Reading the operands of names (IEEE 1364-2001, clause 4.2).
-use Rattle.std.proofs.Common.{◌≡◌, ℕ, zero, suc, ◌+◌, ◌-◌, ◌<◌, ◌≤◌, List, [], ◌∷◌, ◌++◌, length, get_or, take, drop, map, refl, ap, sym, ◌∙◌, subst, arith, inl, inr}
+use Rattle.std.proofs.Common.{◌≡◌, ℕ, ◌+◌, ◌-◌, ◌<◌, ◌≤◌, List, [], ◌∷◌, ◌++◌, length, get_or, take, drop, map, refl, ap, sym, ◌∙◌, arith, inl, inr}
 use Rattle.std.proofs.lemmas.Bool.{cases_lt}
 use Rattle.std.proofs.lemmas.List.{drop-drop, length-drop}
 use Rattle.std.proofs.Math.ListN.{drop_of_length-le}
 use Rattle.four_value.specs.Values.{LogicValue}
 use Rattle.v_design.specs.Lists.{joined}
-use Rattle.v_design.specs.Trees.{Piece}
 use Rattle.v_design.specs.declared.tree.PieceRef.{PieceRef}
 use Rattle.v_design.specs.Plain.{piece_of}
-use Rattle.v_design.specs.Expressions.{Slice, Progress, Needs, Has, then_with, read_slices, whole_slices}
+use Rattle.v_design.specs.Expressions.{Needs, Has, then_with, read_slices, whole_slices}
 
 -- all pieces of a name take an operand each
 pub reads_whole : (pieces : List PieceRef) (operands : List LogicValue) → length pieces ≤ length operands →

@@ -1,10 +1,10 @@
 -- Reading the pieces that hold some bits of a name (IEEE 1364-2001, clause 4.2.1).
-use Rattle.std.proofs.Common.{◌≡◌, ℕ, zero, suc, ◌+◌, ◌-◌, ◌<◌, ◌≤◌, Bool, true, false, List, [], ◌∷◌, ◌++◌, length, get_or, take, drop, map, Option, Some, None, refl, ap, sym, ◌∙◌, subst, arith}
+use Rattle.std.proofs.Common.{◌≡◌, ℕ, zero, suc, ◌+◌, ◌<◌, ◌≤◌, Bool, true, false, List, [], ◌∷◌, ◌++◌, length, get_or, take, map, Option, Some, None, refl, ap, sym, ◌∙◌, arith}
 use Rattle.std.specs.Prelude.{if◌then◌else◌}
 use Rattle.std.proofs.lemmas.List.{take_more, map_push}
 use Rattle.four_value.specs.Values.{LogicValue, unknown}
 use Rattle.v_design.specs.Trees.{Piece}
-use Rattle.v_design.specs.Expressions.{Slice, Progress, Needs, Has, then_with, read_slice, read_slices, slices_at, some_place_within}
+use Rattle.v_design.specs.Expressions.{Slice, Progress, Needs, Has, then_with, read_slices, slices_at, some_place_within}
 use Rattle.operand_read.specs.Sought.{got}
 
 -- Answers

@@ -1,5 +1,5 @@
 -- What each form of an expression gets from its operands (IEEE 1364-2001, clause 4).
-use Rattle.std.proofs.Common.{◌≡◌, ℕ, zero, suc, ◌+◌, ◌-◌, ◌<◌, ◌≤◌, Bool, true, false, List, [], ◌∷◌, ◌++◌, length, get_or, take, drop, replicate, map, inl, inr, Option, Some, None, refl, ap, sym, ◌∙◌, subst, arith, append-nil, append_assoc}
+use Rattle.std.proofs.Common.{◌≡◌, ℕ, zero, suc, ◌+◌, ◌-◌, ◌<◌, ◌≤◌, Bool, true, false, List, [], ◌∷◌, ◌++◌, length, get_or, take, drop, replicate, map, inl, inr, None, refl, ap, sym, ◌∙◌, subst, arith, append_assoc}
 use Rattle.std.specs.Prelude.{if◌then◌else◌, ◌&&◌}
 use Rattle.std.proofs.lemmas.Bool.{le-leb, cases_lt}
 use Rattle.v_design.specs.declared.tree.FlatExpr.{FlatExpr}
@@ -8,12 +8,9 @@ use Rattle.v_design.specs.Sized.{own_width, own_width_of_parts}
 use Rattle.std.proofs.lemmas.List.{drop_more, take-append-le, take_all, length-take-le}
 use Rattle.four_value.specs.declared.logic.Bit.{Bit}
 use Rattle.four_value.specs.declared.logic.Bit.TheVariants.{X}
-use Rattle.four_value.specs.Values.{LogicValue, resized, fill_bit, natural_number, chosen_value, truth_of, unknown}
-use Rattle.four_value.specs.Operators.{unary_value, binary_value}
-use Rattle.four_value.specs.declared.operator.UnaryOperator.{UnaryOperator}
-use Rattle.four_value.specs.declared.operator.BinaryOperator.{BinaryOperator}
-use Rattle.v_design.specs.Trees.{Piece, Vector, Memory, Expression, Constant, Name, BitSelect, PartSelect, WordSelect, Unary, Binary, Conditional, Concatenation, Replication, Expressions, no_expressions, more_expressions}
-use Rattle.v_design.specs.Expressions.{sign_of, is_constant, are_constant, place_of, place_of_number, part_places, part_indexes, up_from, down_from, bit_at_place, word_at, whole_slices, slices_at, bit_slices, index_number, no_values, value_of, parts_value, repeated, Progress, Needs, Has, then_with, read_slice, read_slices, read_expression, read_parts}
+use Rattle.four_value.specs.Values.{LogicValue, resized, fill_bit, natural_number}
+use Rattle.v_design.specs.Trees.{Piece, Vector, Expression, Constant, Name, BitSelect, PartSelect, WordSelect, Unary, Binary, Conditional, Concatenation, Replication, Expressions, no_expressions, more_expressions}
+use Rattle.v_design.specs.Expressions.{sign_of, is_constant, are_constant, place_of, place_of_number, part_places, part_indexes, up_from, down_from, bit_at_place, whole_slices, slices_at, bit_slices, index_number, no_values, value_of, parts_value, Progress, Needs, Has, then_with, read_slices, read_expression, read_parts}
 use Rattle.operand_read.specs.Sought.{got}
 use Rattle.operand_read.specs.PartReads.{piece-unread, got-same}
 
@@ -127,7 +124,7 @@ pub reads-nowhere : (low : ℕ) (pieces : List Piece) (operands : List LogicValu
 reads-nowhere low [] operands = refl
 reads-nowhere low (piece ∷ pieces) operands = piece-unread (λ (bits : LogicValue). X) (None ∷ []) low piece pieces operands refl ∙ reads-nowhere (low + piece.width) pieces operands
 
-constant-value : (index : Expression) (value : LogicValue) (operands left : List LogicValue) → is_constant index ≡ true → read_expression index operands ≡ Has value left → value_of no_values index ≡ value
+pub constant-value : (index : Expression) (value : LogicValue) (operands left : List LogicValue) → is_constant index ≡ true → read_expression index operands ≡ Has value left → value_of no_values index ≡ value
 constant-value index value operands left h has = let own = reads-constant index operands h in cc
 
 constant-left : (index : Expression) (value : LogicValue) (operands left : List LogicValue) → is_constant index ≡ true → read_expression index operands ≡ Has value left → left ≡ operands

@@ -1,8 +1,6 @@
 -- A bit that is looked for from piece to piece (IEEE 1364-2001, clause 4.2.1).
-use Rattle.std.specs.Prelude.{ℕ, List, Option, Some, None}
 use Rattle.four_value.specs.Values.{LogicValue, bit_at}
 use Rattle.four_value.specs.declared.logic.Bit.{Bit}
-use Rattle.four_value.specs.declared.logic.Bit.TheVariants.{X}
 use Rattle.v_design.specs.Expressions.{Progress, Needs, Has}
 use Rattle.operand_read.specs.declared.part.Sought.{Sought}
 use Rattle.operand_read.specs.declared.part.Sought.TheVariants.{Found, Further}

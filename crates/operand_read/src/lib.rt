@@ -10,10 +10,12 @@ mod constant;
 mod expression;
 mod operand;
 mod part;
+mod pieces;
 mod room;
 mod target;
 
 pub use choice::read_choice;
 pub use expression::read_value;
+pub use pieces::pieces_read;
 pub use room::{most_assignment_reads, most_case_reads, most_reads};
-pub use target::read_updates;
+pub use target::{put_update, read_updates, update_of_target, width_of_target, width_of_targets};

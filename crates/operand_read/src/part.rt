@@ -93,7 +93,7 @@ pub(crate) fn bit_of_index(vector: &VectorRef, operands: &[Vec4], index: Option<
 }
 
 /// Whether some bit of a part-select stands from one place of a name up to another.
-fn stands_within(vector: &VectorRef, from: u32, to: u32, low: u128, high: u128) -> bool
+pub(crate) fn stands_within(vector: &VectorRef, from: u32, to: u32, low: u128, high: u128) -> bool
     requires { part_width from to ≤ 128 }
     ensures { result ≡ some_place_within low high (part_places vector.now.high vector.now.low from to) }
 {
@@ -167,7 +167,7 @@ pub(crate) fn read_part(
 }
 
 /// An index, where it lies within the declared bounds of a name.
-fn index_within(vector: &VectorRef, index: u128) -> Option<u32>
+pub(crate) fn index_within(vector: &VectorRef, index: u128) -> Option<u32>
     ensures some { IfSome result (λ within. within ≡ index) }
     ensures none { IfNone result (place_of vector.now.high vector.now.low index ≡ None) }
 {

@@ -17,7 +17,7 @@ use v_design::{FlatExpr, FlatTarget, Update, VariableRef};
 use vf_base::ObjectId;
 
 /// The number of bits that a target takes.
-fn width_of_target(target: &FlatTarget) -> u64
+pub fn width_of_target(target: &FlatTarget) -> u64
     ensures { result ≡ target_width (target_of target.now) }
 {
     match target {
@@ -81,7 +81,7 @@ fn update_of_part(
 }
 
 /// The update of a target with its part of the value; none where the index selects nothing.
-fn update_of_target(
+pub fn update_of_target(
     line: u32,
     target: &FlatTarget,
     index: Option<u128>,
@@ -123,7 +123,7 @@ fn update_of_target(
 }
 
 /// The number of bits that several targets take.
-fn width_of_targets(targets: &[FlatTarget]) -> u64
+pub fn width_of_targets(targets: &[FlatTarget]) -> u64
     requires { targets_width (map target_of targets.now) ≤ 128 }
     ensures { result ≡ targets_width (map target_of targets.now) }
 {
@@ -135,7 +135,7 @@ fn width_of_targets(targets: &[FlatTarget]) -> u64
 }
 
 /// One update more, for which there is room.
-fn put_update(updates: &mut Vec<Option<Update>>, update: Option<Update>)
+pub fn put_update(updates: &mut Vec<Option<Update>>, update: Option<Update>)
     requires { length updates.old.items < vec_capacity updates.old }
     ensures items { updates.new.items ≡ updates.old.items ++ (update ∷ []) }
     ensures room { vec_capacity updates.old ≤ vec_capacity updates.new }

@@ -451,21 +451,6 @@ map-widths : (machine : Machine) (outputs : List ℕ) (values : List LogicValue)
 map-widths machine [] values f = refl
 map-widths machine (object ∷ outputs) values f = λ i. f object i ∷ map-widths machine outputs values f i
 
-gate-widths : (machine : Machine) (outputs : List ℕ) (bit : Bit) → length outputs ≡ 1 → AllHold (λ object. object_width machine object ≡ 1) outputs → Widths machine outputs ((bit ∷ []) ∷ [])
-gate-widths machine [] bit e n = absurd (omega (arith, e))
-gate-widths machine (object ∷ []) bit e n = ap (λ w. w ∷ []) (sym n.0)
-gate-widths machine (object ∷ (other ∷ outputs)) bit e n = absurd (omega (arith, e))
-
-value-widths : (machine : Machine) (number : ℕ) (kind : FlatNodeKind) (inputs outputs : List ℕ) (a : List LogicValue) → ((x : ℕ) → has inputs x ≡ has (node_reads kind outputs) x) → WritesOutputs kind outputs →
-    NamedFit machine (named_by_node kind) → IsSizedNode machine.design kind outputs → Fit machine a → Widths machine outputs (node_value machine number kind outputs a)
-value-widths machine number (AssignNode value places) inputs outputs a reads writes n g f = parts-widths machine outputs places (value_of (value_at a) value) (width_of value) g.1
-value-widths machine number (GateNode kind terminals) inputs outputs a reads writes n g f =
-    gate-widths machine outputs (gate_bit kind (map_numbered (λ k v. forced_terminal machine.fault number k (bit_at v 0)) 1 (label_values (value_at a) terminals))) writes g.2
-value-widths machine number (BlockNode statement) inputs outputs a reads writes n g f =
-    map-widths machine outputs (run_statement statement a)
-    (block-same machine (λ x. has inputs x ≡ true) outputs statement (assigned_by outputs [] statement) a a refl writes.1 n (block-reads outputs inputs (read_objects statement) reads)
-    (record { agrees = λ x q. refl; one_fits = f; other_fits = f })).1
-
 length-forced_if : (here : Bool) (bit : ℕ) (stuck : Bool) (value : LogicValue) → length (forced_if here bit stuck value) ≡ length value
 length-forced_if true bit stuck value = length-with_part value (bit_of stuck ∷ []) bit
 length-forced_if false bit stuck value = refl
@@ -494,6 +479,25 @@ forced-widths machine number (object ∷ outputs) (value ∷ values) w =
     tail_of [] = []
     tail_of (x ∷ xs) = xs
 
+-- a gate without an output gives none its value
+gate-widths : (machine : Machine) (number : ℕ) (outputs : List ℕ) (bit : Bit) → length outputs ≤ 1 → AllHold (λ object. object_width machine object ≡ 1) outputs →
+    Widths machine outputs (zip_with (forced_output machine.fault number) outputs ((bit ∷ []) ∷ []))
+gate-widths machine number [] bit e n = refl
+gate-widths machine number (object ∷ []) bit e n = forced-widths machine number (object ∷ []) ((bit ∷ []) ∷ []) (ap (λ w. w ∷ []) (sym n.0))
+gate-widths machine number (object ∷ (other ∷ outputs)) bit e n = absurd (omega (arith, e))
+
+value-widths : (machine : Machine) (number : ℕ) (kind : FlatNodeKind) (inputs outputs : List ℕ) (a : List LogicValue) → ((x : ℕ) → has inputs x ≡ has (node_reads kind outputs) x) → WritesOutputs kind outputs →
+    NamedFit machine (named_by_node kind) → IsSizedNode machine.design kind outputs → Fit machine a → Widths machine outputs (zip_with (forced_output machine.fault number) outputs (node_value machine number kind outputs a))
+value-widths machine number (AssignNode value places) inputs outputs a reads writes n g f =
+    forced-widths machine number outputs (node_value machine number (AssignNode value places) outputs a) (parts-widths machine outputs places (value_of (value_at a) value) (width_of value) g.1)
+value-widths machine number (GateNode kind terminals) inputs outputs a reads writes n g f =
+    gate-widths machine number outputs (gate_bit kind (map_numbered (λ k v. forced_terminal machine.fault number k (bit_at v 0)) 1 (label_values (value_at a) terminals))) writes g.2
+value-widths machine number (BlockNode statement) inputs outputs a reads writes n g f =
+    forced-widths machine number outputs (node_value machine number (BlockNode statement) outputs a)
+    (map-widths machine outputs (run_statement statement a)
+    (block-same machine (λ x. has inputs x ≡ true) outputs statement (assigned_by outputs [] statement) a a refl writes.1 n (block-reads outputs inputs (read_objects statement) reads)
+    (record { agrees = λ x q. refl; one_fits = f; other_fits = f })).1)
+
 -- so the rules say it of each node
 pub rest_on_inputs : (machine : Machine) → KeepsRules machine.design → RestOnInputs machine
 rest_on_inputs machine rules = record {
@@ -502,8 +506,7 @@ rest_on_inputs machine rules = record {
       (value-rests machine number node.kind node.inputs node.outputs one other (node_rules rules number node e).inputs (node_rules rules number node e).outputs
       (named_fit machine (named_by_node node.kind) (node_rules rules number node e).names) f g h);
   widths = λ number node values e f.
-      forced-widths machine number node.outputs (node_value machine number node.kind node.outputs values)
-      (value-widths machine number node.kind node.inputs node.outputs values (node_rules rules number node e).inputs (node_rules rules number node e).outputs
+      value-widths machine number node.kind node.inputs node.outputs values (node_rules rules number node e).inputs (node_rules rules number node e).outputs
       (named_fit machine (named_by_node node.kind) (node_rules rules number node e).names)
-      (node_rules rules number node e).sized f);
+      (node_rules rules number node e).sized f;
 }

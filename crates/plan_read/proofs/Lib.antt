@@ -6,3 +6,5 @@ pub mod Ascends
 pub mod Whole
 pub mod Grown
 pub mod FormLemmas
+pub mod PlanOf
+pub mod Walking

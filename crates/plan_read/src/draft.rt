@@ -15,9 +15,9 @@ ghost use Rattle.plan_read.specs.Steps.{FaultIs, strobes_reason, watched_reason,
 use crate::fault::PlanFault;
 use crate::row::Row;
 use crate::watch::bits_of;
-use fault_list::site_of;
+use site_names::SiteNames;
 use std::alloc::Global;
-use v_design::{Design, Fault};
+use v_design::Fault;
 use vf_base::{MAX_FAULTS, MAX_STROBES, MAX_WATCHED, NoMemory, WatchBit};
 
 /// What the lines so far say: the end, if it was given, the strobe times as written, the watched bits, and the listed faults.
@@ -79,17 +79,17 @@ pub fn add_strobes(
 /// Adds the bits that a name spells.
 pub fn add_watched(
     alloc: Global,
-    design: &Design,
+    names: &SiteNames<'_>,
     watched: &mut Vec<WatchBit>,
     name: &[u8],
     number: u32,
 ) -> Result<(), PlanFault>
     requires { length (watched_bits watched.old.items) ≤ most_watched }
-    ensures ok { OnOk result (watched_bits watched.new.items ≡ watched_bits watched.old.items ++ bits_spelled (design_of design.now) name.now) }
-    ensures good { OnOk result (watched_reason (bits_spelled (design_of design.now) name.now) (length (watched_bits watched.old.items)) ≡ None) }
-    ensures fault { IfErr result (FaultIs number (watched_reason (bits_spelled (design_of design.now) name.now) (length (watched_bits watched.old.items)))) }
+    ensures ok { OnOk result (watched_bits watched.new.items ≡ watched_bits watched.old.items ++ bits_spelled (design_of names.now.design.now) name.now) }
+    ensures good { OnOk result (watched_reason (bits_spelled (design_of names.now.design.now) name.now) (length (watched_bits watched.old.items)) ≡ None) }
+    ensures fault { IfErr result (FaultIs number (watched_reason (bits_spelled (design_of names.now.design.now) name.now) (length (watched_bits watched.old.items)))) }
 {
-    let bits = bits_of(alloc, design, name)?;
+    let bits = bits_of(alloc, names, name)?;
     if bits.is_empty() {
         return Err(PlanFault::UnknownSite(number));
     }
@@ -104,18 +104,18 @@ pub fn add_watched(
 
 /// Adds the fault of the site that a name spells.
 pub fn add_fault(
-    design: &Design,
+    names: &SiteNames<'_>,
     faults: &mut Vec<Fault>,
     name: &[u8],
     value: bool,
     number: u32,
 ) -> Result<(), PlanFault>
     requires { length (stuck faults.old.items) ≤ most_faults }
-    ensures ok { OnOk result (stuck faults.new.items ≡ stuck faults.old.items ++ fault_at (site_spelled (design_of design.now) name.now) value) }
-    ensures good { OnOk result (site_reason (site_spelled (design_of design.now) name.now) (length (stuck faults.old.items)) ≡ None) }
-    ensures fault { IfErr result (FaultIs number (site_reason (site_spelled (design_of design.now) name.now) (length (stuck faults.old.items)))) }
+    ensures ok { OnOk result (stuck faults.new.items ≡ stuck faults.old.items ++ fault_at (site_spelled (design_of names.now.design.now) name.now) value) }
+    ensures good { OnOk result (site_reason (site_spelled (design_of names.now.design.now) name.now) (length (stuck faults.old.items)) ≡ None) }
+    ensures fault { IfErr result (FaultIs number (site_reason (site_spelled (design_of names.now.design.now) name.now) (length (stuck faults.old.items)))) }
 {
-    let Some(site) = site_of(design, name) else {
+    let Some(site) = names.site_of(name) else {
         return Err(PlanFault::UnknownSite(number));
     };
     if faults.len() as u64 >= MAX_FAULTS {

@@ -9,6 +9,7 @@ use crate::draft::{Draft, add_all, add_fault, add_strobes, add_watched};
 use crate::fault::PlanFault;
 use crate::form::Line;
 use fault_list::all_sites;
+use site_names::SiteNames;
 use std::alloc::Global;
 use v_design::{Design, Fault};
 use vf_base::{MAX_END, NoMemory};
@@ -59,23 +60,23 @@ fn keep_all(alloc: Global, design: &Design, kept: &mut Option<Vec<Fault>>) -> Re
 /// Adds a line after the end was given.
 fn add_later(
     alloc: Global,
-    design: &Design,
+    names: &SiteNames<'_>,
     draft: &mut Draft,
     end: u64,
     line: Line<'_>,
     number: u32,
 ) -> Result<(), PlanFault>
-    requires within { IsWithin (design_of design.now) draft.old }
+    requires within { IsWithin (design_of names.now.design.now) draft.old }
     requires later { draft.old.end ≡ Some end }
-    ensures ok { OnOk result (IsAdded (design_of design.now) (plain_line line.entry) draft.old draft.new) }
-    ensures good { OnOk result (reason_after (design_of design.now) draft.old end (plain_line line.entry) ≡ None) }
-    ensures fault { IfErr result (FaultIs number (reason_after (design_of design.now) draft.old end (plain_line line.entry))) }
+    ensures ok { OnOk result (IsAdded (design_of names.now.design.now) (plain_line line.entry) draft.old draft.new) }
+    ensures good { OnOk result (reason_after (design_of names.now.design.now) draft.old end (plain_line line.entry) ≡ None) }
+    ensures fault { IfErr result (FaultIs number (reason_after (design_of names.now.design.now) draft.old end (plain_line line.entry))) }
 {
     match line {
         Line::Empty => Ok(()),
         Line::Ends(_) => Err(PlanFault::BadLine(number)),
         Line::Watches(name) => {
-            add_watched(alloc, design, &mut draft.watched, name, number)?;
+            add_watched(alloc, names, &mut draft.watched, name, number)?;
             Ok(())
         }
         Line::Strobes(times) => {
@@ -83,11 +84,11 @@ fn add_later(
             Ok(())
         }
         Line::Lists(name, value) => {
-            add_fault(design, &mut draft.faults, name, value, number)?;
+            add_fault(names, &mut draft.faults, name, value, number)?;
             Ok(())
         }
         Line::ListsAll => {
-            keep_all(alloc, design, &mut draft.all)?;
+            keep_all(alloc, names.design, &mut draft.all)?;
             let Some(all) = &draft.all else {
                 unreachable!();
             };
@@ -101,23 +102,23 @@ fn add_later(
 /// Adds what a line says, or tells why it is refused.
 pub fn add_line(
     alloc: Global,
-    design: &Design,
+    names: &SiteNames<'_>,
     draft: &mut Draft,
     line: Line<'_>,
     number: u32,
 ) -> Result<(), PlanFault>
-    requires within { IsWithin (design_of design.now) draft.old }
-    ensures ok { OnOk result (IsAdded (design_of design.now) (plain_line line.entry) draft.old draft.new) }
-    ensures good { OnOk result (reason_at (design_of design.now) draft.old draft.old.end (plain_line line.entry) ≡ None) }
-    ensures fault { IfErr result (FaultIs number (reason_at (design_of design.now) draft.old draft.old.end (plain_line line.entry))) }
+    requires within { IsWithin (design_of names.now.design.now) draft.old }
+    ensures ok { OnOk result (IsAdded (design_of names.now.design.now) (plain_line line.entry) draft.old draft.new) }
+    ensures good { OnOk result (reason_at (design_of names.now.design.now) draft.old draft.old.end (plain_line line.entry) ≡ None) }
+    ensures fault { IfErr result (FaultIs number (reason_at (design_of names.now.design.now) draft.old draft.old.end (plain_line line.entry))) }
 {
     match draft.end {
         None => {
-            add_first(design, draft, line, number)?;
+            add_first(names.design, draft, line, number)?;
             Ok(())
         }
         Some(end) => {
-            add_later(alloc, design, draft, end, line, number)?;
+            add_later(alloc, names, draft, end, line, number)?;
             Ok(())
         }
     }

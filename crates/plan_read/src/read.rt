@@ -7,7 +7,7 @@ ghost use Rattle.plan_read.specs.Text.{words_of};
 ghost use Rattle.plan_read.specs.Forms.{line_of};
 ghost use Rattle.plan_read.specs.Plain.{plain_words, watched_bits};
 ghost use Rattle.fault_list.specs.Listed.{stuck};
-ghost use Rattle.v_design.specs.WellFormed.{IsAscending, IsPlan};
+ghost use Rattle.v_design.specs.WellFormed.{IsAscending, IsPlan, IsPlanOf};
 ghost use Rattle.plan_read.specs.Spelled.{most_bytes, most_strobes, most_watched, most_faults, latest_end, lines_say, plan_lines, LinesSpell, Spells, Refuses};
 ghost use Rattle.plan_read.specs.Steps.{IsRead, FaultOf};
 
@@ -17,6 +17,7 @@ use crate::fault::PlanFault;
 use crate::form::line_of;
 use crate::line::add_line;
 use crate::sorted::ascending;
+use site_names::SiteNames;
 use std::alloc::Global;
 use v_design::{Design, Plan};
 use vf_base::{MAX_PLAN_BYTES, NoMemory, Seq};
@@ -39,10 +40,14 @@ fn empty_draft(alloc: Global) -> Draft
 }
 
 /// What the lines say, or the first line that is refused.
-fn read_lines<'t>(alloc: Global, design: &Design, lines: &[&'t [u8]]) -> Result<Draft, PlanFault>
+fn read_lines<'t>(
+    alloc: Global,
+    names: &SiteNames<'_>,
+    lines: &[&'t [u8]],
+) -> Result<Draft, PlanFault>
     requires { length lines.now ≤ most_bytes }
-    ensures read { IfOk result (IsRead (design_of design.now) (lines_say (plain_words lines.now))) }
-    ensures fault { IfErr result (FaultOf (design_of design.now) (lines_say (plain_words lines.now))) }
+    ensures read { IfOk result (IsRead (design_of names.now.design.now) (lines_say (plain_words lines.now))) }
+    ensures fault { IfErr result (FaultOf (design_of names.now.design.now) (lines_say (plain_words lines.now))) }
 {
     let mut draft = empty_draft(alloc);
     let mut row: Vec<&'t [u8]> = Vec::new(alloc);
@@ -50,7 +55,7 @@ fn read_lines<'t>(alloc: Global, design: &Design, lines: &[&'t [u8]]) -> Result<
         words(&mut row, line)?;
         add_line(
             alloc,
-            design,
+            names,
             &mut draft,
             line_of(row.as_slice()),
             place as u32 + 1,
@@ -94,15 +99,20 @@ fn plan_from(alloc: Global, end: u64, draft: Draft) -> Result<Plan, NoMemory>
 /// A text of more than 262,144 bytes is `TooLong`, before anything else. Of the lines the first one that is refused counts: it is bad where it is
 /// of no form, where a number breaks its limit, where a strobe is past the end, or where the end isn't given first or is given again; else its
 /// name is unknown; else there are too many with it. A plan without an end is bad at the line after the last.
+///
+/// A plan that is read keeps what every plan keeps, and is one of the design: what is watched are bits of its objects, and what is held are its sites.
 pub fn read_plan(alloc: Global, text: &[u8], design: &Design) -> Result<Plan, PlanFault>
     ensures spelled { IfOk result (λ plan. Spells (design_of design.now) text.now (plan_of plan)) }
+    ensures kept { IfOk result (λ plan. IsPlan (plan_of plan)) }
+    ensures fits { IfOk result (λ plan. IsPlanOf (design_of design.now) (plan_of plan)) }
     ensures refused { IfErr result (Refuses (design_of design.now) text.now) }
 {
     if text.len() as u64 > MAX_PLAN_BYTES {
         return Err(PlanFault::TooLong);
     }
+    let names = SiteNames::new(alloc, design)?;
     let lines = lines(alloc, text)?;
-    let draft = read_lines(alloc, design, lines.as_slice())?;
+    let draft = read_lines(alloc, &names, lines.as_slice())?;
     match draft.end {
         None => Err(PlanFault::BadLine(lines.len() as u32 + 1)),
         Some(end) => {

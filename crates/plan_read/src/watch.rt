@@ -1,6 +1,6 @@
 // The bits that a word spells for watching.
 
-ghost use Rattle.std.specs.Prelude.{◌≡◌, ◌++◌, ◌∷◌, ◌<◌, ◌^◌, [], IfOk, OnOk, map, length};
+ghost use Rattle.std.specs.Prelude.{◌≡◌, ◌++◌, ◌∷◌, [], IfOk, OnOk, map};
 ghost use Rattle.std.specs.Option.{option_and_then};
 ghost use Rattle.vf_base.specs.Base.{object_number};
 ghost use Rattle.v_design.specs.Lists.{joined, map_numbered};
@@ -11,8 +11,9 @@ ghost use Rattle.plan_read.specs.Plain.{watched_bits};
 ghost use Rattle.plan_read.specs.Watched.{bit_of, object_bits, pieces_bits, bit_if, held_if, bits_in_object, bits_in_joined, bits_spelled};
 
 use fault_list::{bit_spelled, joined_place, piece_bit};
+use site_names::SiteNames;
 use std::alloc::Global;
-use v_design::{Design, JoinedName, Object, ObjectKind, PieceRef};
+use v_design::{JoinedName, Object, ObjectKind, PieceRef};
 use vf_base::{NoMemory, ObjectId, WatchBit};
 
 /// Adds a bit of an object.
@@ -110,33 +111,40 @@ fn add_joined(bits: &mut Vec<WatchBit>, name: &JoinedName, word: &[u8]) -> Resul
 }
 
 /// Adds the bits that a word spells by objects' own names.
-fn add_objects(bits: &mut Vec<WatchBit>, objects: &[Object], word: &[u8]) -> Result<(), NoMemory>
-    requires { length objects.now < 2 ^ 32 }
-    ensures { OnOk result (watched_bits bits.new.items ≡ watched_bits bits.old.items ++ joined (map_numbered (bits_in_object word.now) 0 (map object_of objects.now))) }
+fn add_objects(bits: &mut Vec<WatchBit>, names: &SiteNames<'_>, word: &[u8]) -> Result<(), NoMemory>
+    ensures { OnOk result (watched_bits bits.new.items ≡ watched_bits bits.old.items ++ joined (map_numbered (bits_in_object word.now) 0 (design_of names.now.design.now).objects)) }
 {
-    'objects: for (number, object) in objects.iter().enumerate() {
-        add_spelled(bits, ObjectId(number as u32), object, word)?;
+    let objects = names.design.objects.as_slice();
+    let mut at = names.first_object(word);
+    'places: while let Some(place) = at {
+        let object = &objects[place as usize];
+        add_spelled(bits, ObjectId(place), object, word)?;
+        at = names.next_object(place);
     }
     Ok(())
 }
 
 /// Adds the bits that a word spells by joined names.
-fn add_names(bits: &mut Vec<WatchBit>, names: &[JoinedName], word: &[u8]) -> Result<(), NoMemory>
-    ensures { OnOk result (watched_bits bits.new.items ≡ watched_bits bits.old.items ++ joined (map (bits_in_joined word.now) (map name_joined names.now))) }
+fn add_names(bits: &mut Vec<WatchBit>, names: &SiteNames<'_>, word: &[u8]) -> Result<(), NoMemory>
+    ensures { OnOk result (watched_bits bits.new.items ≡ watched_bits bits.old.items ++ joined (map (bits_in_joined word.now) (design_of names.now.design.now).joined)) }
 {
-    'names: for name in names {
+    let joined = names.design.joined.as_slice();
+    let mut at = names.first_joined(word);
+    'places: while let Some(place) = at {
+        let name = &joined[place as usize];
         add_joined(bits, name, word)?;
+        at = names.next_joined(place);
     }
     Ok(())
 }
 
 /// The bits that a word spells: NAME for all bits of a variable, a net or a joined name, NAME[INDEX] for one of them; none where it spells none.
 #[tactic(auto, unfolding(crate::specs::Watched::bits_spelled))]
-pub fn bits_of(alloc: Global, design: &Design, word: &[u8]) -> Result<Vec<WatchBit>, NoMemory>
-    ensures { IfOk result (λ bits. watched_bits bits.items ≡ bits_spelled (design_of design.now) word.now) }
+pub fn bits_of(alloc: Global, names: &SiteNames<'_>, word: &[u8]) -> Result<Vec<WatchBit>, NoMemory>
+    ensures { IfOk result (λ bits. watched_bits bits.items ≡ bits_spelled (design_of names.now.design.now) word.now) }
 {
     let mut bits = Vec::new(alloc);
-    add_objects(&mut bits, design.objects.as_slice(), word)?;
-    add_names(&mut bits, design.joined.as_slice(), word)?;
+    add_objects(&mut bits, names, word)?;
+    add_names(&mut bits, names, word)?;
     Ok(bits)
 }

@@ -1,5 +1,5 @@
 -- A statement whose own spot stands before the rest of a position, and whose parts are compiled behind it.
-use Rattle.std.proofs.Common.{◌≡◌, ◌≢◌, ◌≤◌, ◌<◌, ℕ, zero, suc, ◌+◌, ◌-◌, List, [], ◌∷◌, ◌++◌, length, get_or, Option, Some, None, refl, sym, ap, ◌∙◌, subst, arith, length-append, append-nil, unwrap_or}
+use Rattle.std.proofs.Common.{◌≡◌, ◌≢◌, ◌≤◌, ◌<◌, ℕ, zero, suc, ◌+◌, ◌-◌, Bool, List, [], ◌∷◌, ◌++◌, length, get_or, Option, Some, None, refl, sym, ap, ◌∙◌, subst, arith, length-append, append-nil, append_assoc, unwrap_or}
 use Rattle.std.specs.List.{slice_get}
 use Rattle.v_design.specs.Trees.{Expression, Target, Statement, Block, Case, For, While, Repeat, Blocking, Statements, no_statements, more_statements, CaseItems, no_items, more_items}
 use Rattle.vf_base.specs.Base.{SourcePlace}
@@ -8,14 +8,16 @@ use Rattle.v_design.specs.Processes.{loop_of}
 use Rattle.process_code.specs.Rests.{Part, Runs, TurnsLeft, opened_parts, NumbersFall}
 use Rattle.process_code.specs.RestsLaws.{numbers_fall-opened, numbers_fall-more}
 use Rattle.process_code.specs.Positions.{part_of_head, rests_of, StandsAt, ItemsLead, PartLeads}
-use Rattle.process_code.specs.Compiling.{Leads, rests_in, IsInStep, Grows, Places, Turned, IsBelow, MayCompile, Compiles, CompilesItems}
+use Rattle.process_code.specs.Marks.{Mark, mark_of, mark_of_spot, mark_of_statement, marks_at, marks_of, marks_of_items, assignment_mark, turns_mark}
+use Rattle.process_code.specs.Compiling.{Leads, rests_in, marks_in, IsInStep, Grows, Places, Turned, IsBelow, MayCompile, Compiles, CompilesItems}
 use Rattle.process_code.proofs.Growing.{Keeps, slice_get-last, keeps-spots, rest_at, rest-last, some-same, grows-keeps, turned-keeps, grows-refl, grows-trans, grows-own, items_lead-more}
 use Rattle.std.proofs.lemmas.Option.{slice_get_within}
+use Rattle.std.proofs.lemmas.List.{map-append}
 use Rattle.v_design.specs.Plain.{statement_of}
 use Rattle.v_design.specs.PlainLemmas.{items_of, statements_of}
 use Rattle.v_design.specs.declared.tree.CaseItem.{CaseItem}
 use Rattle.v_design.specs.declared.tree.FlatStmt.{FlatStmt}
-use Rattle.v_design.specs.Sized.{levels_of_statement, levels_of_statements, levels_of_items}
+use Rattle.v_design.specs.Sized.{IsSizedStatement, AreSizedStatements, AreSizedItems, levels_of_statement, levels_of_statements, levels_of_items}
 use Rattle.process_code.specs.declared.code.Head.{Head}
 use Rattle.process_code.specs.declared.code.Ways.{Ways}
 use Rattle.process_code.specs.declared.builder.Builder.{Builder}
@@ -105,7 +107,7 @@ may-entry old new s next entry m k =
 turned-in_step : (grown new : Builder) (own : ℕ) (ways : Ways) → IsInStep grown → Turned grown new own ways → IsInStep new
 turned-in_step grown new own ways in_step t =
     let spots : length new.spots.items ≡ length grown.spots.items = ap length t.spots in
-    record { ways = omega (arith, spots, in_step.ways, t.lengths); repeats = omega (arith, spots, in_step.repeats, t.repeats) }
+    record { sized = λ i spot there. in_step.sized i spot (ap (λ xs. slice_get xs i) (sym t.spots) ∙ there); ways = omega (arith, spots, in_step.ways, t.lengths); repeats = omega (arith, spots, in_step.repeats, t.repeats) }
 
 turned-own : (old placed grown new : Builder) (head : Head) (next own : ℕ) (ways : Ways) → Places old placed head next own → Turned grown new (own - 1) ways →
     Turned grown new (length old.spots.items) ways
@@ -114,13 +116,26 @@ turned-own old placed grown new head next own ways p t =
     let P : ℕ → Type 0 = λ n. Turned grown new n ways in
     subst P e t
 
+-- a spot that is placed has its mark before those of the spots behind it
+pub marks-own : (old placed grown new : Builder) (head : Head) (next own : ℕ) (mark : Mark) (inner : List Mark) → Places old placed head next own → mark_of (part_of_head head) ≡ mark →
+    marks_in grown ≡ marks_in placed ++ inner → new.spots.items ≡ grown.spots.items → marks_in new ≡ marks_in old ++ (mark ∷ inner)
+marks-own old placed grown new head next own mark inner p mark_is behind same =
+    let placed_marks : marks_in placed ≡ marks_in old ++ (mark ∷ []) =
+    ap marks_at p.spots ∙ map-append mark_of_spot old.spots.items (p.spot ∷ [])
+    ∙ ap (λ h. marks_in old ++ (mark_of (part_of_head h) ∷ [])) p.head_is ∙ ap (λ m. marks_in old ++ (m ∷ [])) mark_is in
+    ap marks_at same ∙ behind ∙ ap (λ ms. ms ++ inner) placed_marks ∙ append_assoc (marks_in old) (mark ∷ []) inner
+
+-- the marks of two parts, one compiled behind the other
+pub marks-both : (placed one grown : Builder) (first second : List Mark) → marks_in one ≡ marks_in placed ++ first → marks_in grown ≡ marks_in one ++ second → marks_in grown ≡ marks_in placed ++ (first ++ second)
+marks-both placed one grown first second h k = k ∙ ap (λ ms. ms ++ second) h ∙ append_assoc (marks_in placed) first second
+
 -- a statement with its own spot
-pub compiled-own : (old placed grown new : Builder) (head : Head) (s : Statement) (next own : ℕ) (ways : Ways) →
+pub compiled-own : (old placed grown new : Builder) (head : Head) (s : Statement) (next own : ℕ) (ways : Ways) (inner : List Mark) →
     MayCompile old next → Places old placed head next own × IsInStep placed → Grows placed grown → IsInStep grown → Turned grown new (own - 1) ways →
-    part_of_head head ≡ Runs s → ((rest : List Part) → opened_parts s rest ≡ Runs s ∷ rest) →
+    part_of_head head ≡ Runs s → ((rest : List Part) → opened_parts s rest ≡ Runs s ∷ rest) → marks_of s ≡ mark_of_statement s ∷ inner → marks_in grown ≡ marks_in placed ++ inner →
     ((rest : List Part) → StandsAt (rests_in old) next rest → PartLeads new.repeats (rests_in new) ways (Runs s) rest) →
     Compiles old new s next own
-compiled-own old placed grown new head s next own ways m p g in_step t head_is opened leads =
+compiled-own old placed grown new head s next own ways inner m p g in_step t head_is opened own_marks behind leads =
     let known = rest_at old.spots.items next m.there in
     let turned = turned-own old placed grown new head next own ways p.0 t in
     let longer : length grown.spots.items ≡ length placed.spots.items + length g.added = ap length g.spots ∙ length-append placed.spots.items g.added in
@@ -133,6 +148,7 @@ compiled-own old placed grown new head s next own ways m p g in_step t head_is o
       opens = λ rest h.
           turned-keeps grown new _ ways t own _ (grows-keeps placed grown g own _ (placed-stands old placed head next own rest p.0 h))
           ∙ ap (λ part. Some (part ∷ rest)) head_is ∙ ap Some (sym (opened rest));
+      marks = marks-own old placed grown new head next own (mark_of_statement s) inner p.0 (ap mark_of head_is) behind t.spots ∙ ap (λ ms. marks_in old ++ ms) (sym own_marks);
     }
 
 at-way : (rests : List (List Part)) (one other : ℕ) (rest : List Part) → one ≡ other → StandsAt rests other rest → StandsAt rests one rest
@@ -141,33 +157,34 @@ at-way rests one other rest e h = ap (slice_get rests) e ∙ h
 -- a statement whose body stands before the same rest
 pub compiled-body : (old placed grown new : Builder) (head : Head) (s body : Statement) (next own inner : ℕ) (ways : Ways) →
     MayCompile old next → Places old placed head next own × IsInStep placed → Compiles placed grown body next inner → Turned grown new (own - 1) ways →
-    part_of_head head ≡ Runs s → ((rest : List Part) → opened_parts s rest ≡ Runs s ∷ rest) → ways.inner ≡ inner →
+    part_of_head head ≡ Runs s → ((rest : List Part) → opened_parts s rest ≡ Runs s ∷ rest) → marks_of s ≡ mark_of_statement s ∷ marks_of body → ways.inner ≡ inner →
     ((rest : List Part) → StandsAt (rests_in new) ways.inner (opened_parts body rest) → PartLeads new.repeats (rests_in new) ways (Runs s) rest) →
     Compiles old new s next own
-compiled-body old placed grown new head s body next own inner ways m p k t head_is opened inner_is leads =
-    compiled-own old placed grown new head s next own ways m p k.grows k.in_step t head_is opened
+compiled-body old placed grown new head s body next own inner ways m p k t head_is opened own_marks inner_is leads =
+    compiled-own old placed grown new head s next own ways (marks_of body) m p k.grows k.in_step t head_is opened own_marks k.marks
     (λ rest h. leads rest (at-way (rests_in new) ways.inner inner _ inner_is
     (turned-keeps grown new _ ways t inner _ (k.opens rest (placed-keeps old placed head next own p.0 next rest h)))))
 
 -- a statement whose body stands before the statement itself
 pub compiled-loop : (old placed grown new : Builder) (head : Head) (s body : Statement) (next own inner : ℕ) (ways : Ways) →
     MayCompile old next → Places old placed head next own × IsInStep placed → Compiles placed grown body own inner → Turned grown new (own - 1) ways →
-    part_of_head head ≡ Runs s → ((rest : List Part) → opened_parts s rest ≡ Runs s ∷ rest) → ways.inner ≡ inner →
+    part_of_head head ≡ Runs s → ((rest : List Part) → opened_parts s rest ≡ Runs s ∷ rest) → marks_of s ≡ mark_of_statement s ∷ marks_of body → ways.inner ≡ inner →
     ((rest : List Part) → StandsAt (rests_in new) ways.inner (opened_parts body (Runs s ∷ rest)) → PartLeads new.repeats (rests_in new) ways (Runs s) rest) →
     Compiles old new s next own
-compiled-loop old placed grown new head s body next own inner ways m p k t head_is opened inner_is leads =
-    compiled-own old placed grown new head s next own ways m p k.grows k.in_step t head_is opened
+compiled-loop old placed grown new head s body next own inner ways m p k t head_is opened own_marks inner_is leads =
+    compiled-own old placed grown new head s next own ways (marks_of body) m p k.grows k.in_step t head_is opened own_marks k.marks
     (λ rest h. leads rest (at-way (rests_in new) ways.inner inner _ inner_is
     (turned-keeps grown new _ ways t inner _ (k.opens _ (placed-stands old placed head next own rest p.0 h ∙ ap (λ part. Some (part ∷ rest)) head_is)))))
 
 -- a statement with two branches
 pub compiled-branches : (old placed one grown new : Builder) (head : Head) (s first second : Statement) (next own inner other : ℕ) (ways : Ways) →
     MayCompile old next → Places old placed head next own × IsInStep placed → Compiles placed one first next inner → Compiles one grown second next other → Turned grown new (own - 1) ways →
-    part_of_head head ≡ Runs s → ((rest : List Part) → opened_parts s rest ≡ Runs s ∷ rest) → ways.inner ≡ inner → ways.other ≡ other →
+    part_of_head head ≡ Runs s → ((rest : List Part) → opened_parts s rest ≡ Runs s ∷ rest) → marks_of s ≡ mark_of_statement s ∷ (marks_of first ++ marks_of second) → ways.inner ≡ inner → ways.other ≡ other →
     ((rest : List Part) → StandsAt (rests_in new) ways.inner (opened_parts first rest) → StandsAt (rests_in new) ways.other (opened_parts second rest) → PartLeads new.repeats (rests_in new) ways (Runs s) rest) →
     Compiles old new s next own
-compiled-branches old placed one grown new head s first second next own inner other ways m p j k t head_is opened inner_is other_is leads =
-    compiled-own old placed grown new head s next own ways m p (grows-trans placed one grown p.1.ways j.grows k.grows) k.in_step t head_is opened
+compiled-branches old placed one grown new head s first second next own inner other ways m p j k t head_is opened own_marks inner_is other_is leads =
+    compiled-own old placed grown new head s next own ways (marks_of first ++ marks_of second) m p (grows-trans placed one grown p.1.ways j.grows k.grows) k.in_step t head_is opened
+    own_marks (marks-both placed one grown (marks_of first) (marks_of second) j.marks k.marks)
     (λ rest h.
     let here = placed-keeps old placed head next own p.0 next rest h in
     leads rest
@@ -190,18 +207,24 @@ turned-self old placed grown head next own p in_step g =
 
 -- a statement without parts
 pub compiled-leaf : (old placed : Builder) (head : Head) (s : Statement) (next own : ℕ) →
-    MayCompile old next → Places old placed head next own × IsInStep placed → part_of_head head ≡ Runs s → ((rest : List Part) → opened_parts s rest ≡ Runs s ∷ rest) →
+    MayCompile old next → Places old placed head next own × IsInStep placed → part_of_head head ≡ Runs s → ((rest : List Part) → opened_parts s rest ≡ Runs s ∷ rest) → marks_of s ≡ mark_of_statement s ∷ [] →
     ((ways : Ways) (rest : List Part) → PartLeads placed.repeats (rests_in placed) ways (Runs s) rest) → Compiles old placed s next own
-compiled-leaf old placed head s next own m p head_is opened leads =
+compiled-leaf old placed head s next own m p head_is opened own_marks leads =
     let t = turned-self old placed placed head next own p.0 m.in_step.ways (grows-refl placed) in
     let e : length old.spots.items ≡ own - 1 = omega (arith, p.0.own_is) in
     let P : ℕ → Type 0 = λ n. Turned placed placed n p.0.way in
-    compiled-own old placed placed placed head s next own p.0.way m p (grows-refl placed) p.1 (subst P e t) head_is opened (λ rest h. leads p.0.way rest)
+    compiled-own old placed placed placed head s next own p.0.way [] m p (grows-refl placed) p.1 (subst P e t) head_is opened own_marks (sym (append-nil (marks_in placed))) (λ rest h. leads p.0.way rest)
 
 -- a null statement
-pub compiled-null : (old : Builder) (next : ℕ) (s : Statement) → MayCompile old next → ((rest : List Part) → opened_parts s rest ≡ rest) → Compiles old old s next next
-compiled-null old next s m opened =
-    record { in_step = m.in_step; grows = grows-refl old; there = m.there; opens = λ rest h. h ∙ ap Some (sym (opened rest)) }
+pub compiled-null : (old : Builder) (next : ℕ) (s : Statement) → MayCompile old next → ((rest : List Part) → opened_parts s rest ≡ rest) → marks_of s ≡ [] → Compiles old old s next next
+compiled-null old next s m opened no_marks =
+    record {
+      in_step = m.in_step;
+      grows = grows-refl old;
+      there = m.there;
+      opens = λ rest h. h ∙ ap Some (sym (opened rest));
+      marks = sym (append-nil (marks_in old)) ∙ ap (λ ms. marks_in old ++ ms) (sym no_marks);
+    }
 
 -- one more item of a case
 pub items_lead-push : (rests : List (List Part)) (positions : List ℕ) (position : ℕ) (items : List CaseItem) (item : CaseItem) (rest : List Part) →
@@ -212,6 +235,12 @@ items_lead-push rests (p ∷ positions) position [] item rest h k = absurd h
 items_lead-push rests [] position (x ∷ items) item rest h k = absurd h
 items_lead-push rests (p ∷ positions) position (x ∷ items) item rest h k = (h.0, items_lead-push rests positions position items item rest h.1 k)
 
+-- the marks of one more item
+pub marks-push : (items : List CaseItem) (item : CaseItem) → marks_of_items (items_of (items ++ (item ∷ []))) ≡ marks_of_items (items_of items) ++ marks_of (statement_of item.statement)
+marks-push [] item = append-nil (marks_of (statement_of item.statement))
+marks-push (x ∷ items) item =
+    ap (λ ms. marks_of (statement_of x.statement) ++ ms) (marks-push items item) ∙ sym (append_assoc (marks_of (statement_of x.statement)) (marks_of_items (items_of items)) (marks_of (statement_of item.statement)))
+
 -- a case
 pub compiled-case : (old placed one grown new : Builder) (head : Head) (place : SourcePlace) (kind : CaseKind) (value : Expression) (items : CaseItems) (default : Statement)
     (next own other : ℕ) (positions : List ℕ) (ways : Ways) →
@@ -219,7 +248,8 @@ pub compiled-case : (old placed one grown new : Builder) (head : Head) (place : 
     Turned grown new (own - 1) ways → part_of_head head ≡ Runs (Case place kind value items default) → ways.items.items ≡ positions → ways.other ≡ other →
     Compiles old new (Case place kind value items default) next own
 compiled-case old placed one grown new head place kind value items default next own other positions ways m p j k t head_is items_are other_is =
-    compiled-own old placed grown new head (Case place kind value items default) next own ways m p (grows-trans placed one grown p.1.ways j.grows k.grows) k.in_step t head_is (λ rest. refl)
+    compiled-own old placed grown new head (Case place kind value items default) next own ways (marks_of_items items ++ marks_of default) m p (grows-trans placed one grown p.1.ways j.grows k.grows) k.in_step t head_is
+    (λ rest. refl) refl (marks-both placed one grown (marks_of_items items) (marks_of default) j.marks k.marks)
     (λ rest h.
     let here = placed-keeps old placed head next own p.0 next rest h in
     let P : List ℕ → Type 0 = λ list. ItemsLead (rests_in new) list items rest in (
@@ -264,13 +294,13 @@ may-turns old placed counted turned head turns_head place body next own turns m 
 -- a repeat: its own spot, and that of its turns
 pub compiled-repeat : (old placed counted turned grown led new : Builder) (head turns_head : Head) (place : SourcePlace) (count : Expression) (body : Statement)
     (next own turns inner : ℕ) (turns_ways ways : Ways) →
-    MayCompile old next → Places old placed head next own × IsInStep placed → Grows placed counted → IsInStep counted → old.repeats < counted.repeats →
+    MayCompile old next → Places old placed head next own × IsInStep placed → Grows placed counted → counted.spots.items ≡ placed.spots.items → IsInStep counted → old.repeats < counted.repeats →
     Places counted turned turns_head next turns × IsInStep turned → Compiles turned grown body turns inner →
     Turned grown led (turns - 1) turns_ways → Turned led new (own - 1) ways →
     part_of_head head ≡ Runs (Repeat place count body) → part_of_head turns_head ≡ TurnsLeft old.repeats place body →
     turns_ways.inner ≡ inner → ways.inner ≡ turns → ways.other ≡ old.repeats →
     Compiles old new (Repeat place count body) next own
-compiled-repeat old placed counted turned grown led new head turns_head place count body next own turns inner turns_ways ways m p gc counted_in more q k t u head_is turns_is inner_is turns_at number_is =
+compiled-repeat old placed counted turned grown led new head turns_head place count body next own turns inner turns_ways ways m p gc same_spots counted_in more q k t u head_is turns_is inner_is turns_at number_is =
     let may_counted = may-grown placed counted next (may-placed old placed head next own m p) gc counted_in in
     let known = rest_at counted.spots.items next may_counted.there in
     let led_own = turned-own counted turned grown led turns_head next turns turns_ways q.0 t in
@@ -283,7 +313,10 @@ compiled-repeat old placed counted turned grown led new head turns_head place co
     let g : Grows counted led = grows-own counted turned grown led turns_head next turns turns_ways _ counted_in.ways q.0 k.grows led_own known
     (subst P (sym turns_is) (more_led, below-counted old placed counted head next own m p.0 gc _ known, turns_lead _ known)) in
     let N : ℕ → List Part → Type 0 = λ n rest. NumbersFall n rest in
-    compiled-own old placed led new head (Repeat place count body) next own ways m p (grows-trans placed counted led p.1.ways gc g) led_in u head_is (λ rest. refl)
+    let behind : marks_in led ≡ marks_in counted ++ (turns_mark place ∷ marks_of body) =
+    marks-own counted turned grown led turns_head next turns (turns_mark place) (marks_of body) q.0 (ap mark_of turns_is) k.marks t.spots in
+    compiled-own old placed led new head (Repeat place count body) next own ways (turns_mark place ∷ marks_of body) m p (grows-trans placed counted led p.1.ways gc g) led_in u head_is (λ rest. refl)
+    refl (behind ∙ ap (λ spots. marks_at spots ++ (turns_mark place ∷ marks_of body)) same_spots)
     (λ rest h.
     let here = grows-keeps placed counted gc next rest (placed-keeps old placed head next own p.0 next rest h) in
     let stands : StandsAt (rests_in turned) turns (TurnsLeft old.repeats place body ∷ rest) = placed-stands counted turned turns_head next turns rest q.0 here ∙ ap (λ part. Some (part ∷ rest)) turns_is in
@@ -312,11 +345,27 @@ compiled-for old placed tested advanced grown led new head test_head advance_hea
     let g : Grows tested grown = grows-own tested advanced grown grown advance_head test advance r.0.way _ q.1.ways r.0 k.grows
     (turned-self tested advanced grown advance_head test advance r.0 q.1.ways k.grows) known (subst A (sym advance_is) tt) in
     let loop : Compiles placed led (loop_of place condition next_targets next_value body) next test =
-    compiled-own placed tested grown led test_head (loop_of place condition next_targets next_value body) next test test_ways may_placed q g k.in_step t test_is (λ rest. refl)
+    compiled-own placed tested grown led test_head (loop_of place condition next_targets next_value body) next test test_ways (assignment_mark place ∷ marks_of body) may_placed q g k.in_step t test_is (λ rest. refl)
+    refl (marks-own tested advanced grown grown advance_head test advance (assignment_mark place) (marks_of body) r.0 (ap mark_of advance_is) k.marks refl)
     (λ rest h. at-way (rests_in led) test_ways.inner inner _ inner_is (turned-keeps grown led _ test_ways t inner _
     (k.opens _ (placed-stands tested advanced advance_head test advance _ r.0
     (placed-stands placed tested test_head next test rest q.0 h ∙ ap (λ part. Some (part ∷ rest)) test_is) ∙ ap (λ part. Some (part ∷ (Runs (loop_of place condition next_targets next_value body) ∷ rest))) advance_is)))) in
-    compiled-body old placed led new head _ (loop_of place condition next_targets next_value body) next own test ways m p loop u head_is (λ rest. refl) test_at (λ rest h. h)
+    compiled-body old placed led new head _ (loop_of place condition next_targets next_value body) next own test ways m p loop u head_is (λ rest. refl) refl test_at (λ rest h. h)
+
+-- Parts
+
+-- a statement of a block is sized
+pub sized-statement : (statements : List FlatStmt) (i : ℕ) (s : FlatStmt) → i < length statements → s ≡ get_or statements i s → AreSizedStatements (statements_of statements) → IsSizedStatement (statement_of s)
+sized-statement [] i s h e k = absurd (omega (arith, h))
+sized-statement (x ∷ xs) zero s h e k = subst (λ y. IsSizedStatement (statement_of y)) (sym e) k.0
+sized-statement (x ∷ xs) (suc i) s h e k = sized-statement xs i s (omega (arith, h)) e k.1
+
+-- the statement of a case's item is sized
+pub sized-item : (items : List CaseItem) (i : ℕ) (item : CaseItem) (width : ℕ) (signed : Bool) → i < length items → item ≡ get_or items i item → AreSizedItems width signed (items_of items) →
+    IsSizedStatement (statement_of item.statement)
+sized-item [] i item width signed h e k = absurd (omega (arith, h))
+sized-item (x ∷ xs) zero item width signed h e k = subst (λ (y : CaseItem). IsSizedStatement (statement_of y.statement)) (sym e) k.1
+sized-item (x ∷ xs) (suc i) item width signed h e k = sized-item xs i item width signed (omega (arith, h)) e k.2
 
 -- Measures
 

@@ -5,11 +5,11 @@ use Rattle.four_value.specs.Values.{LogicValue, each_place, same_value}
 use Rattle.four_value.specs.declared.logic.Bit.{Bit}
 use Rattle.four_value.specs.declared.logic.Bit.TheVariants.{Zero, One, X, Z}
 
-and-left : (p q : Bool) → (p && q) ≡ true → p ≡ true
+pub and-left : (p q : Bool) → (p && q) ≡ true → p ≡ true
 and-left true q h = refl
 and-left false q h = h
 
-and-right : (p q : Bool) → (p && q) ≡ true → q ≡ true
+pub and-right : (p q : Bool) → (p && q) ≡ true → q ≡ true
 and-right true q h = h
 and-right false q h = cc
 

@@ -8,7 +8,7 @@ use Rattle.v_design.specs.Trees.{Statement, Null, Block, If, Case, For, While, R
 use Rattle.process_code.specs.Rests.{Part, Runs, TurnsLeft, opened_parts, NumbersFall}
 use Rattle.process_code.specs.RestsLaws.{numbers_fall-more}
 use Rattle.process_code.specs.Positions.{part_of_head, rests_from, rests_of, StandsAt, ItemsLead, PartLeads}
-use Rattle.process_code.specs.Compiling.{Leads, rests_in, IsInStep, Grows, Places, Turned, IsBelow, Compiles}
+use Rattle.process_code.specs.Compiling.{Leads, IsSizedHead, AreSizedSpots, rests_in, IsInStep, Grows, Places, Turned, IsBelow, Compiles}
 use Rattle.process_code.specs.declared.code.Head.{Head}
 use Rattle.process_code.specs.declared.code.Spot.{Spot}
 use Rattle.process_code.specs.declared.code.Ways.{Ways}
@@ -32,6 +32,16 @@ slice_get-shorter (y ∷ xs) ys (suc i) h = slice_get-shorter xs ys i (omega (ar
 pub slice_get-last : {A : Type 0} (xs : List A) (y : A) → slice_get (xs ++ (y ∷ [])) (length xs) ≡ Some y
 slice_get-last [] y = refl
 slice_get-last (x ∷ xs) y = slice_get-last xs y
+
+-- one sized spot more
+pub sized-push : (spots more : List Spot) (spot : Spot) → more ≡ spots ++ (spot ∷ []) → IsSizedHead spot.head → AreSizedSpots spots → AreSizedSpots more
+sized-push spots more spot e own h i other there = by_place spots h i (ap (λ xs. slice_get xs i) (sym e) ∙ there)
+  where
+    by_place : (xs : List Spot) → AreSizedSpots xs → (k : ℕ) → slice_get (xs ++ (spot ∷ [])) k ≡ Some other → IsSizedHead other.head
+    by_place [] sized zero at = let same : spot ≡ other = cc in subst (λ (s : Spot). IsSizedHead s.head) same own
+    by_place [] sized (suc k) at = absurd (cc)
+    by_place (x ∷ xs) sized zero at = sized zero other at
+    by_place (x ∷ xs) sized (suc k) at = by_place xs (λ j s. sized (suc j) s) k at
 
 -- Rests
 

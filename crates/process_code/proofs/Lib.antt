@@ -2,3 +2,8 @@ pub mod Growing
 pub mod Compiled
 pub mod Equalities
 pub mod Spots
+pub mod WaitEntries
+pub mod Marked
+pub mod Reaching
+pub mod Apart
+pub mod FirstLines

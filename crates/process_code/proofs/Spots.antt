@@ -1,8 +1,8 @@
 -- The rest that stands at each position of code, and what stays of a state.
-use Rattle.std.proofs.Common.{◌≡◌, ◌≤◌, ◌<◌, ℕ, zero, suc, Bool, true, false, ◌+◌, ◌-◌, List, [], ◌∷◌, ◌++◌, length, take, drop, get_or, Option, Some, None, refl, sym, ap, ◌∙◌, subst, arith}
+use Rattle.std.proofs.Common.{◌≡◌, ◌≤◌, ◌<◌, ℕ, zero, suc, Bool, true, false, ◌+◌, ◌-◌, List, [], ◌∷◌, ◌++◌, length, take, drop, get_or, replicate, Option, Some, None, refl, sym, ap, ◌∙◌, subst, arith}
 use Rattle.std.specs.List.{slice_get}
 use Rattle.std.specs.Prelude.{vec_capacity, map, option_map}
-use Rattle.std.proofs.lemmas.List.{take-append-drop, length-take-le, take_more}
+use Rattle.std.proofs.lemmas.List.{take-append-drop, length-take-le, take_more, length-replicate}
 use Rattle.std.proofs.lemmas.Option.{slice_get_within, slice_get_read, get_or_from_slice_get}
 use Rattle.v_design.specs.Lists.{AllHold}
 use Rattle.v_design.specs.Plain.{statement_of, update_of}
@@ -26,6 +26,8 @@ use Rattle.process_code.specs.Acts.{GoesTo, IsDone, ActsPart}
 use Rattle.process_code.specs.ActsLaws.{ready-point, is-step, part-step}
 use Rattle.process_code.specs.StepLaws.{tasks-ready, activity-ready, step-again, step-done}
 use Rattle.process_code.specs.WithinLaws.{opened-within}
+use Rattle.process_code.specs.Reached.{IsReached}
+use Rattle.process_code.proofs.Reaching.{stops-ready}
 use Rattle.process_code.specs.Compiling.{Leads}
 use Rattle.process_code.specs.Codes.{IsCodeOf, rests_in_code}
 use Rattle.process_code.specs.declared.code.Code.{Code}
@@ -156,19 +158,27 @@ counts-part rests repeats ways (Runs (Finish place)) after state leads room = tt
 counts-part rests repeats ways (TurnsLeft number place body) after state leads room = omega (arith, leads.0, room)
 
 -- a state of code stays one
-pub state-kept : (code : Code) (old new : ProcState) → IsStateOf code old → KeepsRoom old new → IsRestAt (statement_of code.process.now.body) (rests_in_code code) new.position → IsStateOf code new
-state-kept code old new h k rest = record { rest = rest; counts = k.counts ∙ h.counts; room = λ i spot there. fits-kept old new (part_of_head spot.head) k (h.room i spot there) }
+pub state-kept : (code : Code) (old new : ProcState) → IsStateOf code old → KeepsRoom old new → IsRestAt (statement_of code.process.now.body) (rests_in_code code) new.position → IsReached (rests_in_code code) (point_of new) →
+    IsStateOf code new
+state-kept code old new h k rest reached = record { reached = reached; rest = rest; counts = k.counts ∙ h.counts; room = λ i spot there. fits-kept old new (part_of_head spot.head) k (h.room i spot there) }
+
+-- among counts of 0 each is 0
+pub zeros : (repeats number : ℕ) → let counts : List ℕ = replicate repeats 0 in get_or counts number 0 ≡ 0
+zeros zero number = refl
+zeros (suc repeats) zero = refl
+zeros (suc repeats) (suc number) = zeros repeats number
 
 -- the state in which a process begins
-pub state-new : (code : Code) (state : ProcState) → IsCodeOf code.process.now code → state.position ≡ code.start → length state.counts.items ≡ code.repeats →
+pub state-new : (code : Code) (state : ProcState) → IsCodeOf code.process.now code → state.position ≡ code.start → state.counts.items ≡ replicate code.repeats 0 → state.stage ≡ Ready →
     ((i : ℕ) (spot : Spot) → slice_get code.spots.items i ≡ Some spot → FitsIn state (part_of_head spot.head)) → IsStateOf code state
-state-new code state is start counts room =
+state-new code state is start counts ready room =
     let body = statement_of code.process.now.body in
     record {
       rest = subst (IsRestAt body (rests_in_code code)) (sym start)
           (record { rest = opened_parts body []; stands = is.starts; within = opened-within body body [] (record { sized = is.sized; below = λ limit b. b }) tt });
-      counts = counts;
+      counts = ap length counts ∙ length-replicate code.repeats 0;
       room = room;
+      reached = record { counts = λ number idle. ap (λ (xs : List ℕ). get_or xs number 0) counts ∙ zeros code.repeats number; stops = stops-ready (rests_in_code code) state.stage state.operands.items ready };
     }
 
 -- what the process does then

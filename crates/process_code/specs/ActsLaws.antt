@@ -47,7 +47,7 @@ acts-step {A} now values rests position rest operands counts place delay line pr
     by_progress (Has a left) e h = goes a left e h
 
 -- the position of the statement that is chosen
-chosen-stands : (rests : List (List Part)) (positions : List ℕ) (items : CaseItems) (default : Statement) (other : ℕ) (after : List Part) (choice : Option ℕ) →
+pub chosen-stands : (rests : List (List Part)) (positions : List ℕ) (items : CaseItems) (default : Statement) (other : ℕ) (after : List Part) (choice : Option ℕ) →
     ItemsLead rests positions items after → StandsAt rests other (opened_parts default after) → StandsAt rests (position_by positions other choice) (opened_parts (chosen_by items default choice) after)
 chosen-stands rests positions items default other after None h k = k
 chosen-stands rests [] no_items default other after (Some n) h k = k

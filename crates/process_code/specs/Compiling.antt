@@ -1,9 +1,13 @@
 -- How code grows while a statement is compiled (IEEE 1364-2001, clause 9).
 use Rattle.std.specs.Prelude.{◌≡◌, ◌≢◌, ℕ, suc, zero, ◌+◌, ◌≤◌, ◌<◌, List, [], ◌∷◌, ◌++◌, length, slice_get, Option, Some, None}
 use Rattle.v_design.specs.Trees.{Statement, CaseItems}
+use Rattle.v_design.specs.Plain.{statement_of}
+use Rattle.v_design.specs.Sized.{IsSizedStatement}
 use Rattle.process_code.specs.Rests.{Part, opened_parts, NumbersFall}
 use Rattle.process_code.specs.Positions.{part_of_head, rests_of, StandsAt, ItemsLead, PartLeads}
+use Rattle.process_code.specs.Marks.{Mark, marks_at, marks_of, marks_of_items}
 use Rattle.process_code.specs.declared.code.Head.{Head}
+use Rattle.process_code.specs.declared.code.Head.TheVariants.{Statement as Begins, Test, Advance, Turns}
 use Rattle.process_code.specs.declared.code.Spot.{Spot}
 use Rattle.process_code.specs.declared.code.Ways.{Ways}
 use Rattle.process_code.specs.declared.builder.Builder.{Builder}
@@ -18,8 +22,24 @@ pub record Leads (repeats : ℕ) (rests : List (List Part)) (spot : Spot) (ways 
 abbrev pub rests_in : Builder → List (List Part)
 rests_in b = rests_of b.spots.items
 
--- each spot has its ways, and there are no more repeats than spots
+-- the marks of a builder's spots
+abbrev pub marks_in : Builder → List Mark
+marks_in b = marks_at b.spots.items
+
+-- the statement of what is first in a rest is sized
+abbrev pub IsSizedHead : Head → Type 0
+IsSizedHead (Begins s) = IsSizedStatement (statement_of s.now)
+IsSizedHead (Test s) = IsSizedStatement (statement_of s.now)
+IsSizedHead (Advance s) = IsSizedStatement (statement_of s.now)
+IsSizedHead (Turns s number) = IsSizedStatement (statement_of s.now)
+
+-- the statements of some spots are sized
+abbrev pub AreSizedSpots : List Spot → Type 0
+AreSizedSpots spots = (i : ℕ) (spot : Spot) → slice_get spots i ≡ Some spot → IsSizedHead spot.head
+
+-- each spot has its ways and a statement that is sized, and there are no more repeats than spots
 pub record IsInStep (b : Builder) : Type 0 where
+  pub sized : AreSizedSpots b.spots.items
   pub ways : length b.spots.items ≡ length b.ways.items
   pub repeats : b.repeats ≤ length b.spots.items
 
@@ -68,9 +88,11 @@ pub record Compiles (old new : Builder) (statement : Statement) (next entry : �
   pub grows : Grows old new
   pub there : entry ≤ length new.spots.items
   pub opens : (rest : List Part) → StandsAt (rests_in old) next rest → StandsAt (rests_in new) entry (opened_parts statement rest)
+  pub marks : marks_in new ≡ marks_in old ++ marks_of statement
 
 -- the items of a case are compiled before the rest of a position
 pub record CompilesItems (old new : Builder) (items : CaseItems) (next : ℕ) (positions : List ℕ) : Type 0 where
   pub in_step : IsInStep new
   pub grows : Grows old new
   pub lead : (rest : List Part) → StandsAt (rests_in old) next rest → ItemsLead (rests_in new) positions items rest
+  pub marks : marks_in new ≡ marks_in old ++ marks_of_items items

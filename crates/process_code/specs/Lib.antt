@@ -1,9 +1,12 @@
 pub mod Rests
 pub mod RestsLaws
 pub mod Positions
+pub mod Places
+pub mod Marks
 pub mod Compiling
 pub mod Codes
 pub mod Points
+pub mod Reached
 pub mod StepLaws
 pub mod Sameness
 pub mod SamenessLaws
@@ -12,3 +15,6 @@ pub mod ActsLaws
 pub mod StatesOf
 pub mod UpdateLaws
 pub mod WithinLaws
+pub mod Waits
+pub mod SmallParts
+pub mod Lines

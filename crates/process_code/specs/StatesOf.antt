@@ -13,6 +13,7 @@ use Rattle.v_design.specs.Plain.{statement_of, process_of}
 use Rattle.v_design.specs.Processes.{process_step}
 use Rattle.process_code.specs.Codes.{rests_in_code}
 use Rattle.process_code.specs.Points.{point_of, said_by, tasks_at, IsStep}
+use Rattle.process_code.specs.Reached.{IsReached}
 use Rattle.process_code.specs.declared.state.Did.{Did}
 use Rattle.process_code.specs.declared.code.Spot.{Spot}
 use Rattle.process_code.specs.declared.code.Code.{Code}
@@ -114,11 +115,12 @@ abbrev pub IsGoodPart : ℕ → Part → Type 0
 IsGoodPart limit (Runs statement) = IsSizedStatement statement × AreBelow limit (named_by statement)
 IsGoodPart limit (TurnsLeft number place body) = Unit {0}
 
--- a state of some code: a rest of the body stands at its position, each repeat has a count, and there is room for each part
+-- a state of some code: a rest of the body stands at its position, each repeat has a count, there is room for each part, and steps lead to it
 pub record IsStateOf (code : Code) (state : ProcState) : Type 0 where
   pub rest : IsRestAt (statement_of code.process.now.body) (rests_in_code code) state.position
   pub counts : length state.counts.items ≡ code.repeats
   pub room : (i : ℕ) (spot : Spot) → slice_get code.spots.items i ≡ Some spot → FitsIn state (part_of_head spot.head)
+  pub reached : IsReached (rests_in_code code) (point_of state)
 
 -- a step of code does what the step of the definition does: it leaves the process doing the same, and says the same
 abbrev pub StepsAsDefined : ℕ → List LogicValue → Code → ProcState → ProcState → Did → Type 0

@@ -60,7 +60,7 @@ goes-opened body s rests position after stands w h = record { rest = opened_part
 goes-rest : (body : Statement) (rests : List (List Part)) (position : ℕ) (rest : List Part) → StandsAt rests position rest → AllHold (IsPartWithin body) rest → IsRestAt body rests position
 goes-rest body rests position rest stands h = record { rest = rest; stands = stands; within = h }
 
-at-same : (body : Statement) (rests : List (List Part)) (one other : ℕ) → one ≡ other → IsRestAt body rests other → IsRestAt body rests one
+pub at-same : (body : Statement) (rests : List (List Part)) (one other : ℕ) → one ≡ other → IsRestAt body rests other → IsRestAt body rests one
 at-same body rests one other e h = subst (IsRestAt body rests) (sym e) h
 
 -- where a step reads, it stays
@@ -73,7 +73,7 @@ either-ends : (body : Statement) (rests : List (List Part)) (chosen : Bool) (inn
 either-ends body rests true inner other position e h k = at-same body rests position inner e h
 either-ends body rests false inner other position e h k = at-same body rests position other e k
 
-takes-ends : (now : ℕ) (p new : Point) (said : StepSaid) (updates : List (Option ValueUpdate)) → TakesFirst now p new said updates → new.position ≡ p.position
+pub takes-ends : (now : ℕ) (p new : Point) (said : StepSaid) (updates : List (Option ValueUpdate)) → TakesFirst now p new said updates → new.position ≡ p.position
 takes-ends now p new said [] h = absurd h
 takes-ends now p new said (update ∷ updates) h = ap (λ (q : Point). q.position) h.0
 

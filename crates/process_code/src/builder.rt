@@ -1,10 +1,11 @@
 // Compiling a statement: a spot for each of its rests, and the ways between them.
 
-ghost use Rattle.std.specs.Prelude.{◌≡◌, ◌≤◌, ◌+◌, ◌-◌, length, IfOk};
+ghost use Rattle.std.specs.Prelude.{◌≡◌, ◌≤◌, ◌+◌, ◌-◌, ℕ, Bool, length, IfOk};
 ghost use Rattle.v_design.specs.Plain.{statement_of};
 ghost use Rattle.v_design.specs.Trees.{Block};
 ghost use Rattle.v_design.specs.PlainLemmas.{statements_of, items_of};
-ghost use Rattle.process_code.specs.Compiling.{IsInStep, MayCompile, Places, Turned, Compiles, CompilesItems};
+ghost use Rattle.v_design.specs.Sized.{IsSizedStatement, AreSizedStatements, AreSizedItems};
+ghost use Rattle.process_code.specs.Compiling.{IsSizedHead, IsInStep, MayCompile, Places, Turned, Compiles, CompilesItems};
 
 use crate::code::{Head, Spot, Ways};
 use std::alloc::Global;
@@ -22,7 +23,8 @@ pub struct Builder<'d> {
 impl<'d> Builder<'d> {
     /// A spot with this head before the rest of a position. Its ways are open.
     fn place(&mut self, alloc: Global, head: Head<'d>, next: usize) -> Result<usize, NoMemory>
-        requires { IsInStep self.old }
+        requires sized { IsSizedHead head }
+        requires in_step { IsInStep self.old }
         ensures { IfOk result (λ own. Places self.old self.new head.entry next own × IsInStep self.new) }
     {
         let ways = Ways {
@@ -51,7 +53,8 @@ impl<'d> Builder<'d> {
         statement: &'d FlatStmt,
         next: usize,
     ) -> Result<usize, NoMemory>
-        requires { MayCompile self.old next }
+        requires sized { IsSizedStatement (statement_of statement.now) }
+        requires may { MayCompile self.old next }
         ensures { IfOk result (λ entry. Compiles self.old self.new (statement_of statement.now) next entry) }
     {
         match statement {
@@ -153,7 +156,8 @@ impl<'d> Builder<'d> {
         statements: &'d [FlatStmt],
         next: usize,
     ) -> Result<usize, NoMemory>
-        requires { MayCompile self.old next }
+        requires sized { AreSizedStatements (statements_of statements.now) }
+        requires may { MayCompile self.old next }
         ensures { IfOk result (λ entry. Compiles self.old self.new (Block (statements_of statements.now)) next entry) }
     {
         let mut entry = next;
@@ -173,7 +177,8 @@ impl<'d> Builder<'d> {
         items: &'d [CaseItem],
         next: usize,
     ) -> Result<Vec<usize>, NoMemory>
-        requires { MayCompile self.old next }
+        requires sized { (width : ℕ) × (signed : Bool) × AreSizedItems width signed (items_of items.now) }
+        requires may { MayCompile self.old next }
         ensures { IfOk result (λ positions. CompilesItems self.old self.new (items_of items.now) next positions.items) }
     {
         let mut positions = Vec::new(alloc);

@@ -6,8 +6,9 @@ ghost use Rattle.v_design.specs.Sized.{IsSizedStatement};
 ghost use Rattle.process_code.specs.Codes.{IsCodeOf};
 
 use crate::builder::Builder;
+use crate::waits::waits_of;
 use std::alloc::Global;
-use v_design::{FlatStmt, Process};
+use v_design::{FlatStmt, Process, WaitEntry};
 use vf_base::NoMemory;
 
 /// What is first in a rest.
@@ -50,6 +51,8 @@ pub struct Code<'d> {
     pub repeats: usize,
     pub spots: Vec<Spot<'d>>,
     pub ways: Vec<Ways>,
+    /// The entries of the wait that begins at each spot; none where none begins there.
+    pub waits: Vec<Vec<WaitEntry>>,
 }
 
 /// Compiles a process.
@@ -72,11 +75,13 @@ pub fn compile<'d>(alloc: Global, process: &'d Process) -> Result<Code<'d>, NoMe
         ways,
         repeats,
     } = builder;
+    let waits = waits_of(alloc, &spots)?;
     Ok(Code {
         process,
         start,
         repeats,
         spots,
         ways,
+        waits,
     })
 }

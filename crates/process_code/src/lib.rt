@@ -3,6 +3,7 @@
 
 mod builder;
 mod code;
+mod lines;
 mod moves;
 mod room;
 mod same;
@@ -10,6 +11,7 @@ mod state;
 mod stepping;
 #[cfg(test)]
 mod tests;
+mod waits;
 
 pub use code::{Code, compile};
 pub use state::{Did, ProcState, RunEnd, Stage};

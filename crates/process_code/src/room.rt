@@ -1,6 +1,6 @@
 // The room that a state needs, and the state in which a process begins.
 
-ghost use Rattle.std.specs.Prelude.{◌≡◌, ◌≤◌, [], ℕ, length, Some, slice_get, IfOk, vec_capacity};
+ghost use Rattle.std.specs.Prelude.{◌≡◌, ◌≤◌, [], ℕ, replicate, Some, slice_get, IfOk, vec_capacity};
 ghost use Rattle.v_design.specs.Plain.{statement_of};
 ghost use Rattle.v_design.specs.Processes.{opened};
 ghost use Rattle.v_design.specs.Processes.{Ready as ReadyTo};
@@ -160,7 +160,7 @@ fn room_of_code(spots: &[Spot]) -> Result<Room, NoMemory>
 
 /// So many counts of 0.
 fn counts_of(alloc: Global, repeats: usize) -> Result<Vec<u128>, NoMemory>
-    ensures { IfOk result (λ counts. length counts.items ≡ repeats) }
+    ensures { IfOk result (λ counts. counts.items ≡ replicate repeats 0) }
 {
     let mut counts = Vec::with_capacity(alloc, repeats)?;
     'repeats: for _ in 0..repeats {

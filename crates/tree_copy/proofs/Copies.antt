@@ -7,8 +7,7 @@ use Rattle.four_value.specs.declared.operator.CaseKind.{CaseKind}
 use Rattle.v_tree.specs.Trees as plain
 use Rattle.v_tree.specs.CaseParts.{case_part_of}
 use Rattle.v_tree.specs.Views.{expression_of, statement_of, statements_of, item_before, case_items_of}
-use Rattle.v_tree.specs.ViewLaws.{statement_of-Block, statement_of-Case}
-use Rattle.expression_copy.specs.Parts.{parts_of, parts-map}
+use Rattle.v_tree.specs.ViewLaws.{expressions-map, statement_of-Block, statement_of-Case}
 use Rattle.v_tree.specs.declared.expression.Expr.{Expr}
 use Rattle.v_tree.specs.declared.statement.Stmt.{Stmt}
 use Rattle.v_tree.specs.declared.statement.Stmt.TheVariants as statements
@@ -29,11 +28,11 @@ copied-block place a b e =
     ∙ sym (statement_of-Block place b)
 
 abbrev before : Option (List plain.SourceExpression) × plain.SourceStatement → plain.SourceCaseItems → plain.SourceCaseItems
-before (Some labels, s) rest = plain.labelled (parts_of labels) s rest
+before (Some labels, s) rest = plain.labelled (plain.parts_of labels) s rest
 before (None, s) rest = plain.otherwise s rest
 
 part-before : (item : CaseItem) (rest : plain.SourceCaseItems) → item_before item rest ≡ before (case_part_of item) rest
-part-before (Labelled labels s) rest = ap (λ p. plain.labelled p (statement_of s) rest) (parts-map labels)
+part-before (Labelled labels s) rest = ap (λ p. plain.labelled p (statement_of s) rest) (expressions-map labels)
 part-before (Default s) rest = refl
 
 abbrev items_from : List (Option (List plain.SourceExpression) × plain.SourceStatement) → plain.SourceCaseItems

@@ -11,11 +11,13 @@ use Rattle.v_tree.specs.Trees.{Identifier, NamedPlace, same_name, has_name}
 use Rattle.v_elab.specs.Refusals.{Refusal, TwoDrivers}
 use Rattle.v_names.specs.Scopes.{looked_up, is_reg, range_width}
 use Rattle.v_names.specs.SizedTrees.{SizedExpressions}
-use Rattle.v_comb.specs.CombinationalForm.{assigned_names}
+use Rattle.v_names.specs.Readings.{is_empty}
+use Rattle.v_comb.specs.CombinationalForm.{assigned_names, names_read}
 use Rattle.v_width.specs.Targets.{whole_places}
 use Rattle.v_ports.specs.Pieces.{DrivenRun, SecondDriver, second_driver}
 use Rattle.v_elab.specs.Parts.{Joining, Signal, Drive, ValueIn, WalkedProcess, Part, SignalPart, AssignPart, GatePart, ProcessPart, refusal_or}
 use Rattle.v_elab.specs.Connections.{most_depth}
+use Rattle.v_elab.specs.Statements.{block_body}
 
 -- Joined names
 
@@ -65,8 +67,18 @@ abbrev pub variables_assigned : WalkedProcess → List Identifier
 variables_assigned process =
     target_signals process (filter (λ name. is_reg (looked_up process.scope name)) (map (λ (n : NamedPlace). n.name) (assigned_names process.body)))
 
+abbrev pub bits_within : List (Option ℕ) → List ℕ
+bits_within [] = []
+bits_within (None ∷ places) = bits_within places
+bits_within (Some bit ∷ places) = bit ∷ bits_within places
+
+-- whether a drive has some bit in the range
+abbrev pub drives_some : Drive → Bool
+drives_some drive = not (is_empty (bits_within drive.places))
+
+-- the signals of which a bit is driven; what stands outside the range drives nothing
 abbrev pub drive_signals : List Drive → List Identifier
-drive_signals drives = map (λ (d : Drive). d.signal) drives
+drive_signals drives = map (λ (d : Drive). d.signal) (filter drives_some drives)
 
 -- the signals that a part writes
 abbrev pub signals_written : Part → List Identifier
@@ -101,6 +113,16 @@ abbrev pub is_own_target : List Part → ℕ → Identifier → Bool
 is_own_target parts number name =
     let signals = signals_of parts in
     not (port_writes signals name) && not (other_writes signals number (outermost signals name) 0 parts)
+
+-- the names that a block reads and doesn't assign
+abbrev pub names_only_read : WalkedProcess → List Identifier → List Identifier
+names_only_read process targets = filter (λ name. not (has_name targets name)) (names_read (block_body process.body))
+
+-- whether a block reads one of its targets by another name that is joined into the same object
+abbrev pub reads_by_other_name : List Signal → WalkedProcess → List Identifier → Bool
+reads_by_other_name signals process targets =
+    let objects = map (outermost signals) (target_signals process targets) in
+    list_any (λ name. has_name objects (outermost signals name)) (target_signals process (names_only_read process targets))
 
 -- Nodes and processes
 
@@ -141,11 +163,12 @@ abbrev pub block_or_process : List Signal → WalkedProcess → Bool → List Id
 block_or_process signals process true targets = IsNode (record { name = []; drives = map (block_drive signals process) targets; function = BlockFunction process })
 block_or_process signals process false targets = IsProcess process
 
--- a block is a node where by itself it has the form, and nothing else writes its targets
+-- a block is a node where by itself it has the form, nothing else writes its targets, and it doesn't read them by other names
 abbrev pub process_behaviour : List Part → ℕ → WalkedProcess → Option (List Identifier) → Behaviour
 process_behaviour parts number process None = IsProcess process
 process_behaviour parts number process (Some targets) =
-    block_or_process (signals_of parts) process (list_all (is_own_target parts number) (target_signals process targets)) targets
+    let signals = signals_of parts in
+    block_or_process signals process (list_all (is_own_target parts number) (target_signals process targets) && not (reads_by_other_name signals process targets)) targets
 
 abbrev pub part_behaviour : List Part → ℕ → Part → List Behaviour
 part_behaviour parts number (AssignPart drives value) = IsNode (record { name = []; drives = drives; function = AssignFunction value }) ∷ []
@@ -229,11 +252,6 @@ drives_from signals object number (node ∷ nodes) = node_drives signals object 
 
 abbrev pub object_drives : List Signal → List WalkedNode → Identifier → List ObjectDrive
 object_drives signals nodes object = drives_from signals object 0 nodes
-
-abbrev pub bits_within : List (Option ℕ) → List ℕ
-bits_within [] = []
-bits_within (None ∷ places) = bits_within places
-bits_within (Some bit ∷ places) = bit ∷ bits_within places
 
 abbrev pub run_of : ObjectDrive → DrivenRun
 run_of drive = record { bits = bits_within drive.places; place = drive.place }

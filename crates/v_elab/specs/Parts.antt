@@ -66,7 +66,7 @@ pub data Part : Type 0 where
   -- an instance, before its connections and its items
   InstancePart : Part
 
--- Counts: a memory counts by its words, a port that is joined not at all, a block by what it is by itself
+-- Counts: a memory counts by its words, a port that is joined not at all; a block that by itself is of combinational form counts only after the walk, which shows what it is
 
 abbrev pub unjoined : Option Joining → ℕ
 unjoined None = 1
@@ -77,14 +77,9 @@ objects_of_part (SignalPart signal) = unjoined signal.joined
 objects_of_part (MemoryPart memory) = span memory.first memory.last
 objects_of_part _ = 0
 
-abbrev pub node_by_itself : Option (List Identifier) → ℕ
-node_by_itself None = 0
-node_by_itself (Some targets) = 1
-
 abbrev pub nodes_of_part : Part → ℕ
 nodes_of_part (AssignPart drives value) = 1
 nodes_of_part (GatePart name kind drives path terminals) = 1
-nodes_of_part (ProcessPart process) = node_by_itself process.targets
 nodes_of_part _ = 0
 
 abbrev pub process_by_itself : Option (List Identifier) → ℕ

@@ -3,14 +3,14 @@ use Rattle.std.proofs.Common.{◌≡◌, ℕ, zero, suc, ◌-◌, ◌<◌, ◌�
 use Rattle.std.specs.Prelude.{nat_le, if◌then◌else◌}
 use Rattle.four_value.specs.declared.operator.BinaryOperator.{BinaryOperator}
 use Rattle.v_tree.specs.Tokens.{SourceToken}
-use Rattle.v_tree.specs.Trees.{SourceExpression}
+use Rattle.v_tree.specs.Trees.{SourceExpression, parts_of}
 use Rattle.v_read.specs.Reading.{next_class, repeat}
 use Rattle.v_read.specs.Given.{Fails}
 use Rattle.v_read.specs.declared.stop.Stop.{Stop}
 use Rattle.v_read.specs.Reads.{turn-is, last-is, stop-is, Fails-through}
 use Rattle.v_expr.specs.Heights.{height_of, heights_of}
 use Rattle.v_expr.specs.Spelling.{rank_of}
-use Rattle.v_expr.specs.Expressions.{Inner, parts_of, operator_of, joining, operand_by, operand_turn, operands, choice, ranked, inner_of}
+use Rattle.v_expr.specs.Expressions.{Inner, operator_of, joining, operand_by, operand_turn, operands, choice, ranked, inner_of}
 
 ranked-operands : (k : ℕ) (inner : Inner) (rank : ℕ) (tokens : List SourceToken) → rank ≤ 10 → ranked k inner rank tokens ≡ operands k inner rank tokens
 ranked-operands k inner rank tokens h = ap (λ b. (if b then operands k inner rank else choice k inner) tokens) (le-leb rank 10 h)

@@ -8,7 +8,7 @@ use Rattle.vf_base.specs.Base.{SourcePlace}
 use Rattle.v_tree.specs.Tokens.{SourceToken}
 use Rattle.v_tree.specs.declared.token.NumberForm.TheVariants.{Plain}
 use Rattle.v_tree.specs.declared.token.TokenKind.TheVariants as kinds
-use Rattle.v_tree.specs.Trees.{SourceExpression, Number, Selected, Parenthesised, Prefixed, Infixed, Chosen, Concatenated, Replicated, SourceIndex, NoIndex, IndexAt, IndexRange}
+use Rattle.v_tree.specs.Trees.{SourceExpression, Number, Selected, Parenthesised, Prefixed, Infixed, Chosen, Concatenated, Replicated, SourceIndex, NoIndex, IndexAt, IndexRange, place_of_expression, parts_of}
 use Rattle.v_read.specs.declared.class.Class.{Class}
 use Rattle.v_read.specs.declared.class.Class.TheVariants as classes
 use Rattle.v_read.specs.Classes.{token_at, token_of, is_fixed}
@@ -19,9 +19,9 @@ use Rattle.v_read.specs.Branches.{nowhere, Some-of, Branch, branch, branch-wrong
 use Rattle.v_read.specs.Repeat.{append-nil, Turn, TurnFits, exact-repeat}
 use Rattle.v_read.specs.SeparatedLaws.{EachFits, exact-separated, turn-exact}
 use Rattle.v_expr.specs.Operators.{unary_of, binary_of, level_of}
-use Rattle.v_expr.specs.Spelling.{rank_of, place_of, SpellsExpression, SpellsIndex, SpellsParts, SpellsMoreParts}
+use Rattle.v_expr.specs.Spelling.{rank_of, SpellsExpression, SpellsIndex, SpellsParts, SpellsMoreParts}
 use Rattle.v_expr.specs.Heights.{height_of, index_height, heights_of}
-use Rattle.v_expr.specs.Expressions.{parts_of, bounds_by, bounds, index_by, index, replication, concatenation, braced_by, braced, prefixed_by, primary_by, primary, operator_of, joining, operand_rank, operand_by, operand_turn, operands, branches, choice_by, choice, inner_of, expression}
+use Rattle.v_expr.specs.Expressions.{bounds_by, bounds, index_by, index, replication, concatenation, braced_by, braced, prefixed_by, primary_by, primary, operator_of, joining, operand_rank, operand_by, operand_turn, operands, branches, choice_by, choice, inner_of, expression}
 
 abbrev pub SpellsRanked : ℕ → Language SourceExpression
 SpellsRanked rank e ts = (rank_of e ≤ rank) × SpellsExpression e ts
@@ -272,7 +272,7 @@ module _ (k : ℕ) (inner : InnerExact k) where
           subst (λ w. Branch (C × Within k left) (λ m. operand_by m (inner_of m) left (Some operator)) k (Turn (SpellsRanked greatest) left front) (TurnFits (Within k)) w) (sym by'.1)
           (branch-down (binary-fixed by'.0 operator by'.2) (height_of left) (λ sign.
           exact-bind (exact-under (λ c. omega (arith, c.1)) (inner (operand_rank operator))) (λ right inside spelled.
-          exact-give (Some (Infixed (place_of left) operator left right))
+          exact-give (Some (Infixed (place_of_expression left) operator left right))
           ((is.1, (is.2, omega (arith, level.0, spelled.0), refl, by'.0, by'.2, sign, front, inside ++ [], here.1, subst (SpellsExpression right) (sym (append-nil inside)) spelled.1, refl)), omega arith)
           (λ c. omega (arith, c.0.0.1, c.0.1, c.1)))))
 
@@ -288,7 +288,7 @@ module _ (k : ℕ) (inner : InnerExact k) where
       exact-bind (exact-under (λ c. omega (arith, c.1)) (inner 11)) (λ first between yes'.
       exact-after classes.Colon refl (λ colon.
       exact-bind (exact-under (λ c. omega (arith, c.0.1)) (inner 11)) (λ second after no'.
-      exact-give (Chosen (place_of condition) condition first second)
+      exact-give (Chosen (place_of_expression condition) condition first second)
       (omega arith, (omega (arith, spelled.0), refl, question, colon, front, between, after ++ [], spelled.1, yes'.1, subst (SpellsExpression second) (sym (append-nil after)) no'.1, refl))
       (λ c. omega (arith, c.0.0.1, c.0.1, c.1))))))
 

@@ -3,23 +3,18 @@ use Rattle.std.specs.Prelude.{ℕ, zero, suc, List, [], ◌∷◌, Option, Some,
 use Rattle.four_value.specs.declared.operator.UnaryOperator.{UnaryOperator}
 use Rattle.four_value.specs.declared.operator.BinaryOperator.{BinaryOperator}
 use Rattle.vf_base.specs.Base.{SourcePlace}
-use Rattle.v_tree.specs.Trees.{SourceExpression, Number, Selected, Parenthesised, Prefixed, Infixed, Chosen, Concatenated, Replicated, SourceIndex, NoIndex, IndexAt, IndexRange, SourceExpressions, no_parts, more_parts}
+use Rattle.v_tree.specs.Trees.{SourceExpression, Number, Selected, Parenthesised, Prefixed, Infixed, Chosen, Concatenated, Replicated, SourceIndex, NoIndex, IndexAt, IndexRange, SourceExpressions, no_parts, more_parts, parts_of, place_of_expression}
 use Rattle.v_read.specs.declared.class.Class.{Class}
 use Rattle.v_read.specs.declared.class.Class.TheVariants as classes
 use Rattle.v_read.specs.Reading.{Reader, ◌>>=◌, give, wrong, by_class, expect, step, down, name, number, repeat}
 use Rattle.v_read.specs.Separated.{element_turn, separated}
 use Rattle.v_expr.specs.Operators.{unary_of, binary_of, level_of}
-use Rattle.v_expr.specs.Spelling.{rank_of, place_of}
+use Rattle.v_expr.specs.Spelling.{rank_of}
 use Rattle.v_expr.specs.Heights.{height_of}
 
 -- the readers of what stands one level down, by the greatest rank of what they read
 abbrev pub Inner : Type 0
 Inner = ℕ → Reader SourceExpression
-
--- the parts as they stand in a tree
-abbrev pub parts_of : List SourceExpression → SourceExpressions
-parts_of [] = no_parts
-parts_of (e ∷ es) = more_parts e (parts_of es)
 
 -- behind the first expression of an index: another one, or its end
 abbrev pub bounds_by : Inner → SourceExpression → Option Class → Reader SourceIndex
@@ -122,7 +117,7 @@ operand_by k inner left None = give None
 operand_by k inner left (Some operator) = do
   place ← down (height_of left) k
   right ← inner (operand_rank operator)
-  give (Some (Infixed (place_of left) operator left right))
+  give (Some (Infixed (place_of_expression left) operator left right))
 
 unfoldable pub operand_turn : ℕ → Inner → ℕ → SourceExpression → Reader (Option SourceExpression)
 operand_turn k inner greatest left = by_class (λ class. operand_by k inner left (joining greatest (rank_of left) (operator_of class)))
@@ -140,7 +135,7 @@ branches k inner condition = do
   first ← inner 11
   colon ← expect classes.Colon
   second ← inner 11
-  give (Chosen (place_of condition) condition first second)
+  give (Chosen (place_of_expression condition) condition first second)
 
 abbrev pub choice_by : ℕ → Inner → SourceExpression → Option Class → Reader SourceExpression
 choice_by k inner condition (Some classes.Question) = branches k inner condition

@@ -6,21 +6,10 @@ use Rattle.v_tree.specs.Tokens.{SourceToken}
 use Rattle.v_tree.specs.declared.token.TokenKind.TheVariants as kinds
 use Rattle.v_read.specs.declared.class.Class.{Class}
 use Rattle.v_read.specs.declared.class.Class.TheVariants.{Question, Colon, Comma, LeftParen, RightParen, LeftBracket, RightBracket, LeftBrace, RightBrace}
-use Rattle.v_tree.specs.Trees.{SourceExpression, Number, Selected, Parenthesised, Prefixed, Infixed, Chosen, Concatenated, Replicated, SourceIndex, NoIndex, IndexAt, IndexRange, SourceExpressions, no_parts, more_parts, SourceSelect, SourceTarget, OneSelect, JoinedSelects, SourceRange}
+use Rattle.v_tree.specs.Trees.{SourceExpression, Number, Selected, Parenthesised, Prefixed, Infixed, Chosen, Concatenated, Replicated, SourceIndex, NoIndex, IndexAt, IndexRange, SourceExpressions, no_parts, more_parts, SourceSelect, SourceTarget, OneSelect, JoinedSelects, SourceRange, place_of_expression}
 use Rattle.v_read.specs.Classes.{token_at, token_of, name_token, IsName}
 use Rattle.v_read.specs.Separated.{SpellsList}
 use Rattle.v_expr.specs.Operators.{unary_of, binary_of, level_of}
-
--- the place of an expression
-abbrev pub place_of : SourceExpression → SourcePlace
-place_of (Number place form value) = place
-place_of (Selected place name index) = place
-place_of (Parenthesised place inner) = place
-place_of (Prefixed place operator operand) = place
-place_of (Infixed place operator left right) = place
-place_of (Chosen place condition first second) = place
-place_of (Concatenated place parts) = place
-place_of (Replicated place count parts) = place
 
 -- the level of the outermost operator: 0 where there is none between operands, 11 for a choice
 abbrev pub rank_of : SourceExpression → ℕ
@@ -47,12 +36,12 @@ abbrev mutual
       (rank_of operand ≤ 0) × (sign : Class) × (unary_of sign ≡ Some operator) × (after : List SourceToken) × SpellsExpression operand after
       × (ts ≡ token_of sign place ∷ after)
   SpellsExpression (Infixed place operator left right) ts =
-      (rank_of left ≤ level_of operator) × (rank_of right < level_of operator) × (place_of left ≡ place)
+      (rank_of left ≤ level_of operator) × (rank_of right < level_of operator) × (place_of_expression left ≡ place)
       × (sign : Class) × (binary_of sign ≡ Some operator) × (operator_place : SourcePlace) × (before after : List SourceToken)
       × SpellsExpression left before × SpellsExpression right after
       × (ts ≡ before ++ token_of sign operator_place ∷ after)
   SpellsExpression (Chosen place condition first second) ts =
-      (rank_of condition < 11) × (place_of condition ≡ place)
+      (rank_of condition < 11) × (place_of_expression condition ≡ place)
       × (question_place colon_place : SourcePlace) × (before between after : List SourceToken)
       × SpellsExpression condition before × SpellsExpression first between × SpellsExpression second after
       × (ts ≡ before ++ token_of Question question_place ∷ (between ++ token_of Colon colon_place ∷ after))

@@ -2,7 +2,7 @@
 
 ghost use Rattle.std.specs.Prelude.{◌≡◌, ◌+◌, ◌≤◌, ◌<◌, Some, None, List, [], ◌∷◌, map, length, IfOk};
 ghost use Rattle.vf_base.specs.Base.{source_place};
-ghost use Rattle.v_tree.specs.Trees.{Selected};
+ghost use Rattle.v_tree.specs.Trees.{parts_of, Selected};
 ghost use Rattle.v_tree.specs.Views.{expression_of, index_of};
 ghost use Rattle.v_read.specs.Given.{Gives};
 ghost use Rattle.v_read.specs.Reading.{repeat};
@@ -10,7 +10,7 @@ ghost use Rattle.v_read.specs.Separated.{element_turn};
 ghost use Rattle.v_read.specs.declared.class.Class.TheVariants as classes;
 ghost use Rattle.v_expr.specs.Heights.{height_of, heights_of, index_height};
 ghost use Rattle.v_expr.specs.Expressions as read;
-ghost use Rattle.v_expr.specs.Expressions.{inner_of, parts_of};
+ghost use Rattle.v_expr.specs.Expressions.{inner_of};
 
 use crate::operators::{joining, operand_rank, place_of, rank_of, unary_of};
 use four_value::{BinaryOperator, UnaryOperator};

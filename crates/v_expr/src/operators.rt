@@ -4,7 +4,8 @@ ghost use Rattle.std.specs.Prelude.{◌≡◌, ◌≤◌, ◌-◌};
 ghost use Rattle.vf_base.specs.Base.{source_place};
 ghost use Rattle.v_tree.specs.Views.{expression_of};
 ghost use Rattle.v_expr.specs.Operators as spec;
-ghost use Rattle.v_expr.specs.Spelling.{place_of, rank_of};
+ghost use Rattle.v_tree.specs.Trees.{place_of_expression};
+ghost use Rattle.v_expr.specs.Spelling.{rank_of};
 ghost use Rattle.v_expr.specs.Expressions as read;
 
 use four_value::{BinaryOperator, UnaryOperator};
@@ -154,7 +155,7 @@ pub fn rank_of(expr: &Expr) -> u8
 
 /// Where an expression begins.
 pub fn place_of(expr: &Expr) -> Place
-    ensures { source_place result ≡ place_of (expression_of expr.now) }
+    ensures { source_place result ≡ place_of_expression (expression_of expr.now) }
 {
     match expr {
         Expr::Number { place, .. } => *place,

@@ -1,5 +1,5 @@
 -- The scope of a module with given parameters (IEEE 1364-2001, clause 12.2 for parameters, clause 12.3 for ports, clause 12.5 for scopes).
-use Rattle.std.specs.Prelude.{ℕ, zero, suc, ◌+◌, Bool, true, false, not, ◌&&◌, ◌||◌, List, [], ◌∷◌, ◌++◌, map, filter, length, flat_map, Option, Some, None, Result, nat_lt, nat_eq}
+use Rattle.std.specs.Prelude.{ℕ, zero, suc, ◌+◌, Bool, true, false, not, ◌&&◌, ◌||◌, List, [], ◌∷◌, ◌++◌, map, filter, length, flat_map, Option, Some, None, Result, nat_lt, nat_eq, if◌then◌else◌}
 use Rattle.vf_base.specs.Base.{SourcePlace}
 use Rattle.four_value.specs.Values.{resized}
 use Rattle.v_design.specs.Sized.{span, most_bits}
@@ -87,10 +87,14 @@ abbrev pub is_port : Declared → Bool
 is_port (DeclaredPort direction is_reg signed bounds first) = true
 is_port _ = false
 
--- a `reg` or a `wire`, no memory
+abbrev pub is_integer : Bounds → Bool
+is_integer IntegerBounds = true
+is_integer _ = false
+
+-- a `reg` or a `wire`, no memory and no `integer`
 abbrev pub is_plain : Declared → Bool
 is_plain (DeclaredNet signed bounds) = true
-is_plain (DeclaredReg signed bounds first) = true
+is_plain (DeclaredReg signed bounds first) = not (is_integer bounds)
 is_plain _ = false
 
 abbrev pub of_name : Identifier → List Declaration → List Declaration
@@ -188,17 +192,30 @@ parameter_of scope signed bounds value None =
     waiting_or (bounds_wait scope bounds || some_waiting scope value)
     (parameter_entry signed (range_of scope bounds) (constant_of scope (context_width (range_of scope bounds)) value))
 
+-- a bound of a net, a variable or a memory is kept as a number of 32 bits; a greater one is refused, and counts as 0
+abbrev pub most_kept : ℕ
+most_kept = 4294967295
+
+abbrev pub kept_bound : ℕ → ℕ
+kept_bound n = if nat_lt most_kept n then 0 else n
+
+abbrev pub kept_range : DeclaredRange → DeclaredRange
+kept_range range = record { ranged = range.ranged; high = kept_bound range.high; low = kept_bound range.low }
+
 abbrev pub vector_entry : Bool → DeclaredRange → Bool → ScopeEntry
-vector_entry true range signed = RegEntry range signed
-vector_entry false range signed = NetEntry range signed
+vector_entry true range signed = RegEntry (kept_range range) signed
+vector_entry false range signed = NetEntry (kept_range range) signed
+
+abbrev pub memory_entry : DeclaredRange → ℕ → ℕ → Bool → ScopeEntry
+memory_entry range first last signed = MemoryEntry (kept_range range) (kept_bound first) (kept_bound last) signed
 
 -- what a declaration means, by the parameters of a scope
 abbrev pub meaning_of : Scope → List GivenParameter → Identifier → Declared → ScopeEntry
 meaning_of scope given name (DeclaredParameter is_local signed bounds value) = parameter_of scope signed bounds value (given_of given name)
 meaning_of scope given name (DeclaredPort direction is_reg signed bounds first) = vector_entry is_reg (range_of scope bounds) signed
-meaning_of scope given name (DeclaredNet signed bounds) = NetEntry (range_of scope bounds) signed
-meaning_of scope given name (DeclaredReg signed bounds first) = RegEntry (range_of scope bounds) signed
-meaning_of scope given name (DeclaredMemory signed bounds addresses) = MemoryEntry (range_of scope bounds) (bound_number scope addresses.high) (bound_number scope addresses.low) signed
+meaning_of scope given name (DeclaredNet signed bounds) = vector_entry false (range_of scope bounds) signed
+meaning_of scope given name (DeclaredReg signed bounds first) = vector_entry true (range_of scope bounds) signed
+meaning_of scope given name (DeclaredMemory signed bounds addresses) = memory_entry (range_of scope bounds) (bound_number scope addresses.high) (bound_number scope addresses.low) signed
 meaning_of scope given name DeclaredGate = GateEntry
 meaning_of scope given name DeclaredInstance = InstanceEntry
 

@@ -29,6 +29,8 @@ pub record Reading : Type 0 where
   pub here : List Fault
   -- what is wrong with the parts that are sized apart from it
   pub inside : List Fault
+  -- whether it has a size, and all its parts have
+  pub complete : Bool
   -- the expression at a width and a sign
   pub tree : ℕ → Bool → SizedExpression
 
@@ -113,9 +115,9 @@ value_if false size signed tree = None
 abbrev pub all_known : Scope → SourceExpression → Bool
 all_known scope e = list_all (λ name. is_known (looked_up scope name)) (names_in e)
 
--- the value of a constant in a context of a width, none where sizes or kinds refuse it
+-- the value of a constant in a context of a width, none where sizes or kinds refuse it or a part of it
 abbrev pub constant_reading : Scope → ℕ → SourceExpression → Reading → Option SignedValue
-constant_reading scope width e reading = value_if (all_known scope e && is_empty (alone_faults reading)) reading.size (size_or_bit reading.size).signed (tree_in width reading)
+constant_reading scope width e reading = value_if (all_known scope e && is_empty (alone_faults reading) && reading.complete) reading.size (size_or_bit reading.size).signed (tree_in width reading)
 
 abbrev pub number_or : ℕ → Option ℕ → ℕ
 number_or default None = default
@@ -136,48 +138,48 @@ is_signed_number Sized value = false
 is_signed_number UnsizedSigned value = true
 is_signed_number SizedSigned value = true
 
-abbrev pub number_reading : NumberForm → LogicValue → Reading
-number_reading form value = record {
-  size = Some (record { width = length value; signed = is_signed_number form value });
-  here = [];
-  inside = [];
-  tree = λ width signed. SizedConstant width signed value;
-}
-
 -- what is refused has no size, and a bit 0 for a tree
 abbrev pub refused_tree : ℕ → Bool → SizedExpression
 refused_tree width signed = SizedConstant width signed (Zero ∷ [])
 
 abbrev pub refused_reading : List Fault → List Fault → Reading
-refused_reading here inside = record { size = None; here = here; inside = inside; tree = refused_tree }
+refused_reading here inside = record { size = None; here = here; inside = inside; complete = false; tree = refused_tree }
 
 -- a name that is used as what it isn't
 abbrev pub wrong_reading : SourcePlace → List Fault → Reading
 wrong_reading place inside = refused_reading (fault_at place WrongKind ∷ []) inside
 
--- a size that is over the most, or 0, is refused
-abbrev pub sized_reading : SourcePlace → ℕ → Bool → List Fault → (ℕ → Bool → SizedExpression) → Reading
-sized_reading place width signed inside tree = by_width (nat_le 1 width && nat_le width most_bits)
-  where
-    by_width : Bool → Reading
-    by_width true = record { size = Some (record { width = width; signed = signed }); here = []; inside = inside; tree = tree }
-    by_width false = refused_reading (fault_at place BadWidth ∷ []) inside
+abbrev pub sized_if : Bool → SourcePlace → Size → Bool → List Fault → (ℕ → Bool → SizedExpression) → Reading
+sized_if true place size complete inside tree = record { size = Some size; here = []; inside = inside; complete = complete; tree = tree }
+sized_if false place size complete inside tree = refused_reading (fault_at place BadWidth ∷ []) inside
+
+-- a size that is over the most, or 0, is refused; it is complete where its parts are
+abbrev pub sized_reading : SourcePlace → ℕ → Bool → Bool → List Fault → (ℕ → Bool → SizedExpression) → Reading
+sized_reading place width signed complete inside tree =
+    sized_if (nat_le 1 width && nat_le width most_bits) place (record { width = width; signed = signed }) complete inside tree
+
+abbrev pub number_reading : SourcePlace → NumberForm → LogicValue → Reading
+number_reading place form value = sized_reading place (length value) (is_signed_number form value) true [] (λ width signed. SizedConstant width signed value)
+
+-- one unsigned bit 0, as which a parameter without a value counts
+abbrev pub bit_zero_reading : Reading
+bit_zero_reading = record { size = one_bit; here = []; inside = []; complete = true; tree = refused_tree }
 
 -- a whole name
 abbrev pub name_reading : Option ScopeEntry → SourcePlace → Identifier → Reading
 name_reading None place name = refused_reading [] []
-name_reading (Some (ParameterEntry value signed)) place name = record { size = Some (record { width = length value; signed = signed }); here = []; inside = []; tree = λ width whole. SizedConstant width whole value }
-name_reading (Some RefusedParameter) place name = record { size = one_bit; here = []; inside = []; tree = refused_tree }
-name_reading (Some WaitingParameter) place name = record { size = one_bit; here = []; inside = []; tree = refused_tree }
-name_reading (Some (NetEntry range signed)) place name = sized_reading place (range_width range) signed [] (λ width whole. SizedName width whole name)
-name_reading (Some (RegEntry range signed)) place name = sized_reading place (range_width range) signed [] (λ width whole. SizedName width whole name)
+name_reading (Some (ParameterEntry value signed)) place name = sized_reading place (length value) signed true [] (λ width whole. SizedConstant width whole value)
+name_reading (Some RefusedParameter) place name = bit_zero_reading
+name_reading (Some WaitingParameter) place name = bit_zero_reading
+name_reading (Some (NetEntry range signed)) place name = sized_reading place (range_width range) signed true [] (λ width whole. SizedName width whole name)
+name_reading (Some (RegEntry range signed)) place name = sized_reading place (range_width range) signed true [] (λ width whole. SizedName width whole name)
 name_reading (Some (MemoryEntry range first last signed)) place name = wrong_reading place []
 name_reading (Some GateEntry) place name = wrong_reading place []
 name_reading (Some InstanceEntry) place name = wrong_reading place []
 
 -- a bit of a vector: a scalar has none
 abbrev pub bit_reading : Bool → SourcePlace → Identifier → Reading → Reading
-bit_reading true place name index = record { size = one_bit; here = []; inside = alone_faults index; tree = λ width whole. SizedBit width whole name (tree_alone index) }
+bit_reading true place name index = record { size = one_bit; here = []; inside = alone_faults index; complete = index.complete; tree = λ width whole. SizedBit width whole name (tree_alone index) }
 bit_reading false place name index = wrong_reading place (alone_faults index)
 
 -- a name with an index: a bit of a vector or a word of a memory
@@ -185,22 +187,22 @@ abbrev pub indexed_reading : Option ScopeEntry → SourcePlace → Identifier �
 indexed_reading None place name index = refused_reading [] (alone_faults index)
 indexed_reading (Some (NetEntry range signed)) place name index = bit_reading range.ranged place name index
 indexed_reading (Some (RegEntry range signed)) place name index = bit_reading range.ranged place name index
-indexed_reading (Some (MemoryEntry range first last signed)) place name index = sized_reading place (range_width range) signed (alone_faults index) (λ width whole. SizedWord width whole name (tree_alone index))
+indexed_reading (Some (MemoryEntry range first last signed)) place name index = sized_reading place (range_width range) signed index.complete (alone_faults index) (λ width whole. SizedWord width whole name (tree_alone index))
 indexed_reading _ place name index = wrong_reading place (alone_faults index)
 
 -- whether a part's bounds run as its declaration's do; equal bounds of a part fit either way
 abbrev pub runs_alike : DeclaredRange → ℕ → ℕ → Bool
 runs_alike range from to = nat_eq from to || (if nat_lt range.high range.low then nat_lt from to else nat_lt to from)
 
+abbrev pub part_if : Bool → SourcePlace → Identifier → List Fault → ℕ → ℕ → Reading
+part_if true place name inside from to = sized_reading place (span from to) false true inside (λ width whole. SizedPart width whole name from to)
+part_if false place name inside from to = wrong_reading place inside
+
 -- a part of a vector between two bounds: it runs as the declaration does, and a scalar has none
 abbrev pub part_between : DeclaredRange → SourcePlace → Identifier → List Fault → Option ℕ → Option ℕ → Reading
 part_between range place name inside None to = refused_reading [] inside
 part_between range place name inside (Some from) None = refused_reading [] inside
-part_between range place name inside (Some from) (Some to) = by_direction (runs_alike range from to)
-  where
-    by_direction : Bool → Reading
-    by_direction true = sized_reading place (span from to) false inside (λ width whole. SizedPart width whole name from to)
-    by_direction false = wrong_reading place inside
+part_between range place name inside (Some from) (Some to) = part_if (runs_alike range from to) place name inside from to
 
 abbrev pub part_reading : Bool → DeclaredRange → SourcePlace → Identifier → List Fault → Option ℕ → Option ℕ → Reading
 part_reading true range place name inside from to = part_between range place name inside from to
@@ -215,32 +217,36 @@ ranged_reading _ place name inside from to = wrong_reading place inside
 -- Operators
 
 abbrev pub unary_reading : UnarySizing → UnaryOperator → Reading → Reading
-unary_reading OperandWithWhole operator a = record { size = a.size; here = a.here; inside = a.inside; tree = λ width whole. SizedUnary width whole operator (a.tree width whole) }
-unary_reading OperandAlone operator a = record { size = one_bit; here = []; inside = alone_faults a; tree = λ width whole. SizedUnary width whole operator (tree_alone a) }
+unary_reading OperandWithWhole operator a = record { size = a.size; here = a.here; inside = a.inside; complete = a.complete; tree = λ width whole. SizedUnary width whole operator (a.tree width whole) }
+unary_reading OperandAlone operator a = record { size = one_bit; here = []; inside = alone_faults a; complete = a.complete; tree = λ width whole. SizedUnary width whole operator (tree_alone a) }
 
 abbrev pub binary_reading : BinarySizing → BinaryOperator → Reading → Reading → Reading
 binary_reading BothWithWhole operator a b = record {
   size = larger_size a.size b.size;
   here = a.here ++ b.here;
   inside = a.inside ++ b.inside;
+  complete = a.complete && b.complete;
   tree = λ width whole. SizedBinary width whole operator (a.tree width whole) (b.tree width whole);
 }
 binary_reading LeftWithWhole operator a b = record {
   size = a.size;
   here = a.here;
   inside = a.inside ++ alone_faults b;
+  complete = a.complete && b.complete;
   tree = λ width whole. SizedBinary width whole operator (a.tree width whole) (tree_alone b);
 }
 binary_reading BothTogether operator a b = record {
   size = one_bit;
   here = [];
   inside = together_faults a b;
+  complete = a.complete && b.complete;
   tree = λ width whole. SizedBinary width whole operator (tree_at a (larger_size a.size b.size)) (tree_at b (larger_size a.size b.size));
 }
 binary_reading EachAlone operator a b = record {
   size = one_bit;
   here = [];
   inside = alone_faults a ++ alone_faults b;
+  complete = a.complete && b.complete;
   tree = λ width whole. SizedBinary width whole operator (tree_alone a) (tree_alone b);
 }
 
@@ -249,6 +255,7 @@ choice_reading c a b = record {
   size = larger_size a.size b.size;
   here = a.here ++ b.here;
   inside = alone_faults c ++ (a.inside ++ b.inside);
+  complete = c.complete && (a.complete && b.complete);
   tree = λ width whole. SizedChoice width whole (tree_alone c) (a.tree width whole) (b.tree width whole);
 }
 
@@ -258,6 +265,7 @@ choice_reading c a b = record {
 pub record PartsReading : Type 0 where
   pub width : Option ℕ
   pub inside : List Fault
+  pub complete : Bool
   pub trees : SizedExpressions
 
 -- a number that doesn't say its size
@@ -274,32 +282,32 @@ width_with (Some size) (Some rest) = Some (size.width + rest)
 
 -- a part is sized alone; a number that doesn't say its size is none
 abbrev pub part_before : Bool → SourcePlace → Reading → PartsReading → PartsReading
-part_before true place reading rest = record { width = None; inside = fault_at place BadWidth ∷ rest.inside; trees = more_sized (tree_alone reading) rest.trees }
-part_before false place reading rest = record { width = width_with reading.size rest.width; inside = alone_faults reading ++ rest.inside; trees = more_sized (tree_alone reading) rest.trees }
+part_before true place reading rest = record { width = None; inside = fault_at place BadWidth ∷ rest.inside; complete = false; trees = more_sized (tree_alone reading) rest.trees }
+part_before false place reading rest = record { width = width_with reading.size rest.width; inside = alone_faults reading ++ rest.inside; complete = reading.complete && rest.complete; trees = more_sized (tree_alone reading) rest.trees }
 
-abbrev pub concatenation_reading : SourcePlace → Option ℕ → List Fault → SizedExpressions → Reading
-concatenation_reading place None inside trees = refused_reading [] inside
-concatenation_reading place (Some total) inside trees = sized_reading place total false inside (λ width whole. SizedConcatenation width whole trees)
+abbrev pub concatenation_reading : SourcePlace → Option ℕ → Bool → List Fault → SizedExpressions → Reading
+concatenation_reading place None complete inside trees = refused_reading [] inside
+concatenation_reading place (Some total) complete inside trees = sized_reading place total false complete inside (λ width whole. SizedConcatenation width whole trees)
 
-abbrev pub replication_reading : SourcePlace → Option ℕ → Option ℕ → List Fault → SizedExpressions → Reading
-replication_reading place None total inside trees = refused_reading [] inside
-replication_reading place (Some count) None inside trees = refused_reading [] inside
-replication_reading place (Some count) (Some total) inside trees = sized_reading place (count * total) false inside (λ width whole. SizedReplication width whole count trees)
+abbrev pub replication_reading : SourcePlace → Option ℕ → Option ℕ → Bool → List Fault → SizedExpressions → Reading
+replication_reading place None total complete inside trees = refused_reading [] inside
+replication_reading place (Some count) None complete inside trees = refused_reading [] inside
+replication_reading place (Some count) (Some total) complete inside trees = sized_reading place (count * total) false complete inside (λ width whole. SizedReplication width whole count trees)
 
 abbrev mutual
   -- what an expression is in a scope
   pub reading_of : Scope → SourceExpression → Reading
-  reading_of scope (Number place form value) = number_reading form value
+  reading_of scope (Number place form value) = number_reading place form value
   reading_of scope (Selected place name index) = select_reading scope place name index
   reading_of scope (Parenthesised place inner) = reading_of scope inner
   reading_of scope (Prefixed place operator operand) = unary_reading (unary_sizing operator) operator (reading_of scope operand)
   reading_of scope (Infixed place operator left right) = binary_reading (binary_sizing operator) operator (reading_of scope left) (reading_of scope right)
   reading_of scope (Chosen place condition first second) = choice_reading (reading_of scope condition) (reading_of scope first) (reading_of scope second)
-  reading_of scope (Concatenated place parts) = let read = parts_reading scope parts in concatenation_reading place read.width read.inside read.trees
+  reading_of scope (Concatenated place parts) = let read = parts_reading scope parts in concatenation_reading place read.width read.complete read.inside read.trees
   reading_of scope (Replicated place count parts) =
       let read = parts_reading scope parts in
       let times = reading_of scope count in
-      replication_reading place (natural_constant (constant_reading scope 0 count times)) read.width (read.inside ++ alone_faults times) read.trees
+      replication_reading place (natural_constant (constant_reading scope 0 count times)) read.width read.complete (read.inside ++ alone_faults times) read.trees
 
   -- what a name is with what stands in brackets behind it
   pub select_reading : Scope → SourcePlace → Identifier → SourceIndex → Reading
@@ -312,7 +320,7 @@ abbrev mutual
       (natural_constant (constant_reading scope 0 from first)) (natural_constant (constant_reading scope 0 to second))
 
   pub parts_reading : Scope → SourceExpressions → PartsReading
-  parts_reading scope no_parts = record { width = Some 0; inside = []; trees = no_sized }
+  parts_reading scope no_parts = record { width = Some 0; inside = []; complete = true; trees = no_sized }
   parts_reading scope (more_parts first rest) = part_before (is_unsized_number first) (place_of_expression first) (reading_of scope first) (parts_reading scope rest)
 
 -- the value of a constant in a context of a width

@@ -205,7 +205,7 @@ placed-started k (Some x) ts tail h low c place more e =
     ∙ ap (repeat (placed_turn k) (record { ended = []; last = Some x })) e
     ∙ placed-comma k (record { ended = []; last = Some x }) place more
 
-bound : {A B D : Type 0} (first : Reader A) (second : A → Reader B) (third : B → Reader D) (tokens : List SourceToken)
+pub bound : {A B D : Type 0} (first : Reader A) (second : A → Reader B) (third : B → Reader D) (tokens : List SourceToken)
     → followed (first tokens) (λ a. second a >>= third) ≡ followed (followed (first tokens) second) third
 bound {A} first second third tokens = again (first tokens)
   where

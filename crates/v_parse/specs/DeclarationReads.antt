@@ -147,7 +147,7 @@ abbrev pub adds : {G P : Type 0} → (G → P → G) → G → List P → G
 adds add g [] = g
 adds add g (p ∷ ps) = adds add (add g p) ps
 
-with_last-append : {G P : Type 0} (add : G → P → G) (done : List G) (g : G) (p : P) → with_last add (done ++ g ∷ []) p ≡ done ++ add g p ∷ []
+pub with_last-append : {G P : Type 0} (add : G → P → G) (done : List G) (g : G) (p : P) → with_last add (done ++ g ∷ []) p ≡ done ++ add g p ∷ []
 with_last-append add [] g p = refl
 with_last-append add (d ∷ []) g p = refl
 with_last-append add (d ∷ e ∷ done) g p = ap (λ gs. d ∷ gs) (with_last-append add (e ∷ done) g p)
@@ -267,7 +267,7 @@ group_parts k gs place g ts h low = by g.parameters h.1.5 refl (each-fits (λ (p
               ∙ ap (λ w. followed w (λ g. give (Some (gs ++ g ∷ [])))) (reads rest c),
         )
 
-groups_last : (k : ℕ) (gs : List SourceParameters) (rest : List SourceToken) → is_class classes.Comma (next_class rest) ≡ false → groups_turn k gs rest ≡ Ok (None, rest)
+pub groups_last : (k : ℕ) (gs : List SourceParameters) (rest : List SourceToken) → is_class classes.Comma (next_class rest) ≡ false → groups_turn k gs rest ≡ Ok (None, rest)
 groups_last k gs rest h = by (next_class rest) h
   where
     by : (class : Option Class) → is_class classes.Comma class ≡ false → groups_by k gs class rest ≡ Ok (None, rest)
@@ -413,7 +413,7 @@ port_parts k gs place g ts h low = by g.names h.7 refl
               ∙ ap (λ w. followed w (λ p. give (Some (gs ++ p ∷ [])))) (reads rest c),
         )
 
-ports_last : (k : ℕ) (gs : List SourcePorts) (rest : List SourceToken) → is_class classes.Comma (next_class rest) ≡ false → ports_turn k gs rest ≡ Ok (None, rest)
+pub ports_last : (k : ℕ) (gs : List SourcePorts) (rest : List SourceToken) → is_class classes.Comma (next_class rest) ≡ false → ports_turn k gs rest ≡ Ok (None, rest)
 ports_last k gs rest h = by (next_class rest) h
   where
     by : (class : Option Class) → is_class classes.Comma class ≡ false → ports_by k gs class rest ≡ Ok (None, rest)

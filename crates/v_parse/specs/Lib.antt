@@ -1,6 +1,7 @@
 pub mod Spelling
 pub mod Heights
 pub mod Items
+pub mod Rows
 pub mod DeclarationExact
 pub mod ConnectionExact
 pub mod ItemExact
@@ -8,4 +9,5 @@ pub mod DeclarationReads
 pub mod ConnectionReads
 pub mod ItemReads
 pub mod Verdict
+pub mod Refusals
 pub mod Judged

@@ -328,7 +328,7 @@ pub fn parameters<'t>(
 
 /// Ports before their names.
 #[tactic(auto, unfolding(crate::specs::Items::ports_head))]
-fn ports_head<'t>(
+pub fn ports_head<'t>(
     alloc: Global,
     tokens: &'t [Lexeme<'t>],
     direction: Direction,
@@ -356,7 +356,7 @@ fn ports_head<'t>(
 }
 
 /// Ports with these names.
-fn with_names(head: Ports, names: Seq<Name>) -> Ports
+pub fn with_names(head: Ports, names: Seq<Name>) -> Ports
     ensures { ports_of result ≡ read.with_names (ports_of head) (map name_of names) }
 {
     let Ports {

@@ -1,16 +1,16 @@
 -- What the calls one level down and the loops over statements and items read.
-use Rattle.std.proofs.Common.{◌≡◌, ℕ, zero, suc, ◌-◌, ◌<◌, Bool, true, false, List, [], ◌∷◌, ◌++◌, length, Option, Some, None, Ok, Err, refl, sym, ◌∙◌, ap, arith, lt-ltb}
+use Rattle.std.proofs.Common.{◌≡◌, ℕ, zero, suc, ◌-◌, ◌<◌, true, false, List, [], ◌∷◌, ◌++◌, length, Option, Some, None, Ok, refl, ◌∙◌, ap, arith, lt-ltb}
 use Rattle.std.specs.Prelude.{nat_lt, if◌then◌else◌}
 use Rattle.v_tree.specs.Tokens.{SourceToken}
 use Rattle.v_tree.specs.Trees.{SourceStatement}
 use Rattle.v_read.specs.declared.class.Class.{Class}
 use Rattle.v_read.specs.declared.class.Class.TheVariants as classes
 use Rattle.v_read.specs.declared.stop.Stop.{Stop}
-use Rattle.v_read.specs.Reading.{Deep, Reader, Stopped, followed, give, deep, next_class, by_class, is_class, repeat}
+use Rattle.v_read.specs.Reading.{Reader, ◌>>=◌, followed, give, ready, next_class, by_class, is_class, repeat}
 use Rattle.v_read.specs.Given.{Fails}
 use Rattle.v_read.specs.SeparatedLaws.{is_class-true}
 use Rattle.v_read.specs.Reads.{turn-is, last-is, stop-is, Fails-through}
-use Rattle.v_stmt.specs.Statements.{another, begins, body_by, body_turn, statement_by, below_of, statement, CasePart, item, items_by, items_turn}
+use Rattle.v_stmt.specs.Statements.{another, begins, body_turn, statement_by, below_of, statement, CasePart, item, items_by, items_turn}
 
 pub below_of_is : (levels : ℕ) (tokens : List SourceToken) → 0 < levels → below_of levels tokens ≡ statement (levels - 1) tokens
 unfolding below_of statement
@@ -21,24 +21,22 @@ module _ (k : ℕ) (done : List SourceStatement) (rest : List SourceToken) where
   body-turn : begins (next_class rest) ≡ true → body_turn k (below_of k) done rest ≡ another k (below_of k) done rest
   body-turn h = ap (λ b. (if b then another k (below_of k) done else give None) rest) h
 
-  pub body-next : (s : SourceStatement) (after : List SourceToken) → 0 < k → begins (next_class rest) ≡ true → statement (k - 1) rest ≡ Ok (s, after) → length after < length rest
+  pub body-next : (s : SourceStatement) (after : List SourceToken) → 0 < k → begins (next_class rest) ≡ true → below_of k rest ≡ Ok (s, after) → length after < length rest
       → repeat (body_turn k (below_of k)) done rest ≡ repeat (body_turn k (below_of k)) (done ++ s ∷ []) after
   body-next s after some b read h =
       let low : nat_lt 0 k ≡ true = lt-ltb 0 k some in
-      let below = below_of_is k rest some ∙ read in
-      turn-is (body_turn k (below_of k)) done (done ++ s ∷ []) rest after (body-turn b ∙ rw (low, below) refl) h
+      turn-is (body_turn k (below_of k)) done (done ++ s ∷ []) rest after (body-turn b ∙ rw (low, read) refl) h
 
-  pub body-fail : (stop : Stop) → 0 < k → begins (next_class rest) ≡ true → Fails stop (statement (k - 1) rest) → Fails stop (repeat (body_turn k (below_of k)) done rest)
-  body-fail stop some b h = Fails-through stop (statement (k - 1) rest) (repeat (body_turn k (below_of k)) done rest)
+  pub body-fail : (stop : Stop) → 0 < k → begins (next_class rest) ≡ true → Fails stop (below_of k rest) → Fails stop (repeat (body_turn k (below_of k)) done rest)
+  body-fail stop some b h = Fails-through stop (below_of k rest) (repeat (body_turn k (below_of k)) done rest)
       (λ e fails.
       let low : nat_lt 0 k ≡ true = lt-ltb 0 k some in
-      let below = below_of_is k rest some ∙ fails in
-      stop-is (body_turn k (below_of k)) done rest e (body-turn b ∙ rw (low, below) refl)) h
+      stop-is (body_turn k (below_of k)) done rest e (body-turn b ∙ rw (low, fails) refl)) h
 
-  pub body-deep : k ≡ 0 → begins (next_class rest) ≡ true → repeat (body_turn k (below_of k)) done rest ≡ deep rest
-  body-deep none b =
-      let low : nat_lt 0 k ≡ false = ap (nat_lt 0) none in
-      stop-is (body_turn k (below_of k)) done rest (record { why = Deep; rest = rest }) (body-turn b ∙ rw low refl)
+  -- a body that is too deep
+  pub body-deep : (stop : Stop) → begins (next_class rest) ≡ true → Fails stop (ready 0 k rest) → Fails stop (repeat (body_turn k (below_of k)) done rest)
+  body-deep stop b h = Fails-through stop (ready 0 k rest) (repeat (body_turn k (below_of k)) done rest)
+      (λ e fails. stop-is (body_turn k (below_of k)) done rest e (body-turn b ∙ ap (λ r. followed r (λ level. below_of k >>= λ s. give (Some (done ++ s ∷ [])))) fails)) h
 
   pub body-end : begins (next_class rest) ≡ false → repeat (body_turn k (below_of k)) done rest ≡ Ok (done, rest)
   body-end b = last-is (body_turn k (below_of k)) done rest (ap (λ b. (if b then another k (below_of k) done else give None) rest) b)

@@ -1,18 +1,18 @@
 -- What the turns of the loops read.
-use Rattle.std.proofs.Common.{◌≡◌, ℕ, zero, suc, ◌+◌, ◌-◌, ◌<◌, ◌≤◌, Bool, true, false, List, [], ◌∷◌, ◌++◌, length, Option, Some, None, Ok, Err, refl, sym, ◌∙◌, ap, arith, lt-ltb, le-ltb}
+use Rattle.std.proofs.Common.{◌≡◌, ℕ, ◌+◌, ◌-◌, ◌<◌, ◌≤◌, Bool, true, false, List, [], ◌∷◌, ◌++◌, length, Option, Some, None, Ok, Err, refl, ◌∙◌, ap, arith}
 use Rattle.std.specs.Prelude.{nat_lt, if◌then◌else◌}
 use Rattle.vf_base.specs.Base.{SourcePlace}
 use Rattle.v_tree.specs.Tokens.{SourceToken}
-use Rattle.v_tree.specs.Trees.{SourceEntry, SourceStatement}
+use Rattle.v_tree.specs.Trees.{SourceEntry}
 use Rattle.v_read.specs.declared.class.Class.{Class}
 use Rattle.v_read.specs.declared.class.Class.TheVariants as classes
 use Rattle.v_read.specs.declared.stop.Stop.{Stop}
 use Rattle.v_read.specs.declared.stop.Stop.TheVariants as stops
 use Rattle.v_read.specs.Classes.{class_of, same_class}
-use Rattle.v_read.specs.Reading.{Wrong, Deep, place_of, Reader, Reading, Stopped, followed, give, deep, wrong, next_class, by_class, step, repeat}
+use Rattle.v_read.specs.Reading.{Wrong, Deep, place_of, Reader, Reading, followed, give, wrong, next_class, step, repeat}
 use Rattle.v_read.specs.Given.{Fails}
 use Rattle.v_read.specs.Reads.{turn-is, last-is, stop-is, Fails-through}
-use Rattle.v_stmt.specs.Statements.{entry, separates, another_entry, entries_by, entries_turn, depth_behind, skipped, another, begins, body_by, body_turn, statement_by, below_of, statement, CasePart, item, items_by, items_turn}
+use Rattle.v_stmt.specs.Statements.{entry, separates, another_entry, entries_by, entries_turn, depth_behind, skipped}
 
 -- Entries
 

@@ -8,7 +8,7 @@ use Rattle.v_tree.specs.declared.token.NumberForm.TheVariants.{Plain}
 use Rattle.v_tree.specs.declared.token.TokenKind.{TokenKind}
 use Rattle.v_tree.specs.declared.token.TokenKind.TheVariants as kinds
 use Rattle.v_tree.specs.Tokens.{SourceToken}
-use Rattle.v_tree.specs.Trees.{SourceExpression, Number, NoIndex, SourceTarget, OneSelect, JoinedSelects, OnAnyRead, SourceStatement, NullStatement, BlockStatement, IfStatement, IfElseStatement, CaseStatement, ForStatement, WhileStatement, RepeatStatement, ForeverStatement, WaitStatement, EventStatement, DelayStatement, BlockingStatement, NonblockingStatement, IgnoredTask, FinishTask, no_source_statements, no_source_items, otherwise, place_of_target}
+use Rattle.v_tree.specs.Trees.{SourceExpression, Number, NoIndex, SourceTarget, OneSelect, JoinedSelects, OnAnyRead, SourceStatement, NullStatement, BlockStatement, IfStatement, IfElseStatement, CaseStatement, ForStatement, WhileStatement, RepeatStatement, ForeverStatement, WaitStatement, EventStatement, DelayStatement, BlockingStatement, NonblockingStatement, IgnoredTask, FinishTask, no_source_statements, no_source_items, otherwise, place_of_target, parts_of}
 use Rattle.v_read.specs.declared.class.Class.{Class}
 use Rattle.v_read.specs.declared.class.Class.TheVariants as classes
 use Rattle.v_read.specs.Classes.{class_of, is_fixed, token_at, token_of, name_token, IsName}
@@ -21,7 +21,6 @@ use Rattle.v_read.specs.Repeat.{append-nil, Turn, TurnFits, exact-repeat}
 use Rattle.v_read.specs.SeparatedLaws.{exact-separated}
 use Rattle.v_expr.specs.Spelling.{SpellsExpression, SpellsParts, SpellsMoreParts, SpellsTarget}
 use Rattle.v_expr.specs.Heights.{height_of, heights_of, target_height}
-use Rattle.v_expr.specs.Expressions.{parts_of}
 use Rattle.v_expr.specs.ExpressionExact.{Below, parts-below}
 use Rattle.v_stmt.specs.Spelling.{SpellsLabel, SpellsInnerDelay, SpellsTask, case_word, defaults_in, items_in, is_unfinished, SpellsStatement, SpellsBody, SpellsItems}
 use Rattle.v_stmt.specs.Heights.{waits_height, delay_height, statement_height, body_height, items_height}

@@ -2,12 +2,14 @@
 //!
 //! `specs/Spelling` says by recursion on a statement's tree which tokens spell it, `specs/Heights` how many levels stand below it.
 //! `specs/Statements` has the readers, and `specs/StatementExact` shows that they are exact: what is read is spelled, within the levels that are
-//! left, and where reading stops, what stands before begins a statement. The calls read statements that have no statement in
-//! them, and what stands around statements in others.
+//! left, and where reading stops, what stands before begins a statement. `statement` reads a whole statement.
 #![tactic(auto)]
 
+mod build;
 mod parts;
 mod pieces;
+mod statements;
+#[cfg(test)]
+mod tests;
 
-pub use parts::{assignment, colon, condition, head_assignment, label, task, waits};
-pub use pieces::{LoopKind, begins, has_default, labels, simple};
+pub use statements::statement;

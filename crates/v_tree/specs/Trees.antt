@@ -204,6 +204,11 @@ place_of_expression (Chosen place condition first second) = place
 place_of_expression (Concatenated place parts) = place
 place_of_expression (Replicated place count parts) = place
 
+-- parts in a row
+abbrev pub parts_of : List SourceExpression → SourceExpressions
+parts_of [] = no_parts
+parts_of (first ∷ rest) = more_parts first (parts_of rest)
+
 abbrev pub place_of_target : SourceTarget → SourcePlace
 place_of_target (OneSelect select) = select.place
 place_of_target (JoinedSelects place selects) = place

@@ -1,5 +1,5 @@
 -- What a tree that is built of a list is seen as.
-use Rattle.std.proofs.Common.{◌≡◌, refl, ap, ◌∙◌, Global}
+use Rattle.std.proofs.Common.{◌≡◌, List, [], ◌∷◌, map, refl, ap, ◌∙◌, Global}
 use Rattle.std.specs.declared.vec.Vec.{Vec}
 use Rattle.vf_base.specs.Base.{source_place}
 use Rattle.vf_base.specs.declared.ids.Place.{Place}
@@ -21,6 +21,14 @@ expressions-row (more_of-Expr first rest) = ap (plain.more_parts (expression_of 
 -- the parts that a vector holds
 pub expressions-hidden : (parts : Vec Expr Global) → expressions_of_row (hidden-the_row-Expr-0 parts) ≡ expressions_of parts.items
 expressions-hidden parts = expressions-row (hidden-the_row-Expr-0 parts) ∙ ap expressions_of (items_hidden-the_row-Expr-0 parts)
+
+pub expressions-map : (parts : List Expr) → expressions_of parts ≡ plain.parts_of (map expression_of parts)
+expressions-map [] = refl
+expressions-map (first ∷ rest) = ap (plain.more_parts (expression_of first)) (expressions-map rest)
+
+-- the parts that a vector holds, as a list
+pub row-seen : (parts : Vec Expr Global) → expressions_of_row (hidden-the_row-Expr-0 parts) ≡ plain.parts_of (map expression_of parts.items)
+row-seen parts = expressions-hidden parts ∙ expressions-map parts.items
 
 pub expression_of-Concat : (place : Place) (parts : Vec Expr Global) → expression_of (code.Concat place parts) ≡ plain.Concatenated (source_place place) (expressions_of parts.items)
 expression_of-Concat place parts = ap (plain.Concatenated (source_place place)) (expressions-hidden parts)

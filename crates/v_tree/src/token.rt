@@ -9,7 +9,7 @@ use vf_base::{Place, Text};
 /// How a number is written, which decides its size and its sign in an expression (clause 2.5.1).
 #[derive(Clone, Copy, PartialEq, Eq, Debug)]
 pub enum NumberForm {
-    /// A decimal number alone: signed, of 32 bits.
+    /// A decimal number alone, of 32 bits: signed up to 2,147,483,647, above it unsigned.
     Plain,
     /// A base without a size: unsigned, of 32 bits.
     Unsized,

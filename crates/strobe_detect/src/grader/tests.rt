@@ -41,7 +41,7 @@ fn verdicts(rt: HostRuntime) {
         ([(3, X, X), (7, Zero, X), (17, Zero, X)], Grade::Possible(7)),
         // Unknown at first, and opposite at last.
         (
-            [(5, One, X), (10, One, One), (25, One, Zero)],
+            [(5, One, X), (15, One, One), (25, One, Zero)],
             Grade::Detected(25),
         ),
         // The good bit must be known.

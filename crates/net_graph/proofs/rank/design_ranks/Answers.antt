@@ -7,11 +7,14 @@ use Rattle.net_graph.specs.Loops.{AreAmong, IsLooping}
 use Rattle.net_graph.specs.RankLaws.{rules_among, rules_acyclic}
 use Rattle.net_graph.proofs.rank.design_ranks.Goals as goal
 
-pub ranks-requires-clause-there : goal.ranks-requires-clause-there
-ranks-requires-clause-there c =
+pub ranks-requires : goal.ranks-requires
+ranks-requires c =
     let count : length (design_of c.args.design.now).objects ≡ length c.as_slice-objects.result.now = length-map c.args.design.now.objects object_of ∙ ap length (sym c.as_slice-objects.ensures) in
-    subst (λ nodes. AreAmong (length c.as_slice-objects.result.now) (map node_of nodes)) (sym c.as_slice.ensures)
-    (subst (λ n. AreAmong n (map node_of c.args.design.now.nodes)) count (rules_among (design_of c.args.design.now) c.args.design.now.rules))
+    record {
+      there =
+          subst (λ nodes. AreAmong (length c.as_slice-objects.result.now) (map node_of nodes)) (sym c.as_slice.ensures)
+          (subst (λ n. AreAmong n (map node_of c.args.design.now.nodes)) count (rules_among (design_of c.args.design.now) c.args.design.now.rules));
+    }
 
 pub unreachable-requires : goal.unreachable-requires
 unreachable-requires c =

@@ -33,7 +33,7 @@ terminals-preserved g c = record {
   bit =
       c.gate_step-bit.ensures
       ∙ ap (gate_step c.args.kind c.terminals.bit)
-      (c.forced_terminal-forced.ensures ∙ ap (forced_terminal (machine_of c.args.view.now).fault (node_number c.args.node) (c.terminals.number + 1)) (c.bit-seen.ensures ∙ ap (λ value. bit_at value 0) c.eval.ensures.value))
+      (c.forced_at-forced.ensures ∙ ap (forced_terminal (machine_of c.args.view.now).fault (node_number c.args.node) (c.terminals.number + 1)) (c.bit-seen.ensures ∙ ap (λ value. bit_at value 0) c.eval.ensures.value))
       ∙ gate-more c.args.kind (machine_of c.args.view.now).fault (node_number c.args.node) (value_at (g.V.Values.values c.args.values.now)) c.args.terminals.now c.terminals.number c.index-terminals-number.result c.terminals.bit
       c.terminals-test.true c.index-terminals-number.is c.terminals.invariant.bit;
   room = c.eval.ensures.room ∙ c.terminals.invariant.room;

@@ -1,4 +1,4 @@
-use Rattle.std.proofs.Common.{◌≡◌, ◌+◌, sym, subst, ◌∙◌, ap, length, drop, get_or}
+use Rattle.std.proofs.Common.{◌+◌, sym, subst, ◌∙◌, ap, length, drop}
 use Rattle.v_design.specs.declared.tree.CaseItem.{CaseItem}
 use Rattle.v_design.specs.Plain.{expressions_of}
 use Rattle.v_design.specs.PlainLemmas.{items_of}

@@ -1,4 +1,4 @@
-use Rattle.std.proofs.Common.{◌≡◌, sym, subst, ◌∙◌, ap, length}
+use Rattle.std.proofs.Common.{sym, subst, ◌∙◌, ap, length}
 use Rattle.v_design.specs.Plain.{expression_of}
 use Rattle.v_design.specs.Sized.{IsSized}
 use Rattle.v_design.specs.Expressions.{width_of}

@@ -1,5 +1,5 @@
-use Rattle.std.proofs.Common.{◌≡◌, drop, ◌*◌, ◌+◌}
-use Rattle.v_design.specs.Plain.{expression_of, expressions_of}
+use Rattle.std.proofs.Common.{◌≡◌, drop}
+use Rattle.v_design.specs.Plain.{expressions_of}
 use Rattle.v_design.specs.Expressions.{are_constant}
 use Rattle.operand_read.proofs.constant.+constant.Given as goal
 

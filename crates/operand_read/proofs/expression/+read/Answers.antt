@@ -1,16 +1,13 @@
-use Rattle.std.proofs.Common.{rules, arith, ◌≡◌, ◌+◌, ◌*◌, ◌<◌, ◌≤◌, ◌∙◌, ◌++◌, [], ◌∷◌, ap, sym, subst, refl, length, get_or, map, drop, max, length-append, append-nil}
-use Rattle.std.proofs.lemmas.List.{drop_more, drop_all}
+use Rattle.std.proofs.Common.{rules, arith, ◌≡◌, ◌+◌, ◌*◌, ◌≤◌, ◌∙◌, ◌++◌, [], ◌∷◌, ap, sym, subst, length, get_or, map, drop, length-append}
 use Rattle.four_value.specs.Values.{LogicValue, resized, natural_number}
-use Rattle.vf_base.specs.Base.{object_number}
 use Rattle.v_design.specs.Plain.{expression_of, expressions_of, vector_of, piece_of}
 use Rattle.v_design.specs.PlainLemmas.{expression_of-Concatenation, expression_of-Replication}
 use Rattle.v_design.specs.Sized.{IsSized, AreSizedAlone, own_width, own_width_of_parts, levels_of, levels_of_parts}
-use Rattle.v_design.specs.Expressions.{Needs, Has, width_of, sign_of, repeated, read_expression, read_parts, read_slices, slices_at, place_of_number, bit_at_place}
+use Rattle.v_design.specs.Expressions.{Has, width_of, sign_of, read_expression, read_parts, read_slices, slices_at, place_of_number, bit_at_place}
 use Rattle.expr_eval.specs.Operands.{bits_so_far}
 use Rattle.expr_eval.specs.PartsLaws.{factors, part_sized, part_levels}
 use Rattle.operand_read.specs.Sought.{got}
-use Rattle.operand_read.specs.PartReads.{got-needs, got-same}
-use Rattle.operand_read.specs.ReadLaws.{reads-name, constant-needs, bit-needs, bit-has, then-has, then-needs, parts-more, got-own, read_parts-at, own_width-at}
+use Rattle.operand_read.specs.ReadLaws.{reads-name, constant-needs, bit-needs, bit-has, then-has, then-needs, parts-more, read_parts-at, own_width-at}
 use Rattle.operand_read.proofs.expression.+read.Goals as goal
 
 pub read_bit-returns-in_err-read_value-clause-needs : goal.read_bit-returns-in_err-read_value-clause-needs

@@ -1,4 +1,4 @@
-use Rattle.std.proofs.Common.{◌≡◌, ◌≤◌, ◌<◌, ◌+◌, ◌-◌, ◌++◌, length, take, drop, arith, refl, sym, ◌∙◌, ap}
+use Rattle.std.proofs.Common.{◌≡◌, ◌+◌, ◌-◌, ◌++◌, length, arith, sym, ◌∙◌, ap}
 use Rattle.std.proofs.lemmas.List.{take_at}
 use Rattle.four_value.specs.ValueLaws.{length-part_of}
 use Rattle.operand_read.proofs.Cuts.{part_of-first, cut-append}

@@ -1,4 +1,4 @@
-use Rattle.std.proofs.Common.{◌≡◌, take, arith, ◌∙◌, ap, ◌++◌}
+use Rattle.std.proofs.Common.{take, ◌∙◌, ap, ◌++◌}
 use Rattle.expr_eval.specs.Operands.{bits_so_far}
 use Rattle.operand_read.proofs.Cuts.{joined-more}
 use Rattle.operand_read.proofs.operand.joined_bits.Goals as goal

@@ -1,6 +1,4 @@
-use Rattle.std.proofs.Common.{◌≡◌, ◌≤◌, ◌<◌, ◌+◌, ◌-◌, ◌++◌, [], length, map, take, drop, arith, refl, sym, ◌∙◌, ap, length-drop}
-use Rattle.v_design.specs.Expressions.{Needs, Has, read_slices, whole_slices}
-use Rattle.v_design.specs.Lists.{joined}
+use Rattle.std.proofs.Common.{◌-◌, length, refl}
 use Rattle.operand_read.specs.OperandLaws.{passes, stops}
 use Rattle.operand_read.proofs.operand.pass_pieces.Goals as goal
 

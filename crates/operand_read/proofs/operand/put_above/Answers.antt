@@ -1,4 +1,4 @@
-use Rattle.std.proofs.Common.{◌≡◌, ◌≤◌, ◌<◌, ◌+◌, ◌++◌, length, take, arith, sym, ◌∙◌, ap, length-append}
+use Rattle.std.proofs.Common.{◌++◌, take, arith, sym, ◌∙◌, ap, length-append}
 use Rattle.expr_eval.specs.Operands.{bits_so_far}
 use Rattle.operand_read.proofs.Cuts.{cut-none}
 use Rattle.operand_read.proofs.operand.put_above.Goals as goal

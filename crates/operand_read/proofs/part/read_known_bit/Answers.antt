@@ -1,4 +1,4 @@
-use Rattle.std.proofs.Common.{◌≡◌, ◌∷◌, [], drop, map, None, Option, sym, ◌∙◌, ap, ℕ}
+use Rattle.std.proofs.Common.{◌∷◌, [], drop, map, Option, sym, ◌∙◌, ap, ℕ}
 use Rattle.v_design.specs.Plain.{piece_of}
 use Rattle.v_design.specs.Expressions.{place_of, part_places, bit_at_place, slices_at, read_slices}
 use Rattle.operand_read.specs.Sought.{got}

@@ -1,4 +1,4 @@
-use Rattle.std.proofs.Common.{◌≡◌, sym, ◌∙◌, ap}
+use Rattle.std.proofs.Common.{sym, ◌∙◌, ap}
 use Rattle.v_design.specs.Plain.{expression_of, expressions_of}
 use Rattle.v_design.specs.PlainLemmas.{expression_of-Concatenation, expression_of-Replication}
 use Rattle.operand_read.specs.Bounds.{reads_most, reads_most_each}

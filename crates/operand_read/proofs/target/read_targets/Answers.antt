@@ -1,4 +1,4 @@
-use Rattle.std.proofs.Common.{◌≡◌, ◌+◌, ◌-◌, ◌<◌, ◌≤◌, sym, subst, ◌∙◌, ap, length, drop, map, arith}
+use Rattle.std.proofs.Common.{sym, subst, ◌∙◌, ap, length, arith}
 use Rattle.four_value.specs.ValueLaws.{length-part_of}
 use Rattle.v_design.specs.Plain.{target_of}
 use Rattle.v_design.specs.Sized.{IsSizedTarget}

@@ -1,8 +1,7 @@
-use Rattle.std.proofs.Common.{◌≡◌, ◌+◌, ◌-◌, ◌<◌, ◌≤◌, Some, Option, sym, ◌∙◌, ap, length, take, drop, map, get_or, arith}
+use Rattle.std.proofs.Common.{◌≡◌, ◌-◌, ◌<◌, Some, sym, ◌∙◌, ap, length, drop, get_or, arith}
 use Rattle.std.proofs.lemmas.List.{take_all, length-drop}
 use Rattle.vf_base.specs.Base.{object_number}
 use Rattle.four_value.specs.Values.{LogicValue, part_of}
-use Rattle.v_design.specs.Assignments.{ValueUpdate, part_width, part_update}
 use Rattle.v_design.specs.Expressions.{place_of, part_indexes}
 use Rattle.operand_read.specs.ChoiceLaws.{part-skip, part-found}
 use Rattle.operand_read.proofs.Cuts.{part_of-first}

@@ -6,4 +6,4 @@ use Rattle.plan_read.specs.Steps.{IsRead}
 use Rattle.plan_read.proofs.read.read_lines.Given as goal
 
 abbrev pub invariant-lines : goal.invariant-lines
-invariant-lines l = IsRead (design_of l.design) (lines_say (plain_words (take l.place l.lines))) l.draft
+invariant-lines l = IsRead (design_of l.names.design.now) (lines_say (plain_words (take l.place l.lines))) l.draft

@@ -1,10 +1,14 @@
-use Rattle.std.proofs.Common.{◌≡◌, ◌++◌, map, take}
-use Rattle.vf_base.specs.Base.{object_number}
-use Rattle.v_design.specs.Lists.{joined, map_numbered}
-use Rattle.v_design.specs.Plain.{object_of, name_joined, piece_of}
+use Rattle.std.proofs.Common.{ℕ, length}
+use Rattle.v_design.specs.Plain.{name_joined}
+use Rattle.site_names.specs.Stems.{stem, joined_key}
+use Rattle.site_names.specs.Walks.{places_left}
 use Rattle.plan_read.specs.Plain.{watched_bits}
-use Rattle.plan_read.specs.Watched.{object_bits, pieces_bits, bits_in_object, bits_in_joined}
+use Rattle.plan_read.specs.Watched.{bits_in_joined}
+use Rattle.plan_read.proofs.Walking.{IsBitsWalk}
 use Rattle.plan_read.proofs.watch.add_names.Given as goal
 
-abbrev pub invariant-names : goal.invariant-names
-invariant-names l = watched_bits l.bits.items ≡ watched_bits l.initial.bits.items ++ joined (map (bits_in_joined l.word) (map name_joined (take l.name-index l.names)))
+abbrev pub invariant-places : goal.invariant-places
+invariant-places l = IsBitsWalk name_joined (λ (m : ℕ). bits_in_joined l.word) joined_key (stem l.word) l.names.design.now.joined (watched_bits l.initial.bits.items) (watched_bits l.bits.items) l.at
+
+abbrev pub decreases-places : goal.decreases-places
+decreases-places l = places_left (length l.names.design.now.joined) l.at

@@ -1,10 +1,14 @@
-use Rattle.std.proofs.Common.{◌≡◌, ◌++◌, map, take}
-use Rattle.vf_base.specs.Base.{object_number}
-use Rattle.v_design.specs.Lists.{joined, map_numbered}
-use Rattle.v_design.specs.Plain.{object_of, name_joined, piece_of}
+use Rattle.std.proofs.Common.{ℕ, length}
+use Rattle.v_design.specs.Plain.{object_of}
+use Rattle.site_names.specs.Stems.{stem, object_key}
+use Rattle.site_names.specs.Walks.{places_left}
 use Rattle.plan_read.specs.Plain.{watched_bits}
-use Rattle.plan_read.specs.Watched.{object_bits, pieces_bits, bits_in_object, bits_in_joined}
+use Rattle.plan_read.specs.Watched.{bits_in_object}
+use Rattle.plan_read.proofs.Walking.{IsBitsWalk}
 use Rattle.plan_read.proofs.watch.add_objects.Given as goal
 
-abbrev pub invariant-objects : goal.invariant-objects
-invariant-objects l = watched_bits l.bits.items ≡ watched_bits l.initial.bits.items ++ joined (map_numbered (bits_in_object l.word) 0 (map object_of (take l.number l.objects)))
+abbrev pub invariant-places : goal.invariant-places
+invariant-places l = IsBitsWalk object_of (bits_in_object l.word) object_key (stem l.word) l.names.design.now.objects (watched_bits l.initial.bits.items) (watched_bits l.bits.items) l.at
+
+abbrev pub decreases-places : goal.decreases-places
+decreases-places l = places_left (length l.names.design.now.objects) l.at

@@ -1,5 +1,5 @@
-use Rattle.std.proofs.Common.{◌≡◌, length}
+use Rattle.std.proofs.Common.{◌≡◌, replicate}
 use Rattle.process_code.proofs.room.counts_of.Given as goal
 
 abbrev pub invariant-repeats : goal.invariant-repeats
-invariant-repeats l = length l.counts.items ≡ l.counter
+invariant-repeats l = l.counts.items ≡ replicate l.counter 0

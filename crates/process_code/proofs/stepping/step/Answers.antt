@@ -9,10 +9,11 @@ use Rattle.process_code.specs.Positions.{part_of_head}
 use Rattle.process_code.specs.Codes.{rests_in_code}
 use Rattle.process_code.specs.Points.{point_of, said_by}
 use Rattle.process_code.specs.StatesOf.{IsRestAt}
-use Rattle.process_code.specs.WithinLaws.{part-ends}
+use Rattle.process_code.specs.WithinLaws.{part-ends, at-same, takes-ends}
 use Rattle.process_code.proofs.Growing.{rests_of-length}
 use Rattle.process_code.proofs.Compiled.{one-rest}
 use Rattle.process_code.proofs.Spots.{rest-end, good-part, step-of-spot, step-of-end, end-ends, spot-within, spot-facts, counts-part, state-kept}
+use Rattle.process_code.proofs.Reaching.{part-reached, end-reached, update-reached}
 use Rattle.process_code.proofs.stepping.step.Goals as goal
 
 pub returns-then-state-eq0-clause-step : goal.returns-then-state-eq0-clause-step
@@ -29,9 +30,12 @@ pub returns-then-state-eq0-clause-state : goal.returns-then-state-eq0-clause-sta
 returns-then-state-eq0-clause-state g c =
     let code = c.args.code.now in
     let state = c.args.state.now in
+    let here = ap (λ k. slice_get (rests_in_code code) k) c.if-state-eq0.true ∙ rest-end code.spots.items in
     state-kept code state c.end_body.new.self c.requires.state c.end_body.ensures.room
     (end-ends (statement_of code.process.now.body) (rests_in_code code) code.process.now.always (point_of state) (point_of c.end_body.new.self) code.start (said_by c.end_body.result)
     c.requires.code.sized c.requires.state.rest c.requires.code.starts c.end_body.ensures.again c.end_body.ensures.done)
+    (end-reached (rests_in_code code) code.process.now.always (statement_of code.process.now.body) (point_of state) (point_of c.end_body.new.self) code.start (said_by c.end_body.result)
+    c.requires.ready here c.requires.code.starts c.requires.state.reached c.end_body.ensures.again c.end_body.ensures.done)
 
 pub index-spot-requires : goal.index-spot-requires
 index-spot-requires g c = omega (arith, spot-within c.args.code.now c.args.state.now.position c.if-state-eq0.false c.requires.state.rest)
@@ -77,3 +81,16 @@ returns-clause-state g c =
     state-kept code state c.step_spot.new.state c.requires.state c.step_spot.ensures.room
     (part-ends (statement_of code.process.now.body) c.args.now (g.V.Values.values c.args.values.now) (rests_in_code code) code.repeats ways spot.next (part_of_head spot.head) facts.leads.after (point_of state)
     (point_of c.step_spot.new.state) (said_by c.step_spot.result) facts.here facts.leads.stands facts.leads.leads facts.parts c.step_spot.ensures.acts)
+    (part-reached c.args.now (g.V.Values.values c.args.values.now) (rests_in_code code) code.repeats ways spot.next (part_of_head spot.head) facts.leads.after (point_of state)
+    (point_of c.step_spot.new.state) (said_by c.step_spot.result) c.requires.ready facts.here facts.leads.stands facts.leads.leads c.requires.state.reached c.step_spot.ensures.acts)
+
+pub returns-then-not-is_empty-clause-state : goal.returns-then-not-is_empty-clause-state
+returns-then-not-is_empty-clause-state g c =
+    let code = c.args.code.now in
+    let state = c.args.state.now in
+    let new = c.next_update.new.self in
+    let body = statement_of code.process.now.body in
+    let rests = rests_in_code code in
+    state-kept code state new c.requires.state c.next_update.ensures.room
+    (at-same body rests new.position state.position (takes-ends c.args.now (point_of state) (point_of new) (said_by c.next_update.result) (map (option_map update_of) state.updates.items) c.next_update.ensures.takes) c.requires.state.rest)
+    (update-reached c.args.now rests (point_of state) (point_of new) (said_by c.next_update.result) c.requires.ready c.requires.state.reached c.next_update.ensures.takes)

@@ -2,7 +2,7 @@ use Rattle.std.proofs.Common.{◌≡◌, true, refl, map, Some, None, Ok, ap, sy
 use Rattle.std.proofs.lemmas.Result.{err_from_is_err_and}
 use Rattle.v_tree.specs.declared.expression.Expr.{Expr}
 use Rattle.v_tree.specs.declared.expression.Expr.TheBlock.{hidden-the_row-Expr-0}
-use Rattle.v_tree.specs.Trees.{Concatenated, Replicated}
+use Rattle.v_tree.specs.Trees.{Concatenated, Replicated, parts_of}
 use Rattle.v_tree.specs.Views.{expression_of, expressions_of_row}
 use Rattle.vf_base.specs.Base.{source_place}
 use Rattle.v_read.specs.declared.class.Class.TheVariants as classes
@@ -11,8 +11,9 @@ use Rattle.v_read.specs.Separated.{separated}
 use Rattle.v_read.specs.Reads.{element-next, element-fail, element-end}
 use Rattle.v_expr.specs.Heights.{height_of, heights_of}
 use Rattle.v_expr.specs.Spelling.{rank_of}
-use Rattle.v_expr.specs.Expressions.{parts_of, replication, concatenation, inner_of, operator_of, joining}
-use Rattle.v_expr.proofs.Rows.{row-seen, push-seen}
+use Rattle.v_expr.specs.Expressions.{replication, concatenation, inner_of, operator_of, joining}
+use Rattle.v_tree.specs.ViewLaws.{row-seen}
+use Rattle.v_expr.proofs.Rows.{push-seen}
 use Rattle.v_expr.proofs.Steps.{operands-next, operands-fail, operands-end, heights-append-max}
 use Rattle.v_expr.proofs.expressions.+expression.Goals as goal
 

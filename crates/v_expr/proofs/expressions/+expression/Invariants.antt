@@ -5,8 +5,9 @@ use Rattle.v_read.specs.declared.class.Class.TheVariants as classes
 use Rattle.v_read.specs.Reading.{repeat}
 use Rattle.v_read.specs.Separated.{element_turn}
 use Rattle.v_expr.specs.Heights.{height_of, heights_of}
-use Rattle.v_expr.specs.Expressions.{parts_of, inner_of, operands, operand_turn}
+use Rattle.v_expr.specs.Expressions.{inner_of, operands, operand_turn}
 use Rattle.v_expr.proofs.expressions.+expression.Given as goal
+use Rattle.v_tree.specs.Trees.{parts_of}
 
 abbrev pub decreases-inner : goal.decreases-inner
 decreases-inner l = 16 * l.levels

@@ -1,4 +1,4 @@
-use Rattle.std.proofs.Common.{◌≡◌, ap, sym, ◌∙◌, arith}
+use Rattle.std.proofs.Common.{ap, sym, ◌∙◌, arith}
 use Rattle.v_stmt.proofs.Loops.{skipped_at, skipped_step, skipped_none, opened, opened-behind}
 use Rattle.v_stmt.proofs.parts.parenthesised.Goals as goal
 

@@ -3,6 +3,7 @@ use Rattle.std.proofs.Common.{◌≡◌, ◌≤◌, ◌+◌, length, ℕ, List, 
 use Rattle.std.proofs.lemmas.Grind.{common_steps}
 use Rattle.process_code.specs.Compiling.{IsInStep, IsBelow, Places, Compiles}
 use Rattle.process_code.specs.declared.code.Ways.{Ways}
+use Rattle.process_code.proofs.Growing.{sized-push}
 use Rattle.process_code.proofs.builder.Builder.place.Goals as goal
 
 pub returns : goal.returns
@@ -17,5 +18,9 @@ returns c = (
     repeats = refl;
     own_is = grind (arith, common_steps);
   },
-  record { ways = grind (arith, common_steps); repeats = grind (arith, common_steps) },
+  record {
+    sized = sized-push c.args.self.now.spots.items _ _ c.in_ok-push.ensures.items c.requires.sized c.requires.in_step.sized;
+    ways = grind (arith, common_steps);
+    repeats = grind (arith, common_steps);
+  },
 )

@@ -7,7 +7,7 @@ use Rattle.process_code.proofs.state.ProcState.new.Goals as goal
 
 pub returns-clause-state : goal.returns-clause-state
 returns-clause-state c =
-    state-new c.args.code.now _ c.requires refl c.in_ok-counts.ensures
+    state-new c.args.code.now _ c.requires refl c.in_ok-counts.ensures refl
     (λ i spot there. more-room c.in_ok-room.room.operands c.in_ok-room.room.updates _ _ (part_of_head spot.head) c.in_ok-operands.ensures.capacity c.in_ok-updates.ensures.capacity
     (c.in_ok-room.ensures i spot (ap (λ xs. slice_get xs i) c.deref.ensures.value ∙ there)))
 

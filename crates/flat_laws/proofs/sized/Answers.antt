@@ -1,0 +1,5 @@
+use Rattle.flat_laws.specs.NamedUnits.{named-sized}
+use Rattle.flat_laws.proofs.sized.Goals as goal
+
+pub returns : goal.returns
+returns c = named-sized

@@ -1,0 +1,180 @@
+-- The rules that each flat design keeps, as far as they are proved: its limits, the order of its nodes and what drives its objects; its levels; and, where names
+-- differ and joined ports have one width, the sizes of its objects, nodes and processes (IEEE 1364-2001, clause 3.3 for objects, clauses 6, 7 and 9 for nodes and processes, clause 12 for the hierarchy).
+use Rattle.std.proofs.Common.{◌≡◌, ℕ, ◌<◌, ◌≤◌, false, List, [], length, Some, Ok, sym, ap, subst}
+use Rattle.std.specs.Prelude.{IsTrue, slice_get}
+use Rattle.v_design.specs.Lists.{has, without_repeats, AllHold}
+use Rattle.v_design.specs.Designs.{FlatNode, FlatProcess, FlatDesign}
+use Rattle.v_design.specs.Paths.{net_pieces}
+use Rattle.v_design.specs.Sized.{levels_of_statement, most_bits}
+use Rattle.v_design.specs.WellFormed.{most_parts, most_inputs, most_levels, levels_of_node, IsSizedObject, IsSizedName, AreBelow, AreByRank}
+use Rattle.v_tree.specs.Trees.{Identifier, SourceModule, SourceUnit}
+use Rattle.v_names.specs.Scopes.{Scope, range_width}
+use Rattle.v_elab.specs.declared.Mode.{Mode}
+use Rattle.v_elab.specs.Parts.{Part, SignalPart, MemoryPart, AssignPart, GatePart, ProcessPart, InstancePart, Signal, WalkedMemory}
+use Rattle.v_elab.specs.Walk.{walked_from}
+use Rattle.v_elab.specs.Flat.{flat}
+use Rattle.flat_laws.specs.Made.{nodes_in, objects_in, flat_nodes_in, IsMadeOf, flat-made}
+use Rattle.flat_laws.specs.Lists.{AllHold-from}
+use Rattle.flat_laws.specs.Numbered.{AllHold-each}
+use Rattle.flat_laws.specs.Limits.{design-objects, nodes-permutation, each-node, objects-few, nodes-few, processes-few, node-inputs-few, node-inputs-there, nodes-below, nodes-by_rank}
+use Rattle.flat_laws.specs.Drivers.{outputs-once, node-outputs, one-driver, outputs-nets}
+use Rattle.flat_laws.specs.Hierarchy.{IsHierarchy, part_name}
+use Rattle.flat_laws.specs.Objects.{objects-sized, names-sized}
+use Rattle.flat_laws.specs.Source.{IsSourceUnit}
+use Rattle.flat_laws.specs.Named.{IsAssignOrGate}
+use Rattle.flat_laws.specs.Processes.{IsFaultlessPart, IsNamed, nodes-named}
+use Rattle.flat_laws.specs.Meant.{IsPlacedPart, IsProcessSized, processes-there}
+use Rattle.flat_laws.specs.Visits.{IsAt, IsReadPart, parts-read}
+use Rattle.flat_laws.specs.Placed.{scope-at}
+use Rattle.flat_laws.specs.Complete.{IsSettled}
+use Rattle.flat_laws.specs.Sizes.{IsSizedInside, AllPlaced, nodes-sized}
+use Rattle.flat_laws.specs.Levelled.{named-module, parts-levelled, node-levels, process-levels}
+use Rattle.graph_order.specs.ListLaws.{AllHold-slice_get}
+use Rattle.flat_laws.specs.Held.{part-in-signals}
+use Rattle.flat_laws.specs.Signals.{IsSignalPart, parts-signals}
+
+-- Limits, order and drivers
+
+pub record IsOrdered (design : FlatDesign) : Type 0 where
+  pub few_objects : length design.objects ≤ most_parts
+  pub few_nodes : length design.nodes ≤ most_parts
+  pub few_processes : length design.processes ≤ most_parts
+  pub few_inputs : AllHold (λ (node : FlatNode). length node.inputs ≤ most_inputs) design.nodes
+  pub inputs_there : AllHold (λ (node : FlatNode). AllHold (λ object. object < length design.objects) node.inputs) design.nodes
+  -- each node writes net pieces alone, each once, and each has one node at most
+  pub outputs_nets : AllHold (λ (node : FlatNode). AllHold (λ object. IsTrue (has (net_pieces design) object)) node.outputs) design.nodes
+  pub outputs_once : AllHold (λ (node : FlatNode). without_repeats [] node.outputs ≡ node.outputs) design.nodes
+  pub one_driver : (low high : ℕ) (node other : FlatNode) → slice_get design.nodes low ≡ Some node → slice_get design.nodes high ≡ Some other → low < high →
+      (object : ℕ) → IsTrue (has node.outputs object) → has other.outputs object ≡ false
+  -- the nodes are acyclic and numbered by rank
+  pub ranked : AreBelow design.nodes
+  pub by_rank : AreByRank design
+
+-- each flat design is within its limits, with its nodes in order
+abbrev pub FlatDesignsAreOrdered : Type 0
+FlatDesignsAreOrdered = (unit : SourceUnit) (top : Identifier) (mode : Mode) (design : FlatDesign) → flat unit top mode ≡ Ok design → IsOrdered design
+
+made-ordered : (parts : List Part) (design : FlatDesign) → IsMadeOf parts design → IsOrdered design
+made-ordered parts design made = record {
+  few_objects = objects-few parts design made;
+  few_nodes = nodes-few parts design made;
+  few_processes = processes-few parts design made;
+  few_inputs = node-inputs-few parts design made;
+  inputs_there = node-inputs-there parts design made;
+  outputs_nets =
+      each-node (λ node. AllHold (λ object. IsTrue (has (net_pieces design) object)) node.outputs) parts design made
+      (AllHold-from (λ (node : FlatNode). AllHold (λ object. IsTrue (has (net_pieces design) object)) node.outputs) (flat_nodes_in parts)
+      (λ i node at.
+      subst (AllHold (λ object. IsTrue (has (net_pieces design) object))) (sym (node-outputs parts (objects_in parts) (nodes_in parts) i node at)) (outputs-nets parts (nodes_in parts) i design (design-objects parts design made))));
+  outputs_once =
+      each-node (λ node. without_repeats [] node.outputs ≡ node.outputs) parts design made
+      (AllHold-from (λ (node : FlatNode). without_repeats [] node.outputs ≡ node.outputs) (flat_nodes_in parts)
+      (λ i node at. subst (λ outputs. without_repeats [] outputs ≡ outputs) (sym (node-outputs parts (objects_in parts) (nodes_in parts) i node at)) (outputs-once (objects_in parts) i)));
+  one_driver = one-driver parts (objects_in parts) (nodes_in parts) design.nodes (nodes-permutation parts design made);
+  ranked = nodes-below parts design made;
+  by_rank = nodes-by_rank parts design made;
+}
+
+pub flat-ordered : FlatDesignsAreOrdered
+flat-ordered unit top mode design e = let is = flat-made unit top mode design e in made-ordered is.parts design is.made
+
+-- Levels
+
+pub record IsLow (design : FlatDesign) : Type 0 where
+  pub nodes : AllHold (λ (node : FlatNode). levels_of_node node.kind ≤ most_levels) design.nodes
+  pub processes : AllHold (λ (process : FlatProcess). levels_of_statement process.body ≤ most_levels) design.processes
+
+-- the nodes and processes of a unit that is read from a text have few levels
+abbrev pub FlatDesignsAreLow : Type 0
+FlatDesignsAreLow = (unit : SourceUnit) (top : Identifier) (mode : Mode) (design : FlatDesign) → IsSourceUnit unit.modules → flat unit top mode ≡ Ok design → IsLow design
+
+pub flat-low : FlatDesignsAreLow
+flat-low unit top mode design source e =
+    let is = flat-made unit top mode design e in
+    let found = named-module unit.modules is.name is.top is.found in
+    let low = parts-levelled unit.modules source mode is.top found.0 found.1 is.parts is.walk in
+    record { nodes = node-levels is.parts design is.made low; processes = process-levels is.parts design is.made low }
+
+-- Sizes
+
+pub record HasSizes (design : FlatDesign) : Type 0 where
+  -- objects and joined names have the bits that their bounds span
+  pub objects : AllHold IsSizedObject design.objects
+  pub joined : AllHold (IsSizedName design) design.joined
+  -- what assignments and gates name is there, and their inputs are what they read
+  pub named : AllHold (λ (node : FlatNode). IsAssignOrGate node.kind → IsNamed design node) design.nodes
+  -- gates have terminals of their kinds, of one bit each, and blocks are sized
+  pub nodes : AllHold (λ (node : FlatNode). IsSizedInside node.kind) design.nodes
+  -- processes are sized, and wait for bits of their objects
+  pub processes : AllHold (IsProcessSized design) design.processes
+
+-- a walk in which no two nets, variables or memories have one name, none is wider than a vector may be, and each parameter has a value
+pub record IsConsistent (modules : List SourceModule) (mode : Mode) (top : SourceModule) (parts : List Part) : Type 0 where
+  pub once : (i j : ℕ) (one other : Part) (name : Identifier) → slice_get parts i ≡ Some one → slice_get parts j ≡ Some other → part_name one ≡ Some name → part_name other ≡ Some name → i ≡ j
+  pub signals : (i : ℕ) (signal : Signal) → slice_get parts i ≡ Some (SignalPart signal) → range_width signal.range ≤ most_bits
+  pub memories : (i : ℕ) (memory : WalkedMemory) → slice_get parts i ≡ Some (MemoryPart memory) → range_width memory.range ≤ most_bits
+  pub settled : (path : Identifier) (scope : Scope) → IsAt modules mode top path scope → IsSettled scope
+
+-- the nets, variables and memories of such a walk
+pub consistent-hierarchy : (modules : List SourceModule) (mode : Mode) (top : SourceModule) (parts : List Part) → walked_from modules mode top ≡ Ok parts → IsConsistent modules mode top parts → IsHierarchy parts
+consistent-hierarchy modules mode top parts e is =
+    let walked = parts-signals modules mode top parts e in
+    record {
+      once = is.once;
+      memories = is.memories;
+      signals = λ i signal at.
+          let own = AllHold-slice_get (IsSignalPart parts) parts i (SignalPart signal) walked at in
+          record { most = is.signals i signal at; first = own.first; depth = own.depth };
+      joins = λ i signal joining at joined.
+          let own = AllHold-slice_get (IsSignalPart parts) parts i (SignalPart signal) walked at in
+          let r = own.joins joining joined in
+          let outer = r.2 in
+          let place = part-in-signals parts outer.number outer.signal outer.is in
+          record { number = place.0; outer = outer.signal; is = place.1; name = outer.name_is; depth = subst (λ d. d < signal.depth) (sym outer.depth_is) r.1; width = outer.width_is };
+    }
+
+-- a unit each of whose walks is so
+abbrev pub WalksAreConsistent : List SourceModule → Mode → Type 0
+WalksAreConsistent modules mode = (k : ℕ) (top : SourceModule) (parts : List Part) → slice_get modules k ≡ Some top → walked_from modules mode top ≡ Ok parts → IsConsistent modules mode top parts
+
+-- the flat design of such a unit is sized
+abbrev pub ConsistentDesignsAreSized : Type 0
+ConsistentDesignsAreSized = (unit : SourceUnit) (top : Identifier) (mode : Mode) (design : FlatDesign) → IsSourceUnit unit.modules → WalksAreConsistent unit.modules mode → flat unit top mode ≡ Ok design → HasSizes design
+
+process-faultless : (modules : List SourceModule) (mode : Mode) (top : SourceModule) (part : Part) → IsReadPart modules mode top part → IsFaultlessPart part
+process-faultless modules mode top (ProcessPart process) h = record { selects = h.selects; names = h.names; sizes = h.sizes }
+process-faultless modules mode top (GatePart name kind drives path terminals) h = tt
+process-faultless modules mode top (AssignPart drives value) h = tt
+process-faultless modules mode top (SignalPart signal) h = tt
+process-faultless modules mode top (MemoryPart memory) h = tt
+process-faultless modules mode top InstancePart h = tt
+
+process-placed : (modules : List SourceModule) (mode : Mode) (top : SourceModule) (parts : List Part) → AllPlaced modules mode top parts → (part : Part) → IsReadPart modules mode top part → IsPlacedPart parts part
+process-placed modules mode top parts placed (ProcessPart process) h = placed process.path process.scope h.at
+process-placed modules mode top parts placed (GatePart name kind drives path terminals) h = tt
+process-placed modules mode top parts placed (AssignPart drives value) h = tt
+process-placed modules mode top parts placed (SignalPart signal) h = tt
+process-placed modules mode top parts placed (MemoryPart memory) h = tt
+process-placed modules mode top parts placed InstancePart h = tt
+
+pub consistent-sized : ConsistentDesignsAreSized
+consistent-sized unit top mode design source consistent e =
+    let is = flat-made unit top mode design e in
+    let parts = is.parts in
+    let made = is.made in
+    let found = named-module unit.modules is.name is.top is.found in
+    let walk = consistent found.0 is.top parts found.1 is.walk in
+    let hierarchy = consistent-hierarchy unit.modules mode is.top parts is.walk walk in
+    let placed : AllPlaced unit.modules mode is.top parts = λ path scope at. record { at = scope-at unit.modules mode is.top parts is.walk path scope at; settled = walk.settled path scope at } in
+    let read = parts-read unit.modules mode is.top source found.0 found.1 parts is.walk in
+    let objects = design-objects parts design made in
+    record {
+      objects = subst (AllHold IsSizedObject) objects (objects-sized parts (nodes_in parts) hierarchy);
+      joined = subst (AllHold (IsSizedName design)) (ap (λ (d : FlatDesign). d.joined) made.is) (names-sized design parts (nodes_in parts) hierarchy objects);
+      named = nodes-named parts design made hierarchy;
+      nodes = nodes-sized unit.modules mode is.top parts design made hierarchy placed read;
+      processes =
+          processes-there parts design made hierarchy
+          (AllHold-each (IsReadPart unit.modules mode is.top) (IsPlacedPart parts) parts (process-placed unit.modules mode is.top parts placed) read)
+          (AllHold-each (IsReadPart unit.modules mode is.top) IsFaultlessPart parts (process-faultless unit.modules mode is.top) read);
+    }

@@ -1,0 +1,14 @@
+pub mod Agreement
+pub mod NamesOnce
+pub mod TwiceDeclared
+pub mod Maps
+pub mod Rounds
+pub mod Settling
+pub mod Complete
+pub mod Apart
+pub mod Passes
+pub mod Trees
+pub mod Pushes
+pub mod Ends
+pub mod Keeping
+pub mod Gates

@@ -1,0 +1,12 @@
+use Rattle.std.proofs.Common.{[], drop, option_map}
+use Rattle.v_names.specs.Names.{twice_faults}
+use Rattle.module_names.specs.Noted.{noted}
+use Rattle.module_names.specs.Declarations.{declarations_seen}
+use Rattle.module_names.specs.Earlier.{earlier_seen}
+use Rattle.module_names.specs.Kept.{kept}
+use Rattle.module_names.proofs.TwiceDeclared.{AreNoted}
+use Rattle.module_names.proofs.twice.note_all_twice.Given as goal
+
+abbrev pub invariant-all : goal.invariant-all
+invariant-all l =
+    AreNoted (λ name. option_map earlier_seen (kept l.earlier name)) l.scope l.first (noted l.initial.first (twice_faults l.scope [] (declarations_seen l.all))) (declarations_seen (drop l.declaration-index l.all))

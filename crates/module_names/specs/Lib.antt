@@ -1,0 +1,10 @@
+pub mod Noted
+pub mod CodeFaults
+pub mod Declarations
+pub mod RangeViews
+pub mod Earlier
+pub mod Meanings
+pub mod Kept
+pub mod Settled
+pub mod Givens
+pub mod NameFaults

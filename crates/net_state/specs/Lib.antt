@@ -1,0 +1,11 @@
+pub mod EventLaws
+pub mod Held
+pub mod HeldLaws
+pub mod InOrder
+pub mod OrderLaws
+pub mod OutputLaws
+pub mod PutLaws
+pub mod StartLaws
+pub mod States
+pub mod TellLaws
+pub mod WorkLaws

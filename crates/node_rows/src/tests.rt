@@ -1,0 +1,4 @@
+// Nodes and expressions over worked values.
+
+mod expressions;
+mod nodes;

@@ -1,0 +1,9 @@
+pub mod Lists
+pub mod Changed
+pub mod Sleeps
+pub mod Steps
+pub mod Bodies
+pub mod RowSteps
+pub mod Wakes
+pub mod Members
+pub mod TableCalls

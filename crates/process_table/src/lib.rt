@@ -1,0 +1,17 @@
+//! The processes of a machine: which are ready, which wait for what, their lanes of activated updates, and the turns that come next (IEEE
+//! 1364-2001, clauses 5.3, 5.4 and 9).
+//!
+//! A `ProcessTable` stands for the processes of a machine's state. Its main contract: for every machine and state of the design with these
+//! processes, a step and a step of a lane lead to the processes of the state that the definition gives, and the next turn is the state's.
+#![tactic(auto)]
+
+mod calls;
+mod deed;
+mod holds;
+mod row;
+mod rows;
+mod set;
+mod table;
+
+pub use deed::{Act, Stepped, TableTurn};
+pub use table::ProcessTable;

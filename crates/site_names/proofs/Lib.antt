@@ -1,0 +1,5 @@
+pub mod Cuts
+pub mod Steps
+pub mod KeyLists
+pub mod Noting
+pub mod Walking

@@ -1,0 +1,3 @@
+pub mod GateRules
+pub mod RowRules
+pub mod SmallDesigns

@@ -1,0 +1,2 @@
+pub mod GateDesign
+pub mod RowDesign

@@ -1,0 +1,37 @@
+//! The laws of the loop that runs one slot of the first order (IEEE 1364-2001, clause 5, leaves the order of events free; the first order takes the least
+//! node with work, else the least lane, else the least ready process).
+//!
+//! A loop that begins with the slot's first state, takes the event of the least node, lane or process, makes a turn where none is possible, and stops where
+//! no turn within the slot is left or over 100,000 process and lane steps were taken, makes the moves of the definition: the bound on all its moves is
+//! never met before. At the end its state, its phases and the first race of these are the slot's end and its outcome. Each function here does nothing
+//! when it runs; its contract is the law.
+#![tactic(auto)]
+
+ghost use Rattle.slot_laws.specs.SlotLoop.{SlotsBegin, NodesGoOn, LanesGoOn, StepsGoOn, TurnsGoOn, QuietSlotsEnd, HyperSlotsEnd, NextSlotsBegin, RacesGoOn, NotesGoOn};
+
+/// The slot begins, and each event, each turn within the slot leads from one moment of the first order to the next.
+pub fn slot_goes_on()
+    ensures begin { SlotsBegin }
+    ensures node { NodesGoOn }
+    ensures lane { LanesGoOn }
+    ensures step { StepsGoOn }
+    ensures turn { TurnsGoOn }
+{
+    order_laws::slots();
+    order_laws::nets();
+}
+
+/// The slot ends, and what its loop has then is its outcome; the slot after it begins as the laws ask.
+pub fn slot_ends()
+    ensures quiet { QuietSlotsEnd }
+    ensures hyper { HyperSlotsEnd }
+    ensures next { NextSlotsBegin }
+{
+    order_laws::nets();
+}
+
+/// The race and the notes of the phases so far.
+pub fn phases_go_on()
+    ensures races { RacesGoOn }
+    ensures notes { NotesGoOn }
+{}

@@ -1,0 +1,2 @@
+pub mod SlotRecords
+pub mod SlotEnds

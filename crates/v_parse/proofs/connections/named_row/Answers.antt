@@ -1,0 +1,35 @@
+use Rattle.std.proofs.Common.{◌≡◌, true, ◌++◌, ◌∷◌, [], map, Ok, ap, sym, ◌∙◌, arith}
+use Rattle.std.proofs.lemmas.List.{map_push}
+use Rattle.std.proofs.lemmas.Result.{err_from_is_err_and}
+use Rattle.v_tree.specs.Views.{connection_of}
+use Rattle.v_read.specs.declared.class.Class.TheVariants as classes
+use Rattle.v_read.specs.Reading.{next_class, is_class}
+use Rattle.v_read.specs.Reads.{element-next, element-fail, element-end}
+use Rattle.v_parse.specs.Items as read
+use Rattle.v_parse.specs.Rows as rows
+use Rattle.v_parse.proofs.connections.named_row.Goals as goal
+
+pub returns-in_err-next-clause-reads : goal.returns-in_err-next-clause-reads
+returns-in_err-next-clause-reads c =
+    let p = err_from_is_err_and c.from_residual-in_err-next.result c.from_residual-in_err-next.ensures.1 in
+    let comma : is_class classes.Comma (next_class c.connections.rest.now) ≡ true = sym c.is_next.ensures ∙ c.connections-test.true in
+    rw (p.1, p.2, c.connections.invariant.same)
+    (element-fail classes.Comma (read.connection (rows.connected c.args.levels c.args.is_given)) (map connection_of c.connections.connections.items) c.connections.rest.now _ c.in_ok-after.after.now c.in_err-next.field-0.0 comma c.in_ok-after.ensures.reads c.in_err-next.ensures.reads)
+
+pub connections-preserved : goal.connections-preserved
+connections-preserved c =
+    let comma : is_class classes.Comma (next_class c.connections.rest.now) ≡ true = sym c.is_next.ensures ∙ c.connections-test.true in
+    let pushed : map connection_of c.push-in-connections.new.self.items ≡ map connection_of c.connections.connections.items ++ connection_of c.in_ok-next.next ∷ [] =
+    ap (map connection_of) c.in_ok-push-2.ensures.items ∙ map_push connection_of c.connections.connections.items c.in_ok-next.next in
+    rw pushed (record {
+      same = c.connections.invariant.same
+          ∙ element-next classes.Comma (read.connection (rows.connected c.args.levels c.args.is_given)) (map connection_of c.connections.connections.items) c.connections.rest.now _ c.in_ok-after.after.now c.in_ok-next.after.now (connection_of c.in_ok-next.next) comma
+          c.in_ok-after.ensures.reads c.in_ok-next.ensures.reads (omega (arith, c.in_ok-after.ensures.shorter, c.in_ok-next.ensures.shorter));
+      shorter = omega (arith, c.in_ok-after.ensures.shorter, c.in_ok-next.ensures.shorter, c.connections.invariant.shorter);
+    })
+
+pub returns-clause-reads : goal.returns-clause-reads
+returns-clause-reads c =
+    c.connections.invariant.same
+    ∙ element-end classes.Comma (read.connection (rows.connected c.args.levels c.args.is_given)) (map connection_of c.connections.connections.items) c.connections.rest.now (sym c.is_next.ensures ∙ c.connections-test.false)
+    ∙ ap (λ w. Ok (map connection_of w, c.connections.rest.now)) (sym c.from_vec.ensures)

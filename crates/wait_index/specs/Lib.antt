@@ -1,0 +1,5 @@
+pub mod Index
+pub mod Tables
+pub mod WaitLaws
+pub mod WaitingDesign
+pub mod Waits
