@@ -7,3 +7,4 @@ pub mod Rows
 pub mod Arranged
 pub mod Wakes
 pub mod Noted
+pub mod Turned

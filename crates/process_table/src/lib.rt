@@ -7,6 +7,7 @@
 
 mod calls;
 mod deed;
+mod entries;
 mod holds;
 mod row;
 mod rows;

@@ -441,7 +441,7 @@ has-before_if true number rest x h = or_right (nat_eq number x) (has rest x) h
 has-before_if false number rest x h = h
 
 -- a process whose body may wait on an object stands among those that do
-among-waiters : (object from : ℕ) (processes : List FlatProcess) (number : ℕ) →
+pub among-waiters : (object from : ℕ) (processes : List FlatProcess) (number : ℕ) →
     has (waited_objects (found_or (record { always = false; body = Null; place = record { line = 0; column = 0 } }) (slice_get processes number)).body) object ≡ true →
     has (waiters_from object from processes) (from + number) ≡ true
 among-waiters object from [] number h = cc
