@@ -38,7 +38,7 @@ numbers-next test n (x ∷ xs) =
     go true = refl
     go false = refl
 
-next_lane : ℕ × List ValueUpdate → ℕ × List ValueUpdate
+abbrev next_lane : ℕ × List ValueUpdate → ℕ × List ValueUpdate
 next_lane lane = (suc lane.0, lane.1)
 
 lanes-next : {A : Type 0} (lane : A → List ValueUpdate) (n : ℕ) (xs : List A) → lanes_from lane (suc n) xs ≡ map next_lane (lanes_from lane n xs)
@@ -135,7 +135,7 @@ map-first g (x ∷ xs) [] e = absurd (omega (arith, e))
 map-first g (x ∷ xs) (y ∷ ys) e = ap (λ zs. g x ∷ zs) (map-first g xs ys (omega (arith, e)))
 
 -- any row
-Any : RowState → Type 0
+abbrev Any : RowState → Type 0
 Any s = Unit {0}
 
 all-any : (states : List RowState) → AllHold (λ (s : RowState). Unit {0}) states
@@ -145,13 +145,13 @@ all-any (s ∷ states) = (tt, all-any states)
 -- One process after a turn
 
 -- what is held of it
-pub held_turned : ℕ → TurnKind → HeldProcess → HeldProcess
+abbrev pub held_turned : ℕ → TurnKind → HeldProcess → HeldProcess
 held_turned now PostponedTurn h = free_if (is_postponed h.holding) h
 held_turned now UpdatesTurn h = without_due now h
 held_turned now (TimeTurn time) h = free_if (wakes_by time h.holding) h
 
 -- the process itself
-pub process_turned : ℕ → TurnKind → ProcessState → ProcessState
+abbrev pub process_turned : ℕ → TurnKind → ProcessState → ProcessState
 process_turned now PostponedTurn process = record process { activity = state.resumed process.activity }
 process_turned now UpdatesTurn process = record process {
   later = filter (λ later. not (is_due now later)) process.later;
@@ -243,7 +243,7 @@ process-same now (TimeTurn time) s h e empty = awake-same time s.activity h.late
 -- The next time is the least
 
 -- a time that is there isn't less than another
-AtLeast : ℕ → Option ℕ → Type 0
+abbrev AtLeast : ℕ → Option ℕ → Type 0
 AtLeast least None = Unit {0}
 AtLeast least (Some time) = least ≤ time
 
@@ -346,7 +346,7 @@ region-below time (Some UpdatesTurn) queue region e =
     subst (λ (r : TurnRegion). AllHold (λ number. number < length queue) r.processes × AllHold (λ number. number < length queue) (map (λ (l : ℕ × List ValueUpdate). l.0) r.lanes)) same (
       tt,
       subst (AllHold (λ number. number < length queue)) (sym (lane-numbers (λ (h : HeldProcess). updates_due time h.later) 0 queue))
-      (numbers-below (λ (h : HeldProcess). is_any (updates_due time h.later)) 0 (length queue) queue (omega arith)),
+          (numbers-below (λ (h : HeldProcess). is_any (updates_due time h.later)) 0 (length queue) queue (omega arith)),
     )
 region-below time (Some (TimeTurn later)) queue region e =
     let same : record { time = later; processes = numbers_where (λ (h : HeldProcess). wakes_by later h.holding) 0 queue; lanes = [] } ≡ region = cc in

@@ -106,8 +106,20 @@ pub fn push_others(
     requires { place < length entries.now }
     ensures { OnOk result (accesses.new.items ≡ accesses.old.items ++ map (noted_entry Kind.Ended process line) (take place entries.now ++ drop (place + 1) entries.now)) }
 {
-    push_entries(AccessKind::Ended, process, line, &entries[..place], accesses)?;
-    push_entries(AccessKind::Ended, process, line, &entries[place + 1..], accesses)?;
+    push_entries(
+        AccessKind::Ended,
+        process,
+        line,
+        &entries[..place],
+        accesses,
+    )?;
+    push_entries(
+        AccessKind::Ended,
+        process,
+        line,
+        &entries[place + 1..],
+        accesses,
+    )?;
     Ok(())
 }
 

@@ -48,7 +48,11 @@ fn note_ended(
 }
 
 /// Puts the processes that may wait on an object behind those that are listed.
-fn push_waiters(index: &WaitIndex, object: ObjectId, candidates: &mut Vec<u32>) -> Result<(), NoMemory>
+fn push_waiters(
+    index: &WaitIndex,
+    object: ObjectId,
+    candidates: &mut Vec<u32>,
+) -> Result<(), NoMemory>
     requires { object_number object < length index.now }
     ensures { OnOk result (candidates.new.items ≡ candidates.old.items ++ get_or index.now (object_number object) []) }
 {
@@ -59,7 +63,11 @@ fn push_waiters(index: &WaitIndex, object: ObjectId, candidates: &mut Vec<u32>) 
 }
 
 /// Lists the processes that may wait on the objects of some changes.
-fn list_waiters(index: &WaitIndex, changes: &[Change], candidates: &mut Vec<u32>) -> Result<(), NoMemory>
+fn list_waiters(
+    index: &WaitIndex,
+    changes: &[Change],
+    candidates: &mut Vec<u32>,
+) -> Result<(), NoMemory>
     requires { All (λ change. object_number change.object < length index.now) changes.now }
     ensures { OnOk result (HasWaiters index.now (map change_seen changes.now) candidates.new.items) }
 {
@@ -71,7 +79,11 @@ fn list_waiters(index: &WaitIndex, changes: &[Change], candidates: &mut Vec<u32>
 }
 
 /// Lists the processes that may wait on the objects of some changes, in ascending order.
-fn list_candidates(index: &WaitIndex, changes: &[Change], candidates: &mut Vec<u32>) -> Result<(), NoMemory>
+fn list_candidates(
+    index: &WaitIndex,
+    changes: &[Change],
+    candidates: &mut Vec<u32>,
+) -> Result<(), NoMemory>
     requires { All (λ change. object_number change.object < length index.now) changes.now }
     ensures waiters { OnOk result (HasWaiters index.now (map change_seen changes.now) candidates.new.items) }
     ensures climbs { OnOk result (Climbs candidates.new.items) }

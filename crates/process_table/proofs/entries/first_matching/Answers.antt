@@ -1,4 +1,4 @@
-use Rattle.std.proofs.Common.{◌≡◌, get_or}
+use Rattle.std.proofs.Common.{◌≡◌, get_or, sym}
 use Rattle.four_value.specs.Values.{IsWidth}
 use Rattle.four_value.specs.declared.logic.Edge.TheVariants.{Any}
 use Rattle.v_design.specs.Plain.{entry_of}
@@ -26,11 +26,11 @@ returns-then-matches_some c =
     let xs = c.args.entries.now in
     let i = c.entries.place in
     let x = get_or xs i no_entry in
-    first-found entry_of (matches_one (map change_seen c.args.changes.now)) xs i x c.entries.invariant c.entries-test.true (got-any xs i no_entry x c.entries-test.true) c.if-matches_some.ensures
+    first-found entry_of (matches_one (map change_seen c.args.changes.now)) xs i x c.entries.invariant c.entries-test.true (got-any xs i no_entry x c.entries-test.true) (sym c.if-matches_some.ensures)
 
 pub entries-preserved : goal.entries-preserved
 entries-preserved c =
     let xs = c.args.entries.now in
     let i = c.entries.place in
     let x = get_or xs i no_entry in
-    first-goes_on entry_of (matches_one (map change_seen c.args.changes.now)) xs i x c.entries.invariant c.entries-test.true (got-any xs i no_entry x c.entries-test.true) c.if-matches_some.ensures
+    first-goes_on entry_of (matches_one (map change_seen c.args.changes.now)) xs i x c.entries.invariant c.entries-test.true (got-any xs i no_entry x c.entries-test.true) (sym c.if-matches_some.ensures)

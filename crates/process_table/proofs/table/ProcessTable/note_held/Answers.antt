@@ -28,8 +28,12 @@ pub overflow_cast-number : goal.overflow_cast-number
 overflow_cast-number c =
     let t = c.args.self.now in
     let design = design_of t.design.now in
-    omega (arith, low t.rows.items c.deref-row-items.result.now c.rows.number c.deref-row-items.ensures.value c.rows-test.true, count-texts design t.time t.rows.items t.index t.ready t.lanes t.queue c.requires.kept,
-    (rules_hold design t.design.now.rules).few_processes)
+    omega (
+      arith,
+      low t.rows.items c.deref-row-items.result.now c.rows.number c.deref-row-items.ensures.value c.rows-test.true,
+      count-texts design t.time t.rows.items t.index t.ready t.lanes t.queue c.requires.kept,
+      (rules_hold design t.design.now.rules).few_processes,
+    )
 
 pub hold_row-requires-clause-entries : goal.hold_row-requires-clause-entries
 hold_row-requires-clause-entries c =
