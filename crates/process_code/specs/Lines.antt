@@ -12,7 +12,7 @@ use Rattle.process_code.specs.Rests.{Part, Runs, TurnsLeft}
 -- the line of a statement; a null statement and a block take no step
 abbrev pub line_of : Statement → ℕ
 line_of Null = 0
-line_of (Block statements) = 0
+line_of (Block inner) = 0
 line_of (If place condition first second) = place.line
 line_of (Case place kind value items default) = place.line
 line_of (For place first_targets first condition next_targets next body) = place.line
@@ -68,7 +68,7 @@ wait-line place condition body tasks false = refl
 
 statement-line : (now : ℕ) (operands : List LogicValue) (statement : Statement) (tasks : List Task) → (statement_step now operands statement tasks).line ≡ line_of statement
 statement-line now operands Null tasks = refl
-statement-line now operands (Block statements) tasks = refl
+statement-line now operands (Block inner) tasks = refl
 statement-line now operands (If place condition first second) tasks = reads-line place.line _ operands (read_expression condition operands) _ (λ value. refl)
 statement-line now operands (Case place kind value items default) tasks = reads-line place.line _ operands (read_case kind value items default operands) _ (λ statement. refl)
 statement-line now operands (For place first_targets first condition next_targets next body) tasks =
