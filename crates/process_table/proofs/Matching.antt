@@ -16,7 +16,7 @@ use Rattle.process_table.specs.Wakes.{HasWaiters}
 
 -- The first that passes a test
 
-earlier-none : (b : Bool) (rest : Option ℕ) → earlier_place b rest ≡ None → (b ≡ false) × (rest ≡ None)
+pub earlier-none : (b : Bool) (rest : Option ℕ) → earlier_place b rest ≡ None → (b ≡ false) × (rest ≡ None)
 earlier-none true rest e = absurd (cc)
 earlier-none false None e = (refl, refl)
 earlier-none false (Some place) e = absurd (cc)
@@ -61,7 +61,7 @@ pub AllHold-others : {A B : Type 0} (f : A → B) (P : B → Type 0) (xs : List 
 AllHold-others f P xs i h = (let e : suc i ≡ i + 1 = omega arith in subst (λ k. AllHold P (map f (take i xs ++ drop k xs))) e (others-hold f P xs i h))
 
 -- a place found later
-later_place : (i : ℕ) (place : Option ℕ) → Some i ≡ earlier_place false place → (j : ℕ) × ((Some j ≡ place) × (i ≡ j + 1))
+pub later_place : (i : ℕ) (place : Option ℕ) → Some i ≡ earlier_place false place → (j : ℕ) × ((Some j ≡ place) × (i ≡ j + 1))
 later_place i None e = absurd (cc)
 later_place i (Some place) e = (place, (refl, cc))
 
