@@ -1,0 +1,4 @@
+pub mod ExprReadings
+pub mod Bounds
+pub mod PartReadings
+pub mod Answers
