@@ -1,9 +1,6 @@
 -- Turns over the parts of a concatenation, from the left.
-use Rattle.std.proofs.Common.{◌≡◌, ℕ, ◌+◌, ◌*◌, min, ◌<◌, ◌≤◌, ◌⊎◌, inl, inr, Bool, true, false, ◌&&◌, List, [], ◌∷◌, ◌++◌, length, drop, get_or, Option, Some, None, option_map, cond, nat_le, zero, suc, refl, sym, ap, ap₂, subst, ◌∙◌, arith, append_assoc}
+use Rattle.std.proofs.Common.{◌≡◌, ℕ, ◌+◌, ◌*◌, ◌<◌, ◌≤◌, Bool, true, false, List, [], ◌∷◌, ◌++◌, length, drop, get_or, Option, Some, None, option_map, refl, sym, ap, subst, ◌∙◌, append_assoc}
 use Rattle.std.proofs.lemmas.List.{drop_more, drop_all, append-nil}
-use Rattle.std.proofs.lemmas.Bool.{lt-leb}
-use Rattle.std.proofs.lemmas.Bool.Decides.{leb_tells}
-use Rattle.v_design.specs.Sized.{most_bits}
 use Rattle.vf_base.specs.Base.{SourcePlace}
 use Rattle.v_tree.specs.declared.expression.Expr.{Expr}
 use Rattle.v_tree.specs.Views.{expression_of, expressions_of}
@@ -23,26 +20,11 @@ use Rattle.sized_tree.specs.ViewLaws.{sized_append, sized-one-more, sized-end}
 use Rattle.expr_reading.specs.declared.parts.ReadParts.{ReadParts}
 use Rattle.expr_reading.specs.declared.reading.ExprReading.{ExprReading}
 use Rattle.expr_reading.specs.ExprReadings.{IsTree, IsReading}
+use Rattle.expr_reading.specs.WidthLaws.{total-start, total-step, total-end, no-width, some-width, capped-within, times-within}
 use Rattle.expr_reading.specs.PartReadings.{capped, total_with, total_before, size_of_part, faults_of_part, AreReadSo, ArePartsRead}
 
 drop-step : {A : Type 0} (xs : List A) (i : ℕ) (x : A) → i < length xs → x ≡ get_or xs i x → drop i xs ≡ x ∷ drop (i + 1) xs
 drop-step xs i x below at = drop_more xs i x below ∙ ap (λ y. y ∷ drop (i + 1) xs) (sym at)
-
--- Widths
-
-total-start : (width : Option ℕ) → option_map capped width ≡ total_before (Some 0) width
-total-start None = refl
-total-start (Some m) = ap (λ n. Some (capped n)) (let e : m ≡ 0 + m = omega arith in e)
-
-total-step : (total : Option ℕ) (size : Option Size) (rest : Option ℕ) → total_before total (width_with size rest) ≡ total_before (total_with total size) rest
-total-step None size rest = refl
-total-step (Some t) None rest = refl
-total-step (Some t) (Some z) None = refl
-total-step (Some t) (Some z) (Some r) = ap (λ n. Some n) (let e : min (t + (z.width + r)) 129 ≡ min (min (t + z.width) 129 + r) 129 = omega arith in e)
-
-total-end : (total : Option ℕ) → total_before total (Some 0) ≡ option_map capped total
-total-end None = refl
-total-end (Some t) = ap (λ n. Some (capped n)) (let e : t + 0 ≡ t = omega arith in e)
 
 -- One part
 
@@ -105,54 +87,7 @@ read-end scope parts i read past h =
           h.trees_are ∙ ap (λ l. sized_append (all_sized_of read.trees.items) (parts_reading scope (expressions_of l)).trees) e ∙ sized-end (all_sized_of read.trees.items);
     }
 
--- Widths that are the same up to what is too wide
-
-same-capped : (a b : ℕ) → capped a ≡ capped b → (a ≡ b) ⊎ ((129 ≤ a) × (129 ≤ b))
-same-capped a b e = by (leb_tells a 128) (leb_tells b 128)
-  where
-    by : ((nat_le a 128 ≡ true) × (a ≤ 128)) ⊎ ((nat_le a 128 ≡ false) × (128 < a)) → ((nat_le b 128 ≡ true) × (b ≤ 128)) ⊎ ((nat_le b 128 ≡ false) × (128 < b)) → (a ≡ b) ⊎ ((129 ≤ a) × (129 ≤ b))
-    by (inl x) (inl y) = let h = x.1 in let k = y.1 in inl (omega arith)
-    by (inl x) (inr y) = let h = x.1 in let k = y.1 in inl (omega arith)
-    by (inr x) (inl y) = let h = x.1 in let k = y.1 in inl (omega arith)
-    by (inr x) (inr y) = let h = x.1 in let k = y.1 in inr (omega arith, omega arith)
-
-none-if : (test : Bool) (size : Size) → cond (test && false) (Some size) None ≡ None
-none-if true size = refl
-none-if false size = refl
-
-wide : (a : ℕ) (signed : Bool) → most_bits < a → size_within a signed ≡ None
-wide a signed h = ap (λ b. cond (nat_le 1 a && b) (Some (record { width = a; signed = signed })) None) (lt-leb a most_bits h) ∙ none-if (nat_le 1 a) (record { width = a; signed = signed })
-
-pub capped-within : (a b : ℕ) (signed : Bool) → capped a ≡ capped b → size_within a signed ≡ size_within b signed
-capped-within a b signed e = by (same-capped a b e)
-  where
-    by : (a ≡ b) ⊎ ((129 ≤ a) × (129 ≤ b)) → size_within a signed ≡ size_within b signed
-    by (inl same) = ap (λ n. size_within n signed) same
-    by (inr both) = let h = both.0 in let k = both.1 in wide a signed (omega arith) ∙ sym (wide b signed (omega arith))
-
-times-wide : (count a b : ℕ) (signed : Bool) → 129 ≤ a → 129 ≤ b → size_within (count * a) signed ≡ size_within (count * b) signed
-times-wide zero a b signed h k = ap (λ n. size_within n signed) (let e : 0 * a ≡ 0 * b = omega arith in e)
-times-wide (suc count) a b signed h k =
-    let x : suc count * a ≡ a + count * a = omega arith in
-    let y : suc count * b ≡ b + count * b = omega arith in
-    wide (suc count * a) signed (omega (arith, h, x)) ∙ sym (wide (suc count * b) signed (omega (arith, k, y)))
-
-pub times-within : (count a b : ℕ) (signed : Bool) → capped a ≡ capped b → size_within (count * a) signed ≡ size_within (count * b) signed
-times-within count a b signed e = by (same-capped a b e)
-  where
-    by : (a ≡ b) ⊎ ((129 ≤ a) × (129 ≤ b)) → size_within (count * a) signed ≡ size_within (count * b) signed
-    by (inl same) = ap (λ n. size_within (count * n) signed) same
-    by (inr both) = times-wide count a b signed both.0 both.1
-
 -- Concatenations and replications
-
-no-width : (parts : Option ℕ) → option_map capped parts ≡ None → parts ≡ None
-no-width None e = refl
-no-width (Some width) e = cc
-
-some-width : (parts : Option ℕ) (total : ℕ) → option_map capped parts ≡ Some (capped total) → (width : ℕ) × ((parts ≡ Some width) × (capped width ≡ capped total))
-some-width None total e = absurd (let x : ⊥ = cc in x)
-some-width (Some width) total e = (width, refl, (let x : capped width ≡ capped total = cc in x))
 
 pub concatenation-none : (place : SourcePlace) (parts : PartsReading) (read : ExprReading) (total : Option ℕ) → option_map capped parts.width ≡ option_map capped total → total ≡ None
     → IsReading (refused_reading [] parts.inside) read → IsReading (concatenation_reading place parts.width parts.complete parts.inside parts.trees) read

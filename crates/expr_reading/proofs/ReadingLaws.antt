@@ -4,11 +4,13 @@ use Rattle.std.proofs.lemmas.List.{append-nil}
 use Rattle.vf_base.specs.Base.{SourcePlace}
 use Rattle.four_value.specs.declared.operator.UnaryOperator.{UnaryOperator}
 use Rattle.four_value.specs.declared.operator.BinaryOperator.{BinaryOperator}
-use Rattle.v_design.specs.Sized.{UnarySizing, OperandWithWhole, OperandAlone, unary_sizing, BinarySizing, BothWithWhole, LeftWithWhole, BothTogether, EachAlone, binary_sizing}
+use Rattle.v_tree.specs.Trees.{Identifier}
+use Rattle.v_design.specs.Sized.{span, UnarySizing, OperandWithWhole, OperandAlone, unary_sizing, BinarySizing, BothWithWhole, LeftWithWhole, BothTogether, EachAlone, binary_sizing}
 use Rattle.v_names.specs.declared.size.Size.{Size as CodeSize}
 use Rattle.v_names.specs.Faults.{BadWidth, Fault, fault_at}
-use Rattle.v_names.specs.Readings.{Size, Reading, one_bit, size_or_bit, alone_faults, tree_at, tree_alone, tree_in, sized_if, refused_reading, unary_reading, binary_reading, choice_reading}
-use Rattle.v_names.specs.SizedTrees.{SizedExpression, SizedUnary, SizedBinary, SizedChoice}
+use Rattle.v_names.specs.Scopes.{DeclaredRange, ScopeEntry, NetEntry, RegEntry}
+use Rattle.v_names.specs.Readings.{Size, Reading, wrong_reading, name_reading, bit_reading, part_if, one_bit, size_or_bit, alone_faults, tree_at, tree_alone, tree_in, sized_if, sized_reading, refused_reading, unary_reading, binary_reading, choice_reading}
+use Rattle.v_names.specs.SizedTrees.{SizedExpression, SizedName, SizedBit, SizedPart, SizedUnary, SizedBinary, SizedChoice}
 use Rattle.v_names.specs.SizeViews.{size_of}
 use Rattle.v_width.specs.declared.faults.Faults.{Faults}
 use Rattle.v_width.specs.Sizes.{tree_in_context}
@@ -116,3 +118,44 @@ choice-read c a b condition first second read w0 s0 z f k t u q = record {
   faults_are = f;
   tree_is = λ w s. ap (λ x. with_size x w s) q ∙ ap (λ x. SizedChoice w s x (with_size (sized_of first) w s) (with_size (sized_of second) w s)) k ∙ ap₂ (SizedChoice w s (tree_alone c)) (t w s) (u w s);
 }
+
+-- Facts about equal values
+
+pub same-faults : (here inside : List Fault) (f g : Faults) → f ≡ g → AreFaults here inside g → AreFaults here inside f
+same-faults here inside f g e h = let P : Faults → Type 0 = λ x. AreFaults here inside x in subst P (sym e) h
+
+pub same-width : (place : SourcePlace) (width other : ℕ) (signed complete : Bool) (faults : List Fault) (at : ℕ → Bool → SizedExpression) (read : ExprReading) → width ≡ other
+    → IsReading (sized_reading place width signed complete faults at) read → IsReading (sized_reading place other signed complete faults at) read
+same-width place width other signed complete faults at read e h = let P : ℕ → Type 0 = λ n. IsReading (sized_reading place n signed complete faults at) read in subst P e h
+
+-- Names
+
+pub bit-ranged : (ranged : Bool) (place : SourcePlace) (name : Identifier) (at : Reading) (read : ExprReading) → ranged ≡ true → option_map size_of read.size ≡ one_bit → AreFaults [] (alone_faults at) read.faults
+    → ((w : ℕ) (s : Bool) → with_size (sized_of read.tree) w s ≡ SizedBit w s name (tree_alone at)) → IsReading (bit_reading ranged place name at) read
+bit-ranged true place name at read e z f t = record { size_is = z; faults_are = f; tree_is = t }
+bit-ranged false place name at read e z f t = absurd (let x : ⊥ = cc in x)
+
+pub bit-scalar : (ranged : Bool) (place : SourcePlace) (name : Identifier) (at : Reading) (read : ExprReading) → ranged ≡ false → IsReading (wrong_reading place (alone_faults at)) read
+    → IsReading (bit_reading ranged place name at) read
+bit-scalar true place name at read e h = absurd (let x : ⊥ = cc in x)
+bit-scalar false place name at read e h = h
+
+pub part-alike : (alike : Bool) (place : SourcePlace) (name : Identifier) (faults : List Fault) (from to : ℕ) (read : ExprReading) → alike ≡ true
+    → IsReading (sized_reading place (span from to) false true faults (λ w s. SizedPart w s name from to)) read → IsReading (part_if alike place name faults from to) read
+part-alike true place name faults from to read e h = h
+part-alike false place name faults from to read e h = absurd (let x : ⊥ = cc in x)
+
+pub part-unlike : (alike : Bool) (place : SourcePlace) (name : Identifier) (faults : List Fault) (from to : ℕ) (read : ExprReading) → alike ≡ false → IsReading (wrong_reading place faults) read
+    → IsReading (part_if alike place name faults from to) read
+part-unlike true place name faults from to read e h = absurd (let x : ⊥ = cc in x)
+part-unlike false place name faults from to read e h = h
+
+pub net-read : (entry : Option ScopeEntry) (range : DeclaredRange) (signed : Bool) (place : SourcePlace) (name : Identifier) (width : ℕ) (read : ExprReading) → entry ≡ Some (NetEntry range signed)
+    → width ≡ span range.high range.low → IsReading (sized_reading place width signed true [] (λ w s. SizedName w s name)) read → IsReading (name_reading entry place name) read
+net-read entry range signed place name width read e s h =
+    let P : Option ScopeEntry → Type 0 = λ x. IsReading (name_reading x place name) read in subst P (sym e) (same-width place width (span range.high range.low) signed true [] _ read s h)
+
+pub reg-read : (entry : Option ScopeEntry) (range : DeclaredRange) (signed : Bool) (place : SourcePlace) (name : Identifier) (width : ℕ) (read : ExprReading) → entry ≡ Some (RegEntry range signed)
+    → width ≡ span range.high range.low → IsReading (sized_reading place width signed true [] (λ w s. SizedName w s name)) read → IsReading (name_reading entry place name) read
+reg-read entry range signed place name width read e s h =
+    let P : Option ScopeEntry → Type 0 = λ x. IsReading (name_reading x place name) read in subst P (sym e) (same-width place width (span range.high range.low) signed true [] _ read s h)

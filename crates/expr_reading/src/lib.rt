@@ -14,6 +14,7 @@ mod reading;
 mod select;
 
 pub use answer::{OwnReading, WidthFault, own_reading, size_expr};
+pub use parts::wider;
 pub use read::read_expr;
 pub use reading::{ExprReading, larger_of};
 pub use select::{read_select, select_reading};

@@ -116,10 +116,12 @@ fn bit_reading(
     if !ranged {
         return Ok(misused(place, inside));
     }
+    let alone = index.tree_alone();
+    let bit = Some(one_bit());
     let name = Text::from_bytes(alloc, name.as_bytes())?;
-    let index = Box::new(alloc, index.tree_alone())?;
+    let index = Box::new(alloc, alone)?;
     Ok(ExprReading {
-        size: Some(one_bit()),
+        size: bit,
         faults: inside,
         tree: SizedExpr::BitSelect {
             size: one_bit(),
@@ -140,8 +142,9 @@ fn word_reading(
     ensures { IfOk result (λ read. (at : Reading) (width : ℕ) (signed : Bool) → IsReading at index → option_map size_of size ≡ size_within width signed → IsReading (sized_reading (source_place place) width signed at.complete (alone_faults at) (λ w whole. SizedWord w whole name.now (tree_alone at))) read) }
 {
     let inside = apart(index.faults);
+    let alone = index.tree_alone();
     let name = Text::from_bytes(alloc, name.as_bytes())?;
-    let index = Box::new(alloc, index.tree_alone())?;
+    let index = Box::new(alloc, alone)?;
     let tree = SizedExpr::WordSelect {
         size: one_bit(),
         name,

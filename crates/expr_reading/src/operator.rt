@@ -37,11 +37,13 @@ pub(crate) fn unary_reading(
             })
         }
         UnarySizing::OperandAlone => {
-            let faults = apart(operand.faults);
-            let operand = Box::new(alloc, operand.tree_alone())?;
+            let inner_faults = apart(operand.faults);
+            let alone = operand.tree_alone();
+            let bit = Some(one_bit());
+            let operand = Box::new(alloc, alone)?;
             Ok(ExprReading {
-                size: Some(one_bit()),
-                faults,
+                size: bit,
+                faults: inner_faults,
                 tree: SizedExpr::Unary {
                     size: one_bit(),
                     operator,
@@ -88,30 +90,36 @@ pub(crate) fn binary_reading(
 {
     match binary_sizing(operator) {
         BinarySizing::BothWithWhole => {
-            let size = larger_of(left.size, right.size);
+            let larger = larger_of(left.size, right.size);
             let faults = together(left.faults, right.faults);
-            let read = infixed(alloc, operator, size, faults, left.tree, right.tree)?;
+            let read = infixed(alloc, operator, larger, faults, left.tree, right.tree)?;
             Ok(read)
         }
         BinarySizing::LeftWithWhole => {
-            let faults = together(left.faults, apart(right.faults));
-            let right = right.tree_alone();
-            let read = infixed(alloc, operator, left.size, faults, left.tree, right)?;
+            let amount_faults = apart(right.faults);
+            let shift_faults = together(left.faults, amount_faults);
+            let amount = right.tree_alone();
+            let read = infixed(alloc, operator, left.size, shift_faults, left.tree, amount)?;
             Ok(read)
         }
         BinarySizing::BothTogether => {
-            let size = larger_of(left.size, right.size);
-            let faults = apart(together(left.faults, right.faults));
-            let left = left.tree_at(size);
-            let right = right.tree_at(size);
-            let read = infixed(alloc, operator, Some(one_bit()), faults, left, right)?;
+            let common = larger_of(left.size, right.size);
+            let operand_faults = together(left.faults, right.faults);
+            let inner_faults = apart(operand_faults);
+            let first = left.tree_at(common);
+            let second = right.tree_at(common);
+            let bit = Some(one_bit());
+            let read = infixed(alloc, operator, bit, inner_faults, first, second)?;
             Ok(read)
         }
         BinarySizing::EachAlone => {
-            let faults = together(apart(left.faults), apart(right.faults));
-            let left = left.tree_alone();
-            let right = right.tree_alone();
-            let read = infixed(alloc, operator, Some(one_bit()), faults, left, right)?;
+            let left_faults = apart(left.faults);
+            let right_faults = apart(right.faults);
+            let each_faults = together(left_faults, right_faults);
+            let one = left.tree_alone();
+            let other = right.tree_alone();
+            let answer = Some(one_bit());
+            let read = infixed(alloc, operator, answer, each_faults, one, other)?;
             Ok(read)
         }
     }
@@ -128,8 +136,10 @@ pub(crate) fn choice_reading(
 {
     let size = larger_of(first.size, second.size);
     let branches = together(first.faults, second.faults);
-    let faults = together(apart(condition.faults), branches);
-    let condition = Box::new(alloc, condition.tree_alone())?;
+    let inner = apart(condition.faults);
+    let faults = together(inner, branches);
+    let test = condition.tree_alone();
+    let condition = Box::new(alloc, test)?;
     let first = Box::new(alloc, first.tree)?;
     let second = Box::new(alloc, second.tree)?;
     Ok(ExprReading {

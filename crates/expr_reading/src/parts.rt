@@ -24,8 +24,8 @@ pub(crate) struct ReadParts {
     pub(crate) trees: Vec<SizedExpr>,
 }
 
-/// The width together with one part more.
-fn wider(total: Option<u8>, size: Option<Size>) -> Option<u8>
+/// A width together with that of one part more, where 129 stands for any that is larger; none where one of them has none.
+pub fn wider(total: Option<u8>, size: Option<Size>) -> Option<u8>
     ensures { result ≡ total_with total (option_map size_of size) }
 {
     match (total, size) {
@@ -63,10 +63,13 @@ pub(crate) fn add_part(
 ) -> Result<ReadParts, NoMemory>
     ensures { IfOk result (λ after. (whole rest : PartsReading) (reading : Reading) → IsReading reading part → AreReadSo whole (part_before unsized_number (source_place place) reading rest) parts → AreReadSo whole rest after) }
 {
-    let total = wider(parts.total, part_size(unsized_number, part.size));
-    let faults = together(parts.faults, part_faults(unsized_number, place, part.faults));
+    let size = part_size(unsized_number, part.size);
+    let total = wider(parts.total, size);
+    let own = part_faults(unsized_number, place, part.faults);
+    let faults = together(parts.faults, own);
+    let tree = part.tree_alone();
     let mut trees = parts.trees;
-    trees.push(part.tree_alone())?;
+    trees.push(tree)?;
     Ok(ReadParts {
         total,
         faults,
@@ -100,7 +103,8 @@ pub(crate) fn replication_reading(
 ) -> ExprReading
     ensures { (read : PartsReading) (counted : Reading) → ArePartsRead read parts → AreFaults counted.here counted.inside times → IsReading (replication_reading (source_place place) count read.width read.complete (read.inside ++ alone_faults counted) read.trees) result }
 {
-    let faults = together(parts.faults, apart(times));
+    let inner = apart(times);
+    let faults = together(parts.faults, inner);
     match count {
         None => refused(faults),
         Some(count) => match parts.total {

@@ -42,7 +42,9 @@ pub fn read_expr(alloc: Global, expr: &Expr, scope: &Scope) -> Result<ExprReadin
             let second = read_expr(alloc, to, scope)?;
             let from = number_of_constant(alloc, from, scope)?;
             let to = number_of_constant(alloc, to, scope)?;
-            let inside = together(apart(first.faults), apart(second.faults));
+            let first_faults = apart(first.faults);
+            let second_faults = apart(second.faults);
+            let inside = together(first_faults, second_faults);
             let entry = scope.lookup(name);
             let read = ranged_reading(alloc, &entry, *place, name, inside, from, to)?;
             Ok(read)

@@ -7,8 +7,8 @@ ghost use Rattle.v_names.specs.Readings.{select_reading};
 ghost use Rattle.expr_reading.specs.ExprReadings.{IsReading};
 ghost use Rattle.expr_reading.specs.Answers.{IsOwnReading};
 
-use crate::name::{indexed_reading, name_reading, ranged_reading};
 use crate::answer::OwnReading;
+use crate::name::{indexed_reading, name_reading, ranged_reading};
 use crate::read::read_expr;
 use crate::reading::ExprReading;
 use std::alloc::Global;
@@ -18,11 +18,7 @@ use v_width::{apart, together};
 use vf_base::NoMemory;
 
 /// What a select is in a scope.
-pub fn read_select(
-    alloc: Global,
-    select: &Select,
-    scope: &Scope,
-) -> Result<ExprReading, NoMemory>
+pub fn read_select(alloc: Global, select: &Select, scope: &Scope) -> Result<ExprReading, NoMemory>
     ensures { IfOk result (λ read. IsReading (select_reading scope.now (source_place select.now.place) select.now.name (index_of select.now.index)) read) }
 {
     let name = &select.name;
@@ -42,7 +38,9 @@ pub fn read_select(
             let second = read_expr(alloc, to, scope)?;
             let from = number_of_constant(alloc, from, scope)?;
             let to = number_of_constant(alloc, to, scope)?;
-            let inside = together(apart(first.faults), apart(second.faults));
+            let first_faults = apart(first.faults);
+            let second_faults = apart(second.faults);
+            let inside = together(first_faults, second_faults);
             let read = ranged_reading(alloc, &entry, select.place, name, inside, from, to)?;
             Ok(read)
         }
@@ -50,11 +48,7 @@ pub fn read_select(
 }
 
 /// The size of a select in a scope, with what is wrong with its sizes.
-pub fn select_reading(
-    alloc: Global,
-    select: &Select,
-    scope: &Scope,
-) -> Result<OwnReading, NoMemory>
+pub fn select_reading(alloc: Global, select: &Select, scope: &Scope) -> Result<OwnReading, NoMemory>
     ensures { IfOk result (λ own. IsOwnReading (select_reading scope.now (source_place select.now.place) select.now.name (index_of select.now.index)) own) }
 {
     let read = read_select(alloc, select, scope)?;

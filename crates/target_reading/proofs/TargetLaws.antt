@@ -8,13 +8,13 @@ use Rattle.v_tree.specs.declared.expression.Select.{Select}
 use Rattle.v_tree.specs.Trees.{SourceSelect}
 use Rattle.v_tree.specs.Views.{select_of}
 use Rattle.v_names.specs.Faults.{BadWidth, WrongKind, Fault, fault_at}
-use Rattle.v_names.specs.Scopes.{Scope}
-use Rattle.v_names.specs.Readings.{Size, Reading, width_with}
+use Rattle.v_names.specs.Scopes.{Scope, looked_up}
+use Rattle.v_names.specs.Readings.{Size, Reading, wrong_reading, width_with, select_reading}
 use Rattle.v_names.specs.SizeViews.{size_of}
 use Rattle.v_width.specs.declared.faults.Faults.{Faults}
 use Rattle.v_width.specs.Summaries.{AreFaults}
 use Rattle.v_width.specs.Targets as plain
-use Rattle.v_width.specs.Targets.{Writer, written_reading, target_select_reading, width_of_size, sum_of_widths, selects_reading, within_most}
+use Rattle.v_width.specs.Targets.{Writer, may_write, written_reading, target_select_reading, width_of_size, sum_of_widths, selects_reading, within_most}
 use Rattle.expr_reading.specs.declared.answer.OwnReading.{OwnReading}
 use Rattle.expr_reading.specs.Answers.{IsOwnReading}
 use Rattle.expr_reading.specs.PartReadings.{capped, total_with, total_before}
@@ -24,6 +24,21 @@ use Rattle.target_reading.specs.TargetReadings.{IsTargetReading, IsOneSelect, Ar
 
 drop-step : {A : Type 0} (xs : List A) (i : ℕ) (x : A) → i < length xs → x ≡ get_or xs i x → drop i xs ≡ x ∷ drop (i + 1) xs
 drop-step xs i x below at = drop_more xs i x below ∙ ap (λ y. y ∷ drop (i + 1) xs) (sym at)
+
+-- What may be written
+
+pub written-may : (may : Bool) (place : SourcePlace) (reading : Reading) (own : OwnReading) → may ≡ true → IsOwnReading reading own → IsOwnReading (written_reading may place reading) own
+written-may true place reading own e h = h
+written-may false place reading own e h = absurd (let x : ⊥ = cc in x)
+
+pub written-not : (may : Bool) (place : SourcePlace) (reading : Reading) (own : OwnReading) → may ≡ false → IsOwnReading (wrong_reading place reading.inside) own → IsOwnReading (written_reading may place reading) own
+written-not true place reading own e h = absurd (let x : ⊥ = cc in x)
+written-not false place reading own e h = h
+
+pub written-select : (writer : Writer) (scope : Scope) (select : SourceSelect) (may : Bool) (own : OwnReading) → may ≡ may_write writer (looked_up scope select.name)
+    → IsOwnReading (written_reading may select.place (select_reading scope select.place select.name select.index)) own → IsOwnReading (target_select_reading writer scope select) own
+written-select writer scope select may own e h =
+    let P : Bool → Type 0 = λ b. IsOwnReading (written_reading b select.place (select_reading scope select.place select.name select.index)) own in subst P e h
 
 -- One select
 
