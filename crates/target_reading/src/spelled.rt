@@ -64,14 +64,14 @@ fn select_in(alloc: Global, expr: &Expr) -> Result<Option<Select>, NoMemory>
 fn selects_in(alloc: Global, parts: &[Expr]) -> Result<Option<Seq<Select>>, NoMemory>
     ensures { IfOk result (λ selects. option_map (map select_of) selects ≡ selects_of_parts (expressions_of parts.now)) }
 {
-    let mut selects = Seq::new(alloc);
+    let mut selects = Vec::new(alloc);
     'parts: for part in parts {
         let Some(select) = select_in(alloc, part)? else {
             return Ok(None);
         };
         selects.push(select)?;
     }
-    Ok(Some(selects))
+    Ok(Some(Seq::from_vec(selects)))
 }
 
 /// A concatenation as a target; none where a part of it is no select.

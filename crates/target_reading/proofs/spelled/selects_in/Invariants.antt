@@ -5,4 +5,4 @@ use Rattle.target_reading.proofs.SpelledLaws.{selects_before}
 use Rattle.target_reading.proofs.spelled.selects_in.Given as goal
 
 abbrev pub invariant-parts : goal.invariant-parts
-invariant-parts l = selects_of_parts (expressions_of l.parts) ≡ selects_before (map select_of l.selects) (selects_of_parts (expressions_of (drop l.part-index l.parts)))
+invariant-parts l = selects_of_parts (expressions_of l.parts) ≡ selects_before (map select_of l.selects.items) (selects_of_parts (expressions_of (drop l.part-index l.parts)))
