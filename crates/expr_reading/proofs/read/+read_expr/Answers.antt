@@ -83,7 +83,7 @@ read_expr-returns-in_ok-parts-in-Repeat t c =
     (parts-of scope c.deref-in-Repeat-3.result.now c.in-Repeat.parts.items c.in_ok-parts-in-Repeat.parts c.deref-in-Repeat-3.ensures.value c.in_ok-parts-in-Repeat.ensures) times.faults_are))
 
 pub read_parts-parts-init : goal.read_parts-parts-init
-read_parts-parts-init t c = read-start (parts_reading c.args.scope.now (expressions_of c.args.parts.now)) _ c.no_faults.ensures refl c.new.ensures
+read_parts-parts-init t c = read-start (parts_reading c.args.scope.now (expressions_of c.args.parts.now)) _ c.no_faults.ensures refl c.new.ensures.items
 
 pub read_parts-parts-preserved : goal.read_parts-parts-preserved
 read_parts-parts-preserved t c =
