@@ -1,13 +1,12 @@
 // Names, and names with what stands in brackets behind them.
 
-ghost use Rattle.std.specs.Prelude.{◌≡◌, ℕ, Bool, true, [], List, option_map, length, IfOk};
+ghost use Rattle.std.specs.Prelude.{true, [], List, option_map, length, IfOk};
 ghost use Rattle.vf_base.specs.Base.{source_place};
 ghost use Rattle.v_names.specs.Faults.{Fault};
-ghost use Rattle.v_names.specs.OwnSizes.{size_within};
-ghost use Rattle.v_names.specs.Readings.{Reading, alone_faults, tree_alone, is_signed_number, sized_reading, number_reading, name_reading, bit_reading, indexed_reading, part_if, runs_alike, part_reading, ranged_reading};
+ghost use Rattle.v_design.specs.Sized.{span};
+ghost use Rattle.v_names.specs.Readings.{Reading, alone_faults, tree_alone, wrong_reading, is_signed_number, sized_reading, number_reading, name_reading, bit_reading, indexed_reading, part_if, runs_alike, part_reading, ranged_reading};
 ghost use Rattle.v_names.specs.ScopeViews.{entry_of};
 ghost use Rattle.v_names.specs.SizedTrees.{SizedConstant, SizedName, SizedWord};
-ghost use Rattle.v_names.specs.SizeViews.{size_of};
 ghost use Rattle.v_width.specs.Summaries.{AreFaults};
 ghost use Rattle.expr_reading.specs.ExprReadings.{IsReading};
 ghost use Rattle.expr_reading.specs.Bounds.{bounds_of};
@@ -16,9 +15,7 @@ use crate::reading::{ExprReading, misused, refused, sized, unvalued};
 use four_value::Vec4;
 use sized_tree::SizedExpr;
 use std::alloc::Global;
-use v_names::{
-    Entry, Size, is_signed_number, one_bit, runs_alike, size_within, span, width_between,
-};
+use v_names::{Entry, is_signed_number, one_bit, runs_alike, size_within, span, width_between};
 use v_tree::NumberForm;
 use v_width::{Faults, apart, no_faults};
 use vf_base::{NoMemory, Place, Text};
@@ -42,22 +39,31 @@ pub(crate) fn number_reading(place: Place, form: NumberForm, value: Vec4) -> Exp
     constant_reading(place, value, is_signed_number(form, value))
 }
 
-/// A vector alone, of a width.
+/// A name alone that is used as what it isn't.
+fn misused_alone(place: Place) -> ExprReading
+    ensures { IsReading (wrong_reading (source_place place) []) result }
+{
+    misused(place, no_faults())
+}
+
+/// A vector alone, with the indexes of its first and its last bit.
 fn vector_reading(
     alloc: Global,
     place: Place,
     name: &Text,
-    width: u64,
+    high: u32,
+    low: u32,
     signed: bool,
 ) -> Result<ExprReading, NoMemory>
-    ensures { IfOk result (λ read. IsReading (sized_reading (source_place place) width signed true [] (λ w whole. SizedName w whole name.now)) read) }
+    ensures { IfOk result (λ read. IsReading (sized_reading (source_place place) (span high low) signed true [] (λ w whole. SizedName w whole name.now)) read) }
 {
+    let size = size_within(span(high, low), signed);
     let name = Text::from_bytes(alloc, name.as_bytes())?;
     let tree = SizedExpr::Name {
         size: one_bit(),
         name,
     };
-    Ok(sized(place, size_within(width, signed), no_faults(), tree))
+    Ok(sized(place, size, no_faults(), tree))
 }
 
 /// A name alone.
@@ -82,7 +88,7 @@ pub(crate) fn name_reading(
                 ..
             },
         ) => {
-            let read = vector_reading(alloc, place, name, span(*high, *low), *signed)?;
+            let read = vector_reading(alloc, place, name, *high, *low, *signed)?;
             Ok(read)
         }
         Some(
@@ -93,12 +99,12 @@ pub(crate) fn name_reading(
                 ..
             },
         ) => {
-            let read = vector_reading(alloc, place, name, span(*high, *low), *signed)?;
+            let read = vector_reading(alloc, place, name, *high, *low, *signed)?;
             Ok(read)
         }
-        Some(Entry::Memory { .. }) => Ok(misused(place, no_faults())),
-        Some(Entry::Gate) => Ok(misused(place, no_faults())),
-        Some(Entry::Instance) => Ok(misused(place, no_faults())),
+        Some(Entry::Memory { .. }) => Ok(misused_alone(place)),
+        Some(Entry::Gate) => Ok(misused_alone(place)),
+        Some(Entry::Instance) => Ok(misused_alone(place)),
     }
 }
 
@@ -131,16 +137,19 @@ fn bit_reading(
     })
 }
 
-/// A word of a memory, of this size.
+/// A word of a memory, with the indexes of its first and its last bit.
 fn word_reading(
     alloc: Global,
     place: Place,
     name: &Text,
-    size: Option<Size>,
+    high: u32,
+    low: u32,
+    signed: bool,
     index: ExprReading,
 ) -> Result<ExprReading, NoMemory>
-    ensures { IfOk result (λ read. (at : Reading) (width : ℕ) (signed : Bool) → IsReading at index → option_map size_of size ≡ size_within width signed → IsReading (sized_reading (source_place place) width signed at.complete (alone_faults at) (λ w whole. SizedWord w whole name.now (tree_alone at))) read) }
+    ensures { IfOk result (λ read. (at : Reading) → IsReading at index → IsReading (sized_reading (source_place place) (span high low) signed at.complete (alone_faults at) (λ w whole. SizedWord w whole name.now (tree_alone at))) read) }
 {
+    let size = size_within(span(high, low), signed);
     let inside = apart(index.faults);
     let alone = index.tree_alone();
     let name = Text::from_bytes(alloc, name.as_bytes())?;
@@ -181,8 +190,7 @@ pub(crate) fn indexed_reading(
                 ..
             },
         ) => {
-            let size = size_within(span(*high, *low), *signed);
-            let read = word_reading(alloc, place, name, size, index)?;
+            let read = word_reading(alloc, place, name, *high, *low, *signed, index)?;
             Ok(read)
         }
         Some(Entry::Param(_, _)) => Ok(misused(place, apart(index.faults))),
