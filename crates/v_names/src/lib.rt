@@ -29,5 +29,5 @@ pub use scope::Scope;
 pub use size::{Size, own_size};
 pub use sizing::{
     BinarySizing, UnarySizing, binary_sizing, is_signed_number, is_unsized_number, larger, one_bit,
-    part_size, runs_alike, size_within, span, unary_sizing,
+    part_size, repeated_size, runs_alike, size_within, span, unary_sizing, width_between,
 };

@@ -215,7 +215,7 @@ pub fn runs_alike(high: u32, low: u32, from: u128, to: u128) -> bool
 }
 
 /// The size of what has the indexes between two bounds.
-fn width_between(from: u128, to: u128) -> Option<Size>
+pub fn width_between(from: u128, to: u128) -> Option<Size>
     ensures { option_map size_of result ≡ size_within (span from to) false }
 {
     let more = from.max(to) - from.min(to);

@@ -2,7 +2,7 @@
 
 ghost use Rattle.std.specs.Prelude.{◌≡◌, ◌||◌, ◌++◌, [], ◌∷◌, List};
 ghost use Rattle.vf_base.specs.Base.{source_place};
-ghost use Rattle.v_names.specs.Faults.{BadWidth, WrongKind, Fault, fault_at};
+ghost use Rattle.v_names.specs.Faults.{BadWidth, WrongKind, Fault, fault_at, first_fault};
 ghost use Rattle.v_names.specs.FaultLaws.{first_of};
 ghost use Rattle.v_names.specs.Readings.{group_faults};
 ghost use Rattle.v_width.specs.Summaries.{found_fault, AreFaults, first_of_group};
@@ -111,6 +111,13 @@ pub fn first_of_group(faults: Faults) -> Option<Found>
     } else {
         first(faults.all, faults.inside)
     }
+}
+
+/// What comes first of what is wrong with expressions that are sized together.
+pub fn first_fault(faults: Faults) -> Option<Found>
+    ensures { (here inside : List Fault) → AreFaults here inside faults → found_fault result ≡ first_fault (group_faults here inside) }
+{
+    first_of_group(faults)
 }
 
 /// The faults of a group as those of a part that is sized apart.

@@ -1,9 +1,12 @@
 //! Sizes and signs of expressions and targets (IEEE 1364-2001, clauses 4.4 and 4.5, clause 6.1 and clause 9.2 for what may be written).
 //!
 //! `Faults` keeps of what is wrong with expressions that are sized together as much as decides the first fault: a width is bad only where no
-//! name among them is of the wrong kind. `together` joins two of them, `apart` takes those of a part that is sized apart.
+//! name among them is of the wrong kind. `together` joins two of them, `apart` takes those of a part that is sized apart,
+//! `first_fault` answers the first of them.
 #![tactic(auto)]
 
 mod faults;
 
-pub use faults::{Faults, apart, bad_width, first_of_group, no_faults, together, wrong_kind};
+pub use faults::{
+    Faults, apart, bad_width, first_fault, first_of_group, no_faults, together, wrong_kind,
+};

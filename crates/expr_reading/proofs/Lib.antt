@@ -1,0 +1,4 @@
+pub mod ReadingLaws
+pub mod NameLaws
+pub mod PartLaws
+pub mod ExprLaws

@@ -1,0 +1,5 @@
+pub mod ExprReadings
+pub mod Bounds
+pub mod PartReadings
+pub mod WidthLaws
+pub mod Answers
