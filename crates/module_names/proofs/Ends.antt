@@ -12,7 +12,7 @@ use Rattle.name_faults.specs.Noted.{noted, noted_none}
 use Rattle.module_names.proofs.Passes.{scope-given}
 use Rattle.name_faults.specs.Noted.{noted-two, noted-three}
 
-scope-is : (m : SourceModule) (given values : List GivenParameter) (ds all : List Declaration) (s : Scope) → all ≡ declarations_of m → ds ≡ first_declarations all [] all
+pub scope-is : (m : SourceModule) (given values : List GivenParameter) (ds all : List Declaration) (s : Scope) → all ≡ declarations_of m → ds ≡ first_declarations all [] all
     → ((name : Identifier) → given_of values name ≡ given_of given name) → s ≡ scope_after (parameter_count ds + 1) values ds → s ≡ scope_of m given
 scope-is m given values ds all s e f g h =
     h ∙ scope-given (parameter_count ds + 1) values given ds g ∙ ap (λ (xs : List Declaration). scope_after (parameter_count xs + 1) given xs) (f ∙ ap (λ (xs : List Declaration). first_declarations xs [] xs) e)

@@ -10,3 +10,4 @@ pub mod Passes
 pub mod Ends
 pub mod Keeping
 pub mod Gates
+pub mod ByName

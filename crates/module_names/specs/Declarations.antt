@@ -53,6 +53,11 @@ abbrev pub first_in : {A : Type 0} → List A → Option A
 first_in [] = None
 first_in (x ∷ xs) = Some x
 
+-- what is there, as a list
+abbrev pub listed : {A : Type 0} → Option A → List A
+listed None = []
+listed (Some x) = x ∷ []
+
 -- what was there before, else the first of a list
 abbrev pub or_first : {A : Type 0} → Option A → List A → Option A
 or_first None xs = first_in xs

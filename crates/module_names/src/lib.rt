@@ -7,6 +7,7 @@
 #![tactic(auto, using(name_faults::specs::Noted::noted_append))]
 
 mod declaration;
+mod declared_names;
 mod given;
 mod meaning;
 mod module_scope;
@@ -15,5 +16,8 @@ mod once;
 mod settle;
 mod twice;
 
+pub use declaration::{Declaration, Declared};
+pub use declared_names::{declarations_by_name, declared_names, scope_of_module};
 pub use given::Given;
 pub use module_scope::{NameFault, names};
+pub use name_map::NameMap;
