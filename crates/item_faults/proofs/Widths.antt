@@ -1,5 +1,5 @@
 -- Ranges that are too wide.
-use Rattle.std.proofs.Common.{◌≡◌, Bool, true, false, ◌&&◌, List, [], ◌∷◌, ◌++◌, Option, Some, None, refl, sym, ap, ◌∙◌, append-nil}
+use Rattle.std.proofs.Common.{◌≡◌, Bool, ◌&&◌, List, [], ◌∷◌, ◌++◌, Option, Some, None, refl, sym, ap, ◌∙◌, append-nil}
 use Rattle.vf_base.specs.Base.{SourcePlace}
 use Rattle.v_names.specs.Faults.{BadWidth, Fault, first_fault, fault_if}
 use Rattle.v_names.specs.FaultLaws.{first_of}

@@ -6,8 +6,8 @@
 //! first.
 #![tactic(auto, using(name_faults::specs::Noted::noted_append))]
 
+mod by_name;
 mod declaration;
-mod declared_names;
 mod given;
 mod meaning;
 mod module_scope;
@@ -16,8 +16,8 @@ mod once;
 mod settle;
 mod twice;
 
+pub use by_name::{declarations_by_name, declared_names, scope_of_module};
 pub use declaration::{Declaration, Declared};
-pub use declared_names::{declarations_by_name, declared_names, scope_of_module};
 pub use given::Given;
 pub use module_scope::{NameFault, names};
 pub use name_map::NameMap;

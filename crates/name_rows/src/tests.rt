@@ -1,9 +1,11 @@
-// Texts with what comes of the names of their first modules. The expected outcomes are those of an independent model, and worked by hand.
+// Texts with what comes of the names of their last modules. The expected outcomes are those of an independent model, and worked by hand.
 
 mod fault_rows;
 mod meaning_rows;
 
-use crate::tests::fault_rows::{CONSTANT_ROWS, ORDER_ROWS, TWICE_ROWS, UNKNOWN_ROWS};
+use crate::tests::fault_rows::{
+    COLLECTED_ROWS, CONSTANT_ROWS, ORDER_ROWS, TWICE_ROWS, UNKNOWN_ROWS,
+};
 use crate::tests::meaning_rows::{GIVEN_ROWS, MEANING_ROWS};
 use four_value::{Bit, Vec4};
 use module_names::{Given, NameFault, names};
@@ -92,12 +94,12 @@ fn outcome_of_module(alloc: Global, module: &Module) -> Outcome {
     }
 }
 
-/// What comes of the names of a text's first module.
+/// What comes of the names of a text's last module.
 fn outcome_of(alloc: Global, text: &[u8]) -> Outcome {
     let Some(unit) = unit_of(alloc, text) else {
         return Outcome::NoModule;
     };
-    match unit.modules.as_slice().first() {
+    match unit.modules.as_slice().last() {
         None => Outcome::NoModule,
         Some(module) => outcome_of_module(alloc, module),
     }
@@ -189,7 +191,7 @@ fn given_of(alloc: Global, rows: &[GivenRow]) -> Result<Vec<Given>, NoMemory> {
     Ok(given)
 }
 
-/// What a name of a text's first module means, with the parameters that an instance gives.
+/// What a name of a text's last module means, with the parameters that an instance gives.
 fn meaning_of(
     alloc: Global,
     text: &[u8],
@@ -201,7 +203,7 @@ fn meaning_of(
     let Some(unit) = unit_of(alloc, text) else {
         return Ok(Meaning::NoScope(Outcome::NoModule));
     };
-    match unit.modules.as_slice().first() {
+    match unit.modules.as_slice().last() {
         None => Ok(Meaning::NoScope(Outcome::NoModule)),
         Some(module) => Ok(meaning_in(alloc, module, &given, &name)),
     }
@@ -231,6 +233,13 @@ fn names_where_a_constant_must_stand(rt: HostRuntime) {
 #[test]
 fn the_first_of_several_faults(rt: HostRuntime) {
     'rows: for (row, (text, outcome)) in ORDER_ROWS.iter().enumerate() {
+        assert_eq!(rt; outcome_of(rt.alloc(), text), *outcome, "row {row}");
+    }
+}
+
+#[test]
+fn texts_of_a_collection(rt: HostRuntime) {
+    'rows: for (row, (text, outcome)) in COLLECTED_ROWS.iter().enumerate() {
         assert_eq!(rt; outcome_of(rt.alloc(), text), *outcome, "row {row}");
     }
 }

@@ -3,7 +3,7 @@ use Rattle.v_tree.specs.Trees.{same_name}
 use Rattle.module_names.specs.Kept.{kept}
 use Rattle.module_names.specs.Declarations.{declaration_seen}
 use Rattle.module_names.proofs.ByName.{found-step, found-end}
-use Rattle.module_names.proofs.declared_names.declarations_by_name.Goals as goal
+use Rattle.module_names.proofs.by_name.declarations_by_name.Goals as goal
 
 pub declared-preserved : goal.declared-preserved
 declared-preserved c =

@@ -7,7 +7,7 @@ use Rattle.module_names.specs.Declarations.{declarations_seen}
 use Rattle.module_names.specs.Givens.{given_parameter, given_seen}
 use Rattle.module_names.specs.Settled.{AreApart}
 use Rattle.module_names.proofs.Ends.{scope-is}
-use Rattle.module_names.proofs.declared_names.scope_of_module.Goals as goal
+use Rattle.module_names.proofs.by_name.scope_of_module.Goals as goal
 
 pub scope_of-requires : goal.scope_of-requires
 scope_of-requires c = subst AreApart (sym (ap declarations_seen c.deref.ensures.value)) c.in_ok-declared.ensures.apart

@@ -5,7 +5,7 @@ use Rattle.module_names.specs.declared.declaration.Declaration.{Declaration}
 use Rattle.module_names.specs.Declarations.{declarations_seen}
 use Rattle.module_names.specs.Settled.{AreApart}
 use Rattle.module_names.proofs.Apart.{first-apart}
-use Rattle.module_names.proofs.declared_names.declared_names.Goals as goal
+use Rattle.module_names.proofs.by_name.declared_names.Goals as goal
 
 pub returns-clause-declared : goal.returns-clause-declared
 returns-clause-declared c =

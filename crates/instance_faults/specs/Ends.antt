@@ -1,9 +1,0 @@
--- Ports of a module by their names.
-use Rattle.std.specs.Prelude.{Bool, not, filter}
-use Rattle.v_tree.specs.Trees.{Identifier, SourceModule}
-use Rattle.v_names.specs.Names.{Declaration, is_port, of_name, names_declared}
-use Rattle.v_names.specs.Readings.{is_empty}
-
--- whether a name of a module is that of a port
-abbrev pub has_port : SourceModule → Identifier → Bool
-has_port m name = not (is_empty (filter (λ (d : Declaration). is_port d.declared) (of_name name (names_declared m))))
