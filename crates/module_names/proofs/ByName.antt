@@ -10,11 +10,11 @@ use Rattle.module_names.proofs.Maps.{same-equal}
 -- a name without a declaration in a list
 none-of : (n name : Identifier) (ds : List Declaration) → same_name n name ≡ true → NoneNamed n ds → of_name name ds ≡ []
 none-of n name [] s h = refl
-none-of n name (d ∷ ds) s h = by (same_name d.name name) refl
+none-of n name (d ∷ ds) s h = by (same_name d.name name) refl (none-of n name ds s h.1)
   where
-    by : (b : Bool) → same_name d.name name ≡ b → of_name name (d ∷ ds) ≡ []
-    by false e = rw e (none-of n name ds s h.1)
-    by true e =
+    by : (b : Bool) → same_name d.name name ≡ b → of_name name ds ≡ [] → of_name name (d ∷ ds) ≡ []
+    by false e none = rw e none
+    by true e none =
         let same : n ≡ d.name = same-equal n name s ∙ sym (same-equal d.name name e) in
         let wrong : true ≡ false = sym e ∙ ap (same_name d.name) (sym (same-equal n name s)) ∙ ap (λ (x : Identifier). same_name x n) (sym same) ∙ ap (same_name n) same ∙ h.0 in
         absurd (let z : ⊥ = cc in z)
@@ -22,11 +22,11 @@ none-of n name (d ∷ ds) s h = by (same_name d.name name) refl
 -- a name has one declaration at most
 pub one-of : (name : Identifier) (ds : List Declaration) → AreApart ds → length (of_name name ds) ≤ 1
 one-of name [] h = omega arith
-one-of name (d ∷ ds) h = by (same_name d.name name) refl
+one-of name (d ∷ ds) h = by (same_name d.name name) refl (one-of name ds h.1)
   where
-    by : (b : Bool) → same_name d.name name ≡ b → length (of_name name (d ∷ ds)) ≤ 1
-    by false e = rw e (one-of name ds h.1)
-    by true e = rw e (let none = ap length (none-of d.name name ds e h.0) in omega (arith, none))
+    by : (b : Bool) → same_name d.name name ≡ b → length (of_name name ds) ≤ 1 → length (of_name name (d ∷ ds)) ≤ 1
+    by false e one = rw e one
+    by true e one = rw e (let none = ap length (none-of d.name name ds e h.0) in omega (arith, none))
 
 -- some names have been found; those that are left are the rest
 pub record AreFound (known : Identifier → Option Declaration) (rest all : List Declaration) : Type 0 where
