@@ -1,13 +1,13 @@
 // What is wrong with assignments and gates.
 
-ghost use Rattle.std.specs.Prelude.{◌≡◌, [], OnOk, map, flat_map, option_map};
+ghost use Rattle.std.specs.Prelude.{◌≡◌, [], OnOk, IfOk, map, flat_map, option_map};
 ghost use Rattle.vf_base.specs.Base.{source_place};
 ghost use Rattle.v_tree.specs.Trees.{SourceAssignment, place_of_target};
 ghost use Rattle.v_tree.specs.Views.{expression_of, target_of, wire_of, assignment_of, gate_of};
 ghost use Rattle.v_names.specs.Scopes.{looked_up};
 ghost use Rattle.v_names.specs.SizeViews.{size_of};
 ghost use Rattle.v_width.specs.Summaries.{AreFaults};
-ghost use Rattle.v_width.specs.Targets.{ByNode, width_of_size};
+ghost use Rattle.v_width.specs.Targets.{ByNode, width_of_size, target_reading, target_alone_faults};
 ghost use Rattle.v_elab.specs.ItemFaults.{is_not_one, assigned_faults, output_faults, terminal_faults, gate_faults, wire_faults};
 ghost use Rattle.name_faults.specs.Noted.{noted};
 ghost use Rattle.item_faults.specs.ReadViews.{writer_of};
@@ -147,6 +147,21 @@ fn width_of(size: Option<Size>) -> Option<u8>
     }
 }
 
+/// Notes what is wrong with a target of a node, and answers its width, if it has one.
+pub fn note_net_target(
+    alloc: Global,
+    scope: &Scope<'_>,
+    target: &Target,
+    first: &mut FirstFault,
+) -> Result<Option<u8>, NoMemory>
+    ensures noted { OnOk result (first.new ≡ noted first.old (target_alone_faults (target_reading ByNode scope.now (target_of target.now)))) }
+    ensures width { IfOk result (λ width. width ≡ (target_reading ByNode scope.now (target_of target.now)).width) }
+{
+    let read = target_reading(alloc, Writer::Node, target, scope)?;
+    note_group(read.faults, first);
+    Ok(read.width)
+}
+
 /// Notes what is wrong with the output of a gate, which has one bit.
 fn note_output(
     alloc: Global,
@@ -156,10 +171,9 @@ fn note_output(
 ) -> Result<(), NoMemory>
     ensures { OnOk result (first.new ≡ noted first.old (output_faults scope.now (target_of target.now))) }
 {
-    let read = target_reading(alloc, Writer::Node, target, scope)?;
-    note_group(read.faults, first);
+    let width = note_net_target(alloc, scope, target, first)?;
     note_where(
-        is_not_one(read.width),
+        is_not_one(width),
         place_of(target),
         Reason::BadConnection,
         first,

@@ -18,5 +18,7 @@ mod sizes;
 mod statements;
 mod waits;
 
+pub use assigned::note_net_target;
+pub use groups::note_where;
 pub use items::item_fault;
 pub use sizes::{note_optional_size, note_size};
