@@ -106,13 +106,13 @@ fn outcome_of(alloc: Global, text: &[u8]) -> Outcome {
 }
 
 /// What an entry of a scope says.
-fn meaning_of_entry(entry: Option<Entry>) -> Meaning {
+fn meaning_of_entry(entry: &Option<Entry>) -> Meaning {
     match entry {
         None => Meaning::Nothing,
         Some(Entry::Param(value, signed)) => Meaning::Param(Value {
             number: value.as_number(),
             width: value.width(),
-            signed,
+            signed: *signed,
         }),
         Some(Entry::RefusedParam) => Meaning::RefusedParam,
         Some(Entry::WaitingParam) => Meaning::WaitingParam,
@@ -124,10 +124,10 @@ fn meaning_of_entry(entry: Option<Entry>) -> Meaning {
                 signed,
             },
         ) => Meaning::Net(Bits {
-            ranged,
-            high,
-            low,
-            signed,
+            ranged: *ranged,
+            high: *high,
+            low: *low,
+            signed: *signed,
         }),
         Some(
             Entry::Reg {
@@ -137,10 +137,10 @@ fn meaning_of_entry(entry: Option<Entry>) -> Meaning {
                 signed,
             },
         ) => Meaning::Reg(Bits {
-            ranged,
-            high,
-            low,
-            signed,
+            ranged: *ranged,
+            high: *high,
+            low: *low,
+            signed: *signed,
         }),
         Some(
             Entry::Memory {
@@ -153,13 +153,13 @@ fn meaning_of_entry(entry: Option<Entry>) -> Meaning {
             },
         ) => Meaning::Memory(
             Bits {
-                ranged,
-                high,
-                low,
-                signed,
+                ranged: *ranged,
+                high: *high,
+                low: *low,
+                signed: *signed,
             },
-            first,
-            last,
+            *first,
+            *last,
         ),
         Some(Entry::Gate) => Meaning::Gate,
         Some(Entry::Instance) => Meaning::Instance,
@@ -169,7 +169,7 @@ fn meaning_of_entry(entry: Option<Entry>) -> Meaning {
 /// What a name of a module means.
 fn meaning_in(alloc: Global, module: &Module, given: &[Given], name: &Text) -> Meaning {
     match names(alloc, module, given) {
-        Ok(scope) => meaning_of_entry(scope.lookup(name)),
+        Ok(scope) => meaning_of_entry(&scope.lookup(name)),
         Err(fault) => Meaning::NoScope(of_fault(fault)),
     }
 }
