@@ -8,11 +8,11 @@ use Rattle.v_names.specs.FaultViews.{fault_of}
 use Rattle.v_names.specs.Faults.{Fault, first_fault, or_fault}
 use Rattle.v_names.specs.Scopes.{Scope}
 use Rattle.v_names.specs.Names.{Declaration, GivenParameter, given_of, declarations_of, first_declarations, scope_after, parameter_count, scope_of, twice_faults, parameters_faults, heads_faults, item_name_faults, module_name_faults, names}
-use Rattle.module_names.specs.Noted.{noted, noted_none}
+use Rattle.name_faults.specs.Noted.{noted, noted_none}
 use Rattle.module_names.proofs.Passes.{scope-given}
-use Rattle.module_names.proofs.Trees.{noted-two, noted-three}
+use Rattle.name_faults.specs.Noted.{noted-two, noted-three}
 
-scope-is : (m : SourceModule) (given values : List GivenParameter) (ds all : List Declaration) (s : Scope) → all ≡ declarations_of m → ds ≡ first_declarations all [] all
+pub scope-is : (m : SourceModule) (given values : List GivenParameter) (ds all : List Declaration) (s : Scope) → all ≡ declarations_of m → ds ≡ first_declarations all [] all
     → ((name : Identifier) → given_of values name ≡ given_of given name) → s ≡ scope_after (parameter_count ds + 1) values ds → s ≡ scope_of m given
 scope-is m given values ds all s e f g h =
     h ∙ scope-given (parameter_count ds + 1) values given ds g ∙ ap (λ (xs : List Declaration). scope_after (parameter_count xs + 1) given xs) (f ∙ ap (λ (xs : List Declaration). first_declarations xs [] xs) e)

@@ -7,8 +7,7 @@ pub mod Settling
 pub mod Complete
 pub mod Apart
 pub mod Passes
-pub mod Trees
-pub mod Pushes
 pub mod Ends
 pub mod Keeping
 pub mod Gates
+pub mod ByName

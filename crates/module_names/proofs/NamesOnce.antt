@@ -1,14 +1,10 @@
 -- Declarations of a name, from the first on.
 use Rattle.std.proofs.Common.{◌≡◌, ℕ, ◌+◌, ◌<◌, Bool, true, false, not, ◌||◌, ◌&&◌, List, [], ◌∷◌, ◌++◌, map, filter, drop, get_or, length, Option, Some, None, option_map, is_some, refl, sym, ap, ap₂, ◌∙◌, append_assoc, add-one, append-nil, suc, zero, ◌≤◌, subst, arith}
-use Rattle.std.proofs.Math.Seq.{drop-cons}
 use Rattle.v_tree.specs.Trees.{Identifier, same_name}
 use Rattle.v_names.specs.Names.{Declared, DeclaredParameter, DeclaredPort, DeclaredNet, DeclaredReg, DeclaredMemory, DeclaredGate, DeclaredInstance, Declaration, is_plain, of_name, plain_of_name, joined_declared, joined_declaration, first_of_name, first_declarations}
 use Rattle.v_names.specs.Readings.{is_empty}
+use Rattle.name_faults.specs.Rows.{drop-step, drop-past}
 use Rattle.module_names.specs.Declarations.{joined_with, joined_by, first_in, or_first, unless_there}
-
--- what is left begins with the item of the turn
-pub drop-step : {A : Type 0} (xs : List A) (i : ℕ) (x : A) → i < length xs → x ≡ get_or xs i x → drop i xs ≡ x ∷ drop (i + 1) xs
-drop-step xs i x below at = rw add-one (drop-cons xs i x below ∙ ap (λ y. y ∷ drop (suc i) xs) (sym at))
 
 -- what is joined depends on the first of the other declarations alone
 with-declared : (d : Declared) (again : Declaration) (others : List Declaration) → joined_declared d (again ∷ others) ≡ joined_with d again.declared
@@ -87,13 +83,6 @@ pub pushed-step : {A V : Type 0} (view : A → Declaration) (xs : List A) (i : �
 pushed-step {A} view xs i x seen new list more all plain below at before news plains pushes =
     let P : List A → Type 0 = λ ys. ArePushed seen list all (map view ys) in
     pushed-turn seen new list more all (map view (drop (i + 1) xs)) (view x) plain (subst P (drop-step xs i x below at) before) news plains pushes
-
--- nothing is left at the end
-pub drop-past : {A : Type 0} (xs : List A) (i : ℕ) → length xs ≤ i → drop i xs ≡ []
-drop-past [] zero e = refl
-drop-past [] (suc i) e = refl
-drop-past (x ∷ xs) zero e = absurd (omega arith)
-drop-past (x ∷ xs) (suc i) e = drop-past xs i (omega arith)
 
 pub pushed-end : {A V : Type 0} (view : A → Declaration) (xs : List A) (i : ℕ) (seen : List ℕ → Option V) (list all : List Declaration) → length xs ≤ i → ArePushed seen list all (map view (drop i xs)) → list ≡ first_declarations all [] all
 pushed-end {A} view xs i seen list all past before =

@@ -12,7 +12,7 @@ use Rattle.module_names.specs.Meanings.{meaning_with, meaning-is}
 use Rattle.module_names.specs.Settled.{found, waits_in, waiting_left, IsSettled, AreStill, AreApart, IsTurn, IsPassed}
 use Rattle.module_names.proofs.Maps.{equal-same}
 use Rattle.module_names.proofs.Apart.{found-at, named_by, not-declared}
-use Rattle.module_names.proofs.NamesOnce.{drop-step, drop-past}
+use Rattle.name_faults.specs.Rows.{drop-step, drop-past}
 use Rattle.module_names.proofs.Rounds.{in-waiting}
 use Rattle.module_names.proofs.Settling.{settle-turn, settle-fewer, settled-start}
 

@@ -6,9 +6,9 @@ use Rattle.v_names.specs.Scopes.{Scope, looked_up}
 use Rattle.v_names.specs.Constants.{known_faults}
 use Rattle.v_names.specs.Names.{Declaration, of_name, may_follow, twice_faults, head_faults}
 use Rattle.v_names.specs.Readings.{is_empty}
-use Rattle.module_names.specs.Noted.{noted, noted_append}
+use Rattle.name_faults.specs.Noted.{noted, noted_append}
 use Rattle.module_names.proofs.Maps.{same-equal}
-use Rattle.module_names.proofs.NamesOnce.{drop-step, drop-past}
+use Rattle.name_faults.specs.Rows.{drop-step, drop-past}
 use Rattle.module_names.specs.Earlier.{EarlierOnes, JustOne, Several, earlier_ones, earlier_with, may_follow_earlier, twice_fault_of, head_fault_of}
 
 -- what is known of the earlier declarations, and what was noted and is to be noted is what is wrong with all

@@ -6,16 +6,10 @@ use Rattle.v_tree.specs.Trees.{SourceExpression, SourceParameter, NamedPlace, So
 use Rattle.v_tree.specs.Views.{expression_of, range_of}
 use Rattle.v_tree.specs.declared.expression.Expr.{Expr}
 use Rattle.v_names.specs.Names as plain
-use Rattle.module_names.specs.declared.declaration.Bounds.{Bounds}
-use Rattle.module_names.specs.declared.declaration.Bounds.TheVariants.{Unbounded, Integer, Ranged}
+use Rattle.name_faults.specs.BoundViews.{bounds_seen}
 use Rattle.module_names.specs.declared.declaration.Declared.{Declared}
 use Rattle.module_names.specs.declared.declaration.Declared.TheVariants as declared
 use Rattle.module_names.specs.declared.declaration.Declaration.{Declaration}
-
-abbrev pub bounds_seen : Bounds → plain.Bounds
-bounds_seen Unbounded = plain.Unbounded
-bounds_seen Integer = plain.IntegerBounds
-bounds_seen (Ranged range) = plain.RangeBounds (range_of range.now)
 
 abbrev pub first_seen : Option (Bor Expr) → Option SourceExpression
 first_seen None = None
@@ -58,6 +52,11 @@ joined_by d (Some again) = record { name = d.name; place = d.place; declared = j
 abbrev pub first_in : {A : Type 0} → List A → Option A
 first_in [] = None
 first_in (x ∷ xs) = Some x
+
+-- what is there, as a list
+abbrev pub listed : {A : Type 0} → Option A → List A
+listed None = []
+listed (Some x) = x ∷ []
 
 -- what was there before, else the first of a list
 abbrev pub or_first : {A : Type 0} → Option A → List A → Option A

@@ -1,7 +1,4 @@
-pub mod Noted
-pub mod CodeFaults
 pub mod Declarations
-pub mod RangeViews
 pub mod Earlier
 pub mod Meanings
 pub mod Kept

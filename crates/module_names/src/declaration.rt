@@ -3,23 +3,16 @@
 ghost use Rattle.std.specs.Prelude.{◌≡◌, [], ◌∷◌, ◌++◌, OnOk, IfOk, map, flat_map};
 ghost use Rattle.v_tree.specs.Views.{module_of, content_of, parameter_of, name_of, range_in, parameters_of, ports_of, wire_of, reg_of, gate_of, instance_of, item_of, heads_of};
 ghost use Rattle.v_names.specs.Names.{declarations_of, bounds_of, parameter_declarations, port_declarations, reg_declared, reg_declarations, gate_declarations, item_declarations, head_declarations};
-ghost use Rattle.module_names.specs.Declarations.{declaration_seen, param_declared, name_declared, declarations_seen, bounds_seen, declared_seen, wire_declarations, instance_declarations};
+ghost use Rattle.module_names.specs.Declarations.{declaration_seen, param_declared, name_declared, declarations_seen, declared_seen, wire_declarations, instance_declarations};
+ghost use Rattle.name_faults.specs.BoundViews.{bounds_seen};
 
+use name_faults::{Bounds, bounds_of};
 use std::alloc::Global;
 use v_tree::{
     Content, Direction, Expr, Gate, Heads, Instance, Item, Module, Name, Param, Params, Ports,
     Range, Reg, Wire,
 };
 use vf_base::{NoMemory, Place, Text};
-
-/// The declared bounds of what has bits.
-#[derive(Clone, Copy)]
-pub enum Bounds<'m> {
-    Unbounded,
-    /// Those of an `integer`.
-    Integer,
-    Ranged(&'m Range),
-}
 
 /// What a name is declared as.
 #[derive(Clone, Copy)]
@@ -63,16 +56,6 @@ pub struct Declaration<'m> {
     pub name: &'m Text,
     pub place: Place,
     pub declared: Declared<'m>,
-}
-
-/// The bounds that a range declares, if there is one.
-pub fn bounds_of<'m>(range: &'m Option<Range>) -> Bounds<'m>
-    ensures { bounds_seen result ≡ bounds_of (range_in range.now) }
-{
-    match range {
-        None => Bounds::Unbounded,
-        Some(range) => Bounds::Ranged(range),
-    }
 }
 
 /// Adds a declaration.

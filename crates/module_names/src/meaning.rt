@@ -5,12 +5,13 @@ ghost use Rattle.v_tree.specs.Views.{expression_of};
 ghost use Rattle.v_names.specs.Names.{kept_bound, bounds_wait, parameter_entry, parameter_of, vector_entry, memory_entry};
 ghost use Rattle.v_names.specs.ScopeViews.{entry_of};
 ghost use Rattle.v_names.specs.SizeViews.{signed_value};
-ghost use Rattle.module_names.specs.Declarations.{bounds_seen, declared_seen};
-ghost use Rattle.module_names.specs.RangeViews.{range_seen};
+ghost use Rattle.module_names.specs.Declarations.{declared_seen};
+ghost use Rattle.name_faults.specs.BoundViews.{bounds_seen};
+ghost use Rattle.name_faults.specs.RangeViews.{range_seen};
 ghost use Rattle.module_names.specs.Meanings.{meaning_with};
 
-use crate::declaration::{Bounds, Declared};
-use crate::range::{BitRange, bound_number, context_width, range_of, width_of};
+use crate::declaration::Declared;
+use name_faults::{BitRange, Bounds, bound_number, context_width, range_of, width_of};
 use std::alloc::Global;
 use v_names::{Constant, Entry, Scope, constant_of, is_waiting};
 use v_tree::Expr;

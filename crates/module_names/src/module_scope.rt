@@ -10,12 +10,11 @@ ghost use Rattle.module_names.specs.Givens.{given_parameter};
 ghost use Rattle.module_names.specs.NameFaults.{IsNameFault};
 
 use crate::declaration::{Declaration, declarations_of};
-use crate::first_fault::FirstFault;
 use crate::given::{Given, given_values};
-use crate::items::{note_items, note_parameter_groups};
 use crate::once::names_once;
 use crate::settle::scope_of;
 use crate::twice::{note_all_twice, note_ports};
+use name_faults::{FirstFault, note_items, note_parameter_groups};
 use std::alloc::Global;
 use thiserror::Error;
 use v_names::{Found, Scope};

@@ -6,8 +6,9 @@ ghost use Rattle.v_names.specs.Names.{is_plain, is_port, plain_of_name, first_de
 ghost use Rattle.module_names.specs.Kept.{kept};
 ghost use Rattle.module_names.specs.Declarations.{declared_seen, declaration_seen, declarations_seen, joined_with, joined_by, or_first, first_in, unless_there};
 
-use crate::declaration::{Bounds, Declaration, Declared};
+use crate::declaration::{Declaration, Declared};
 use crate::name_map::NameMap;
+use name_faults::Bounds;
 use std::alloc::Global;
 use vf_base::{NoMemory, Place};
 

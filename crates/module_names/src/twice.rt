@@ -4,18 +4,16 @@ ghost use Rattle.std.specs.Prelude.{◌≡◌, ◌||◌, ℕ, List, [], ◌∷�
 ghost use Rattle.v_tree.specs.Trees.{same_name};
 ghost use Rattle.v_tree.specs.Views.{heads_of, name_of};
 ghost use Rattle.v_names.specs.Names.{declared_bounds, may_follow, twice_faults, head_faults, heads_faults};
-ghost use Rattle.module_names.specs.Noted.{noted};
+ghost use Rattle.name_faults.specs.Noted.{noted};
 ghost use Rattle.module_names.specs.Kept.{kept};
-ghost use Rattle.module_names.specs.Declarations.{bounds_seen, declared_seen, declaration_seen, declarations_seen};
+ghost use Rattle.module_names.specs.Declarations.{declared_seen, declaration_seen, declarations_seen};
+ghost use Rattle.name_faults.specs.BoundViews.{bounds_seen};
 ghost use Rattle.module_names.specs.Earlier.{earlier_seen, may_follow_earlier, earlier_with, twice_fault_of, head_fault_of};
 
-use crate::declaration::{Bounds, Declaration, Declared};
-use crate::expressions::note_known;
-use crate::first_fault::FirstFault;
-use crate::items::note_port_groups;
+use crate::declaration::{Declaration, Declared};
 use crate::name_map::NameMap;
 use crate::once::{is_plain, is_port};
-use crate::range::{is_same_range, range_of};
+use name_faults::{Bounds, FirstFault, is_same_range, note_known, note_port_groups, range_of};
 use std::alloc::Global;
 use v_names::{Found, Reason, Scope};
 use v_tree::{Heads, Name};

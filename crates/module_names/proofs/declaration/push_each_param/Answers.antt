@@ -1,8 +1,9 @@
 use Rattle.std.proofs.Common.{List, [], ◌∷◌, ◌++◌, map, flat_map, refl, ap, ◌∙◌}
-use Rattle.module_names.specs.Declarations.{declarations_seen, param_declared, bounds_seen}
+use Rattle.module_names.specs.Declarations.{declarations_seen, param_declared}
+use Rattle.name_faults.specs.BoundViews.{bounds_seen}
 use Rattle.v_tree.specs.Views.{parameter_of}
 use Rattle.v_tree.specs.declared.item.Param.{Param}
-use Rattle.module_names.proofs.Pushes.{list-more}
+use Rattle.name_faults.specs.Rows.{list-more}
 use Rattle.module_names.proofs.declaration.push_each_param.Goals as goal
 
 pub params-preserved : goal.params-preserved

@@ -1,5 +1,6 @@
 use Rattle.std.proofs.Common.{◌≡◌, ◌++◌, drop, map, flat_map}
-use Rattle.module_names.specs.Declarations.{declarations_seen, param_declared, bounds_seen}
+use Rattle.module_names.specs.Declarations.{declarations_seen, param_declared}
+use Rattle.name_faults.specs.BoundViews.{bounds_seen}
 use Rattle.v_tree.specs.Views.{parameter_of}
 use Rattle.module_names.proofs.declaration.push_each_param.Given as goal
 

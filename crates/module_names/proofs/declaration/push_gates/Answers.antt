@@ -3,7 +3,7 @@ use Rattle.module_names.specs.Declarations.{declarations_seen}
 use Rattle.v_names.specs.Names.{gate_declarations}
 use Rattle.v_tree.specs.Views.{gate_of}
 use Rattle.v_tree.specs.declared.item.Gate.{Gate}
-use Rattle.module_names.proofs.Pushes.{list-more}
+use Rattle.name_faults.specs.Rows.{list-more}
 use Rattle.module_names.proofs.Gates.{gate-first}
 use Rattle.module_names.proofs.declaration.push_gates.Goals as goal
 

@@ -2,7 +2,7 @@ use Rattle.std.proofs.Common.{List, [], ◌∷◌, ◌++◌, map, flat_map, refl
 use Rattle.module_names.specs.Declarations.{declarations_seen, instance_declarations}
 use Rattle.v_tree.specs.Views.{instance_of}
 use Rattle.v_tree.specs.declared.item.Instance.{Instance}
-use Rattle.module_names.proofs.Pushes.{list-more}
+use Rattle.name_faults.specs.Rows.{list-more}
 use Rattle.module_names.proofs.declaration.push_instances.Goals as goal
 
 pub instances-preserved : goal.instances-preserved

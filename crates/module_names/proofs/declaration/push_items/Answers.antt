@@ -3,7 +3,7 @@ use Rattle.module_names.specs.Declarations.{declarations_seen}
 use Rattle.v_names.specs.Names.{item_declarations}
 use Rattle.v_tree.specs.Views.{item_of}
 use Rattle.v_tree.specs.declared.item.Item.{Item}
-use Rattle.module_names.proofs.Pushes.{list-more}
+use Rattle.name_faults.specs.Rows.{list-more}
 use Rattle.module_names.proofs.declaration.push_items.Goals as goal
 
 pub items-preserved : goal.items-preserved

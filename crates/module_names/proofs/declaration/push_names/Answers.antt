@@ -2,7 +2,7 @@ use Rattle.std.proofs.Common.{List, [], ◌∷◌, ◌++◌, map, flat_map, refl
 use Rattle.module_names.specs.Declarations.{declarations_seen, name_declared, declared_seen}
 use Rattle.v_tree.specs.Views.{name_of}
 use Rattle.v_tree.specs.declared.item.Name.{Name}
-use Rattle.module_names.proofs.Pushes.{list-more}
+use Rattle.name_faults.specs.Rows.{list-more}
 use Rattle.module_names.proofs.declaration.push_names.Goals as goal
 
 pub names-preserved : goal.names-preserved

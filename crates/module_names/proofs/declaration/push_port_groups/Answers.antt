@@ -3,7 +3,7 @@ use Rattle.module_names.specs.Declarations.{declarations_seen}
 use Rattle.v_names.specs.Names.{port_declarations}
 use Rattle.v_tree.specs.Views.{ports_of}
 use Rattle.v_tree.specs.declared.item.Ports.{Ports}
-use Rattle.module_names.proofs.Pushes.{list-more}
+use Rattle.name_faults.specs.Rows.{list-more}
 use Rattle.module_names.proofs.declaration.push_port_groups.Goals as goal
 
 pub groups-preserved : goal.groups-preserved

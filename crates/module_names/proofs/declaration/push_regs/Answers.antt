@@ -1,10 +1,11 @@
 use Rattle.std.proofs.Common.{List, [], ◌∷◌, ◌++◌, map, flat_map, refl, ap, ◌∙◌}
-use Rattle.module_names.specs.Declarations.{declarations_seen, bounds_seen}
+use Rattle.module_names.specs.Declarations.{declarations_seen}
+use Rattle.name_faults.specs.BoundViews.{bounds_seen}
 use Rattle.v_names.specs.Names.{reg_declarations, Declared, Declaration}
 use Rattle.v_tree.specs.Views.{reg_of}
 use Rattle.v_tree.specs.declared.item.Reg.{Reg}
 use Rattle.vf_base.specs.Base.{source_place}
-use Rattle.module_names.proofs.Pushes.{list-more}
+use Rattle.name_faults.specs.Rows.{list-more}
 use Rattle.module_names.proofs.declaration.push_regs.Goals as goal
 
 pub regs-preserved : goal.regs-preserved

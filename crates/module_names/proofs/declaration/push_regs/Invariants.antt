@@ -1,5 +1,6 @@
 use Rattle.std.proofs.Common.{◌≡◌, ◌++◌, drop, map, flat_map}
-use Rattle.module_names.specs.Declarations.{declarations_seen, bounds_seen}
+use Rattle.module_names.specs.Declarations.{declarations_seen}
+use Rattle.name_faults.specs.BoundViews.{bounds_seen}
 use Rattle.v_names.specs.Names.{reg_declarations}
 use Rattle.v_tree.specs.Views.{reg_of}
 use Rattle.module_names.proofs.declaration.push_regs.Given as goal

@@ -1,8 +1,9 @@
 use Rattle.std.proofs.Common.{List, [], ◌∷◌, ◌++◌, map, flat_map, refl, ap, ◌∙◌}
-use Rattle.module_names.specs.Declarations.{declarations_seen, wire_declarations, bounds_seen}
+use Rattle.module_names.specs.Declarations.{declarations_seen, wire_declarations}
+use Rattle.name_faults.specs.BoundViews.{bounds_seen}
 use Rattle.v_tree.specs.Views.{wire_of}
 use Rattle.v_tree.specs.declared.item.Wire.{Wire}
-use Rattle.module_names.proofs.Pushes.{list-more}
+use Rattle.name_faults.specs.Rows.{list-more}
 use Rattle.module_names.proofs.declaration.push_wires.Goals as goal
 
 pub wires-preserved : goal.wires-preserved

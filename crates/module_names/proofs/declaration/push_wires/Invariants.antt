@@ -1,5 +1,6 @@
 use Rattle.std.proofs.Common.{◌≡◌, ◌++◌, drop, map, flat_map}
-use Rattle.module_names.specs.Declarations.{declarations_seen, wire_declarations, bounds_seen}
+use Rattle.module_names.specs.Declarations.{declarations_seen, wire_declarations}
+use Rattle.name_faults.specs.BoundViews.{bounds_seen}
 use Rattle.v_tree.specs.Views.{wire_of}
 use Rattle.module_names.proofs.declaration.push_wires.Given as goal
 

@@ -2,7 +2,7 @@ use Rattle.std.proofs.Common.{ℕ, List, map, drop, ◌+◌, ap, sym, ◌∙◌}
 use Rattle.v_names.specs.Names.{given_of}
 use Rattle.module_names.specs.declared.given.Given.{Given}
 use Rattle.module_names.specs.Givens.{given_parameter, given_seen, value_or}
-use Rattle.module_names.proofs.NamesOnce.{drop-step}
+use Rattle.name_faults.specs.Rows.{drop-step}
 use Rattle.module_names.proofs.Passes.{given-turn}
 use Rattle.module_names.proofs.given.given_values.Goals as goal
 

@@ -4,7 +4,8 @@ use Rattle.v_names.specs.Names.{plain_of_name}
 use Rattle.module_names.specs.declared.declaration.Declaration.{Declaration}
 use Rattle.module_names.specs.Kept.{kept}
 use Rattle.module_names.specs.Declarations.{declaration_seen, declarations_seen, or_first}
-use Rattle.module_names.proofs.NamesOnce.{drop-step, drop-past, plain-turn}
+use Rattle.module_names.proofs.NamesOnce.{plain-turn}
+use Rattle.name_faults.specs.Rows.{drop-step, drop-past}
 use Rattle.module_names.proofs.Keeping.{nothing-more}
 use Rattle.module_names.proofs.once.plain_declarations.Goals as goal
 

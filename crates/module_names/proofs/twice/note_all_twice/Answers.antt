@@ -1,6 +1,6 @@
 use Rattle.std.proofs.Common.{ℕ, List, [], option_map}
 use Rattle.v_names.specs.Names.{twice_faults}
-use Rattle.module_names.specs.Noted.{noted}
+use Rattle.name_faults.specs.Noted.{noted}
 use Rattle.module_names.specs.Kept.{kept}
 use Rattle.module_names.specs.Declarations.{declaration_seen, declarations_seen}
 use Rattle.module_names.specs.Earlier.{earlier_seen}

@@ -1,6 +1,6 @@
 use Rattle.std.proofs.Common.{[], drop, option_map}
 use Rattle.v_names.specs.Names.{twice_faults}
-use Rattle.module_names.specs.Noted.{noted}
+use Rattle.name_faults.specs.Noted.{noted}
 use Rattle.module_names.specs.Declarations.{declarations_seen}
 use Rattle.module_names.specs.Earlier.{earlier_seen}
 use Rattle.module_names.specs.Kept.{kept}

@@ -1,7 +1,7 @@
 use Rattle.std.proofs.Common.{[], drop, map}
 use Rattle.v_tree.specs.Views.{name_of}
 use Rattle.v_names.specs.Names.{head_faults}
-use Rattle.module_names.specs.Noted.{noted}
+use Rattle.name_faults.specs.Noted.{noted}
 use Rattle.module_names.specs.Kept.{kept}
 use Rattle.module_names.proofs.TwiceDeclared.{HeadsNoted}
 use Rattle.module_names.proofs.twice.note_heads.Given as goal

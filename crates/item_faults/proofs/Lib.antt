@@ -1,0 +1,5 @@
+pub mod Trees
+pub mod MemoryLaws
+pub mod GroupsGrow
+pub mod Wholes
+pub mod Widths

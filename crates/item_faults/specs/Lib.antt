@@ -1,0 +1,6 @@
+pub mod ReadViews
+pub mod Widths
+pub mod Wholes
+pub mod Memories
+pub mod Groups
+pub mod CodeFaults

@@ -1,0 +1,5 @@
+pub mod Noted
+pub mod Rows
+pub mod CodeFaults
+pub mod BoundViews
+pub mod RangeViews
