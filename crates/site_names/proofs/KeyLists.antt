@@ -1,7 +1,7 @@
 -- One key more.
 use Rattle.std.proofs.Common.{◌≡◌, ℕ, ◌+◌, ◌<◌, List, [], ◌∷◌, ◌++◌, length, get_or, take, map, sym, ap, ◌∙◌, Bor}
 use Rattle.std.proofs.lemmas.List.{take_more, map_push}
-use Rattle.site_names.specs.Places.{keys_of}
+use Rattle.key_index.specs.Places.{keys_of}
 
 pub keys-more : {A B : Type 0} (view : A → B) (key_of : B → List ℕ) (xs : List A) (i : ℕ) (x : A) (keys more : List (Bor (List ℕ))) (key : Bor (List ℕ)) → i < length xs → x ≡ get_or xs i x →
     keys_of keys ≡ map key_of (map view (take i xs)) → more ≡ keys ++ key ∷ [] → key.now ≡ key_of (view x) → keys_of more ≡ map key_of (map view (take (i + 1) xs))

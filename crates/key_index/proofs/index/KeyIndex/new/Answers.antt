@@ -1,8 +1,8 @@
 use Rattle.std.proofs.Common.{◌≡◌, ◌<◌, ◌+◌, ◌-◌, ◌++◌, ◌∷◌, [], length, get_or, ap, sym, subst, ◌∙◌, arith}
 use Rattle.std.proofs.lemmas.List.{get_or-map, length-map}
-use Rattle.site_names.specs.Places.{keys_of, place_in}
-use Rattle.site_names.proofs.Steps.{Noted, Noted-more}
-use Rattle.site_names.proofs.index.KeyIndex.new.Goals as goal
+use Rattle.key_index.specs.Places.{keys_of, place_in}
+use Rattle.key_index.proofs.Steps.{Noted, Noted-more}
+use Rattle.key_index.proofs.index.KeyIndex.new.Goals as goal
 
 pub keys-preserved : goal.keys-preserved
 keys-preserved c =

@@ -3,7 +3,7 @@
 ghost use Rattle.std.specs.Prelude.{◌≡◌, ◌+◌, ◌<◌, [], Some, List, ℕ, IfOk, OnOk, length, slice_index_or};
 ghost use Rattle.std.specs.Str.{bytes_eq};
 ghost use Rattle.std.specs.Map.{update};
-ghost use Rattle.site_names.specs.Places.{keys_of, place_in, key_from};
+ghost use Rattle.key_index.specs.Places.{keys_of, place_in, key_from};
 
 use std::alloc::Global;
 use std::collections::HashMap;
@@ -24,7 +24,7 @@ impl<'k> Model for KeyIndex<'k> {
 
     ghost Value = { List (List ℕ) };
 
-    ghost use Rattle.site_names.specs.Indexes.{keys_in, IsIndex};
+    ghost use Rattle.key_index.specs.Indexes.{keys_in, IsIndex};
 
     ghost view = { keys_in };
 

@@ -1,7 +1,7 @@
 -- What an index of keys keeps (nothing of the language).
 use Rattle.std.specs.Prelude.{◌≡◌, ℕ, ◌+◌, ◌-◌, ◌<◌, List, [], length, Option, None, slice_index_or}
-use Rattle.site_names.specs.Places.{keys_of, key_from, place_in}
-use Rattle.site_names.specs.declared.index.KeyIndex.TheInside.{Inside}
+use Rattle.key_index.specs.Places.{keys_of, key_from, place_in}
+use Rattle.key_index.specs.declared.index.KeyIndex.TheInside.{Inside}
 
 -- the keys of an index
 abbrev pub keys_in : Inside → List (List ℕ)

@@ -1,0 +1,29 @@
+-- Sized expressions of the code as the plain tree.
+use Rattle.std.specs.Prelude.{List, [], ◌∷◌}
+use Rattle.v_names.specs.SizedTrees as plain
+use Rattle.sized_tree.specs.declared.expression.SizedExpr.{SizedExpr, Row_of-SizedExpr, end_of-SizedExpr, more_of-SizedExpr}
+use Rattle.sized_tree.specs.declared.expression.SizedExpr.TheVariants as code
+
+abbrev mutual
+  -- a sized expression
+  pub sized_of : SizedExpr → plain.SizedExpression
+  sized_of (code.Constant width signed value) = plain.SizedConstant width signed value
+  sized_of (code.Name width signed name) = plain.SizedName width signed name.now
+  sized_of (code.BitSelect' width signed name p index) = plain.SizedBit width signed name.now (sized_of index)
+  sized_of (code.PartSelect width signed name from to) = plain.SizedPart width signed name.now from to
+  sized_of (code.WordSelect' width signed name p index) = plain.SizedWord width signed name.now (sized_of index)
+  sized_of (code.Unary' width signed operator p operand) = plain.SizedUnary width signed operator (sized_of operand)
+  sized_of (code.Binary' width signed operator p left q right) = plain.SizedBinary width signed operator (sized_of left) (sized_of right)
+  sized_of (code.Conditional' width signed p condition q first r second) = plain.SizedChoice width signed (sized_of condition) (sized_of first) (sized_of second)
+  sized_of (code.Concatenation' width signed shape parts) = plain.SizedConcatenation width signed (sized_of_row parts)
+  sized_of (code.Replication' width signed count shape parts) = plain.SizedReplication width signed count (sized_of_row parts)
+
+  -- the expressions of a row
+  pub sized_of_row : {n : _} → Row_of-SizedExpr n → plain.SizedExpressions
+  sized_of_row end_of-SizedExpr = plain.no_sized
+  sized_of_row (more_of-SizedExpr first rest) = plain.more_sized (sized_of first) (sized_of_row rest)
+
+-- a list of sized expressions
+abbrev pub all_sized_of : List SizedExpr → plain.SizedExpressions
+all_sized_of [] = plain.no_sized
+all_sized_of (first ∷ rest) = plain.more_sized (sized_of first) (all_sized_of rest)
