@@ -1,1 +1,2 @@
 pub mod PartViews
+pub mod BehaviourViews

@@ -21,9 +21,9 @@ pub struct Drive {
 
 /// An expression of an instance, and what stands before its names in the hierarchy.
 #[derive(Drop)]
-pub struct ValueIn<'u> {
+pub struct ValueIn {
     pub path: Rc<Text>,
-    pub value: SizedExpr<'u>,
+    pub value: SizedExpr,
 }
 
 /// An `initial` or `always` of an instance, with its targets where by itself it is of combinational form. The scope has the names of the instance.
@@ -44,14 +44,14 @@ pub enum Part<'u> {
     Memory(WalkedMemory),
     Assign {
         drives: Seq<Drive>,
-        value: ValueIn<'u>,
+        value: ValueIn,
     },
     Gate {
         name: Text,
         kind: GateKind,
         drives: Seq<Drive>,
         path: Rc<Text>,
-        terminals: Vec<SizedExpr<'u>>,
+        terminals: Vec<SizedExpr>,
     },
     Process(WalkedProcess<'u>),
     /// An instance, before its connections and its items.

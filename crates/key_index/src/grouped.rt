@@ -35,7 +35,7 @@ impl<'k, T: Copy + Drop> Model for Grouped<'k, T> {
 }
 
 /// The keys of some items.
-fn keys_of<'k, T: Copy + Drop>(
+fn list_keys<'k, T: Copy + Drop>(
     alloc: Global,
     items: &[Keyed<'k, T>],
 ) -> Result<Vec<&'k [u8]>, NoMemory>
@@ -48,12 +48,47 @@ fn keys_of<'k, T: Copy + Drop>(
     Ok(keys)
 }
 
+/// The first item under a key.
+fn first_item<'k, T: Copy + Drop>(
+    items: &[Keyed<'k, T>],
+    index: &KeyIndex<'k>,
+    key: &[u8],
+) -> Option<T>
+    requires { index.now ≡ map key_of (map keyed_of items.now) }
+    ensures { result ≡ first_under (map keyed_of items.now) key.now }
+{
+    match index.first(key) {
+        None => None,
+        Some(place) => Some(items[place as usize].item),
+    }
+}
+
+#[tactic(auto, using(crate::proofs::Grouping::found_all))]
+/// All items under a key, by going from place to place of the key.
+fn all_items<'k, T: Copy + Drop>(
+    alloc: Global,
+    items: &[Keyed<'k, T>],
+    index: &KeyIndex<'k>,
+    key: &[u8],
+) -> Result<Vec<T>, NoMemory>
+    requires { index.now ≡ map key_of (map keyed_of items.now) }
+    ensures { IfOk result (λ found. found.items ≡ items_under (map keyed_of items.now) key.now) }
+{
+    let mut found = Vec::new(alloc);
+    let mut at = index.first(key);
+    'places: while let Some(place) = at {
+        found.push(items[place as usize].item)?;
+        at = index.next(place);
+    }
+    Ok(found)
+}
+
 impl<'k, T: Copy + Drop> Grouped<'k, T> {
     /// Some items under their keys.
     pub fn new(alloc: Global, items: Vec<Keyed<'k, T>>) -> Result<Grouped<'k, T>, NoMemory>
         ensures { IfOk result (λ grouped. grouped ≡ map keyed_of items.entry.items) }
     {
-        let keys = keys_of(alloc, &items)?;
+        let keys = list_keys(alloc, &items)?;
         let index = KeyIndex::new(alloc, keys)?;
         Ok(Grouped { items, index })
     }
@@ -62,22 +97,14 @@ impl<'k, T: Copy + Drop> Grouped<'k, T> {
     pub fn first(&self, key: &[u8]) -> Option<T>
         ensures { result ≡ first_under self.now key.now }
     {
-        match self.index.first(key) {
-            None => None,
-            Some(place) => Some(self.items[place as usize].item),
-        }
+        first_item(&self.items, &self.index, key)
     }
 
     /// All items under a key, in their order.
     pub fn all(&self, alloc: Global, key: &[u8]) -> Result<Vec<T>, NoMemory>
         ensures { IfOk result (λ found. found.items ≡ items_under self.now key.now) }
     {
-        let mut found = Vec::new(alloc);
-        let mut at = self.index.first(key);
-        'places: while let Some(place) = at {
-            found.push(self.items[place as usize].item)?;
-            at = self.index.next(place);
-        }
+        let found = all_items(alloc, &self.items, &self.index, key)?;
         Ok(found)
     }
 }

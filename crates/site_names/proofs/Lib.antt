@@ -1,4 +1,3 @@
 pub mod Cuts
-pub mod KeyLists
 pub mod Noting
 pub mod Walking

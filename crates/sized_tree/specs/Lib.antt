@@ -1,1 +1,3 @@
 pub mod SizedViews
+pub mod Resized
+pub mod ViewLaws

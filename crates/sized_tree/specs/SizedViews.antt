@@ -7,16 +7,16 @@ use Rattle.sized_tree.specs.declared.expression.SizedExpr.TheVariants as code
 abbrev mutual
   -- a sized expression
   pub sized_of : SizedExpr → plain.SizedExpression
-  sized_of (code.Constant width signed value) = plain.SizedConstant width signed value
-  sized_of (code.Name width signed name) = plain.SizedName width signed name.now
-  sized_of (code.BitSelect' width signed name p index) = plain.SizedBit width signed name.now (sized_of index)
-  sized_of (code.PartSelect width signed name from to) = plain.SizedPart width signed name.now from to
-  sized_of (code.WordSelect' width signed name p index) = plain.SizedWord width signed name.now (sized_of index)
-  sized_of (code.Unary' width signed operator p operand) = plain.SizedUnary width signed operator (sized_of operand)
-  sized_of (code.Binary' width signed operator p left q right) = plain.SizedBinary width signed operator (sized_of left) (sized_of right)
-  sized_of (code.Conditional' width signed p condition q first r second) = plain.SizedChoice width signed (sized_of condition) (sized_of first) (sized_of second)
-  sized_of (code.Concatenation' width signed shape parts) = plain.SizedConcatenation width signed (sized_of_row parts)
-  sized_of (code.Replication' width signed count shape parts) = plain.SizedReplication width signed count (sized_of_row parts)
+  sized_of (code.Constant size value) = plain.SizedConstant size.width size.signed value
+  sized_of (code.Name size name) = plain.SizedName size.width size.signed name
+  sized_of (code.BitSelect' size name p index) = plain.SizedBit size.width size.signed name (sized_of index)
+  sized_of (code.PartSelect size name from to) = plain.SizedPart size.width size.signed name from to
+  sized_of (code.WordSelect' size name p index) = plain.SizedWord size.width size.signed name (sized_of index)
+  sized_of (code.Unary' size operator p operand) = plain.SizedUnary size.width size.signed operator (sized_of operand)
+  sized_of (code.Binary' size operator p left q right) = plain.SizedBinary size.width size.signed operator (sized_of left) (sized_of right)
+  sized_of (code.Conditional' size p condition q first r second) = plain.SizedChoice size.width size.signed (sized_of condition) (sized_of first) (sized_of second)
+  sized_of (code.Concatenation' size shape parts) = plain.SizedConcatenation size.width size.signed (sized_of_row parts)
+  sized_of (code.Replication' size count shape parts) = plain.SizedReplication size.width size.signed count (sized_of_row parts)
 
   -- the expressions of a row
   pub sized_of_row : {n : _} → Row_of-SizedExpr n → plain.SizedExpressions

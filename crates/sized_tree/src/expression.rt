@@ -1,73 +1,64 @@
 // Sized expressions over names.
 
 use four_value::{BinaryOperator, UnaryOperator, Vec4};
+use v_names::Size;
 use vf_base::Text;
 
 /// A sized expression over names. Each part has a width in bits, and whether it is signed.
 #[derive(Drop)]
-pub enum SizedExpr<'u> {
+pub enum SizedExpr {
     Constant {
-        width: u8,
-        signed: bool,
+        size: Size,
         value: Vec4,
     },
     /// A vector alone.
     Name {
-        width: u8,
-        signed: bool,
-        name: &'u Text,
+        size: Size,
+        name: Text,
     },
     /// A bit of a vector.
     BitSelect {
-        width: u8,
-        signed: bool,
-        name: &'u Text,
-        index: Box<SizedExpr<'u>>,
+        size: Size,
+        name: Text,
+        index: Box<SizedExpr>,
     },
     /// The bits of a vector between two declared indexes.
     PartSelect {
-        width: u8,
-        signed: bool,
-        name: &'u Text,
+        size: Size,
+        name: Text,
         from: u128,
         to: u128,
     },
     /// A word of a memory.
     WordSelect {
-        width: u8,
-        signed: bool,
-        name: &'u Text,
-        index: Box<SizedExpr<'u>>,
+        size: Size,
+        name: Text,
+        index: Box<SizedExpr>,
     },
     Unary {
-        width: u8,
-        signed: bool,
+        size: Size,
         operator: UnaryOperator,
-        operand: Box<SizedExpr<'u>>,
+        operand: Box<SizedExpr>,
     },
     Binary {
-        width: u8,
-        signed: bool,
+        size: Size,
         operator: BinaryOperator,
-        left: Box<SizedExpr<'u>>,
-        right: Box<SizedExpr<'u>>,
+        left: Box<SizedExpr>,
+        right: Box<SizedExpr>,
     },
     Conditional {
-        width: u8,
-        signed: bool,
-        condition: Box<SizedExpr<'u>>,
-        first: Box<SizedExpr<'u>>,
-        second: Box<SizedExpr<'u>>,
+        size: Size,
+        condition: Box<SizedExpr>,
+        first: Box<SizedExpr>,
+        second: Box<SizedExpr>,
     },
     Concatenation {
-        width: u8,
-        signed: bool,
-        parts: Vec<SizedExpr<'u>>,
+        size: Size,
+        parts: Vec<SizedExpr>,
     },
     Replication {
-        width: u8,
-        signed: bool,
-        count: u32,
-        parts: Vec<SizedExpr<'u>>,
+        size: Size,
+        count: u128,
+        parts: Vec<SizedExpr>,
     },
 }

@@ -1,0 +1,18 @@
+use Rattle.std.proofs.Common.{sym, arith}
+use Rattle.elab_parts.specs.PartViews.{joining_of}
+use Rattle.elab_wires.proofs.NamedSignals.{whole-way, one-join, way-ends, way-done}
+use Rattle.elab_wires.proofs.signals.Signals.outermost.Goals as goal
+
+pub joins-init : goal.joins-init
+joins-init c = whole-way c.args.self.now 64 c.args.name.now
+
+pub joins-preserved : goal.joins-preserved
+joins-preserved c =
+    one-join c.args.self.now 64 c.joins.counter c.args.name.now c.joins.now c.as_bytes.result.now (joining_of c.in-Some.joining.now) (omega (arith, c.joins-test.true)) c.joins.invariant (sym c.in-Some.ensures)
+    c.as_bytes.ensures
+
+pub returns-in-None : goal.returns-in-None
+returns-in-None c = way-ends c.args.self.now 64 c.joins.counter c.args.name.now c.joins.now c.joins.invariant (sym c.in-None.ensures)
+
+pub returns : goal.returns
+returns c = way-done c.args.self.now 64 c.joins.counter c.args.name.now c.joins.now (omega (arith, c.joins-test.false)) c.joins.invariant

@@ -1,0 +1,5 @@
+pub mod NameLaws
+pub mod SignalTables
+pub mod WrittenNames
+pub mod WrittenLaws
+pub mod Assigned
