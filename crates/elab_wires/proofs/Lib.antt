@@ -1,3 +1,4 @@
 pub mod Turns
 pub mod NamedSignals
 pub mod WrittenTurns
+pub mod BlockLaws

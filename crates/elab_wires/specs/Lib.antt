@@ -3,3 +3,4 @@ pub mod SignalTables
 pub mod WrittenNames
 pub mod WrittenLaws
 pub mod Assigned
+pub mod Wirings

@@ -5,10 +5,14 @@
 //! which are joined are one object is this program's own choice). Names are found by their hash, so no call goes through all parts for a name.
 #![tactic(auto)]
 
+mod blocks;
 mod signals;
+mod wiring;
 mod writers;
 mod written;
 
+pub use blocks::is_block_node;
 pub use signals::Signals;
+pub use wiring::Wiring;
 pub use writers::{PortWriters, Writers};
 pub use written::{Written, hierarchical, list_written};

@@ -33,7 +33,7 @@ found-begins items key found at none e = record {
   rest = ap (λ f. f ++ rest_from keyed_of (under key) [] items at) none ∙ sym (begins items key at e);
 }
 
-long-keys : {T : Type 0} (items : List (Keyed T)) → length (all_keys items) ≡ length items
+pub long-keys : {T : Type 0} (items : List (Keyed T)) → length (all_keys items) ≡ length items
 long-keys items = length-map (map keyed_of items) key_of ∙ length-map items keyed_of
 
 -- a place of a key is one of the list

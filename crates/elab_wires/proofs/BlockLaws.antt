@@ -1,0 +1,96 @@
+-- Names that stand in an index, and what blocks read by other names.
+use Rattle.std.proofs.Common.{◌≡◌, ℕ, ◌+◌, Bool, true, false, not, ◌&&◌, ◌||◌, List, [], ◌∷◌, ◌++◌, map, filter, Option, Some, None, is_some, drop, refl, sym, ap, ap₂, ◌∙◌}
+use Rattle.std.specs.List.{list_all, list_any}
+use Rattle.std.specs.Str.{bytes_eq}
+use Rattle.v_design.specs.Lists.{first_place, earlier_place}
+use Rattle.key_index.specs.Places.{later, key_from}
+use Rattle.v_tree.specs.Trees.{Identifier, same_name, has_name}
+use Rattle.v_elab.specs.Parts.{Signal, WalkedProcess, Part}
+use Rattle.v_elab.specs.Drivers.{signals_of, outermost, port_writes, other_writes, is_own_target, target_signals, names_only_read, reads_by_other_name}
+use Rattle.v_comb.specs.CombinationalForm.{names_read}
+use Rattle.v_elab.specs.Statements.{block_body}
+use Rattle.elab_wires.specs.NameLaws.{key-same}
+use Rattle.elab_wires.specs.WrittenNames.{written_from, objects_written, has_other_writer, output_names}
+use Rattle.elab_wires.specs.WrittenLaws.{other-written, port-written}
+use Rattle.elab_parts.specs.PartViews.{parts_of}
+use Rattle.elab_wires.specs.Wirings.{IsWiring, reads_other, is_block_node}
+use Rattle.elab_wires.specs.declared.wiring.Wiring.{Wiring}
+
+-- A name is in an index where it has a place
+
+there-by : (b : Bool) (o : Option ℕ) (has : Bool) → is_some o ≡ has → is_some (earlier_place b o) ≡ (b || has)
+there-by true o has e = refl
+there-by false None has e = e
+there-by false (Some p) has e = e
+
+place-there : (keys : List Identifier) (name : Identifier) → is_some (first_place (bytes_eq name) keys) ≡ has_name keys name
+place-there [] name = refl
+place-there (key ∷ keys) name =
+    there-by (bytes_eq name key) (first_place (bytes_eq name) keys) (has_name keys name) (place-there keys name) ∙ ap (λ b. b || has_name keys name) (key-same name key)
+
+later-there : (o : Option ℕ) → is_some (later 0 o) ≡ is_some o
+later-there None = refl
+later-there (Some p) = refl
+
+pub key-there : (keys : List Identifier) (name : Identifier) → is_some (key_from keys name 0) ≡ has_name keys name
+key-there keys name = later-there (first_place (bytes_eq name) keys) ∙ place-there keys name
+
+-- A target that nothing else writes
+
+pub ported : (parts : List Part) (number : ℕ) (name : Identifier) → port_writes (signals_of parts) name ≡ true → false ≡ is_own_target parts number name
+ported parts number name e = sym (ap (λ b. not b && not (other_writes (signals_of parts) number (outermost (signals_of parts) name) 0 parts)) e)
+
+pub unported : (parts : List Part) (number : ℕ) (name : Identifier) (other : Bool) → port_writes (signals_of parts) name ≡ false
+    → other ≡ has_other_writer (objects_written (signals_of parts) (written_from 0 parts)) number (outermost (signals_of parts) name) → not other ≡ is_own_target parts number name
+unported parts number name other e w =
+    ap not (w ∙ other-written (signals_of parts) number (outermost (signals_of parts) name) 0 parts)
+    ∙ sym (ap (λ b. not b && not (other_writes (signals_of parts) number (outermost (signals_of parts) name) 0 parts)) e)
+
+-- Names that are read
+
+filtered : (b c : Bool) (signals : List Signal) (process : WalkedProcess) (targets objects : List Identifier) (name : Identifier) (rest : List Identifier)
+    → has_name targets name ≡ b → has_name objects (outermost signals (process.path ++ name)) ≡ c
+    → list_any (λ n. has_name objects (outermost signals n)) (target_signals process (filter (λ n. not (has_name targets n)) (name ∷ rest)))
+        ≡ ((not b && c) || list_any (λ n. has_name objects (outermost signals n)) (target_signals process (filter (λ n. not (has_name targets n)) rest)))
+filtered true c signals process targets objects name rest e f = rw e refl
+filtered false c signals process targets objects name rest e f = rw (e, f) refl
+
+pub others-read : (signals : List Signal) (process : WalkedProcess) (targets objects names : List Identifier)
+    → list_any (λ n. has_name objects (outermost signals n)) (target_signals process (filter (λ n. not (has_name targets n)) names)) ≡ list_any (reads_other signals process targets objects) names
+others-read signals process targets objects [] = refl
+others-read signals process targets objects (name ∷ names) =
+    filtered (has_name targets name) (has_name objects (outermost signals (process.path ++ name))) signals process targets objects name names refl refl
+    ∙ ap (λ r. reads_other signals process targets objects name || r) (others-read signals process targets objects names)
+
+pub by-other-name : (signals : List Signal) (process : WalkedProcess) (targets : List Identifier)
+    → list_any (reads_other signals process targets (map (outermost signals) (target_signals process targets))) (names_read (block_body process.body)) ≡ reads_by_other_name signals process targets
+by-other-name signals process targets = sym (others-read signals process targets (map (outermost signals) (target_signals process targets)) (names_read (block_body process.body)))
+
+-- The same by the tables of some parts
+
+pub own-ported : (w : Wiring) (number : ℕ) (name : Identifier) (ported_here : Bool) → IsWiring w → ported_here ≡ has_name w.ports.now name → ported_here ≡ true → false ≡ is_own_target (parts_of w.parts.now) number name
+own-ported w number name ported_here wired e yes =
+    ported (parts_of w.parts.now) number name (sym (port-written (signals_of (parts_of w.parts.now)) name) ∙ ap (λ names. has_name names name) (sym wired.ports_are) ∙ sym e ∙ yes)
+
+pub own-unported : (w : Wiring) (number : ℕ) (name object : Identifier) (ported_here other : Bool) → IsWiring w → ported_here ≡ has_name w.ports.now name → ported_here ≡ false → object ≡ outermost w.signals.now name
+    → other ≡ has_other_writer w.writers.now number object → not other ≡ is_own_target (parts_of w.parts.now) number name
+own-unported w number name object ported_here other wired e no at o =
+    unported (parts_of w.parts.now) number name other
+    (sym (port-written (signals_of (parts_of w.parts.now)) name) ∙ ap (λ names. has_name names name) (sym wired.ports_are) ∙ sym e ∙ no)
+    (o ∙ ap₂ (λ (ws : List (Identifier × ℕ)) (n : Identifier). has_other_writer ws number n) wired.writers_are (at ∙ ap (λ ss. outermost ss name) wired.signals_are))
+
+-- the names of all targets, and whether each is the block's own
+all-by : (own other : Bool) → own ≡ false → false ≡ (own && not other)
+all-by own other e = sym (ap (λ b. b && not other) e)
+
+pub not-own : (parts : List Part) (number : ℕ) (process : WalkedProcess) (targets whole : List Identifier) (own : Bool) → whole ≡ target_signals process targets → own ≡ list_all (is_own_target parts number) whole → own ≡ false
+    → false ≡ is_block_node parts number process targets
+not-own parts number process targets whole own at e no =
+    all-by (list_all (is_own_target parts number) (target_signals process targets)) (reads_by_other_name (signals_of parts) process targets)
+    (ap (list_all (is_own_target parts number)) (sym at) ∙ sym e ∙ no)
+
+pub all-own : (w : Wiring) (number : ℕ) (process : WalkedProcess) (targets whole : List Identifier) (own other : Bool) → IsWiring w → whole ≡ target_signals process targets
+    → own ≡ list_all (is_own_target (parts_of w.parts.now) number) whole → own ≡ true → other ≡ reads_by_other_name w.signals.now process targets → not other ≡ is_block_node (parts_of w.parts.now) number process targets
+all-own w number process targets whole own other wired at e yes o =
+    ap not (o ∙ ap (λ ss. reads_by_other_name ss process targets) wired.signals_are)
+    ∙ sym (ap (λ b. b && not (reads_by_other_name (signals_of (parts_of w.parts.now)) process targets)) (ap (list_all (is_own_target (parts_of w.parts.now) number)) (sym at) ∙ sym e ∙ yes))
