@@ -1,39 +1,18 @@
 -- Names that stand in an index, and what blocks read by other names.
 use Rattle.std.proofs.Common.{◌≡◌, ℕ, ◌+◌, Bool, true, false, not, ◌&&◌, ◌||◌, List, [], ◌∷◌, ◌++◌, map, filter, Option, Some, None, is_some, drop, refl, sym, ap, ap₂, ◌∙◌}
 use Rattle.std.specs.List.{list_all, list_any}
-use Rattle.std.specs.Str.{bytes_eq}
-use Rattle.v_design.specs.Lists.{first_place, earlier_place}
-use Rattle.key_index.specs.Places.{later, key_from}
+use Rattle.key_index.specs.Places.{key_from}
 use Rattle.v_tree.specs.Trees.{Identifier, same_name, has_name}
 use Rattle.v_elab.specs.Parts.{Signal, WalkedProcess, Part}
 use Rattle.v_elab.specs.Drivers.{signals_of, outermost, port_writes, other_writes, is_own_target, target_signals, names_only_read, reads_by_other_name}
 use Rattle.v_comb.specs.CombinationalForm.{names_read}
 use Rattle.v_elab.specs.Statements.{block_body}
-use Rattle.elab_wires.specs.NameLaws.{key-same}
 use Rattle.elab_wires.specs.WrittenNames.{written_from, objects_written, has_other_writer, output_names}
 use Rattle.elab_wires.specs.WrittenLaws.{other-written, port-written}
+use Rattle.elab_wires.specs.IndexLaws.{key-there}
 use Rattle.elab_parts.specs.PartViews.{parts_of}
 use Rattle.elab_wires.specs.Wirings.{IsWiring, reads_other, is_block_node}
 use Rattle.elab_wires.specs.declared.wiring.Wiring.{Wiring}
-
--- A name is in an index where it has a place
-
-there-by : (b : Bool) (o : Option ℕ) (has : Bool) → is_some o ≡ has → is_some (earlier_place b o) ≡ (b || has)
-there-by true o has e = refl
-there-by false None has e = e
-there-by false (Some p) has e = e
-
-place-there : (keys : List Identifier) (name : Identifier) → is_some (first_place (bytes_eq name) keys) ≡ has_name keys name
-place-there [] name = refl
-place-there (key ∷ keys) name =
-    there-by (bytes_eq name key) (first_place (bytes_eq name) keys) (has_name keys name) (place-there keys name) ∙ ap (λ b. b || has_name keys name) (key-same name key)
-
-later-there : (o : Option ℕ) → is_some (later 0 o) ≡ is_some o
-later-there None = refl
-later-there (Some p) = refl
-
-pub key-there : (keys : List Identifier) (name : Identifier) → is_some (key_from keys name 0) ≡ has_name keys name
-key-there keys name = later-there (first_place (bytes_eq name) keys) ∙ place-there keys name
 
 -- A target that nothing else writes
 
@@ -65,6 +44,12 @@ others-read signals process targets objects (name ∷ names) =
 pub by-other-name : (signals : List Signal) (process : WalkedProcess) (targets : List Identifier)
     → list_any (reads_other signals process targets (map (outermost signals) (target_signals process targets))) (names_read (block_body process.body)) ≡ reads_by_other_name signals process targets
 by-other-name signals process targets = sym (others-read signals process targets (map (outermost signals) (target_signals process targets)) (names_read (block_body process.body)))
+
+pub other-read : (signals : List Signal) (process : WalkedProcess) (targets objects : List Identifier) (name object : Identifier) (found : Option ℕ) (b : Bool) → has_name targets name ≡ false
+    → object ≡ outermost signals (process.path ++ name) → found ≡ key_from objects object 0 → b ≡ is_some found → b ≡ reads_other signals process targets objects name
+other-read signals process targets objects name object found b absent at e there =
+    there ∙ ap is_some e ∙ key-there objects object ∙ ap (has_name objects) at
+    ∙ sym (ap (λ t. not t && has_name objects (outermost signals (process.path ++ name))) absent)
 
 -- The same by the tables of some parts
 

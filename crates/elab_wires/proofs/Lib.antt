@@ -1,4 +1,3 @@
-pub mod Turns
 pub mod NamedSignals
 pub mod WrittenTurns
 pub mod BlockLaws

@@ -13,7 +13,7 @@ use Rattle.v_elab.specs.Drivers.{signals_of, signal_if, signal_named, joined_int
 use Rattle.elab_parts.specs.PartViews.{signal_of}
 use Rattle.elab_parts.specs.declared.signal.Signal.{Signal}
 use Rattle.elab_wires.specs.SignalTables.{signal_seen, signal_borrowed, signals_listed, IsOwn}
-use Rattle.elab_wires.specs.NameLaws.{key-same}
+use Rattle.wire_laws.specs.Keyed.{key-name}
 
 -- Signals under their names
 
@@ -26,18 +26,7 @@ pub named-first : (ps : List (List ℕ × Bor Signal)) (name : List ℕ) → All
 named-first [] name own = refl
 named-first (p ∷ ps) name own =
     named-by (bytes_eq name p.0) p (items_under ps name) (map signal_seen ps) name (named-first ps name own.1)
-    ∙ ap (λ b. signal_if b (signal_seen p) (signal_named (map signal_seen ps) name)) (key-same name p.0 ∙ ap (λ n. same_name n name) own.0)
-
--- Signals of parts
-
-pub signals-append : (xs ys : List Part) → signals_of (xs ++ ys) ≡ signals_of xs ++ signals_of ys
-signals-append [] ys = refl
-signals-append (SignalPart signal ∷ xs) ys = ap (λ ss. signal ∷ ss) (signals-append xs ys)
-signals-append (MemoryPart memory ∷ xs) ys = signals-append xs ys
-signals-append (AssignPart drives value ∷ xs) ys = signals-append xs ys
-signals-append (GatePart name kind drives path terminals ∷ xs) ys = signals-append xs ys
-signals-append (ProcessPart process ∷ xs) ys = signals-append xs ys
-signals-append (InstancePart ∷ xs) ys = signals-append xs ys
+    ∙ ap (λ b. signal_if b (signal_seen p) (signal_named (map signal_seen ps) name)) (key-name name p.0 ∙ ap (λ n. same_name n name) own.0)
 
 -- one signal more
 pub pushed-listed : (old more : List (Keyed (Bor Signal))) (k : Keyed (Bor Signal)) → more ≡ old ++ k ∷ [] → signals_listed more ≡ signals_listed old ++ signal_seen (keyed_of k) ∷ []

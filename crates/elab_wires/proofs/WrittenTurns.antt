@@ -1,53 +1,23 @@
 -- Lists of what is written, put together.
-use Rattle.std.proofs.Common.{◌≡◌, ℕ, zero, suc, ◌+◌, ◌<◌, ◌≤◌, Bool, true, false, not, List, [], ◌∷◌, ◌++◌, length, get_or, take, map, filter, replicate, Option, Some, None, refl, sym, ap, ap₂, ◌∙◌, append_assoc, append-nil, arith}
-use Rattle.std.proofs.lemmas.List.{map-append, length-map, length-take-le}
+use Rattle.std.proofs.Common.{◌≡◌, ℕ, zero, suc, ◌+◌, ◌<◌, ◌≤◌, Bool, true, false, not, cond, List, [], ◌∷◌, ◌++◌, length, get_or, take, map, filter, replicate, Option, Some, None, refl, sym, ap, ap₂, ◌∙◌, append_assoc, append-nil, arith}
+use Rattle.std.proofs.lemmas.List.{map_push, map-append, length-map, length-take-le}
 use Rattle.std.proofs.lemmas.List.Elements.{filter-append}
-use Rattle.v_design.specs.Expressions.{up_from}
 use Rattle.v_tree.specs.Trees.{Identifier}
-use Rattle.v_names.specs.Readings.{is_empty}
 use Rattle.v_names.specs.Scopes.{is_reg, looked_up}
 use Rattle.v_elab.specs.Parts as plain
 use Rattle.v_elab.specs.Parts.{Joining, SignalPart, MemoryPart, AssignPart, GatePart, ProcessPart, InstancePart}
-use Rattle.v_elab.specs.Drivers.{signals_of, signals_written, bits_within, drives_some, drive_signals, target_signals}
-use Rattle.elab_parts.specs.PartViews.{places_of, drive_of, part_of}
-use Rattle.elab_parts.specs.declared.bits.DrivenBits.{DrivenBits}
+use Rattle.key_index.specs.Groups.{keyed_of}
+use Rattle.key_index.specs.declared.grouped.Keyed.{Keyed}
+use Rattle.v_elab.specs.Drivers.{outermost, signals_of, signals_written, drives_some, drive_signals, target_signals}
+use Rattle.elab_parts.specs.PartViews.{drive_of, part_of}
+use Rattle.elab_parts.specs.BitLaws.{drives-none, drives-bits}
 use Rattle.elab_parts.specs.declared.part.Drive.{Drive}
 use Rattle.elab_parts.specs.declared.part.Part.{Part}
-use Rattle.elab_wires.specs.WrittenNames.{written_by, written_from, output_into, output_names}
+use Rattle.elab_wires.specs.WrittenNames.{written_of, objects_written, written_by, written_from, output_into, output_names}
+use Rattle.elab_wires.specs.declared.written.Written.{Written}
 use Rattle.elab_wires.specs.Assigned.{variables_among}
-use Rattle.elab_wires.proofs.Turns.{taken-more}
-use Rattle.elab_wires.proofs.NamedSignals.{signals-append}
-
--- The bits of a drive
-
-outside : (n : ℕ) (places : List (Option ℕ)) → bits_within (replicate n None ++ places) ≡ bits_within places
-outside zero places = refl
-outside (suc n) places = outside n places
-
-inside : (bits : List ℕ) (places : List (Option ℕ)) → bits_within (map Some bits ++ places) ≡ bits ++ bits_within places
-inside [] places = refl
-inside (bit ∷ bits) places = ap (λ rest. bit ∷ rest) (inside bits places)
-
-pub bits-driven : (b : DrivenBits) → bits_within (places_of b) ≡ up_from b.low b.width
-bits-driven b =
-    outside b.outside_below (map Some (up_from b.low b.width) ++ replicate b.outside_above None)
-    ∙ inside (up_from b.low b.width) (replicate b.outside_above None)
-    ∙ ap (λ rest. up_from b.low b.width ++ rest) (ap bits_within (sym (append-nil (replicate b.outside_above None))) ∙ outside b.outside_above [])
-    ∙ append-nil (up_from b.low b.width)
-
-none-of : (start width : ℕ) → width ≡ 0 → not (is_empty (up_from start width)) ≡ false
-none-of start zero e = refl
-none-of start (suc width) e = absurd (omega arith)
-
-some-of : (start width : ℕ) → (width ≡ 0 → ⊥) → not (is_empty (up_from start width)) ≡ true
-some-of start zero e = absurd (e refl)
-some-of start (suc width) e = refl
-
-pub drives-none : (d : Drive) → d.bits.width ≡ 0 → drives_some (drive_of d) ≡ false
-drives-none d e = ap (λ bits. not (is_empty bits)) (bits-driven d.bits) ∙ none-of d.bits.low d.bits.width e
-
-pub drives-bits : (d : Drive) → (d.bits.width ≡ 0 → ⊥) → drives_some (drive_of d) ≡ true
-drives-bits d e = ap (λ bits. not (is_empty bits)) (bits-driven d.bits) ∙ some-of d.bits.low d.bits.width e
+use Rattle.elab_wires.specs.Turns.{taken-more}
+use Rattle.elab_wires.specs.PartLists.{signals-append}
 
 -- Lists that are joined
 
@@ -87,3 +57,40 @@ written-turn xs i x old more low is had pushed =
     ∙ ap (λ k. written_from 0 (map part_of (take i xs)) ++ written_by k (signals_written (part_of x))) (let e : i ≡ 0 + length (map part_of (take i xs)) = omega (arith, long) in e)
     ∙ sym (written-push 0 (map part_of (take i xs)) (part_of x))
     ∙ ap (written_from 0) (sym (taken-more part_of xs i x low is))
+
+-- One name more
+
+filter-one : {A : Type 0} (p : A → Bool) (x : A) (b : Bool) → p x ≡ b → filter p (x ∷ []) ≡ cond b (x ∷ []) []
+filter-one p x b e = ap (λ t. cond t (x ∷ []) []) e
+
+pub not-variable : (process : plain.WalkedProcess) (part : ℕ) (name : Identifier) (old : List (Identifier × ℕ)) → is_reg (looked_up process.scope name) ≡ false → old ≡ old ++ written_by part (variables_among process (name ∷ []))
+not-variable process part name old e =
+    sym (append-nil old) ∙ ap (λ names. old ++ written_by part (target_signals process names)) (sym (filter-one (λ n. is_reg (looked_up process.scope n)) name false e))
+
+pub one-variable : (process : plain.WalkedProcess) (part : ℕ) (name : Identifier) (old more : List Written) (w : Written) → is_reg (looked_up process.scope name) ≡ true → w.name ≡ process.path ++ name → w.part ≡ part → more ≡ old ++ w ∷ []
+    → map written_of more ≡ map written_of old ++ written_by part (variables_among process (name ∷ []))
+one-variable process part name old more w e at n pushed =
+    ap (map written_of) pushed ∙ map_push written_of old w
+    ∙ ap₂ (λ (a : Identifier) (b : ℕ). map written_of old ++ (a, b) ∷ []) at n
+    ∙ ap (λ names. map written_of old ++ written_by part (target_signals process names)) (sym (filter-one (λ m. is_reg (looked_up process.scope m)) name true e))
+
+pub no-drive : (d : Drive) (part : ℕ) (old : List (Identifier × ℕ)) → d.bits.width ≡ 0 → old ≡ old ++ written_by part (drive_signals (drive_of d ∷ []))
+no-drive d part old e =
+    sym (append-nil old) ∙ ap (λ ds. old ++ written_by part (map (λ (x : plain.Drive). x.signal) ds)) (sym (filter-one drives_some (drive_of d) false (drives-none d e)))
+
+pub one-drive : (d : Drive) (part : ℕ) (old more : List Written) (w : Written) → (d.bits.width ≡ 0 → ⊥) → w.name ≡ d.signal → w.part ≡ part → more ≡ old ++ w ∷ []
+    → map written_of more ≡ map written_of old ++ written_by part (drive_signals (drive_of d ∷ []))
+one-drive d part old more w e at n pushed =
+    ap (map written_of) pushed ∙ map_push written_of old w
+    ∙ ap₂ (λ (a : Identifier) (b : ℕ). map written_of old ++ (a, b) ∷ []) at n
+    ∙ ap (λ ds. map written_of old ++ written_by part (map (λ (x : plain.Drive). x.signal) ds)) (sym (filter-one drives_some (drive_of d) true (drives-bits d e)))
+
+-- One object more
+
+pub objects-turn : (signals : List plain.Signal) (xs : List Written) (i : ℕ) (x : Written) (old more : List (Keyed ℕ)) (k : Keyed ℕ) → i < length xs → x ≡ get_or xs i x
+    → map keyed_of old ≡ objects_written signals (map written_of (take i xs)) → more ≡ old ++ k ∷ [] → k.key.now ≡ outermost signals x.name → k.item ≡ x.part
+    → map keyed_of more ≡ objects_written signals (map written_of (take (i + 1) xs))
+objects-turn signals xs i x old more k low is had pushed key item =
+    ap (map keyed_of) pushed ∙ map_push keyed_of old k
+    ∙ ap₂ (λ (l : List (Identifier × ℕ)) (p : Identifier × ℕ). l ++ p ∷ []) had (ap₂ (λ (a : Identifier) (b : ℕ). (a, b)) key item)
+    ∙ sym (ap (objects_written signals) (taken-more written_of xs i x low is) ∙ map_push (λ (w : Identifier × ℕ). (outermost signals w.0, w.1)) (map written_of (take i xs)) (written_of x))

@@ -4,8 +4,13 @@ use Rattle.std.specs.Borrow.{Bor}
 use Rattle.key_index.specs.Groups.{keyed_of}
 use Rattle.key_index.specs.declared.grouped.Keyed.{Keyed}
 use Rattle.v_elab.specs.Parts as plain
-use Rattle.elab_parts.specs.PartViews.{signal_of}
+use Rattle.elab_parts.specs.PartViews.{joining_of, signal_of}
+use Rattle.elab_parts.specs.declared.signal.Joining.{Joining}
 use Rattle.elab_parts.specs.declared.signal.Signal.{Signal}
+
+-- what a reference to how a port is joined shows
+abbrev pub joining_borrowed : Bor Joining → plain.Joining
+joining_borrowed j = joining_of j.now
 
 -- what a reference to a signal shows
 abbrev pub signal_borrowed : Bor Signal → plain.Signal

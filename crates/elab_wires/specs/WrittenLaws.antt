@@ -6,7 +6,7 @@ use Rattle.v_tree.specs.Trees.{Identifier, same_name, has_name}
 use Rattle.v_elab.specs.Parts.{Joining, Signal, Part}
 use Rattle.v_elab.specs.Drivers.{signals_written, outermost, writes_object, other_writes, is_output, joins_output, port_writes}
 use Rattle.key_index.specs.Groups.{item_if, items_under}
-use Rattle.elab_wires.specs.NameLaws.{key-same}
+use Rattle.wire_laws.specs.Keyed.{key-name}
 use Rattle.elab_wires.specs.WrittenNames.{written_by, written_from, objects_written, is_other, has_other_writer, into_if, output_into, output_names}
 
 or-assoc : (a b c : Bool) → ((a || b) || c) ≡ (a || (b || c))
@@ -42,7 +42,7 @@ names-first : (signals : List Signal) (number n : ℕ) (object : Identifier) (na
 names-first signals number n object [] rest = none-written (is_other number n) (has_other_writer (objects_written signals rest) number object)
 names-first signals number n object (name ∷ names) rest =
     test-one number n (bytes_eq object (outermost signals name)) (items_under (objects_written signals (written_by n names ++ rest)) object)
-    ∙ ap₂ (λ (b : Bool) (r : Bool). (is_other number n && b) || r) (key-same object (outermost signals name)) (names-first signals number n object names rest)
+    ∙ ap₂ (λ (b : Bool) (r : Bool). (is_other number n && b) || r) (key-name object (outermost signals name)) (names-first signals number n object names rest)
     ∙ split (is_other number n) (same_name (outermost signals name) object) (list_any (λ m. same_name (outermost signals m) object) names) (has_other_writer (objects_written signals rest) number object)
 
 -- another part writes an object where it is so by the list of all that is written

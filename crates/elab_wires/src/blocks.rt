@@ -116,11 +116,15 @@ fn is_other_name(
 ) -> Result<bool, NoMemory>
     ensures { IfOk result (λ other. other ≡ reads_other signals.now (process_of process.now) targets.now objects.now name.now) }
 {
-    if targets.first(name).is_some() {
+    let own = targets.first(name).is_some();
+    if own {
         return Ok(false);
     }
     let whole = hierarchical(alloc, &process.path, name)?;
-    Ok(objects.first(signals.outermost(whole.as_bytes())).is_some())
+    let object = signals.outermost(whole.as_bytes());
+    let found = objects.first(object);
+    let other = found.is_some();
+    Ok(other)
 }
 
 /// Whether a block reads one of its targets by another name that is joined into the same object.

@@ -7,6 +7,8 @@
 
 mod blocks;
 mod signals;
+#[cfg(test)]
+mod tests;
 mod wiring;
 mod writers;
 mod written;

@@ -2,9 +2,9 @@
 
 ghost use Rattle.std.specs.Prelude.{◌≡◌, ◌++◌, ◌∷◌, [], All, IfOk, OnOk, map, option_map};
 ghost use Rattle.key_index.specs.Groups.{keyed_of};
-ghost use Rattle.elab_parts.specs.PartViews.{part_of, parts_of, joining_of};
+ghost use Rattle.elab_parts.specs.PartViews.{part_of, parts_of, signal_of};
 ghost use Rattle.v_elab.specs.Drivers.{signals_of, signal_named, joined_into, outermost};
-ghost use Rattle.elab_wires.specs.SignalTables.{signal_seen, signal_borrowed, signals_listed, IsOwn};
+ghost use Rattle.elab_wires.specs.SignalTables.{signal_borrowed, joining_borrowed, signals_listed, IsOwn};
 
 use elab_parts::{Joining, Part, Signal};
 use key_index::{Grouped, Keyed};
@@ -70,6 +70,16 @@ fn list_signals<'p>(
     Ok(items)
 }
 
+/// How a signal is joined.
+fn joining_in(signal: &Signal) -> Option<&Joining>
+    ensures { option_map joining_borrowed result ≡ (signal_of signal.now).joined }
+{
+    match &signal.joined {
+        None => None,
+        Some(joining) => Some(joining),
+    }
+}
+
 impl<'p> Signals<'p> {
     /// The nets and variables of some parts.
     pub fn new(alloc: Global, parts: &'p [Part<'_>]) -> Result<Signals<'p>, NoMemory>
@@ -89,11 +99,11 @@ impl<'p> Signals<'p> {
 
     /// How the signal of a name is joined.
     fn joining(&self, name: &[u8]) -> Option<&'p Joining>
-        ensures { option_map (λ j. joining_of j.now) result ≡ joined_into (signal_named self.now name.now) }
+        ensures { option_map joining_borrowed result ≡ joined_into (signal_named self.now name.now) }
     {
         match self.named(name) {
             None => None,
-            Some(signal) => signal.joined.as_ref(),
+            Some(signal) => joining_in(signal),
         }
     }
 

@@ -31,14 +31,21 @@ pub fn hierarchical(alloc: Global, path: &Text, name: &[u8]) -> Result<Text, NoM
     Ok(Text::from_vec(bytes))
 }
 
+/// Whether what a name means is a variable.
+fn is_reg_entry(entry: Option<Entry>) -> bool
+    ensures { result ≡ is_reg (option_map entry_of entry) }
+{
+    match entry {
+        Some(Entry::Reg { .. }) => true,
+        _ => false,
+    }
+}
+
 /// Whether a name of a scope is a variable.
 fn is_variable(scope: &Scope<'_>, name: &Text) -> bool
     ensures { result ≡ is_reg (looked_up scope.now name.now) }
 {
-    match &scope.lookup(name) {
-        Some(Entry::Reg { .. }) => true,
-        _ => false,
-    }
+    is_reg_entry(scope.lookup(name))
 }
 
 /// Adds a name that a process assigns, where it is a variable.
@@ -52,7 +59,8 @@ fn push_variable(
     ensures { OnOk result (map written_of written.new.items ≡ map written_of written.old.items ++ written_by part (variables_among (process_of process.now) (name.now ∷ []))) }
 {
     let own = Text::from_bytes(alloc, name)?;
-    if !is_variable(&process.scope, &own) {
+    let known = is_variable(&process.scope, &own);
+    if !known {
         return Ok(());
     }
     let name = hierarchical(alloc, &process.path, name)?;
@@ -86,7 +94,8 @@ fn push_drive(
 ) -> Result<(), NoMemory>
     ensures { OnOk result (map written_of written.new.items ≡ map written_of written.old.items ++ written_by part (drive_signals (drive_of drive.now ∷ []))) }
 {
-    if drive.bits.width == 0 {
+    let outside = drive.bits.width == 0;
+    if outside {
         return Ok(());
     }
     let name = Text::from_bytes(alloc, drive.signal.as_bytes())?;

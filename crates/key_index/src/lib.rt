@@ -7,6 +7,8 @@
 
 mod grouped;
 mod index;
+#[cfg(test)]
+mod tests;
 
 pub use grouped::{Grouped, Keyed};
 pub use index::KeyIndex;

@@ -1,8 +1,8 @@
 use Rattle.std.proofs.Common.{[]}
 use Rattle.v_elab.specs.Drivers.{signals_of}
 use Rattle.elab_parts.specs.PartViews.{part_of}
-use Rattle.elab_wires.proofs.Turns.{turn}
-use Rattle.elab_wires.proofs.NamedSignals.{signals-append}
+use Rattle.elab_wires.specs.Turns.{turn}
+use Rattle.elab_wires.specs.PartLists.{signals-append}
 use Rattle.elab_wires.proofs.signals.list_signals.Goals as goal
 
 pub parts-preserved : goal.parts-preserved

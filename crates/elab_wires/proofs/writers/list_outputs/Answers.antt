@@ -2,7 +2,7 @@ use Rattle.std.proofs.Common.{[]}
 use Rattle.v_elab.specs.Drivers.{signals_of}
 use Rattle.elab_parts.specs.PartViews.{part_of}
 use Rattle.elab_wires.specs.WrittenNames.{output_names}
-use Rattle.elab_wires.proofs.Turns.{turn}
+use Rattle.elab_wires.specs.Turns.{turn}
 use Rattle.elab_wires.proofs.WrittenTurns.{outputs-append}
 use Rattle.elab_wires.proofs.writers.list_outputs.Goals as goal
 

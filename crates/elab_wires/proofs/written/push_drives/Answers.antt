@@ -2,7 +2,7 @@ use Rattle.std.proofs.Common.{map}
 use Rattle.v_elab.specs.Drivers.{drive_signals}
 use Rattle.elab_parts.specs.PartViews.{drive_of}
 use Rattle.elab_wires.specs.WrittenNames.{written_of, written_by}
-use Rattle.elab_wires.proofs.Turns.{turn}
+use Rattle.elab_wires.specs.Turns.{turn}
 use Rattle.elab_wires.proofs.WrittenTurns.{drives-append}
 use Rattle.elab_wires.proofs.written.push_drives.Goals as goal
 

@@ -1,5 +1,5 @@
 use Rattle.std.proofs.Common.{sym, arith}
-use Rattle.elab_parts.specs.PartViews.{joining_of}
+use Rattle.elab_wires.specs.SignalTables.{joining_borrowed}
 use Rattle.elab_wires.proofs.NamedSignals.{whole-way, one-join, way-ends, way-done}
 use Rattle.elab_wires.proofs.signals.Signals.outermost.Goals as goal
 
@@ -8,7 +8,7 @@ joins-init c = whole-way c.args.self.now 64 c.args.name.now
 
 pub joins-preserved : goal.joins-preserved
 joins-preserved c =
-    one-join c.args.self.now 64 c.joins.counter c.args.name.now c.joins.now c.as_bytes.result.now (joining_of c.in-Some.joining.now) (omega (arith, c.joins-test.true)) c.joins.invariant (sym c.in-Some.ensures)
+    one-join c.args.self.now 64 c.joins.counter c.args.name.now c.joins.now c.as_bytes.result.now (joining_borrowed c.in-Some.joining) (omega (arith, c.joins-test.true)) c.joins.invariant (sym c.in-Some.ensures)
     c.as_bytes.ensures
 
 pub returns-in-None : goal.returns-in-None

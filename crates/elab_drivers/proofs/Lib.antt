@@ -1,0 +1,3 @@
+pub mod DriveTurns
+pub mod DrivingTurns
+pub mod SecondTurns

@@ -1,0 +1,4 @@
+pub mod DriveViews
+pub mod DrivingViews
+pub mod SecondViews
+pub mod SecondLaws
