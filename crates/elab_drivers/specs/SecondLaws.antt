@@ -26,7 +26,7 @@ first-object signals nodes (s ∷ rest) = by_test (is_unjoined s)
   where
     by_test : (test : Bool)
         → refusal_or (second_if test (object_second s (by_depth (items_under (all_driving signals nodes signals) s.name)) (items_under (all_drives signals 0 nodes) s.name))) (first_second (all_driving signals nodes signals) (all_drives signals 0 nodes) rest)
-            ≡ first_two_drivers signals nodes (cond test (s ∷ filter is_unjoined rest) (filter is_unjoined rest))
+        ≡ first_two_drivers signals nodes (cond test (s ∷ filter is_unjoined rest) (filter is_unjoined rest))
     by_test true = ap₂ refusal_or (one-object signals nodes s) (first-object signals nodes rest)
     by_test false = first-object signals nodes rest
 

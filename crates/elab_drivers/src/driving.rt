@@ -26,10 +26,7 @@ fn push_target<'w>(drive: &'w Drive, names: &mut Vec<&'w [u8]>) -> Result<(), No
 }
 
 /// Adds the targets of a node, where it is a block.
-fn push_targets<'w>(
-    node: &'w WalkedNode<'_>,
-    names: &mut Vec<&'w [u8]>,
-) -> Result<(), NoMemory>
+fn push_targets<'w>(node: &'w WalkedNode<'_>, names: &mut Vec<&'w [u8]>) -> Result<(), NoMemory>
     ensures { OnOk result (keys_of names.new.items ≡ keys_of names.old.items ++ block_signals (node_of node.now)) }
 {
     match &node.function {
@@ -42,10 +39,7 @@ fn push_targets<'w>(
 }
 
 /// Adds the signals of which some drives drive a bit.
-fn push_drive_targets<'w>(
-    drives: &'w [Drive],
-    names: &mut Vec<&'w [u8]>,
-) -> Result<(), NoMemory>
+fn push_drive_targets<'w>(drives: &'w [Drive], names: &mut Vec<&'w [u8]>) -> Result<(), NoMemory>
     ensures { OnOk result (keys_of names.new.items ≡ keys_of names.old.items ++ drive_signals (drives_of drives.now)) }
 {
     'drives: for drive in drives {

@@ -1,9 +1,9 @@
 -- Signals that are found by their names, and ways along what they are joined into.
-use Rattle.std.proofs.Common.{◌≡◌, ℕ, zero, suc, ◌+◌, ◌<◌, ◌≤◌, Bool, true, false, List, [], ◌∷◌, ◌++◌, map, All, Option, Some, None, option_map, refl, sym, ap, ◌∙◌, arith, append_assoc, subst}
+use Rattle.std.proofs.Common.{◌≡◌, ℕ, zero, suc, ◌+◌, ◌<◌, ◌≤◌, Bool, true, false, List, [], ◌∷◌, ◌++◌, map, Option, Some, None, option_map, refl, sym, ap, ◌∙◌, arith, append_assoc, subst}
 use Rattle.std.specs.Borrow.{Bor}
 use Rattle.std.specs.Str.{bytes_eq}
 use Rattle.std.proofs.lemmas.List.{map_push}
-use Rattle.std.proofs.lemmas.List.Elements.{All-append}
+use Rattle.v_design.specs.Lists.{AllHold}
 use Rattle.key_index.specs.Groups.{keyed_of, item_if, items_under, first_of, first_under}
 use Rattle.key_index.specs.declared.grouped.Keyed.{Keyed}
 use Rattle.v_tree.specs.Trees.{Identifier, same_name}
@@ -22,7 +22,7 @@ named-by : (b : Bool) (p : List ℕ × Bor Signal) (found : List (Bor Signal)) (
 named-by true p found rest name e = refl
 named-by false p found rest name e = e
 
-pub named-first : (ps : List (List ℕ × Bor Signal)) (name : List ℕ) → All IsOwn ps → option_map signal_borrowed (first_under ps name) ≡ signal_named (map signal_seen ps) name
+pub named-first : (ps : List (List ℕ × Bor Signal)) (name : List ℕ) → AllHold IsOwn ps → option_map signal_borrowed (first_under ps name) ≡ signal_named (map signal_seen ps) name
 named-first [] name own = refl
 named-first (p ∷ ps) name own =
     named-by (bytes_eq name p.0) p (items_under ps name) (map signal_seen ps) name (named-first ps name own.1)
@@ -32,8 +32,12 @@ named-first (p ∷ ps) name own =
 pub pushed-listed : (old more : List (Keyed (Bor Signal))) (k : Keyed (Bor Signal)) → more ≡ old ++ k ∷ [] → signals_listed more ≡ signals_listed old ++ signal_seen (keyed_of k) ∷ []
 pushed-listed old more k e = ap signals_listed e ∙ ap (map signal_seen) (map_push keyed_of old k) ∙ map_push signal_seen (map keyed_of old) (keyed_of k)
 
-pub pushed-own : (old more : List (Keyed (Bor Signal))) (k : Keyed (Bor Signal)) → more ≡ old ++ k ∷ [] → All IsOwn (map keyed_of old) → IsOwn (keyed_of k) → All IsOwn (map keyed_of more)
-pushed-own old more k e own here = subst (All IsOwn) (sym (ap (map keyed_of) e ∙ map_push keyed_of old k)) (All-append IsOwn (map keyed_of old) (keyed_of k ∷ []) own (here, tt))
+hold-push : (ps : List (List ℕ × Bor Signal)) (p : List ℕ × Bor Signal) → AllHold IsOwn ps → IsOwn p → AllHold IsOwn (ps ++ p ∷ [])
+hold-push [] p own here = (here, tt)
+hold-push (q ∷ ps) p own here = (own.0, hold-push ps p own.1 here)
+
+pub pushed-own : (old more : List (Keyed (Bor Signal))) (k : Keyed (Bor Signal)) → more ≡ old ++ k ∷ [] → AllHold IsOwn (map keyed_of old) → IsOwn (keyed_of k) → AllHold IsOwn (map keyed_of more)
+pushed-own old more k e own here = subst (AllHold IsOwn) (sym (ap (map keyed_of) e ∙ map_push keyed_of old k)) (hold-push (map keyed_of old) (keyed_of k) own here)
 
 -- Ways up
 

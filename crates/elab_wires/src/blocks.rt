@@ -2,6 +2,7 @@
 
 ghost use Rattle.std.specs.Prelude.{◌≡◌, ◌++◌, ◌∷◌, [], IfOk, OnOk, map, not, option_map};
 ghost use Rattle.std.specs.List.{list_all, list_any};
+ghost use Rattle.key_index.specs.Places.{keys_of};
 ghost use Rattle.v_tree.specs.Trees.{has_name};
 ghost use Rattle.v_tree.specs.Views.{statement_of};
 ghost use Rattle.v_elab.specs.Statements.{block_body};
@@ -127,6 +128,26 @@ fn is_other_name(
     Ok(other)
 }
 
+/// Whether one of some names that are read is such a name.
+fn any_other_name(
+    alloc: Global,
+    process: &WalkedProcess<'_>,
+    signals: &Signals<'_>,
+    targets: &KeyIndex<'_>,
+    objects: &KeyIndex<'_>,
+    names: &[&[u8]],
+) -> Result<bool, NoMemory>
+    ensures { IfOk result (λ other. other ≡ list_any (reads_other signals.now (process_of process.now) targets.now objects.now) (keys_of names.now)) }
+{
+    'names: for name in names {
+        let other = is_other_name(alloc, process, signals, targets, objects, name)?;
+        if other {
+            return Ok(true);
+        }
+    }
+    Ok(false)
+}
+
 /// Whether a block reads one of its targets by another name that is joined into the same object.
 fn reads_by_other_name(
     alloc: Global,
@@ -142,13 +163,8 @@ fn reads_by_other_name(
     let objects = index_objects(alloc, signals, whole)?;
     let mut names = Vec::new(alloc);
     push_reads(block_body(process.body), &mut names)?;
-    'names: for name in &names {
-        let other = is_other_name(alloc, process, signals, &own, &objects, name)?;
-        if other {
-            return Ok(true);
-        }
-    }
-    Ok(false)
+    let other = any_other_name(alloc, process, signals, &own, &objects, &names)?;
+    Ok(other)
 }
 
 /// Whether a block that by itself is of combinational form is a node: nothing else writes its targets, and it doesn't read them by other names.

@@ -1,6 +1,7 @@
 // Nets and variables by their names.
 
-ghost use Rattle.std.specs.Prelude.{◌≡◌, ◌++◌, ◌∷◌, [], All, IfOk, OnOk, map, option_map};
+ghost use Rattle.std.specs.Prelude.{◌≡◌, ◌++◌, ◌∷◌, [], IfOk, OnOk, map, option_map};
+ghost use Rattle.v_design.specs.Lists.{AllHold};
 ghost use Rattle.key_index.specs.Groups.{keyed_of};
 ghost use Rattle.elab_parts.specs.PartViews.{part_of, parts_of, signal_of};
 ghost use Rattle.v_elab.specs.Drivers.{signals_of, signal_named, joined_into, outermost};
@@ -22,7 +23,8 @@ pub struct Signals<'p> {
 }
 
 impl<'p> Model for Signals<'p> {
-    ghost use Rattle.std.specs.Prelude.{List, All, map};
+    ghost use Rattle.std.specs.Prelude.{List, map};
+    ghost use Rattle.v_design.specs.Lists.{AllHold};
     ghost use Rattle.v_elab.specs.Parts.{Signal};
 
     ghost Value = { List Signal };
@@ -31,7 +33,7 @@ impl<'p> Model for Signals<'p> {
 
     ghost view = { λ s. map signal_seen s.by_name };
 
-    ghost invariant = { λ s. All IsOwn s.by_name };
+    ghost invariant = { λ s. AllHold IsOwn s.by_name };
 }
 
 /// Adds a part to the list of those that are nets or variables.
@@ -39,9 +41,9 @@ fn push_signal<'p>(
     part: &'p Part<'_>,
     items: &mut Vec<Keyed<'p, &'p Signal>>,
 ) -> Result<(), NoMemory>
-    requires { All IsOwn (map keyed_of items.old.items) }
+    requires { AllHold IsOwn (map keyed_of items.old.items) }
     ensures listed { OnOk result (signals_listed items.new.items ≡ signals_listed items.old.items ++ signals_of (part_of part.now ∷ [])) }
-    ensures own { OnOk result (All IsOwn (map keyed_of items.new.items)) }
+    ensures own { OnOk result (AllHold IsOwn (map keyed_of items.new.items)) }
 {
     match part {
         Part::Signal(signal) => {
@@ -61,7 +63,7 @@ fn list_signals<'p>(
     parts: &'p [Part<'_>],
 ) -> Result<Vec<Keyed<'p, &'p Signal>>, NoMemory>
     ensures listed { IfOk result (λ items. signals_listed items.items ≡ signals_of (parts_of parts.now)) }
-    ensures own { IfOk result (λ items. All IsOwn (map keyed_of items.items)) }
+    ensures own { IfOk result (λ items. AllHold IsOwn (map keyed_of items.items)) }
 {
     let mut items = Vec::new(alloc);
     'parts: for part in parts {

@@ -1,7 +1,7 @@
 // The names that the parts of a walk write.
 
 ghost use Rattle.std.specs.Prelude.{◌≡◌, ◌++◌, ◌∷◌, [], IfOk, OnOk, map, filter, option_map};
-ghost use Rattle.v_tree.specs.Trees.{NamedPlace};
+ghost use Rattle.key_index.specs.Places.{keys_of};
 ghost use Rattle.v_names.specs.Scopes.{is_reg, looked_up};
 ghost use Rattle.v_names.specs.ScopeViews.{entry_of};
 ghost use Rattle.v_elab.specs.Drivers.{target_signals, variables_assigned, drives_some, drive_signals, signals_written};
@@ -68,6 +68,22 @@ fn push_variable(
     Ok(())
 }
 
+/// Adds those of some names that are variables.
+fn push_variables_among(
+    alloc: Global,
+    process: &WalkedProcess<'_>,
+    part: usize,
+    names: &[&[u8]],
+    written: &mut Vec<Written>,
+) -> Result<(), NoMemory>
+    ensures { OnOk result (map written_of written.new.items ≡ map written_of written.old.items ++ written_by part (variables_among (process_of process.now) (keys_of names.now))) }
+{
+    'names: for name in names {
+        push_variable(alloc, process, part, name, written)?;
+    }
+    Ok(())
+}
+
 /// Adds the variables that a process assigns.
 fn push_variables(
     alloc: Global,
@@ -79,9 +95,7 @@ fn push_variables(
 {
     let mut names = Vec::new(alloc);
     push_assigned(process.body, &mut names)?;
-    'names: for name in &names {
-        push_variable(alloc, process, part, name, written)?;
-    }
+    push_variables_among(alloc, process, part, &names, written)?;
     Ok(())
 }
 

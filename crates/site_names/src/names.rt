@@ -11,9 +11,9 @@ ghost use Rattle.site_names.specs.Stems.{stem, object_key, gate_key, joined_key}
 
 use crate::cut::{front, stem};
 use crate::drivers::drivers_of;
-use key_index::KeyIndex;
 use crate::keys::{gate_keys, joined_keys, object_keys};
 use fault_list::{bit_spelled, joined_place, node_spelled, piece_bit};
+use key_index::KeyIndex;
 use std::alloc::Global;
 use v_design::{Design, JoinedName, Object, ObjectKind, Site};
 use vf_base::{NoMemory, NodeId, ObjectId};

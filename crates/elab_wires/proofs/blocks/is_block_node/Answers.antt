@@ -7,10 +7,10 @@ use Rattle.elab_wires.proofs.blocks.is_block_node.Goals as goal
 
 pub returns-then-not-own : goal.returns-then-not-own
 returns-then-not-own c =
-    let no : c.in_ok-own.own ≡ false = search rules in
-    not-own (parts_of c.args.wiring.now.parts.now) c.args.number (process_of c.args.process.now) c.args.targets.now c.in_ok-whole.whole.items c.in_ok-own.own (search rules) (search rules) no
+    let fails : c.in_ok-own.own ≡ false = search rules in
+    not-own (parts_of c.args.wiring.now.parts.now) c.args.number (process_of c.args.process.now) c.args.targets.now c.in_ok-whole.whole.items c.in_ok-own.own (search rules) (search rules) fails
 
 pub returns : goal.returns
 returns c =
-    let yes : c.in_ok-own.own ≡ true = search rules in
-    all-own c.args.wiring.now c.args.number (process_of c.args.process.now) c.args.targets.now c.in_ok-whole.whole.items c.in_ok-own.own c.in_ok-other.other c.requires (search rules) (search rules) yes (search rules)
+    let holds : c.in_ok-own.own ≡ true = search rules in
+    all-own c.args.wiring.now c.args.number (process_of c.args.process.now) c.args.targets.now c.in_ok-whole.whole.items c.in_ok-own.own c.in_ok-other.other c.requires (search rules) (search rules) holds (search rules)

@@ -1,4 +1,5 @@
-use Rattle.std.proofs.Common.{◌≡◌, take, map, All}
+use Rattle.std.proofs.Common.{◌≡◌, take, map}
+use Rattle.v_design.specs.Lists.{AllHold}
 use Rattle.key_index.specs.Groups.{keyed_of}
 use Rattle.v_elab.specs.Drivers.{signals_of}
 use Rattle.elab_parts.specs.PartViews.{part_of}
@@ -8,5 +9,5 @@ use Rattle.elab_wires.proofs.signals.list_signals.Given as goal
 abbrev pub invariant-parts : goal.invariant-parts
 invariant-parts l = record {
   listed : signals_listed l.items.items ≡ signals_of (map part_of (take l.part-index l.parts));
-  own : All IsOwn (map keyed_of l.items.items);
+  own : AllHold IsOwn (map keyed_of l.items.items);
 }
