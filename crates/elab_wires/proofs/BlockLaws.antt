@@ -30,7 +30,7 @@ unported parts number name other e w =
 filtered : (b c : Bool) (signals : List Signal) (process : WalkedProcess) (targets objects : List Identifier) (name : Identifier) (rest : List Identifier)
     → has_name targets name ≡ b → has_name objects (outermost signals (process.path ++ name)) ≡ c
     → list_any (λ n. has_name objects (outermost signals n)) (target_signals process (filter (λ n. not (has_name targets n)) (name ∷ rest)))
-        ≡ ((not b && c) || list_any (λ n. has_name objects (outermost signals n)) (target_signals process (filter (λ n. not (has_name targets n)) rest)))
+    ≡ ((not b && c) || list_any (λ n. has_name objects (outermost signals n)) (target_signals process (filter (λ n. not (has_name targets n)) rest)))
 filtered true c signals process targets objects name rest e f = rw e refl
 filtered false c signals process targets objects name rest e f = rw (e, f) refl
 

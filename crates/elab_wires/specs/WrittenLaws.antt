@@ -38,7 +38,7 @@ none-written false d = refl
 -- the names that one part writes, in front of the others
 names-first : (signals : List Signal) (number n : ℕ) (object : Identifier) (names : List Identifier) (rest : List (Identifier × ℕ))
     → has_other_writer (objects_written signals (written_by n names ++ rest)) number object
-        ≡ ((is_other number n && list_any (λ name. same_name (outermost signals name) object) names) || has_other_writer (objects_written signals rest) number object)
+    ≡ ((is_other number n && list_any (λ name. same_name (outermost signals name) object) names) || has_other_writer (objects_written signals rest) number object)
 names-first signals number n object [] rest = none-written (is_other number n) (has_other_writer (objects_written signals rest) number object)
 names-first signals number n object (name ∷ names) rest =
     test-one number n (bytes_eq object (outermost signals name)) (items_under (objects_written signals (written_by n names ++ rest)) object)

@@ -45,12 +45,7 @@ fn net(
 }
 
 /// A continuous assignment of one net to so many bits of another.
-fn assignment(
-    alloc: Global,
-    to: &[u8],
-    width: u8,
-    from: &[u8],
-) -> Result<Part<'static>, NoMemory> {
+fn assignment(alloc: Global, to: &[u8], width: u8, from: &[u8]) -> Result<Part<'static>, NoMemory> {
     let mut drives = Vec::new(alloc);
     drives.push(Drive {
         signal: Text::from_bytes(alloc, to)?,
@@ -97,10 +92,10 @@ fn parts(alloc: Global) -> Result<Vec<Part<'static>>, NoMemory> {
 fn names_lead_to_their_objects(rt: HostRuntime) -> Result<(), Fail> {
     let parts = parts(rt.alloc())?;
     let signals = Signals::new(rt.alloc(), &parts)?;
-    assert_eq!(rt; signals.outermost(b"u.v.b"), b"w");
-    assert_eq!(rt; signals.outermost(b"u.a"), b"w");
-    assert_eq!(rt; signals.outermost(b"x"), b"x");
-    assert_eq!(rt; signals.outermost(b"u.v"), b"u.v");
+    assert_eq!(rt; signals.outermost(b"u.v.b"), b"w".as_slice());
+    assert_eq!(rt; signals.outermost(b"u.a"), b"w".as_slice());
+    assert_eq!(rt; signals.outermost(b"x"), b"x".as_slice());
+    assert_eq!(rt; signals.outermost(b"u.v"), b"u.v".as_slice());
     Ok(())
 }
 
