@@ -1,3 +1,0 @@
-pub mod DriveTurns
-pub mod DrivingTurns
-pub mod SecondTurns

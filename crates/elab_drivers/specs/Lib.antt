@@ -1,4 +1,0 @@
-pub mod DriveViews
-pub mod DrivingViews
-pub mod SecondViews
-pub mod SecondLaws
