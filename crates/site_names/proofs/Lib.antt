@@ -1,5 +1,3 @@
 pub mod Cuts
-pub mod Steps
-pub mod KeyLists
 pub mod Noting
 pub mod Walking

@@ -4,8 +4,8 @@ use Rattle.std.specs.Str.{bytes_eq}
 use Rattle.std.proofs.lemmas.List.{length-map}
 use Rattle.std.proofs.lemmas.Slice.Eq.{bytes_eq-Decides}
 use Rattle.fault_list.specs.Spelled.{or_else, first_answer}
-use Rattle.site_names.specs.Places.{key_from}
-use Rattle.site_names.specs.Walks.{rest_from, rest-begins, rest-goes, rest-here, key-sound, places_left, left-smaller, IsPlaceOf}
+use Rattle.key_index.specs.Places.{key_from}
+use Rattle.key_index.specs.Walks.{rest_from, rest-begins, rest-goes, rest-here, key-sound, places_left, left-smaller, IsPlaceOf}
 
 -- the search has come to a place of the key, or to the end
 pub record IsWalk {A B C : Type 0} (view : A → B) (f : ℕ → B → Option C) (key_of : B → List ℕ) (key : List ℕ) (xs : List A) (at : Option ℕ) : Type 0 where

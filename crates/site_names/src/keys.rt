@@ -3,7 +3,7 @@
 ghost use Rattle.std.specs.Prelude.{◌≡◌, IfOk, map, length, vec_len};
 ghost use Rattle.v_design.specs.Designs.{FlatObject, FlatNode, NameJoined};
 ghost use Rattle.v_design.specs.Plain.{object_of, node_of, name_joined};
-ghost use Rattle.site_names.specs.Places.{keys_of};
+ghost use Rattle.key_index.specs.Places.{keys_of};
 ghost use Rattle.site_names.specs.Stems.{object_key, gate_key, joined_key};
 
 use crate::cut::stem;

@@ -7,7 +7,6 @@
 
 mod cut;
 mod drivers;
-mod index;
 mod keys;
 mod names;
 

@@ -6,14 +6,14 @@ ghost use Rattle.v_design.specs.Plain.{site_of, object_of, node_of, name_joined}
 ghost use Rattle.v_design.specs.PlainDesigns.{design_of};
 ghost use Rattle.v_design.specs.Sites.{sites_of};
 ghost use Rattle.fault_list.specs.Spelled.{first_answer, driver_of, site_by_kind, site_at, object_spelled, node_spelled, place_site, name_spelled, site_spelled};
-ghost use Rattle.site_names.specs.Places.{key_from};
+ghost use Rattle.key_index.specs.Places.{key_from};
 ghost use Rattle.site_names.specs.Stems.{stem, object_key, gate_key, joined_key};
 
 use crate::cut::{front, stem};
 use crate::drivers::drivers_of;
-use crate::index::KeyIndex;
 use crate::keys::{gate_keys, joined_keys, object_keys};
 use fault_list::{bit_spelled, joined_place, node_spelled, piece_bit};
+use key_index::KeyIndex;
 use std::alloc::Global;
 use v_design::{Design, JoinedName, Object, ObjectKind, Site};
 use vf_base::{NoMemory, NodeId, ObjectId};

@@ -3,7 +3,7 @@ use Rattle.std.proofs.lemmas.List.{length-map}
 use Rattle.v_design.specs.Plain.{name_joined}
 use Rattle.v_design.specs.PlainDesigns.{design_of}
 use Rattle.site_names.specs.Stems.{stem, joined_key}
-use Rattle.site_names.specs.Walks.{places_left}
+use Rattle.key_index.specs.Walks.{places_left}
 use Rattle.plan_read.specs.Plain.{watched_bits}
 use Rattle.plan_read.specs.Watched.{bits_in_joined}
 use Rattle.plan_read.proofs.Walking.{IsBitsWalk, bits-begin, bits-go, bits-place, bits-end, bits-smaller, numbered-plain, name-none}

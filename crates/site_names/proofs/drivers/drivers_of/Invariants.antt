@@ -5,7 +5,7 @@ use Rattle.v_design.specs.Designs.{FlatNode}
 use Rattle.v_design.specs.Lists.{has, first_place}
 use Rattle.v_design.specs.Plain.{node_of}
 use Rattle.v_design.specs.PlainDesigns.{design_of}
-use Rattle.site_names.specs.Places.{later}
+use Rattle.key_index.specs.Places.{later}
 use Rattle.site_names.proofs.drivers.drivers_of.Given as goal
 
 abbrev pub invariant-nodes : goal.invariant-nodes

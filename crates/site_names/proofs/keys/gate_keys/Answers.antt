@@ -1,7 +1,7 @@
 use Rattle.std.proofs.Common.{◌≡◌, ◌∙◌, ap, rules}
 use Rattle.v_design.specs.Plain.{node_of}
 use Rattle.site_names.specs.Stems.{stem, gate_key}
-use Rattle.site_names.proofs.KeyLists.{keys-more}
+use Rattle.key_index.specs.KeyLists.{keys-more}
 use Rattle.site_names.proofs.keys.gate_keys.Goals as goal
 
 pub nodes-preserved : goal.nodes-preserved

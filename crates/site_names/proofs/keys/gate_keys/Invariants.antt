@@ -1,6 +1,6 @@
 use Rattle.std.proofs.Common.{◌≡◌, map, take, vec_len}
 use Rattle.v_design.specs.Plain.{node_of}
-use Rattle.site_names.specs.Places.{keys_of}
+use Rattle.key_index.specs.Places.{keys_of}
 use Rattle.site_names.specs.Stems.{gate_key}
 use Rattle.site_names.proofs.keys.gate_keys.Given as goal
 

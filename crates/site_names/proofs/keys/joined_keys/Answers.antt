@@ -1,7 +1,7 @@
 use Rattle.std.proofs.Common.{◌≡◌, ◌∙◌, ap, rules}
 use Rattle.v_design.specs.Plain.{name_joined}
 use Rattle.site_names.specs.Stems.{stem, joined_key}
-use Rattle.site_names.proofs.KeyLists.{keys-more}
+use Rattle.key_index.specs.KeyLists.{keys-more}
 use Rattle.site_names.proofs.keys.joined_keys.Goals as goal
 
 pub names-preserved : goal.names-preserved

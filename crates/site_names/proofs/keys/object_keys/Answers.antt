@@ -1,7 +1,7 @@
 use Rattle.std.proofs.Common.{◌≡◌, ◌∙◌, ap, rules}
 use Rattle.v_design.specs.Plain.{object_of}
 use Rattle.site_names.specs.Stems.{stem, object_key}
-use Rattle.site_names.proofs.KeyLists.{keys-more}
+use Rattle.key_index.specs.KeyLists.{keys-more}
 use Rattle.site_names.proofs.keys.object_keys.Goals as goal
 
 pub objects-preserved : goal.objects-preserved

@@ -1,6 +1,6 @@
 use Rattle.std.proofs.Common.{◌≡◌, map, take, vec_len}
 use Rattle.v_design.specs.Plain.{object_of}
-use Rattle.site_names.specs.Places.{keys_of}
+use Rattle.key_index.specs.Places.{keys_of}
 use Rattle.site_names.specs.Stems.{object_key}
 use Rattle.site_names.proofs.keys.object_keys.Given as goal
 

@@ -4,10 +4,10 @@ use Rattle.v_design.specs.Designs.{NameJoined}
 use Rattle.v_design.specs.Plain.{name_joined, site_of}
 use Rattle.v_design.specs.PlainDesigns.{design_of}
 use Rattle.fault_list.specs.Spelled.{name_spelled}
-use Rattle.site_names.specs.Places.{key_from}
+use Rattle.key_index.specs.Places.{key_from}
 use Rattle.site_names.specs.Stems.{stem, joined_key}
 use Rattle.site_names.specs.StemLaws.{joined-apart}
-use Rattle.site_names.specs.Walks.{places_left}
+use Rattle.key_index.specs.Walks.{places_left}
 use Rattle.site_names.proofs.Walking.{IsWalk, walk-begins, walk-goes, walk-here, walk-place, walk-smaller}
 use Rattle.site_names.proofs.names.SiteNames.site_by_joined.Goals as goal
 

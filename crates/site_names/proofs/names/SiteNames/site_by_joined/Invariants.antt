@@ -3,7 +3,7 @@ use Rattle.v_design.specs.Plain.{name_joined}
 use Rattle.v_design.specs.PlainDesigns.{design_of}
 use Rattle.fault_list.specs.Spelled.{name_spelled}
 use Rattle.site_names.specs.Stems.{stem, joined_key}
-use Rattle.site_names.specs.Walks.{places_left}
+use Rattle.key_index.specs.Walks.{places_left}
 use Rattle.site_names.proofs.Walking.{IsWalk}
 use Rattle.site_names.proofs.names.SiteNames.site_by_joined.Given as goal
 

@@ -1,0 +1,3 @@
+pub mod PartViews
+pub mod BehaviourViews
+pub mod BitLaws

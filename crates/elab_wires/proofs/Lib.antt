@@ -1,0 +1,3 @@
+pub mod NamedSignals
+pub mod WrittenTurns
+pub mod BlockLaws

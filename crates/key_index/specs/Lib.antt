@@ -1,0 +1,5 @@
+pub mod Places
+pub mod Indexes
+pub mod Walks
+pub mod Groups
+pub mod KeyLists
