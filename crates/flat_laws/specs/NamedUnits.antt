@@ -10,7 +10,8 @@ use Rattle.flat_laws.specs.OnceDeclared.{IsNamedUnit}
 use Rattle.flat_laws.specs.Consistent.{bounded-consistent}
 use Rattle.flat_laws.specs.Widths.{walk-widths}
 use Rattle.flat_laws.specs.Settled.{walk-settled}
-use Rattle.flat_laws.specs.Rules.{HasSizes, WalksAreConsistent, consistent-sized}
+use Rattle.flat_laws.specs.Rules.{WalksAreConsistent}
+use Rattle.flat_laws.specs.SizedDesigns.{HasSizes, consistent-sized}
 use Rattle.flat_laws.specs.Writes.{IsWritten, consistent-written}
 
 -- the walks of such a unit are consistent
