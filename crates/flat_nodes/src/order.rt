@@ -1,8 +1,9 @@
 // The order of the nodes of a design, and what is refused.
 
-ghost use Rattle.std.specs.Prelude.{◌≡◌, ◌+◌, ◌≤◌, map, length, IfOk, Ok, Err};
-ghost use Rattle.vf_base.specs.Base.{source_place};
+ghost use Rattle.std.specs.Prelude.{◌≡◌, ◌+◌, ◌<◌, ◌≤◌, map, length, slice_get, IfOk, Ok, Err, Some};
+ghost use Rattle.vf_base.specs.Base.{object_number, source_place};
 ghost use Rattle.v_design.specs.Plain.{node_of, object_of};
+ghost use Rattle.v_design.specs.declared.plan.Object.{Object};
 ghost use Rattle.v_design.specs.WellFormed.{most_parts, most_inputs};
 ghost use Rattle.net_graph.specs.Loops.{AreAmong};
 ghost use Rattle.v_elab.specs.declared.What.TheVariants.{Inputs};
@@ -19,7 +20,7 @@ use net_graph::{RankFault, ranks};
 use std::alloc::Global;
 use thiserror::Error;
 use v_design::{Node, Object};
-use vf_base::{NoMemory, Place};
+use vf_base::{NoMemory, ObjectId, Place};
 
 /// The most inputs of a node.
 const MOST_INPUTS: usize = 4096;
@@ -59,6 +60,14 @@ fn some_crowded(nodes: &[Node]) -> bool
     false
 }
 
+/// Where an object is declared.
+fn declared_at(objects: &[Object], object: ObjectId) -> Place
+    requires { object_number object < length objects.now }
+    ensures { (o : Object) → slice_get objects.now (object_number object) ≡ Some o → result ≡ o.place }
+{
+    objects[object.0 as usize].place
+}
+
 /// The nodes by rank, at equal rank in the order of the walk.
 ///
 /// A node's rank is one more than the greatest rank of a node that drives one of its inputs, and 0 where there is none. `Err(TooManyInputs)` comes
@@ -83,9 +92,7 @@ pub fn nodes_by_rank(
             let sorted = sorted_by_rank(alloc, nodes, &node_ranks)?;
             Ok(sorted)
         }
-        Err(RankFault::Loop(object)) => {
-            Err(NodesFault::Loop(objects[object.0 as usize].place))
-        }
+        Err(RankFault::Loop(object)) => Err(NodesFault::Loop(declared_at(objects, object))),
         Err(RankFault::NoMemory) => Err(NodesFault::NoMemory),
     }
 }
