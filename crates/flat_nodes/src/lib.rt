@@ -8,5 +8,7 @@
 
 mod buckets;
 mod order;
+#[cfg(test)]
+mod tests;
 
 pub use order::{NodesFault, nodes_by_rank, order_is_of_design};
