@@ -83,9 +83,10 @@ over-among nodes from (k ∷ numbers) to h p e =
 
 not-among : (k : ℕ) (numbers : List ℕ) → has numbers k ≡ false → AllByRecursion (λ y. nat_eq k y ≡ false) numbers
 not-among k [] e = tt
-not-among k (x ∷ numbers) e =
-    (ne_eqb k x (λ same. both_ways (has (x ∷ numbers) k) e (or_left (nat_eq x k) (has numbers k) (eq-eqb x k (sym same)))),
-    not-among k numbers (later (has numbers k) refl))
+not-among k (x ∷ numbers) e = (
+  ne_eqb k x (λ same. both_ways (has (x ∷ numbers) k) e (or_left (nat_eq x k) (has numbers k) (eq-eqb x k (sym same)))),
+  not-among k numbers (later (has numbers k) refl),
+)
   where
     later : (b : Bool) → has numbers k ≡ b → has numbers k ≡ false
     later true d = absurd (both_ways (has (x ∷ numbers) k) e (or_right (nat_eq x k) (has numbers k) d))

@@ -91,9 +91,10 @@ AllHold-upwards P start (suc count) each = (each start (omega arith) (omega arit
 
 pub apart-upwards : (R : ℕ → ℕ → Type 0) (start count : ℕ) → ((m n : ℕ) → start ≤ m → m < n → n < start + count → R m n) → AllApart R (up_from start count)
 apart-upwards R start zero each = tt
-apart-upwards R start (suc count) each =
-    (AllHold-upwards (R start) (start + 1) count (λ n low high. each start n (omega arith) (omega (arith, low)) (omega (arith, high))),
-    apart-upwards R (start + 1) count (λ m n low less high. each m n (omega (arith, low)) less (omega (arith, high))))
+apart-upwards R start (suc count) each = (
+  AllHold-upwards (R start) (start + 1) count (λ n low high. each start n (omega arith) (omega (arith, low)) (omega (arith, high))),
+  apart-upwards R (start + 1) count (λ m n low less high. each m n (omega (arith, low)) less (omega (arith, high))),
+)
 
 -- Names
 

@@ -162,9 +162,10 @@ tile-behind from to (piece ∷ pieces) h =
 tile-apart : (from to : ℕ) (pieces : List CutPiece) → Tile from to pieces → AllApart (λ (one other : CutPiece). one.low + one.width ≤ other.low) pieces
 tile-apart from to [] h = tt
 tile-apart from to (piece ∷ pieces) h =
-    let low = h.0 in
-    (AllHold-each (λ (later : CutPiece). from + piece.width ≤ later.low) (λ (later : CutPiece). piece.low + piece.width ≤ later.low) pieces (λ later k. omega (arith, k, low)) (tile-behind (from + piece.width) to pieces h.2),
-    tile-apart (from + piece.width) to pieces h.2)
+    let low = h.0 in (
+      AllHold-each (λ (later : CutPiece). from + piece.width ≤ later.low) (λ (later : CutPiece). piece.low + piece.width ≤ later.low) pieces (λ later k. omega (arith, k, low)) (tile-behind (from + piece.width) to pieces h.2),
+      tile-apart (from + piece.width) to pieces h.2,
+    )
 
 signal-apart : (signals : List Signal) (nodes : List WalkedNode) (signal : Signal) → IsNamedSignal signal → (unjoined : Bool) → AllApart HeldApart (signal_objects signals nodes unjoined signal)
 unfolding piece-spans
