@@ -1,5 +1,5 @@
 -- The gates of a design: no two have one name, and each has no more terminals than can be numbered (IEEE 1364-2001, clause 7.1; that a gate without a name has a number is own).
-use Rattle.std.proofs.Common.{◌≡◌, ℕ, zero, suc, ◌+◌, ◌<◌, ◌≤◌, ◌^◌, Bool, true, false, List, [], ◌∷◌, ◌++◌, map, Option, Some, None, Ok, refl, sym, ap, ◌∙◌, subst, arith}
+use Rattle.std.proofs.Common.{◌≡◌, ℕ, ◌+◌, ◌≤◌, Bool, true, false, List, [], ◌∷◌, ◌++◌, Option, Some, None, Ok, refl, sym, ap, ◌∙◌, arith}
 use Rattle.std.specs.Prelude.{slice_get, sum_by}
 use Rattle.std.proofs.lemmas.List.Sorted.{sum_by-IsPermutation}
 use Rattle.std.proofs.lemmas.List.Sums.{sum_by-cons, sum_by-append}
@@ -10,9 +10,9 @@ use Rattle.v_tree.specs.Trees.{Identifier, SourceModule, same_name}
 use Rattle.v_elab.specs.declared.Mode.{Mode}
 use Rattle.v_elab.specs.Parts.{Signal, WalkedProcess, Part, SignalPart, MemoryPart, AssignPart, GatePart, ProcessPart, InstancePart}
 use Rattle.v_elab.specs.Walk.{walked_from}
-use Rattle.v_elab.specs.Drivers.{signals_of, NodeFunction, AssignFunction, GateFunction, BlockFunction, WalkedNode, Behaviour, IsNode, IsProcess, block_or_process, process_behaviour, part_behaviour, behaviours_of, nodes_of}
+use Rattle.v_elab.specs.Drivers.{signals_of, NodeFunction, AssignFunction, GateFunction, BlockFunction, WalkedNode, Behaviour, IsNode, IsProcess, block_or_process, process_behaviour, part_behaviour, nodes_of}
 use Rattle.v_elab.specs.Objects.{HeldObject}
-use Rattle.v_elab.specs.Flat.{NodeOutput, node_kind, outputs_of, flat_node, walked_nodes}
+use Rattle.v_elab.specs.Flat.{NodeOutput, node_kind, outputs_of, flat_node}
 use Rattle.flat_laws.specs.Hierarchy.{name-same}
 use Rattle.flat_laws.specs.Limits.{nodes-permutation}
 use Rattle.flat_laws.specs.Lists.{two-counted}

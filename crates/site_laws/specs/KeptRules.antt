@@ -1,7 +1,7 @@
 -- Each flat design of a unit whose names are spelled as a text spells them keeps the rules of flat designs (IEEE 1364-2001, clause 4 for expressions, clauses 6, 7 and 9 for nodes and
 -- processes, clause 12 for the hierarchy).
-use Rattle.std.proofs.Common.{◌≡◌, ℕ, ◌<◌, ◌≤◌, [], length, Some, Ok}
-use Rattle.std.specs.Prelude.{IsTrue, slice_get}
+use Rattle.std.proofs.Common.{◌≡◌, ◌<◌, ◌≤◌, [], length, Ok}
+use Rattle.std.specs.Prelude.{IsTrue}
 use Rattle.v_design.specs.Lists.{has, without_repeats, AllHold}
 use Rattle.v_design.specs.CombinationalForm.{WritesOutputs}
 use Rattle.v_design.specs.Designs.{FlatNode, FlatProcess, FlatDesign}

@@ -1,7 +1,6 @@
 -- The bits of the objects of a walk: each has its name and its declared index, and no two are the same (IEEE 1364-2001, clause 3.2 for nets and variables; that a bit has a name is own).
-use Rattle.std.proofs.Common.{◌≡◌, ℕ, ◌+◌, ◌<◌, ◌≤◌, ◌^◌, Bool, true, false, List, [], ◌∷◌, ◌++◌, map, Option, Some, None, refl, sym, ap, ◌∙◌, subst, inl, inr, arith}
+use Rattle.std.proofs.Common.{◌≡◌, ℕ, ◌+◌, ◌<◌, ◌≤◌, ◌^◌, Bool, true, false, List, [], ◌∷◌, ◌++◌, map, Some, refl, sym, ap, ◌∙◌, subst, arith}
 use Rattle.std.specs.Prelude.{slice_get}
-use Rattle.std.proofs.lemmas.Bool.{cases_Bool, cases_lt}
 use Rattle.v_design.specs.Lists.{AllHold}
 use Rattle.v_design.specs.Designs.{FlatObject, FlatDesign}
 use Rattle.v_design.specs.Sites.{index_of_bit, index_text}
@@ -10,11 +9,10 @@ use Rattle.v_design.specs.declared.logic.ObjectKind.TheVariants.{Var, Word, Net}
 use Rattle.v_ports.specs.Pieces.{CutPiece, pieces_of}
 use Rattle.v_names.specs.Scopes.{range_width}
 use Rattle.v_tree.specs.Trees.{Identifier}
-use Rattle.v_elab.specs.Parts.{Signal, WalkedMemory, Part, SignalPart, MemoryPart, AssignPart, GatePart, ProcessPart, InstancePart}
+use Rattle.v_elab.specs.Parts.{Signal, Part, SignalPart, MemoryPart, AssignPart, GatePart, ProcessPart, InstancePart}
 use Rattle.v_elab.specs.Drivers.{signals_of, is_unjoined, WalkedNode, driving_variables, ObjectDrive, object_drives, run_of}
 use Rattle.v_elab.specs.Objects.{HeldObject, index_at, variable_object, piece_object, pieces_or_variable, signal_objects, word_object, word_objects, part_objects, objects_of_parts}
 use Rattle.graph_order.specs.ListLaws.{AllHold-slice_get}
-use Rattle.flat_laws.specs.Lists.{AllHold-from}
 use Rattle.flat_laws.specs.Numbered.{AllHold-each, AllHold-flat_map, AllHold-map, AllHold-all}
 use Rattle.flat_laws.specs.Hierarchy.{part_name}
 use Rattle.flat_laws.specs.Pieces.{Tile, pieces-tile, pieces-within}

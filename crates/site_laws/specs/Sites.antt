@@ -1,9 +1,8 @@
 -- No two sites of a design have one name: a bit's name is that of no other bit, and a terminal's name has digits behind its last `.`, where a bit's has none
 -- (IEEE 1364-2001, clause 2.7 for names; that faults stand at bits and terminals is own).
-use Rattle.std.proofs.Common.{◌≡◌, ℕ, zero, suc, ◌+◌, ◌<◌, ◌≤◌, ◌^◌, Bool, true, false, List, [], ◌∷◌, ◌++◌, length, map, Option, Some, None, refl, sym, ap, ◌∙◌, subst, inl, inr, arith}
+use Rattle.std.proofs.Common.{◌≡◌, ℕ, zero, suc, ◌+◌, ◌<◌, ◌≤◌, ◌^◌, Bool, true, false, List, [], ◌∷◌, ◌++◌, map, Some, refl, sym, ap, ◌∙◌, subst, inl, inr, arith}
 use Rattle.std.specs.Prelude.{◌≢◌, IsTrue, decimal, filter, get_or, slice_get}
 use Rattle.std.proofs.lemmas.Bool.{cases_Bool, cases_lt, cond-true, cond-false}
-use Rattle.std.proofs.lemmas.Option.{get_or_from_slice_get}
 use Rattle.v_design.specs.Lists.{has, joined, map_numbered, AllHold}
 use Rattle.v_design.specs.Expressions.{up_from}
 use Rattle.v_design.specs.Designs.{FlatObject, FlatNode, FlatDesign, width_in, FaultSite, VariableBit, OutputBit, GateTerminal}
