@@ -1,6 +1,6 @@
 -- Rules that each flat design keeps: its limits, the order of its nodes and what drives its objects, and its levels; and what is asked of a walk for the sizes
 -- (IEEE 1364-2001, clauses 6, 7 and 9 for nodes and processes, clause 12 for the hierarchy).
-use Rattle.std.proofs.Common.{◌≡◌, ℕ, ◌<◌, ◌≤◌, false, List, [], length, Some, Ok, sym, ap, subst}
+use Rattle.std.proofs.Common.{◌≡◌, ℕ, ◌<◌, ◌≤◌, false, List, [], length, Some, Ok, sym, subst}
 use Rattle.std.specs.Prelude.{IsTrue, slice_get}
 use Rattle.v_design.specs.Lists.{has, without_repeats, AllHold}
 use Rattle.v_design.specs.Designs.{FlatNode, FlatProcess, FlatDesign}
