@@ -1,7 +1,7 @@
 -- The nodes of a design in their order, or why they make no design (continuous assignments, gates and blocks of IEEE 1364-2001, clause 6, clause 7 and clause 9; that nodes are acyclic, and
 -- that a node has few inputs, is own).
-use Rattle.std.specs.Prelude.{ℕ, List, map, length, Option, Some, None, Result, Ok, slice_get}
-use Rattle.v_design.specs.Designs.{FlatObject, FlatNode, FlatDesign}
+use Rattle.std.specs.Prelude.{ℕ, List, length, Option, Some, None, Result, Ok, slice_get}
+use Rattle.v_design.specs.Designs.{FlatObject, FlatNode}
 use Rattle.v_elab.specs.Refusals.{Refusal, LoopAt, then_go, unless_refused}
 use Rattle.v_elab.specs.Ranks.{least_loop, by_rank}
 use Rattle.v_elab.specs.Flat.{some_inputs_over}

@@ -1,12 +1,11 @@
 -- The order of the nodes is that of the flat design, and what is refused is what the flat design refuses (own: the nodes of a design are acyclic and have few inputs).
-use Rattle.std.proofs.Common.{◌≡◌, ℕ, zero, suc, ◌+◌, ◌<◌, ◌≤◌, Bool, true, false, List, [], ◌∷◌, ◌++◌, length, map, Option, Some, None, Result, Ok, Err, refl, sym, ap, ap₂, ◌∙◌, subst, inl, inr, arith}
-use Rattle.std.specs.Prelude.{slice_get, get_or, nat_lt}
+use Rattle.std.proofs.Common.{◌≡◌, ℕ, zero, suc, ◌+◌, ◌<◌, ◌≤◌, List, [], ◌∷◌, ◌++◌, length, map, Option, Some, None, Ok, Err, refl, sym, ap, ◌∙◌, inl, inr}
+use Rattle.std.specs.Prelude.{slice_get}
 use Rattle.std.proofs.lemmas.Bool.{cases_lt, lt-ltb, le-ltb}
 use Rattle.std.proofs.lemmas.List.{length-map}
 use Rattle.v_design.specs.Lists.{AllHold}
 use Rattle.v_design.specs.Designs.{FlatObject, FlatNode, FlatDesign}
 use Rattle.v_design.specs.WellFormed.{most_inputs}
-use Rattle.v_elab.specs.declared.What.{What}
 use Rattle.v_elab.specs.declared.What.TheVariants.{Inputs}
 use Rattle.v_elab.specs.Refusals.{Refusal, TooMany, LoopAt, then_go, unless_refused}
 use Rattle.v_elab.specs.Parts.{Part, WalkedProcess, refusal_or, too_many_if, over_limit}
@@ -15,10 +14,8 @@ use Rattle.v_elab.specs.Drivers.{signals_of}
 use Rattle.v_elab.specs.Objects.{HeldObject, names_joined}
 use Rattle.v_elab.specs.Flat.{flat_process, loop_of_object, loop_at, loop_in, inputs_over, some_inputs_over, design_with, over_nodes}
 use Rattle.flat_laws.specs.Lists.{same_some}
-use Rattle.flat_laws.specs.Ranks.{AreAcyclic, rank-below}
-use Rattle.graph_order.specs.ListLaws.{AllHold-slice_get}
+use Rattle.flat_laws.specs.Ranks.{rank-below}
 use Rattle.net_graph.specs.Loops.{IsLooping, IsLeastLooping, AreAmong}
-use Rattle.net_graph.specs.WiringLaws.{looping_among}
 use Rattle.flat_nodes.specs.NodeOrder.{loop_of, loop_of_number, loop_among, ordered_nodes}
 use Rattle.flat_nodes.specs.LoopLaws.{least-found, none-found}
 

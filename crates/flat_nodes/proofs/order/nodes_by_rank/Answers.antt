@@ -1,10 +1,8 @@
-use Rattle.std.proofs.Common.{◌≡◌, ◌<◌, ◌∙◌, ap, sym, subst, map, length, Ok, Err, arith}
-use Rattle.std.specs.Prelude.{None, Some, slice_get}
+use Rattle.std.proofs.Common.{◌≡◌, ◌∙◌, ap, sym, subst, map, length, Ok, Err, arith}
 use Rattle.vf_base.specs.Base.{object_number, source_place}
 use Rattle.vf_base.specs.declared.ids.Place.{Place}
 use Rattle.v_design.specs.Plain.{node_of, object_of}
 use Rattle.v_elab.specs.Refusals.{LoopAt}
-use Rattle.v_elab.specs.Flat.{some_inputs_over}
 use Rattle.net_graph.specs.Loops.{IsLooping, IsLeastLooping}
 use Rattle.net_graph.specs.WiringLaws.{looping_among}
 use Rattle.flat_nodes.specs.OrderLaws.{ordered, looped}
