@@ -1,27 +1,20 @@
 -- What the assignments of a walk are read from: each value has a bit for each place of its drives, and their places ascend (IEEE 1364-2001, clause 6.1 for assignments, clause 12.3 for ports).
-use Rattle.std.proofs.Common.{◌≡◌, ℕ, zero, suc, ◌+◌, ◌≤◌, max, Bool, true, false, ◌&&◌, List, [], ◌∷◌, ◌++◌, length, map, nat_le, Option, Some, None, Ok, option_map, refl, sym, ap, ap₂, ◌∙◌, subst, inl, inr, arith}
-use Rattle.std.specs.Prelude.{slice_get, filter, flat_map, nat_lt}
-use Rattle.std.proofs.lemmas.Bool.{cases_Bool, ltb-false}
-use Rattle.std.proofs.lemmas.Bool.Decides.{leb_tells}
+use Rattle.std.proofs.Common.{◌≡◌, ℕ, zero, suc, ◌+◌, ◌≤◌, max, Bool, true, false, ◌&&◌, List, [], ◌∷◌, ◌++◌, length, map, nat_le, Option, Some, None, refl, sym, ap, ap₂, ◌∙◌, arith}
+use Rattle.std.specs.Prelude.{flat_map}
 use Rattle.std.proofs.lemmas.List.{length-map}
 use Rattle.vf_base.specs.Base.{SourcePlace}
-use Rattle.four_value.specs.declared.operator.GateKind.{GateKind}
 use Rattle.v_design.specs.Lists.{AllHold}
 use Rattle.v_design.specs.Sized.{span, most_bits}
 use Rattle.v_design.specs.Expressions.{up_from, place_of, place_of_number, part_indexes}
-use Rattle.v_tree.specs.declared.item.Direction.{Direction}
-use Rattle.v_tree.specs.declared.item.Direction.TheVariants.{Input, Output}
-use Rattle.v_tree.specs.Trees.{Identifier, SourceExpression, Selected, SourceIndex, NoIndex, IndexAt, IndexRange, SourceSelect, SourceTarget, OneSelect, JoinedSelects, selects_of, SourceWire, SourceAssignment, SourceGate, SourceConnection, SourceInstance, SourceItem, ParameterItem, PortItem, WireItem, RegItem, IntegerItem, AssignItem, GateItem, InstanceItem, InitialItem, AlwaysItem, SourceModule, place_of_expression, same_name}
-use Rattle.v_names.specs.Faults.{Fault, same_place}
-use Rattle.v_names.specs.Scopes.{DeclaredRange, ScopeEntry, ParameterEntry, RefusedParameter, WaitingParameter, NetEntry, RegEntry, MemoryEntry, GateEntry, InstanceEntry, Scope, looked_up, range_width, declared_width, is_vector}
-use Rattle.v_names.specs.SizedTrees.{SizedExpression}
-use Rattle.v_names.specs.Readings.{Size, Reading, alone_faults, tree_in, sized_if, sized_reading, name_reading, bit_reading, indexed_reading, runs_alike, part_if, part_reading, ranged_reading, reading_of, select_reading, number_of_constant, number_or}
-use Rattle.v_names.specs.Constants.{IndexOrCount, BoundUpTo, most_bound, value_faults, known_faults, constant_name_faults, constant_faults, name_faults, index_faults, fixed_index_faults, fixed_select_faults}
+use Rattle.v_tree.specs.Trees.{Identifier, SourceIndex, NoIndex, IndexAt, IndexRange, SourceSelect, SourceTarget, OneSelect, JoinedSelects, selects_of}
+use Rattle.v_names.specs.Faults.{Fault}
+use Rattle.v_names.specs.Scopes.{DeclaredRange, ScopeEntry, ParameterEntry, RefusedParameter, WaitingParameter, NetEntry, RegEntry, MemoryEntry, GateEntry, InstanceEntry, Scope, looked_up, range_width}
+use Rattle.v_names.specs.Readings.{Size, Reading, alone_faults, name_reading, bit_reading, indexed_reading, runs_alike, part_if, part_reading, ranged_reading, reading_of, select_reading, number_of_constant, number_or}
+use Rattle.v_names.specs.Constants.{IndexOrCount, value_faults, known_faults, constant_name_faults, index_faults, fixed_index_faults, fixed_select_faults}
 use Rattle.v_width.specs.Targets.{ByNode, may_write, written_reading, target_select_reading, TargetReading, width_of_size, sum_of_widths, selects_reading, within_most, target_reading, target_width_in, range_of_entry, whole_places, places_between, places_of_select}
-use Rattle.v_elab.specs.Parts.{Drive, ValueIn, Part, AssignPart}
+use Rattle.v_elab.specs.Parts.{Drive}
 use Rattle.v_elab.specs.Drivers.{drives_width}
 use Rattle.v_elab.specs.Connections.{drives_of}
-use Rattle.flat_laws.specs.Hierarchy.{both-true}
 use Rattle.flat_laws.specs.Complete.{append-none, IsSettled, constant-names, select-full}
 use Rattle.flat_laws.specs.Sized.{sized_if-holds, within-room, part-long}
 use Rattle.flat_laws.specs.Statements.{within-few}

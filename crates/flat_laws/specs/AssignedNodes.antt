@@ -14,7 +14,7 @@ use Rattle.v_names.specs.SizedTrees.{SizedExpression, over_objects}
 use Rattle.v_names.specs.Readings.{Size, size_or_bit, tree_in, reading_of}
 use Rattle.v_names.specs.SizedLaws.{IsSizedTo}
 use Rattle.v_elab.specs.declared.Mode.{Mode}
-use Rattle.v_elab.specs.Parts.{Signal, Drive, ValueIn, WalkedProcess, Part, SignalPart, MemoryPart, AssignPart, GatePart, ProcessPart, InstancePart}
+use Rattle.v_elab.specs.Parts.{Signal, Drive, WalkedProcess, Part, SignalPart, MemoryPart, AssignPart, GatePart, ProcessPart, InstancePart}
 use Rattle.v_elab.specs.Walk.{walked_from}
 use Rattle.v_elab.specs.Drivers.{signals_of, NodeFunction, AssignFunction, GateFunction, BlockFunction, WalkedNode, drives_width, Behaviour, IsNode, IsProcess, block_or_process, process_behaviour, part_behaviour, behaviours_of, nodes_of}
 use Rattle.v_elab.specs.Objects.{PieceDriver, HeldObject, holders_at}
@@ -30,7 +30,7 @@ use Rattle.flat_laws.specs.Entries.{Ascend}
 use Rattle.flat_laws.specs.Meant.{process-meant}
 use Rattle.flat_laws.specs.Placed.{scope-at}
 use Rattle.flat_laws.specs.Settled.{walk-settled}
-use Rattle.flat_laws.specs.Places.{HasPlaces, DriverFits, drivers-fit}
+use Rattle.flat_laws.specs.Places.{DriverFits, drivers-fit}
 use Rattle.flat_laws.specs.AssignedParts.{IsReadAssign, IsReadAssignment, assignments-read}
 
 -- an assignment's value is sized, and each object that it writes has its bits in the value

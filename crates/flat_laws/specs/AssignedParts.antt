@@ -1,6 +1,6 @@
 -- The assignments of a walk: continuous ones and those of ports that aren't joined (IEEE 1364-2001, clause 6.1 for assignments, clause 12.3 for ports).
-use Rattle.std.proofs.Common.{◌≡◌, ℕ, zero, suc, ◌+◌, ◌≤◌, max, Bool, true, false, ◌&&◌, List, [], ◌∷◌, ◌++◌, length, map, nat_le, Option, Some, None, Result, Ok, option_map, refl, sym, ap, ◌∙◌, subst, inl, inr, arith}
-use Rattle.std.specs.Prelude.{slice_get, filter, flat_map, nat_lt}
+use Rattle.std.proofs.Common.{◌≡◌, ℕ, ◌+◌, ◌≤◌, max, Bool, true, false, ◌&&◌, List, [], ◌∷◌, ◌++◌, map, nat_le, Option, Some, None, Ok, option_map, refl, sym, ap, ◌∙◌, inl, inr, arith}
+use Rattle.std.specs.Prelude.{filter, flat_map, nat_lt}
 use Rattle.std.proofs.lemmas.Bool.{cases_Bool, cond-true, cond-false}
 use Rattle.std.proofs.lemmas.Bool.Decides.{leb_tells}
 use Rattle.vf_base.specs.Base.{SourcePlace}
@@ -10,27 +10,26 @@ use Rattle.v_design.specs.Sized.{most_bits}
 use Rattle.v_tree.specs.declared.item.Direction.{Direction}
 use Rattle.v_tree.specs.declared.item.Direction.TheVariants.{Input, Output}
 use Rattle.v_tree.specs.Trees.{Identifier, SourceExpression, Selected, NoIndex, SourceTarget, OneSelect, SourceWire, SourceAssignment, SourceGate, SourceConnection, SourceInstance, SourceItem, ParameterItem, PortItem, WireItem, RegItem, IntegerItem, AssignItem, GateItem, InstanceItem, InitialItem, AlwaysItem, SourceModule, place_of_expression, same_name}
-use Rattle.v_names.specs.Faults.{Fault, TooDeep, fault_at, fault_if, same_place}
+use Rattle.v_names.specs.Faults.{TooDeep, fault_at, fault_if, same_place}
 use Rattle.v_names.specs.Scopes.{ScopeEntry, ParameterEntry, RefusedParameter, WaitingParameter, NetEntry, RegEntry, MemoryEntry, GateEntry, InstanceEntry, Scope, looked_up, range_width, declared_width, is_vector}
 use Rattle.v_names.specs.SizedTrees.{SizedExpression}
-use Rattle.v_names.specs.Readings.{Reading, alone_faults, group_faults, tree_in, sized_if, sized_reading, name_reading, reading_of, number_or}
-use Rattle.v_names.specs.Constants.{known_faults, name_faults, fixed_select_faults, constant_faults, ParameterValue, optional_faults}
-use Rattle.v_names.specs.Names.{Declared, DeclaredParameter, DeclaredPort, DeclaredNet, DeclaredReg, DeclaredMemory, DeclaredGate, DeclaredInstance, Declaration, names_declared, of_name, item_declarations, GivenParameter, meaning_of, scope_of, fixed_target_faults, actual_faults, item_name_faults, module_name_faults, names, bounds_of}
-use Rattle.v_width.specs.Targets.{ByNode, may_write, target_reading, target_alone_faults, target_width_in, target_of, whole_places}
+use Rattle.v_names.specs.Readings.{tree_in, sized_if, sized_reading, name_reading, reading_of}
+use Rattle.v_names.specs.Constants.{known_faults, name_faults, constant_faults, ParameterValue, optional_faults}
+use Rattle.v_names.specs.Names.{Declared, DeclaredParameter, DeclaredPort, DeclaredNet, DeclaredReg, DeclaredMemory, DeclaredGate, DeclaredInstance, Declaration, names_declared, of_name, item_declarations, GivenParameter, meaning_of, scope_of, fixed_target_faults, actual_faults, item_name_faults, module_name_faults, names}
+use Rattle.v_width.specs.Targets.{ByNode, target_reading, target_alone_faults, target_width_in, target_of}
 use Rattle.v_elab.specs.declared.Mode.{Mode}
 use Rattle.v_elab.specs.Refusals.{as_refusal}
-use Rattle.v_elab.specs.ItemFaults.{size_faults, assigned_faults, wire_select, wire_faults, declared_range_faults, item_faults}
+use Rattle.v_elab.specs.ItemFaults.{assigned_faults, wire_select, wire_faults, declared_range_faults, item_faults}
 use Rattle.v_elab.specs.Parts.{Drive, ValueIn, Part, AssignPart}
 use Rattle.v_elab.specs.Drivers.{drives_width}
-use Rattle.v_elab.specs.Connections.{most_depth, Child, Paths, direction_of_first, port_direction, port_width, joined_name, output_actual_faults, actual_faults_by, port_faults, is_named, connections_faults, instance_faults, name_before, drives_of, actual_parts, output_parts, connection_parts, connections_parts, connected_name, head_names, missing_fault}
+use Rattle.v_elab.specs.Connections.{most_depth, Child, Paths, direction_of_first, port_direction, port_width, joined_name, output_actual_faults, actual_faults_by, port_faults, is_named, connections_faults, instance_faults, name_before, actual_parts, output_parts, connection_parts, connections_parts, connected_name, head_names}
 use Rattle.v_elab.specs.Walk.{Entered, Here, part_by_entry, parts_of_own, declared_parts, assign_part, wire_parts, gate_parts, item_parts, child_of, paths_of, entered, walked_module, walked, walked_from}
-use Rattle.graph_order.specs.ListLaws.{AllHold-slice_get}
 use Rattle.flat_laws.specs.Made.{then_go-ok}
-use Rattle.flat_laws.specs.Numbered.{AllHold-append, AllHold-flat_map, AllHold-map, AllHold-all}
+use Rattle.flat_laws.specs.Numbered.{AllHold-append, AllHold-flat_map, AllHold-all}
 use Rattle.flat_laws.specs.Hierarchy.{both-true}
 use Rattle.flat_laws.specs.Complete.{append-none, group-none, IsSettled, expression-full, expression-complete}
 use Rattle.flat_laws.specs.Processes.{unless_faulty-ok, items-named}
-use Rattle.flat_laws.specs.Walks.{IsOf, IsHere, IsInstance, flat-none, as_refusal-ok, walk-holds}
+use Rattle.flat_laws.specs.Walks.{IsHere, IsInstance, flat-none, as_refusal-ok, walk-holds}
 use Rattle.flat_laws.specs.Visits.{IsVisited, IsAt, at_top, below}
 use Rattle.flat_laws.specs.Visited.{visited-walked}
 use Rattle.flat_laws.specs.Entries.{Ascend, whole-ascends}

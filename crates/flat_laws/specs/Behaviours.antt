@@ -3,13 +3,13 @@ use Rattle.std.proofs.Common.{◌≡◌, ℕ, zero, suc, ◌+◌, Bool, true, fa
 use Rattle.std.specs.Prelude.{◌||◌, not, nat_eq, slice_get, filter, flat_map}
 use Rattle.std.specs.List.{list_all, list_any}
 use Rattle.std.proofs.lemmas.Bool.{cases_Bool, or_cases, or_left, or_right, eqb-true, cond-true, cond-false}
-use Rattle.v_design.specs.Lists.{map_numbered, joined, AllHold}
+use Rattle.v_design.specs.Lists.{map_numbered, joined}
 use Rattle.v_tree.specs.Trees.{Identifier, NamedPlace, same_name, has_name}
 use Rattle.v_names.specs.Scopes.{looked_up, is_reg}
 use Rattle.v_names.specs.SizedLaws.{and-left, and-right}
 use Rattle.v_comb.specs.CombinationalForm.{assigned_names}
 use Rattle.v_elab.specs.Parts.{Signal, Drive, WalkedProcess, Part, SignalPart, MemoryPart, AssignPart, GatePart, ProcessPart, InstancePart}
-use Rattle.v_elab.specs.Drivers.{signals_of, outermost, target_signals, variables_assigned, drives_some, drive_signals, signals_written, writes_object, other_writes, port_writes, is_own_target, reads_by_other_name, NodeFunction, AssignFunction, GateFunction, BlockFunction, WalkedNode, Behaviour, IsNode, IsProcess, block_drive, block_or_process, process_behaviour, part_behaviour, behaviours_of, nodes_of, processes_of, block_signals, is_driving}
+use Rattle.v_elab.specs.Drivers.{signals_of, outermost, target_signals, variables_assigned, drives_some, drive_signals, writes_object, other_writes, port_writes, is_own_target, reads_by_other_name, NodeFunction, AssignFunction, GateFunction, BlockFunction, WalkedNode, Behaviour, IsNode, IsProcess, block_drive, block_or_process, process_behaviour, part_behaviour, behaviours_of, nodes_of, processes_of, block_signals, is_driving}
 use Rattle.flat_laws.specs.Made.{nodes_in, processes_in}
 use Rattle.flat_laws.specs.Lists.{same_some, at-append, filter-at}
 use Rattle.flat_laws.specs.Hierarchy.{equal-name, name-same, both-true}

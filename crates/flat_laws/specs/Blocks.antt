@@ -1,32 +1,30 @@
 -- Each target of a block that is a node is held by one object, which the block writes, and it writes no other (IEEE 1364-2001, clause 9.2; that a block is a node is own).
-use Rattle.std.proofs.Common.{◌≡◌, ℕ, zero, suc, ◌+◌, ◌-◌, ◌<◌, ◌≤◌, Bool, true, false, ◌&&◌, List, [], ◌∷◌, ◌++◌, map, Option, Some, None, refl, sym, ap, ◌∙◌, subst, inl, inr, ◌⊎◌, arith}
+use Rattle.std.proofs.Common.{◌≡◌, ℕ, zero, suc, ◌+◌, ◌-◌, ◌<◌, Bool, true, false, List, [], ◌∷◌, ◌++◌, map, Option, Some, None, refl, sym, ap, ◌∙◌, subst, inl, inr, arith}
 use Rattle.std.specs.Prelude.{◌||◌, nat_eq, slice_get, filter, option_and_then}
-use Rattle.std.proofs.lemmas.Bool.{cases_Bool, or_cases, or_left, or_right, eq-eqb, eqb-true}
+use Rattle.std.proofs.lemmas.Bool.{or_cases, or_left, or_right, eq-eqb, eqb-true}
 use Rattle.std.proofs.lemmas.List.{map-append}
-use Rattle.v_design.specs.Lists.{has, map_numbered, joined, first_place}
+use Rattle.v_design.specs.Lists.{has, map_numbered, joined}
 use Rattle.v_design.specs.Trees.{Piece}
 use Rattle.v_design.specs.Sized.{span}
 use Rattle.v_design.specs.Expressions.{up_from, piece_objects}
-use Rattle.v_tree.specs.Trees.{Identifier, same_name, has_name}
+use Rattle.v_tree.specs.Trees.{Identifier, same_name}
 use Rattle.v_names.specs.Scopes.{range_width}
 use Rattle.v_width.specs.Targets.{whole_places}
-use Rattle.v_ports.specs.Pieces.{DrivenRun, SecondDriver, second_driver, driver_of_bit, CutPiece, pieces_of}
-use Rattle.v_elab.specs.Refusals.{Refusal}
-use Rattle.v_elab.specs.Parts.{Signal, WalkedMemory, Drive, WalkedProcess, Part, SignalPart, MemoryPart, AssignPart, GatePart, ProcessPart, InstancePart, refusal_or}
+use Rattle.v_ports.specs.Pieces.{DrivenRun, SecondDriver, second_driver, CutPiece, pieces_of}
+use Rattle.v_elab.specs.Parts.{Signal, Drive, WalkedProcess, Part, SignalPart, MemoryPart, AssignPart, GatePart, ProcessPart, InstancePart}
 use Rattle.v_elab.specs.Connections.{most_depth}
-use Rattle.v_elab.specs.Drivers.{signals_of, signal_named, joined_into, up_or, outermost_within, outermost, is_unjoined, target_signals, NodeFunction, BlockFunction, WalkedNode, signal_width, block_drive, driving_variables, ObjectDrive, drive_if, drives_width, node_drives, drives_from, object_drives, run_of, taken_bits, bits_within, refusal_of, second_variable, signal_two_drivers, first_two_drivers, two_drivers}
-use Rattle.v_elab.specs.Objects.{PieceDriver, HeldObject, variable_object, is_bit, value_place, piece_driver, drive_numbered, piece_object, pieces_or_variable, signal_objects, word_object, word_objects, part_objects, objects_of_parts, piece_if, pieces_held}
+use Rattle.v_elab.specs.Drivers.{signals_of, signal_named, joined_into, up_or, outermost_within, outermost, is_unjoined, WalkedNode, signal_width, block_drive, driving_variables, ObjectDrive, drive_if, drives_width, node_drives, drives_from, object_drives, run_of, taken_bits, bits_within, refusal_of, second_variable, signal_two_drivers, first_two_drivers, two_drivers}
+use Rattle.v_elab.specs.Objects.{PieceDriver, HeldObject, variable_object, value_place, piece_driver, drive_numbered, piece_object, pieces_or_variable, signal_objects, word_object, part_objects, piece_if, pieces_held}
 use Rattle.v_elab.specs.Flat.{NodeOutput, output_if, output_of_object, outputs_of}
-use Rattle.graph_order.specs.ListLaws.{AllHold-slice_get, has-append}
+use Rattle.graph_order.specs.ListLaws.{has-append}
 use Rattle.flat_laws.specs.Made.{refusal_or-none, nodes_in, objects_in}
 use Rattle.flat_laws.specs.Lists.{same_some, at-append, filter-at}
-use Rattle.flat_laws.specs.Numbered.{has-up_from}
-use Rattle.flat_laws.specs.Drivers.{objects_of_outputs, outputs_from, IsWrittenBy, written-from}
-use Rattle.flat_laws.specs.Hierarchy.{equal-name, name-same, both-true, part_name, IsHierarchy, signal-part, named-at, signal-found, outermost-is}
+use Rattle.flat_laws.specs.Drivers.{objects_of_outputs, outputs_from, written-from}
+use Rattle.flat_laws.specs.Hierarchy.{equal-name, name-same, IsHierarchy, signal-part, named-at, signal-found, outermost-is}
 use Rattle.flat_laws.specs.Held.{unjoined-is, part-in-signals}
 use Rattle.flat_laws.specs.Named.{has-all, at-flat_map}
-use Rattle.flat_laws.specs.Behaviours.{name-there, there-name, at-map, map-at, IsBlockPart, block-part}
-use Rattle.flat_laws.specs.Variables.{IsOneObject, piece-at, one-held}
+use Rattle.flat_laws.specs.Behaviours.{at-map, map-at, IsBlockPart}
+use Rattle.flat_laws.specs.Variables.{IsOneObject, one-held}
 use Rattle.flat_laws.specs.Runs.{taken-apart, driver-is, one-piece, bits-whole}
 
 -- Drives of an object

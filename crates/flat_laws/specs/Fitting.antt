@@ -12,9 +12,8 @@ use Rattle.v_design.specs.WellFormed.{has_width}
 use Rattle.v_tree.specs.Trees.{Identifier, SourceExpression, SourceIndex, NoIndex, IndexAt, IndexRange, SourceExpressions, no_parts, more_parts, SourceSelect, SourceTarget, OneSelect, JoinedSelects, selects_of, NamedPlace, SourceStatement, NullStatement, BlockStatement, IfStatement, IfElseStatement, CaseStatement, ForStatement, WhileStatement, RepeatStatement, ForeverStatement, WaitStatement, EventStatement, DelayStatement, BlockingStatement, NonblockingStatement, IgnoredTask, FinishTask, SourceStatements, no_source_statements, more_source_statements, SourceCaseItems, no_source_items, labelled, otherwise}
 use Rattle.v_names.specs.Faults.{Fault, BadWidth, fault_at}
 use Rattle.v_names.specs.Scopes.{ScopeEntry, ParameterEntry, RefusedParameter, WaitingParameter, NetEntry, RegEntry, MemoryEntry, GateEntry, InstanceEntry, looked_up, is_memory, is_reg}
-use Rattle.v_names.specs.Readings.{Reading, Size, alone_faults, name_reading, indexed_reading, ranged_reading, reading_of, select_reading, number_of_constant, tree_at, tree_alone, tree_in}
+use Rattle.v_names.specs.Readings.{Size, alone_faults, name_reading, ranged_reading, reading_of, select_reading, number_of_constant, tree_at, tree_alone, tree_in}
 use Rattle.v_names.specs.SizedTrees.{over_objects}
-use Rattle.v_names.specs.SizedLaws.{and-left}
 use Rattle.v_names.specs.Constants.{known_faults, name_faults, part_faults, index_faults, select_faults, constant_faults, optional_faults, DelayValue}
 use Rattle.v_names.specs.Names.{entry_faults, target_faults, statement_name_faults, statements_name_faults, case_name_faults}
 use Rattle.v_width.specs.Targets.{ByProcess, may_write, written_reading, target_select_reading, TargetReading, selects_reading, within_most, target_reading, target_width_in}

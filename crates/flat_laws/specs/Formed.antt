@@ -1,30 +1,30 @@
 -- What a block that is a node names is there, and its inputs are what it reads (IEEE 1364-2001, clause 9.7.5; that a block is a node is own).
-use Rattle.std.proofs.Common.{◌≡◌, ℕ, ◌+◌, ◌<◌, Bool, true, false, List, [], ◌∷◌, ◌++◌, length, map, Option, Some, None, Ok, refl, sym, ap, ◌∙◌, subst, inl, inr, arith}
+use Rattle.std.proofs.Common.{◌≡◌, ℕ, ◌<◌, Bool, true, false, List, [], ◌∷◌, ◌++◌, length, map, Option, Some, None, Ok, refl, sym, ap, ◌∙◌, subst, inl, inr}
 use Rattle.std.specs.Prelude.{◌||◌, ◌&&◌, not, IsTrue, slice_get, filter, option_and_then}
 use Rattle.std.specs.List.{list_all, list_any}
-use Rattle.std.proofs.lemmas.Bool.{cases_Bool, or_cases, or_left, or_right}
+use Rattle.std.proofs.lemmas.Bool.{cases_Bool, or_left, or_right}
 use Rattle.vf_base.specs.Base.{SourcePlace}
 use Rattle.v_design.specs.Lists.{has, AllHold}
 use Rattle.v_design.specs.Trees.{Piece, Expression, Expressions, Target, WholeTarget, BitTarget, PartTarget, WordTarget, Statement, Null, Block, If, Case, For, While, Repeat, Forever, Delay, EventControl, Wait, Blocking, Nonblocking, Finish, Statements, no_statements, more_statements, CaseItems, no_items, more_items}
 use Rattle.v_design.specs.Expressions.{memory_pieces, pieces_read, parts_read, piece_objects, objects_of, parts_objects}
-use Rattle.v_design.specs.Designs.{BlockNode, FlatNode, FlatDesign}
+use Rattle.v_design.specs.Designs.{BlockNode, FlatDesign}
 use Rattle.v_design.specs.Reads.{index_objects, indexes_objects, read_objects, all_read, items_read, node_reads, variable_piece, named_in, named_in_parts, named_in_target, named_in_targets, named_by, named_by_all, named_by_items}
 use Rattle.v_design.specs.WellFormed.{has_width, have_widths}
 use Rattle.v_tree.specs.Trees.{Identifier, NamedPlace, same_name, has_name, SourceWaits, SourceStatement, NullStatement, BlockStatement, IfStatement, IfElseStatement, CaseStatement, ForStatement, WhileStatement, RepeatStatement, ForeverStatement, WaitStatement, EventStatement, DelayStatement, BlockingStatement, NonblockingStatement, IgnoredTask, FinishTask, SourceModule}
 use Rattle.v_names.specs.Scopes.{Scope, looked_up, is_memory, is_reg}
 use Rattle.v_names.specs.Names.{entry_faults, statement_name_faults}
 use Rattle.v_names.specs.SizedLaws.{and-left, and-right}
-use Rattle.v_comb.specs.CombinationalForm.{BlockWaits, BlockForm, NetForm, ProcessForm, fresh_name, each_once, assigned_names, names_read, assigned_after, waits_for, all_assigned, form_if, block_form}
+use Rattle.v_comb.specs.CombinationalForm.{NetForm, fresh_name, each_once, assigned_names, names_read, assigned_after, waits_for, all_assigned, form_if, block_form}
 use Rattle.v_elab.specs.declared.Mode.{Mode}
 use Rattle.v_elab.specs.Blocks.{block_waits, net_targets, block_targets}
 use Rattle.v_elab.specs.ItemFaults.{waits_faults, statement_faults}
-use Rattle.v_elab.specs.Parts.{WalkedProcess, Part, ProcessPart}
+use Rattle.v_elab.specs.Parts.{WalkedProcess, Part}
 use Rattle.v_elab.specs.Walk.{walked_from}
-use Rattle.v_elab.specs.Drivers.{signals_of, outermost, BlockFunction, WalkedNode, two_drivers}
+use Rattle.v_elab.specs.Drivers.{signals_of, outermost, WalkedNode, two_drivers}
 use Rattle.v_elab.specs.Objects.{vector_of_name}
 use Rattle.v_elab.specs.Statements.{statement_over, block_body}
-use Rattle.v_elab.specs.Flat.{meaning_in, outputs_of, inputs_of}
-use Rattle.graph_order.specs.ListLaws.{AllHold-slice_get, AllHold-has}
+use Rattle.v_elab.specs.Flat.{meaning_in, outputs_of}
+use Rattle.graph_order.specs.ListLaws.{AllHold-has}
 use Rattle.flat_laws.specs.Made.{nodes_in, objects_in, IsMadeOf}
 use Rattle.flat_laws.specs.Lists.{AllHold-from}
 use Rattle.flat_laws.specs.Numbered.{AllHold-append, AllHold-filter}

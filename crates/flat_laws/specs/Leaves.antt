@@ -1,5 +1,5 @@
 -- The tree of an expression has no other names than the expression (IEEE 1364-2001, clause 4.2).
-use Rattle.std.proofs.Common.{◌≡◌, ℕ, ◌*◌, Bool, true, false, ◌&&◌, List, [], ◌∷◌, ◌++◌, length, Option, Some, None, nat_le, refl}
+use Rattle.std.proofs.Common.{◌≡◌, ℕ, ◌*◌, Bool, true, false, ◌&&◌, List, [], ◌++◌, length, Option, Some, None, nat_le, refl}
 use Rattle.std.specs.List.{list_all}
 use Rattle.vf_base.specs.Base.{SourcePlace}
 use Rattle.v_design.specs.Lists.{AllHold}

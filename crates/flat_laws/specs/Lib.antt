@@ -58,4 +58,5 @@ pub mod Leaves
 pub mod Forms
 pub mod BlockWrites
 pub mod Writes
+pub mod SizedDesigns
 pub mod NamedUnits

@@ -1,6 +1,6 @@
 -- In a unit whose names are spelled as a text spells them, each walk is consistent, so its flat design is sized and writes what it may (IEEE 1364-2001, clause 12.4 for
 -- hierarchical names; that each declaration has a place of its own is a fact of texts).
-use Rattle.std.specs.Prelude.{◌≡◌, List, Result, Ok}
+use Rattle.std.specs.Prelude.{◌≡◌, List, Ok}
 use Rattle.v_design.specs.Designs.{FlatDesign}
 use Rattle.v_tree.specs.Trees.{Identifier, SourceModule, SourceUnit}
 use Rattle.v_elab.specs.declared.Mode.{Mode}
@@ -10,7 +10,8 @@ use Rattle.flat_laws.specs.OnceDeclared.{IsNamedUnit}
 use Rattle.flat_laws.specs.Consistent.{bounded-consistent}
 use Rattle.flat_laws.specs.Widths.{walk-widths}
 use Rattle.flat_laws.specs.Settled.{walk-settled}
-use Rattle.flat_laws.specs.Rules.{HasSizes, WalksAreConsistent, consistent-sized}
+use Rattle.flat_laws.specs.Rules.{WalksAreConsistent}
+use Rattle.flat_laws.specs.SizedDesigns.{HasSizes, consistent-sized}
 use Rattle.flat_laws.specs.Writes.{IsWritten, consistent-written}
 
 -- the walks of such a unit are consistent

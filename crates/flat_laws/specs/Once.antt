@@ -456,12 +456,16 @@ walked-adds modules unit mode (suc levels) = λ instance in_unit parts result e 
 label-counted : (part : Part) (name : Identifier) → label part ≡ Some name → 1 ≤ is_named name (label part)
 label-counted part name e = let is : is_named name (label part) ≡ 1 = ap (is_named name) e ∙ ap one_if (name-same name) in omega (arith, is)
 
--- no two nets, variables, memories or gates of a walk have one name
+-- of each name there is one net, variable, memory or gate of a walk at most
+pub labels-few : (modules : List SourceModule) → IsNamedUnit modules → (mode : Mode) (top : SourceModule) → (k : ℕ) → slice_get modules k ≡ Some top → (parts : List Part) → walked_from modules mode top ≡ Ok parts → (name : Identifier) →
+    count_named name parts ≤ 1
+labels-few modules unit mode top k at parts e name = let adds = walked-adds modules unit mode (most_depth + 1) (top_entered top) (k, at) [] parts e (omega arith) in adds.named name
+
+-- and so no two have one name
 pub labels-once : (modules : List SourceModule) → IsNamedUnit modules → (mode : Mode) (top : SourceModule) → (k : ℕ) → slice_get modules k ≡ Some top → (parts : List Part) → walked_from modules mode top ≡ Ok parts →
     (i j : ℕ) (one other : Part) (name : Identifier) → slice_get parts i ≡ Some one → slice_get parts j ≡ Some other → label one ≡ Some name → label other ≡ Some name → i ≡ j
 labels-once modules unit mode top k at parts e i j one other name at_one at_other is_one is_other =
-    let adds = walked-adds modules unit mode (most_depth + 1) (top_entered top) (k, at) [] parts e (omega arith) in
-    let most : count_named name parts ≤ 1 = adds.named name in
+    let most = labels-few modules unit mode top k at parts e name in
     let first = label-counted one name is_one in
     let second = label-counted other name is_other in
     let before : i < j → ⊥ = λ less. omega (arith, most, two-counted (λ part. is_named name (label part)) parts i j one other at_one at_other less first second) in

@@ -1,6 +1,6 @@
 -- What drives an object has a place in the node's value for each of the object's bits (IEEE 1364-2001, clause 6.1; that a net is cut by its drivers is own).
-use Rattle.std.proofs.Common.{◌≡◌, ℕ, zero, suc, ◌+◌, ◌<◌, ◌≤◌, Bool, true, false, List, [], ◌∷◌, ◌++◌, length, map, Option, Some, None, refl, sym, ap, ◌∙◌, subst, inl, inr, arith}
-use Rattle.std.specs.Prelude.{◌||◌, nat_eq, slice_get, option_and_then}
+use Rattle.std.proofs.Common.{◌≡◌, ℕ, zero, suc, ◌+◌, ◌<◌, ◌≤◌, Bool, true, false, List, [], ◌∷◌, length, map, Option, Some, None, refl, sym, ap, ◌∙◌, subst, inl, inr, arith}
+use Rattle.std.specs.Prelude.{nat_eq, slice_get, option_and_then}
 use Rattle.std.proofs.lemmas.Bool.{cases_Bool, or_cases, eqb-true, eq-eqb}
 use Rattle.std.proofs.lemmas.Bool.Decides.{leb_tells}
 use Rattle.v_design.specs.Lists.{has, first_place, earlier_place, AllHold}
@@ -8,7 +8,7 @@ use Rattle.v_design.specs.Expressions.{up_from}
 use Rattle.v_tree.specs.Trees.{Identifier, same_name}
 use Rattle.v_names.specs.Scopes.{range_width}
 use Rattle.v_ports.specs.Pieces.{DrivenRun, driver_of_bit, CutPiece, same_driver, grown_or_new, bit_before, pieces_from, pieces_of}
-use Rattle.v_elab.specs.Parts.{Signal, Drive, WalkedMemory, Part, SignalPart, MemoryPart, AssignPart, GatePart, ProcessPart, InstancePart}
+use Rattle.v_elab.specs.Parts.{Signal, Drive, Part, SignalPart, MemoryPart, AssignPart, GatePart, ProcessPart, InstancePart}
 use Rattle.v_elab.specs.Drivers.{signals_of, is_unjoined, outermost, WalkedNode, bits_within, ObjectDrive, drive_if, drives_width, node_drives, drives_from, object_drives, driving_variables, run_of}
 use Rattle.v_elab.specs.Objects.{PieceDriver, HeldObject, is_bit, value_place, piece_driver, drive_numbered, piece_object, pieces_or_variable, signal_objects, word_object, part_objects, objects_of_parts}
 use Rattle.flat_laws.specs.Lists.{same_some}

@@ -28,7 +28,7 @@ any-from test (y ∷ xs) x e h =
       | inr there ↦ or_right (test y) (list_any test xs) (any-from test xs x there h)
     ]
 
-any-at : (test : ℕ → Bool) (xs : List ℕ) → list_any test xs ≡ true → (x : ℕ) × (has xs x ≡ true) × (test x ≡ true)
+pub any-at : (test : ℕ → Bool) (xs : List ℕ) → list_any test xs ≡ true → (x : ℕ) × (has xs x ≡ true) × (test x ≡ true)
 any-at test [] e = absurd (cc)
 any-at test (y ∷ xs) e =
     elim (or_cases (test y) (list_any test xs) e) [
@@ -262,7 +262,7 @@ apart-all : (v : ℕ) (path : List ℕ) → ((p : ℕ) → has path p ≡ true �
 apart-all v [] other = tt
 apart-all v (x ∷ path) other = (ne_eqb v x (other x (or_left (nat_eq x x) (has path x) (eq-eqb x x refl))), apart-all v path (λ p e. other p (or_right (nat_eq x p) (has path p) e)))
 
-any-has : (path : List ℕ) (q : ℕ) → list_any (nat_eq q) path ≡ true → has path q ≡ true
+pub any-has : (path : List ℕ) (q : ℕ) → list_any (nat_eq q) path ≡ true → has path q ≡ true
 any-has [] q e = absurd (cc)
 any-has (x ∷ path) q e =
     elim (or_cases (nat_eq q x) (list_any (nat_eq q) path) e) [

@@ -1,33 +1,26 @@
--- The rules that each flat design keeps, as far as they are proved: its limits, the order of its nodes and what drives its objects; its levels; and, where names
--- differ and joined ports have one width, the sizes of its objects, nodes and processes (IEEE 1364-2001, clause 3.3 for objects, clauses 6, 7 and 9 for nodes and processes, clause 12 for the hierarchy).
-use Rattle.std.proofs.Common.{◌≡◌, ℕ, ◌<◌, ◌≤◌, false, List, [], length, Some, Ok, sym, ap, subst}
+-- Rules that each flat design keeps: its limits, the order of its nodes and what drives its objects, and its levels; and what is asked of a walk for the sizes
+-- (IEEE 1364-2001, clauses 6, 7 and 9 for nodes and processes, clause 12 for the hierarchy).
+use Rattle.std.proofs.Common.{◌≡◌, ℕ, ◌<◌, ◌≤◌, false, List, [], length, Some, Ok, sym, subst}
 use Rattle.std.specs.Prelude.{IsTrue, slice_get}
 use Rattle.v_design.specs.Lists.{has, without_repeats, AllHold}
 use Rattle.v_design.specs.Designs.{FlatNode, FlatProcess, FlatDesign}
 use Rattle.v_design.specs.Paths.{net_pieces}
 use Rattle.v_design.specs.Sized.{levels_of_statement, most_bits}
-use Rattle.v_design.specs.WellFormed.{most_parts, most_inputs, most_levels, levels_of_node, IsSizedObject, IsSizedName, AreBelow, AreByRank}
+use Rattle.v_design.specs.WellFormed.{most_parts, most_inputs, most_levels, levels_of_node, AreBelow, AreByRank}
 use Rattle.v_tree.specs.Trees.{Identifier, SourceModule, SourceUnit}
 use Rattle.v_names.specs.Scopes.{Scope, range_width}
 use Rattle.v_elab.specs.declared.Mode.{Mode}
-use Rattle.v_elab.specs.Parts.{Part, SignalPart, MemoryPart, AssignPart, GatePart, ProcessPart, InstancePart, Signal, WalkedMemory}
+use Rattle.v_elab.specs.Parts.{Part, SignalPart, MemoryPart, Signal, WalkedMemory}
 use Rattle.v_elab.specs.Walk.{walked_from}
 use Rattle.v_elab.specs.Flat.{flat}
 use Rattle.flat_laws.specs.Made.{nodes_in, objects_in, flat_nodes_in, IsMadeOf, flat-made}
 use Rattle.flat_laws.specs.Lists.{AllHold-from}
-use Rattle.flat_laws.specs.Numbered.{AllHold-each}
 use Rattle.flat_laws.specs.Limits.{design-objects, nodes-permutation, each-node, objects-few, nodes-few, processes-few, node-inputs-few, node-inputs-there, nodes-below, nodes-by_rank}
 use Rattle.flat_laws.specs.Drivers.{outputs-once, node-outputs, one-driver, outputs-nets}
 use Rattle.flat_laws.specs.Hierarchy.{IsHierarchy, part_name}
-use Rattle.flat_laws.specs.Objects.{objects-sized, names-sized}
 use Rattle.flat_laws.specs.Source.{IsSourceUnit}
-use Rattle.flat_laws.specs.Named.{IsAssignOrGate}
-use Rattle.flat_laws.specs.Processes.{IsFaultlessPart, IsNamed, nodes-named}
-use Rattle.flat_laws.specs.Meant.{IsPlacedPart, IsProcessSized, processes-there}
-use Rattle.flat_laws.specs.Visits.{IsAt, IsReadPart, parts-read}
-use Rattle.flat_laws.specs.Placed.{scope-at}
+use Rattle.flat_laws.specs.Visits.{IsAt}
 use Rattle.flat_laws.specs.Complete.{IsSettled}
-use Rattle.flat_laws.specs.Sizes.{IsSizedInside, AllPlaced, nodes-sized}
 use Rattle.flat_laws.specs.Levelled.{named-module, parts-levelled, node-levels, process-levels}
 use Rattle.graph_order.specs.ListLaws.{AllHold-slice_get}
 use Rattle.flat_laws.specs.Held.{part-in-signals}
@@ -95,18 +88,7 @@ flat-low unit top mode design source e =
     let low = parts-levelled unit.modules source mode is.top found.0 found.1 is.parts is.walk in
     record { nodes = node-levels is.parts design is.made low; processes = process-levels is.parts design is.made low }
 
--- Sizes
-
-pub record HasSizes (design : FlatDesign) : Type 0 where
-  -- objects and joined names have the bits that their bounds span
-  pub objects : AllHold IsSizedObject design.objects
-  pub joined : AllHold (IsSizedName design) design.joined
-  -- what assignments and gates name is there, and their inputs are what they read
-  pub named : AllHold (λ (node : FlatNode). IsAssignOrGate node.kind → IsNamed design node) design.nodes
-  -- gates have terminals of their kinds, of one bit each, and blocks are sized
-  pub nodes : AllHold (λ (node : FlatNode). IsSizedInside node.kind) design.nodes
-  -- processes are sized, and wait for bits of their objects
-  pub processes : AllHold (IsProcessSized design) design.processes
+-- Walks
 
 -- a walk in which no two nets, variables or memories have one name, none is wider than a vector may be, and each parameter has a value
 pub record IsConsistent (modules : List SourceModule) (mode : Mode) (top : SourceModule) (parts : List Part) : Type 0 where
@@ -136,45 +118,3 @@ consistent-hierarchy modules mode top parts e is =
 -- a unit each of whose walks is so
 abbrev pub WalksAreConsistent : List SourceModule → Mode → Type 0
 WalksAreConsistent modules mode = (k : ℕ) (top : SourceModule) (parts : List Part) → slice_get modules k ≡ Some top → walked_from modules mode top ≡ Ok parts → IsConsistent modules mode top parts
-
--- the flat design of such a unit is sized
-abbrev pub ConsistentDesignsAreSized : Type 0
-ConsistentDesignsAreSized = (unit : SourceUnit) (top : Identifier) (mode : Mode) (design : FlatDesign) → IsSourceUnit unit.modules → WalksAreConsistent unit.modules mode → flat unit top mode ≡ Ok design → HasSizes design
-
-process-faultless : (modules : List SourceModule) (mode : Mode) (top : SourceModule) (part : Part) → IsReadPart modules mode top part → IsFaultlessPart part
-process-faultless modules mode top (ProcessPart process) h = record { selects = h.selects; names = h.names; sizes = h.sizes }
-process-faultless modules mode top (GatePart name kind drives path terminals) h = tt
-process-faultless modules mode top (AssignPart drives value) h = tt
-process-faultless modules mode top (SignalPart signal) h = tt
-process-faultless modules mode top (MemoryPart memory) h = tt
-process-faultless modules mode top InstancePart h = tt
-
-process-placed : (modules : List SourceModule) (mode : Mode) (top : SourceModule) (parts : List Part) → AllPlaced modules mode top parts → (part : Part) → IsReadPart modules mode top part → IsPlacedPart parts part
-process-placed modules mode top parts placed (ProcessPart process) h = placed process.path process.scope h.at
-process-placed modules mode top parts placed (GatePart name kind drives path terminals) h = tt
-process-placed modules mode top parts placed (AssignPart drives value) h = tt
-process-placed modules mode top parts placed (SignalPart signal) h = tt
-process-placed modules mode top parts placed (MemoryPart memory) h = tt
-process-placed modules mode top parts placed InstancePart h = tt
-
-pub consistent-sized : ConsistentDesignsAreSized
-consistent-sized unit top mode design source consistent e =
-    let is = flat-made unit top mode design e in
-    let parts = is.parts in
-    let made = is.made in
-    let found = named-module unit.modules is.name is.top is.found in
-    let walk = consistent found.0 is.top parts found.1 is.walk in
-    let hierarchy = consistent-hierarchy unit.modules mode is.top parts is.walk walk in
-    let placed : AllPlaced unit.modules mode is.top parts = λ path scope at. record { at = scope-at unit.modules mode is.top parts is.walk path scope at; settled = walk.settled path scope at } in
-    let read = parts-read unit.modules mode is.top source found.0 found.1 parts is.walk in
-    let objects = design-objects parts design made in
-    record {
-      objects = subst (AllHold IsSizedObject) objects (objects-sized parts (nodes_in parts) hierarchy);
-      joined = subst (AllHold (IsSizedName design)) (ap (λ (d : FlatDesign). d.joined) made.is) (names-sized design parts (nodes_in parts) hierarchy objects);
-      named = nodes-named parts design made hierarchy;
-      nodes = nodes-sized unit.modules mode is.top parts design made hierarchy placed read;
-      processes =
-          processes-there parts design made hierarchy
-          (AllHold-each (IsReadPart unit.modules mode is.top) (IsPlacedPart parts) parts (process-placed unit.modules mode is.top parts placed) read)
-          (AllHold-each (IsReadPart unit.modules mode is.top) IsFaultlessPart parts (process-faultless unit.modules mode is.top) read);
-    }

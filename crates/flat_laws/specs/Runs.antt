@@ -1,11 +1,11 @@
 -- A net that one driver drives whole is one piece, where no bit has two drivers (IEEE 1364-2001, clause 6.1; that a net has one driver for each bit is own).
 use Rattle.std.proofs.Common.{◌≡◌, ℕ, zero, suc, ◌+◌, ◌<◌, ◌≤◌, Bool, true, false, List, [], ◌∷◌, ◌++◌, map, Option, Some, None, refl, sym, ap, ◌∙◌, inl, inr, arith}
-use Rattle.std.specs.Prelude.{◌||◌, nat_eq, slice_get}
+use Rattle.std.specs.Prelude.{nat_eq, slice_get}
 use Rattle.std.proofs.lemmas.Bool.{cases_Bool, or_cases, or_left, or_right, eq-eqb, eqb-true}
 use Rattle.vf_base.specs.Base.{SourcePlace}
 use Rattle.v_design.specs.Lists.{has}
 use Rattle.v_design.specs.Expressions.{up_from}
-use Rattle.v_ports.specs.Pieces.{DrivenRun, lesser_if, least_among, SecondDriver, second_if, second_driver, CutPiece, driver_of_bit, same_driver, grown_or_new, bit_before, pieces_from, pieces_of}
+use Rattle.v_ports.specs.Pieces.{DrivenRun, lesser_if, least_among, SecondDriver, second_if, second_driver, driver_of_bit, same_driver, grown_or_new, bit_before, pieces_from}
 use Rattle.v_elab.specs.Drivers.{bits_within}
 use Rattle.graph_order.specs.ListLaws.{has-append}
 use Rattle.flat_laws.specs.Lists.{same_some}

@@ -1,5 +1,5 @@
 -- The gates and blocks of a flat design are sized inside, where the scopes that a walk comes to are declared among its parts (IEEE 1364-2001, clause 4.4, clause 7 and clause 9).
-use Rattle.std.proofs.Common.{◌≡◌, ℕ, ◌+◌, max, Bool, true, false, List, [], ◌∷◌, length, Option, Some, None, refl, sym, ap, ◌∙◌, subst, arith}
+use Rattle.std.proofs.Common.{◌≡◌, ℕ, ◌+◌, ◌<◌, ◌^◌, max, Bool, true, false, List, [], ◌∷◌, length, Option, Some, None, refl, sym, ap, ◌∙◌, subst, arith}
 use Rattle.std.specs.Prelude.{not, nat_eq, flat_map}
 use Rattle.std.proofs.lemmas.Bool.{eqb-true}
 use Rattle.vf_base.specs.Base.{SourcePlace}
@@ -133,10 +133,10 @@ body-selects (FinishTask place) h = h
 
 -- Nodes
 
--- a gate has terminals of its kind, of one bit each, and a block is sized
+-- a gate has terminals of its kind, of one bit each and no more than can be numbered, and a block is sized
 abbrev pub IsSizedInside : FlatNodeKind → Type 0
 IsSizedInside (AssignNode value places) = Unit {0}
-IsSizedInside (GateNode kind terminals) = TerminalsFit kind (expressions_count terminals) × AreTerminals terminals
+IsSizedInside (GateNode kind terminals) = TerminalsFit kind (expressions_count terminals) × AreTerminals terminals × (expressions_count terminals < 2 ^ 64)
 IsSizedInside (BlockNode statement) = IsSizedStatement statement
 
 -- the scopes that a walk comes to are declared among its parts
@@ -189,8 +189,9 @@ module _ (modules : List SourceModule) (mode : Mode) (top : SourceModule) where
   function-sized parts design made hierarchy placed outputs (GateFunction kind path terminals) h =
       let meant = process-meant parts design made hierarchy (process_at path h.scope) (placed path h.scope h.at) in
       let holders = holders_at parts (objects_in parts) path in
-      subst (λ t. TerminalsFit kind (expressions_count (all_over_objects holders t)) × AreTerminals (all_over_objects holders t)) h.is
-      (subst (TerminalsFit kind) (sym (terminals-count holders h.scope h.inputs)) h.fit, terminals-are (meaning_in parts (objects_in parts) (process_at path h.scope)) meant h.inputs h.names h.sizes)
+      let count = terminals-count holders h.scope h.inputs in
+      subst (λ t. TerminalsFit kind (expressions_count (all_over_objects holders t)) × AreTerminals (all_over_objects holders t) × (expressions_count (all_over_objects holders t) < 2 ^ 64)) h.is
+      (subst (TerminalsFit kind) (sym count) h.fit, terminals-are (meaning_in parts (objects_in parts) (process_at path h.scope)) meant h.inputs h.names h.sizes, subst (λ n. n < 2 ^ 64) (sym count) h.few)
   function-sized parts design made hierarchy placed outputs (BlockFunction process) h =
       statement-sound (meaning_in parts (objects_in parts) process) (process-meant parts design made hierarchy process (placed process.path process.scope h.at)) (block_body process.body) (body-selects process.body h.selects)
       (body-names process.scope process.body h.names) (body-sizes process.scope process.body h.sizes)

@@ -1,6 +1,6 @@
--- What each unit keeps that is read from a text: its items hold no more levels than a text may have, braces hold something, and gates have the inputs of their kinds
--- (IEEE 1364-2001, annex A for what is spelled, clause 7 for gates; that a text has few levels is own).
-use Rattle.std.specs.Prelude.{◌≡◌, ℕ, ◌≤◌, List, Option, Some, None, length, slice_get}
+-- What each unit keeps that is read from a text: its items hold no more levels than a text may have, braces hold something, and gates have the inputs of their kinds, fewer
+-- than a text may have bytes (IEEE 1364-2001, annex A for what is spelled, clause 7 for gates; that a text has few levels is own).
+use Rattle.std.specs.Prelude.{◌≡◌, ℕ, ◌<◌, ◌≤◌, ◌^◌, List, Option, Some, None, length, slice_get}
 use Rattle.v_design.specs.Lists.{AllHold}
 use Rattle.v_design.specs.WellFormed.{TerminalsFit}
 use Rattle.v_tree.specs.Trees.{SourceExpression, Concatenated, no_parts, SourceWire, SourceAssignment, SourceGate, SourceConnection, SourceInstance, SourceItem, ParameterItem, PortItem, WireItem, RegItem, IntegerItem, AssignItem, GateItem, InstanceItem, InitialItem, AlwaysItem, SourceModule}
@@ -31,7 +31,7 @@ IsSourceItem (RegItem place signed range regs) = Unit {0}
 IsSourceItem (IntegerItem place regs) = Unit {0}
 IsSourceItem (AssignItem place assignments) = AllHold (λ (a : SourceAssignment). HasSelects a.target × (height_of a.value ≤ most_height)) assignments
 IsSourceItem (GateItem place kind gates) =
-    AllHold (λ (g : SourceGate). HasSelects g.output × TerminalsFit kind (length g.inputs) × AllHold (λ (e : SourceExpression). height_of e ≤ most_height) g.inputs) gates
+    AllHold (λ (g : SourceGate). HasSelects g.output × TerminalsFit kind (length g.inputs) × AllHold (λ (e : SourceExpression). height_of e ≤ most_height) g.inputs × (length g.inputs < 2 ^ 64)) gates
 IsSourceItem (InstanceItem place module_name parameters instances) =
     AllHold (λ (i : SourceInstance). AllHold (λ (c : SourceConnection). IsLowIfThere c.actual × HoldsParts c.actual) i.connections) instances
 IsSourceItem (InitialItem place body) = HaveSelects body × (statement_height body ≤ most_height)

@@ -1,20 +1,18 @@
 -- A name whose part makes one object is held by that object; a variable that drives itself is, and neither it nor a word is a net piece (IEEE 1364-2001, clause 3.2 and clause 3.10).
-use Rattle.std.proofs.Common.{◌≡◌, ℕ, zero, suc, ◌+◌, Bool, true, false, ◌&&◌, List, [], ◌∷◌, ◌++◌, length, map, Option, Some, None, nat_le, refl, sym, ap, ◌∙◌, subst, inl, inr, arith}
-use Rattle.std.specs.Prelude.{◌||◌, nat_eq, slice_get, filter, sum_by}
-use Rattle.std.specs.List.{list_all}
-use Rattle.std.proofs.lemmas.Bool.{cases_Bool, or_cases, eq-eqb, eqb-true, cond-true, cond-false}
+use Rattle.std.proofs.Common.{◌≡◌, ℕ, zero, suc, ◌+◌, Bool, true, false, ◌&&◌, List, [], ◌∷◌, length, map, Some, nat_le, refl, sym, ap, ◌∙◌, subst, inl, inr, arith}
+use Rattle.std.specs.Prelude.{nat_eq, slice_get, filter, sum_by}
+use Rattle.std.proofs.lemmas.Bool.{cases_Bool, or_cases, eq-eqb, eqb-true}
 use Rattle.std.proofs.lemmas.List.Sums.{sum_by-cons}
 use Rattle.v_design.specs.Lists.{has, AllHold}
 use Rattle.v_design.specs.Trees.{Piece, Vector}
 use Rattle.v_design.specs.Sized.{pieces_width}
 use Rattle.v_design.specs.Designs.{FlatObject, FlatDesign}
 use Rattle.v_design.specs.Paths.{is_net, numbers_of, net_pieces}
-use Rattle.v_design.specs.WellFormed.{width_is, has_width}
+use Rattle.v_design.specs.WellFormed.{width_is}
 use Rattle.v_tree.specs.Trees.{Identifier, same_name}
-use Rattle.v_names.specs.Scopes.{range_width}
 use Rattle.v_elab.specs.Parts.{Signal, WalkedMemory, Part, SignalPart, MemoryPart}
-use Rattle.v_elab.specs.Drivers.{signals_of, outermost, is_unjoined, WalkedNode, is_driving, insert_here, insert_by_depth, by_depth, driving_variables, ObjectDrive, object_drives}
-use Rattle.v_elab.specs.Objects.{HeldObject, variable_object, pieces_or_variable, signal_objects, word_object, word_objects, part_objects, objects_of_parts, piece_if, pieces_held, vector_of_name, memories_of, memory_vector, memory_if, memory_of_name}
+use Rattle.v_elab.specs.Drivers.{signals_of, outermost, WalkedNode, is_driving, insert_here, insert_by_depth, by_depth, object_drives}
+use Rattle.v_elab.specs.Objects.{HeldObject, variable_object, pieces_or_variable, signal_objects, word_object, word_objects, part_objects, objects_of_parts, piece_if, pieces_held, memories_of, memory_vector, memory_if, memory_of_name}
 use Rattle.v_elab.specs.Statements.{first_object, variable_of}
 use Rattle.graph_order.specs.ListLaws.{AllHold-slice_get}
 use Rattle.flat_laws.specs.Lists.{same_some, AllHold-from, filter-at}

@@ -1,5 +1,5 @@
 -- The instances that a walk comes to, and what their gates and processes are read from (IEEE 1364-2001, clause 7 for gates, clause 9 for processes, clause 12.1 for the hierarchy).
-use Rattle.std.proofs.Common.{◌≡◌, ℕ, ◌+◌, ◌≤◌, Bool, true, false, List, [], ◌∷◌, length, Option, Some, None, Ok, refl}
+use Rattle.std.proofs.Common.{◌≡◌, ℕ, ◌+◌, ◌<◌, ◌≤◌, ◌^◌, Bool, true, false, List, [], ◌∷◌, length, Option, Some, None, Ok, refl}
 use Rattle.std.specs.Prelude.{slice_get, filter, flat_map}
 use Rattle.four_value.specs.declared.operator.GateKind.{GateKind}
 use Rattle.v_design.specs.Lists.{AllHold}
@@ -49,6 +49,7 @@ pub record IsReadGate (modules : List SourceModule) (mode : Mode) (top : SourceM
   pub inputs : List SourceExpression
   pub is : terminals_of scope inputs ≡ terminals
   pub fit : TerminalsFit kind (length inputs)
+  pub few : length inputs < 2 ^ 64
   pub names : flat_map (name_faults scope) inputs ≡ []
   pub sizes : flat_map (terminal_faults scope) inputs ≡ []
 
@@ -126,7 +127,7 @@ module _ (modules : List SourceModule) (mode : Mode) (top : SourceModule) where
       (connection-read child paths (connected_name (head_names child.inner.heads) position connection.name) connection.actual) (connections-read child paths (position + 1) rest)
 
   gates-read : (here : Here) → IsAt modules mode top here.instance.path here.scope → (kind : GateKind) (number : ℕ) (gates : List SourceGate) →
-      AllHold (λ (g : SourceGate). HasSelects g.output × TerminalsFit kind (length g.inputs) × AllHold (λ (e : SourceExpression). height_of e ≤ most_height) g.inputs) gates → flat_map (gate_name_faults here.scope) gates ≡ [] →
+      AllHold (λ (g : SourceGate). HasSelects g.output × TerminalsFit kind (length g.inputs) × AllHold (λ (e : SourceExpression). height_of e ≤ most_height) g.inputs × (length g.inputs < 2 ^ 64)) gates → flat_map (gate_name_faults here.scope) gates ≡ [] →
       flat_map (gate_faults here.scope) gates ≡ [] → AllHold P (gate_parts here kind number gates)
   gates-read here at kind number [] text names sizes = tt
   gates-read here at kind number (gate ∷ rest) text names sizes =
@@ -134,7 +135,7 @@ module _ (modules : List SourceModule) (mode : Mode) (top : SourceModule) where
       let s = append-none (gate_faults here.scope gate) (flat_map (gate_faults here.scope) rest) sizes in
       let own = append-none (fixed_target_faults here.scope gate.output) (flat_map (name_faults here.scope) gate.inputs) n.0 in
       let size = append-none (output_faults here.scope gate.output) (flat_map (terminal_faults here.scope) gate.inputs) s.0 in
-      (record { scope = here.scope; at = at; inputs = gate.inputs; is = refl; fit = text.0.1; names = own.1; sizes = size.1 }, gates-read here at kind (number + 1) rest text.1 n.1 s.1)
+      (record { scope = here.scope; at = at; inputs = gate.inputs; is = refl; fit = text.0.1; few = text.0.3; names = own.1; sizes = size.1 }, gates-read here at kind (number + 1) rest text.1 n.1 s.1)
 
   here-at : (here : Here) → IsHere (IsKnown modules mode top) modules mode here → IsAt modules mode top here.instance.path here.scope
   here-at here is = record { instance = here.instance; visited = is.entered.visited; named = is.scope; path_is = refl }

@@ -1,5 +1,5 @@
 -- A process of a flat design names what is there and writes variables and words alone (IEEE 1364-2001, clause 9.2).
-use Rattle.std.proofs.Common.{◌≡◌, ℕ, Bool, true, false, List, [], ◌++◌, map, Option, Some, None, Ok, refl, sym, ap, ◌∙◌, subst}
+use Rattle.std.proofs.Common.{◌≡◌, ℕ, true, false, List, ◌++◌, Option, Some, None, Ok, refl, sym, ap, ◌∙◌, subst}
 use Rattle.std.specs.Prelude.{IsTrue, slice_get}
 use Rattle.v_design.specs.Lists.{has, AllHold}
 use Rattle.v_design.specs.Designs.{FlatProcess, FlatDesign}
@@ -26,7 +26,7 @@ use Rattle.flat_laws.specs.Objects.{object-at}
 use Rattle.flat_laws.specs.Named.{holders-there}
 use Rattle.flat_laws.specs.Visits.{IsAt, IsReadPart}
 use Rattle.flat_laws.specs.Placed.{signal_record, name-part}
-use Rattle.flat_laws.specs.Fitting.{FitsVariable, FitsName, statement-fits}
+use Rattle.flat_laws.specs.Fitting.{FitsName, statement-fits}
 use Rattle.flat_laws.specs.Behaviours.{IsProcessPart, process-part, assigned-drives}
 use Rattle.flat_laws.specs.Variables.{one-fits, driving-held, no-piece, words-none}
 
