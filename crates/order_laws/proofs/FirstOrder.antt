@@ -11,3 +11,4 @@ pub mod FoundSlots
 pub mod NamedRaces
 pub mod GradesHold
 pub mod ReportLines
+pub mod FollowingSlots

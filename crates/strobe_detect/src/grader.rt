@@ -1,6 +1,6 @@
 // The grader of a fault.
 
-ghost use Rattle.std.specs.Prelude.{◌≡◌, ℕ, List, [], ◌∷◌, ◌++◌, map, IsTrue, IsSome, ◌↔◌, None};
+ghost use Rattle.std.specs.Prelude.{◌≡◌, ℕ, List, [], ◌∷◌, ◌++◌, map, length, IsTrue, IsSome, ◌↔◌, None};
 ghost use Rattle.v_design.specs.Lists.{AllHold};
 ghost use Rattle.v_design.specs.Grades.{Samples, is_hard, is_possible, some_sample, samples, verdict_by};
 ghost use Rattle.v_design.specs.Grades.{verdict as verdict_of};
@@ -8,7 +8,9 @@ ghost use Rattle.vf_base.specs.Base.{watched_bit};
 ghost use Rattle.strobe_detect.specs.Firsts.{first_time};
 ghost use Rattle.strobe_detect.specs.Verdicts.{verdict_view};
 
-use crate::compare::compare;
+use crate::compare::{Shown, compare};
+use crate::kept::compare_kept;
+use four_value::Bit;
 use std::marker::Model;
 use v_design::Values;
 use vf_base::WatchBit;
@@ -68,6 +70,28 @@ impl<'w> Grader<'w> {
         ensures stands { IsTrue result ↔ IsSome self.new.hard }
     {
         let shown = compare(self.watched, good, faulty);
+        self.note(time, shown)
+    }
+
+    /// Shows the watched bits that were kept of the good machine, and the values of the faulty machine, at a strobe, whose time is in steps.
+    /// The answer says whether a hard detection stands.
+    pub fn strobe_kept<B: Values>(&mut self, time: u64, good: &[Bit], faulty: &B) -> bool
+        requires kept { length good.now ≡ length self.old.watched }
+        requires faulty { AllHold (IsWatched (B.values faulty.now)) self.old.watched }
+
+        // Each first time stays, and else this strobe's comes.
+        ensures state { self.new ≡ shown_at time good.now (samples self.old.watched (B.values faulty.now)) self.old }
+        ensures stands { IsTrue result ↔ IsSome self.new.hard }
+    {
+        let shown = compare_kept(self.watched, good, faulty);
+        self.note(time, shown)
+    }
+
+    /// Notes what a strobe shows. The answer says whether a hard detection stands.
+    fn note(&mut self, time: u64, shown: Shown) -> bool
+        ensures state { self.new ≡ record self.old { hard = first_time self.old.hard shown.hard time; possible = first_time self.old.possible shown.possible time } }
+        ensures stands { IsTrue result ↔ IsSome self.new.hard }
+    {
         self.hard = first_of(self.hard, shown.hard, time);
         self.possible = first_of(self.possible, shown.possible, time);
         self.hard.is_some()

@@ -8,6 +8,8 @@
 mod compare;
 mod grader;
 mod hard;
+mod kept;
 
 pub use grader::{Grade, Grader};
 pub use hard::Hard;
+pub use kept::watched_bits;

@@ -82,7 +82,7 @@ stop-within machine end stop rules e =
     subst (λ t. t ≤ end) s.same_time (slot-within machine end rules (end + 1) (start machine) (first_begins machine rules) (omega arith) s.number s.slot s.stands)
 
 -- a race has the time of its slot
-race-time : (machine : Machine) (end : ℕ) (stop : Stop) (pair : ReportedPair) → KeepsRules machine.design → first_stop machine (first_run machine end) ≡ Some stop → stop.outcome ≡ Race pair → pair.time ≡ stop.time
+pub race-time : (machine : Machine) (end : ℕ) (stop : Stop) (pair : ReportedPair) → KeepsRules machine.design → first_stop machine (first_run machine end) ≡ Some stop → stop.outcome ≡ Race pair → pair.time ≡ stop.time
 race-time machine end stop pair rules e h =
     let s = stopped_slot machine (first_run machine end) stop e in
     let b = slot_begins machine end rules (end + 1) (start machine) (first_begins machine rules) s.number s.slot s.stands in

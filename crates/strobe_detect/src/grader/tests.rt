@@ -5,6 +5,7 @@ ghost use Rattle.v_design.specs.Lists.{AllHold};
 ghost use Rattle.vf_base.specs.Base.{WatchedBit};
 
 use super::*;
+use crate::kept::watched_bits;
 use four_value::{Bit, Vec4};
 use std::process::Abort;
 use vf_base::ObjectId;
@@ -72,4 +73,19 @@ fn verdicts(rt: HostRuntime) {
         assert_eq!(rt; grader.verdict(), grade);
         assert_eq!(rt; stands, matches!(grade, Grade::Detected(_)));
     }
+}
+
+#[test]
+fn kept_bits(rt: HostRuntime) {
+    let watched = [WatchBit {
+        object: ObjectId(0),
+        bit: 0,
+    }];
+    let good = One(Vec4::from_bits(&[Bit::One]).expect(&rt, "one bit"));
+    let faulty = One(Vec4::from_bits(&[Bit::Zero]).expect(&rt, "one bit"));
+    let bits = watched_bits(rt.alloc(), &watched, &good).expect(&rt, "ample memory");
+    let mut grader = Grader::new(&watched);
+    let stands = grader.strobe_kept(5, &bits, &faulty);
+    assert!(rt; stands);
+    assert_eq!(rt; grader.verdict(), Grade::Detected(5));
 }
