@@ -6,3 +6,4 @@ pub mod WaitedLaws
 pub mod Rows
 pub mod Arranged
 pub mod Wakes
+pub mod Noted

@@ -12,6 +12,9 @@ mod row;
 mod rows;
 mod set;
 mod table;
+mod turns;
+mod waits;
+mod wakes;
 
 pub use deed::{Act, Stepped, TableTurn};
 pub use table::ProcessTable;
