@@ -1,1 +1,4 @@
 pub mod Standing
+pub mod Moments
+pub mod StepDeeds
+pub mod Phases

@@ -5,7 +5,7 @@ use Rattle.vf_base.specs.Base.{reported_pair}
 use Rattle.four_value.specs.Values.{LogicValue}
 use Rattle.v_design.specs.PlainDesigns.{design_of}
 use Rattle.v_design.specs.Designs.{Machine}
-use Rattle.v_design.specs.States.{State, TurnKind, PostponedTurn, UpdatesTurn, TimeTurn, turn_of, time_turn}
+use Rattle.v_design.specs.States.{State, TurnKind, PostponedTurn, UpdatesTurn, TimeTurn, turn_of, time_turn, has_event, some_in}
 use Rattle.v_design.specs.Runs.{Move, FirstSlot, Leads, ends_by, only_if, first_run, slot_end, is_hyper, next_slot, next_slot_at}
 use Rattle.v_design.specs.Laws.{BeginsPhase}
 use Rattle.v_design.specs.PhaseLogs.{NotedEvent}
@@ -81,6 +81,8 @@ pub record IsStanding (m : Simulated) : Type 0 where
   pub values : length (state_kept m).values ≡ length (machine_kept m).design.objects
   pub earlier : List NotedEvent
   pub causes : AreCausesOf (machine_kept m) earlier m.record.phase.causes
+  -- no event is possible between two slots
+  pub quiet : m.stage ≡ at.Between → some_in has_event (table_of m.table).processes ≡ false
   -- the next slot begins as the laws ask
   pub begins : (begins : State) → begins_next m ≡ Some begins → BeginsPhase (machine_kept m) begins
 

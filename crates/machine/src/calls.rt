@@ -7,12 +7,17 @@ ghost use Rattle.v_design.specs.Views.{machine_with};
 ghost use Rattle.machine.specs.Standing.{IsStanding, RunsSlot, EveryOrderEndsHere, machine_kept, state_kept, begins_next, first_turn};
 
 use crate::end::SlotEnd;
-use crate::parts::Machine;
+use crate::parts::{Machine, Stage};
+use crate::phases::later_time;
+use crate::told::Told;
 use causal_monitor::SlotLog;
 use net_graph::Graph;
+use net_state::NetState;
+use process_table::ProcessTable;
+use slot_record::SlotRecord;
 use std::alloc::Global;
 use std::sync::ledger::Ledger;
-use v_design::{Design, Fault};
+use v_design::{Design, Fault, inject};
 use vf_base::{NoMemory, Steps};
 
 impl<'d> Machine<'d> {
@@ -32,7 +37,21 @@ impl<'d> Machine<'d> {
         ensures begins { IfOk result (λ m. begins_next m ≡ Some (start (machine_with design.now fault))) }
         ensures standing { IfOk result (λ m. IsStanding m) }
     {
-        Err(NoMemory)
+        order_laws::nets();
+        let nets = NetState::new(alloc, inject(design, fault), graph)?;
+        let table = ProcessTable::new(alloc, design)?;
+        let processes = design.processes.as_slice().len();
+        let record = SlotRecord::new(alloc, processes, nets.object_count())?;
+        Ok(Machine {
+            alloc,
+            graph,
+            nets,
+            table,
+            record,
+            stage: Stage::Start,
+            changes: Vec::new(alloc),
+            told: Told::new(alloc),
+        })
     }
 
     /// The time of the slot that comes next, in steps: 0 at the start. `None` where no slot is left.
@@ -40,7 +59,11 @@ impl<'d> Machine<'d> {
         requires { IsStanding self.now }
         ensures { result ≡ option_map (λ (begins : State). begins.time) (begins_next self.now) }
     {
-        None
+        match self.stage {
+            Stage::Start => Some(self.table.time()),
+            Stage::Between => later_time(&self.table),
+            Stage::Over => None,
+        }
     }
 
     /// Runs the next slot in the first order, to its end or through its first process or lane step past 100,000, and answers how it ends. `log` is
@@ -61,6 +84,10 @@ impl<'d> Machine<'d> {
         ensures every_order { IfOk result (λ _. (begins : State) → begins_next self.old ≡ Some begins → EveryOrderEndsHere (machine_kept self.old) begins self.new) }
         ensures standing { IfOk result (λ _. IsStanding self.new) }
     {
-        Err(NoMemory)
+        order_laws::fine_slots();
+        self.begin_slot(log)?;
+        let hyper = self.run(log, steps)?;
+        let end = self.finish(log, hyper)?;
+        Ok(end)
     }
 }

@@ -8,7 +8,14 @@
 
 mod calls;
 mod end;
+mod moves;
+mod nodes;
 mod parts;
+mod phases;
+mod slots;
+mod steps;
+mod told;
+mod write;
 
 pub use end::SlotEnd;
 pub use parts::Machine;

@@ -2,7 +2,7 @@
 
 ghost use Rattle.std.specs.Prelude.{◌≡◌};
 
-use causal_monitor::Noted;
+use crate::told::Told;
 use four_value::Vec4;
 use net_graph::Graph;
 use net_state::NetState;
@@ -11,7 +11,7 @@ use slot_record::SlotRecord;
 use std::alloc::Global;
 use v_design::Values;
 use value_change::Change;
-use vf_base::{ObjectId, ProcId};
+use vf_base::ObjectId;
 
 /// Where a machine stands in its run: at the start, after a slot, or after one that was hyperactive, after which there is none.
 #[derive(Clone, Copy, PartialEq, Eq, Debug)]
@@ -33,9 +33,7 @@ pub struct Machine<'d> {
     pub(crate) record: SlotRecord,
     pub(crate) stage: Stage,
     pub(crate) changes: Vec<Change>,
-    pub(crate) accesses: Vec<Noted>,
-    pub(crate) changed: Vec<ObjectId>,
-    pub(crate) ended: Vec<ProcId>,
+    pub(crate) told: Told,
 }
 
 impl<'d> Values for Machine<'d> {

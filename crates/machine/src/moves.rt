@@ -1,0 +1,114 @@
+// The moves of a slot.
+
+ghost use Rattle.std.specs.Prelude.{◌≡◌, IfOk, OnOk};
+ghost use Rattle.std.specs.Option.{option_map};
+ghost use Rattle.vf_base.specs.Base.{node_number};
+ghost use Rattle.v_design.specs.States.{Evaluation, turn_of};
+ghost use Rattle.v_design.specs.Runs.{work_of, named_event};
+ghost use Rattle.slot_laws.specs.SlotLoop.{IsIdle};
+ghost use Rattle.net_state.specs.States.{nodes_in};
+ghost use Rattle.machine.specs.Standing.{machine_kept, state_kept};
+ghost use Rattle.machine.specs.Moments.{IsMoving, StaysAt};
+ghost use Rattle.machine.specs.Phases.{TellsTurn, IsBegun, MakesMove, ComesToEnd, TurnsPhase};
+
+use crate::parts::Machine;
+use crate::phases::{begin_phase, slot_turn};
+use causal_monitor::{SlotLog, Turn};
+use std::sync::ledger::Ledger;
+use vf_base::{MAX_SLOT_STEPS, NoMemory, NodeId, Steps};
+
+/// What was made of a slot: a process or lane step, which is counted, work on a node or a turn, or nothing, since nothing is left.
+#[derive(Clone, Copy, PartialEq, Eq, Debug)]
+pub(crate) enum Made {
+    Counted,
+    Uncounted,
+    Nothing,
+}
+
+impl<'d> Machine<'d> {
+    /// The least node with work.
+    fn least_node(&mut self) -> Option<NodeId>
+        ensures least { work_of 0 (nodes_in self.old.nets) ≡ named_event Evaluation (option_map node_number result) }
+        ensures stays { StaysAt self.old self.new }
+    {
+        self.nets.least_node()
+    }
+
+    /// A phase ends, and a turn within the slot begins the next one.
+    ///
+    /// # Errors
+    ///
+    /// Want of memory.
+    fn turn_phase(&mut self, turn: Turn, log: &mut SlotLog) -> Result<(), NoMemory>
+        requires moving { IsMoving self.old }
+        requires idle { IsIdle (state_kept self.old) }
+        requires turn { TellsTurn (Some turn) (turn_of (state_kept self.old)) }
+        ensures { OnOk result (TurnsPhase self.old self.new log.old log.new) }
+    {
+        slot_laws::slot_goes_on();
+        self.record.end_phase(self.graph, log)?;
+        self.table.turn()?;
+        begin_phase(&self.table, &mut self.record, &mut self.told, turn)?;
+        Ok(())
+    }
+
+    /// Makes the next move of the slot: the event of the least node, lane or process, else a turn.
+    ///
+    /// # Errors
+    ///
+    /// Want of memory.
+    fn make_move<L: Ledger>(
+        &mut self,
+        log: &mut SlotLog,
+        steps: &mut Steps<L>,
+    ) -> Result<Made, NoMemory>
+        requires { IsMoving self.old }
+        ensures { IfOk result (λ made. MakesMove made self.old self.new log.old log.new) }
+    {
+        if let Some(node) = self.least_node() {
+            self.node_work(node)?;
+            return Ok(Made::Uncounted);
+        }
+        if let Some(process) = self.table.first_lane() {
+            self.lane_step(process)?;
+            return Ok(Made::Counted);
+        }
+        if let Some(process) = self.table.first_ready() {
+            self.process_step(process, steps)?;
+            return Ok(Made::Counted);
+        }
+        if let Some(turn) = slot_turn(&self.table) {
+            self.turn_phase(turn, log)?;
+            return Ok(Made::Uncounted);
+        }
+        Ok(Made::Nothing)
+    }
+
+    /// Makes the moves of a slot that has begun, and tells whether it is hyperactive.
+    ///
+    /// # Errors
+    ///
+    /// Want of memory.
+    pub(crate) fn run<L: Ledger>(
+        &mut self,
+        log: &mut SlotLog,
+        steps: &mut Steps<L>,
+    ) -> Result<bool, NoMemory>
+        requires { IsBegun self.old log.old }
+        ensures { IfOk result (λ hyper. ComesToEnd hyper self.old self.new log.old log.new) }
+    {
+        slot_laws::slot_ends();
+        let mut taken = 0u32;
+        'moves: for _ in 0..u64::MAX {
+            if taken > MAX_SLOT_STEPS {
+                return Ok(true);
+            }
+            match self.make_move(log, steps)? {
+                Made::Counted => taken += 1,
+                Made::Uncounted => {}
+                Made::Nothing => return Ok(false),
+            }
+        }
+        Err(NoMemory)
+    }
+}
