@@ -3,3 +3,8 @@ pub mod Moved
 pub mod Written
 pub mod Finished
 pub mod Events
+pub mod TurnsOn
+pub mod Made
+pub mod NodesOn
+pub mod Beginnings
+pub mod Endings

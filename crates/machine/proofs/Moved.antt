@@ -1,5 +1,11 @@
 -- A machine moves from one moment of a slot to the next (IEEE 1364-2001, clause 5).
 use Rattle.std.proofs.Common.{◌≡◌, ℕ, ◌+◌, ◌<◌, ◌≤◌, ◌^◌, List, length, sym, ap, subst, ◌∙◌}
+use Rattle.std.specs.List.{All}
+use Rattle.vf_base.specs.Base.{object_number, process_number}
+use Rattle.vf_base.specs.declared.ids.ObjectId.{ObjectId}
+use Rattle.vf_base.specs.declared.ids.ProcId.{ProcId}
+use Rattle.causal_monitor.specs.declared.noted.Noted.{Noted}
+use Rattle.machine.specs.declared.told.Told.{Told}
 use Rattle.v_design.specs.PlainDesigns.{design_of}
 use Rattle.v_design.specs.RulesHold.{rules_hold}
 use Rattle.v_design.specs.WellFormed.{KeepsRules}
@@ -18,7 +24,7 @@ use Rattle.process_table.specs.Arranged.{IsKept, table_of}
 use Rattle.machine_laws.specs.StepTells.{TellsStep}
 use Rattle.machine.specs.declared.parts.Machine.{Machine as Simulated}
 use Rattle.machine.specs.Standing.{machine_kept, state_kept}
-use Rattle.machine.specs.Moments.{AreBothOf, AreParts, IsAt, IsMoving}
+use Rattle.machine.specs.Moments.{FitsDesign, FitsRecord, AreBothOf, AreParts, IsAt, IsMoving}
 
 -- the values, the nodes and the processes are those of the state in which a machine stands
 pub both-at : (machine : Machine) (first : Turn) (at : Moment) (m : Simulated) (log : SlotLog) → IsAt machine first at m log → AreBothOf machine at.state m.nets m.table
@@ -89,3 +95,15 @@ room-processes m moving = sym moving.is.recorded.present.causes.processes
 
 pub room-objects : (m : Simulated) → IsMoving m → length (machine_kept m).design.objects ≡ object_count m.record.phase
 room-objects m moving = sym moving.is.recorded.present.causes.objects
+
+-- what fits the design has room in the record
+pub fits-record : (m : Simulated) (moving : IsMoving m) (design : FlatDesign) (told : Told) → design ≡ (machine_kept m).design → FitsDesign design told → FitsRecord m.record.phase told
+fits-record m moving design told same fits =
+    let objects : length design.objects ≡ object_count m.record.phase = ap (λ (d : FlatDesign). length d.objects) same ∙ room-objects m moving in
+    let processes : length design.processes ≡ process_count m.record.phase = ap (λ (d : FlatDesign). length d.processes) same ∙ room-processes m moving in
+    record {
+      noted = fits.noted.noted;
+      objects = subst (λ n. All (λ (noted : Noted). object_number noted.access.object < n) told.accesses.items) objects fits.noted.objects;
+      changed = subst (λ n. All (λ (object : ObjectId). object_number object < n) told.changed.items) objects fits.changed;
+      ended = subst (λ n. All (λ (process : ProcId). process_number process < n) told.ended.items) processes fits.ended;
+    }

@@ -4,13 +4,16 @@ use Rattle.std.specs.List.{All}
 use Rattle.vf_base.specs.Base.{object_number, process_number, node_number}
 use Rattle.v_design.specs.PlainDesigns.{design_of}
 use Rattle.v_design.specs.Designs.{FlatDesign, Machine}
+use Rattle.v_design.specs.Lists.{AllHold}
 use Rattle.v_design.specs.Assignments.{ValueUpdate}
 use Rattle.v_design.specs.States.{State, Event, after, written}
 use Rattle.v_design.specs.Runs.{most_steps}
-use Rattle.causal_monitor.specs.Notes.{noted_access}
+use Rattle.causal_monitor.specs.Notes.{IsNoted, noted_access}
 use Rattle.causal_monitor.specs.declared.slot.Turn.{Turn}
 use Rattle.causal_monitor.specs.declared.slot.SlotLog.{SlotLog}
 use Rattle.slot_laws.specs.SlotLoop.{Moment, ComesTo, present_phase}
+use Rattle.phase_record.specs.declared.phase.PhaseRecord.{PhaseRecord}
+use Rattle.phase_record.specs.Records.{process_count, object_count}
 use Rattle.slot_record.specs.SlotRecords.{RecordsSlot}
 use Rattle.net_state.specs.declared.state.NetState.{NetState}
 use Rattle.net_state.specs.States.{machine_in, values_in, AreNetsOf}
@@ -31,6 +34,13 @@ pub record FitsDesign (design : FlatDesign) (told : Told) : Type 0 where
   pub noted : AreNoted design told.accesses.items
   pub changed : All (λ object. object_number object < length design.objects) told.changed.items
   pub ended : All (λ process. process_number process < length design.processes) told.ended.items
+
+-- what is told has room in the record of a phase
+pub record FitsRecord (kept : PhaseRecord) (told : Told) : Type 0 where
+  pub noted : AllHold IsNoted told.accesses.items
+  pub objects : All (λ noted. object_number noted.access.object < object_count kept) told.accesses.items
+  pub changed : All (λ object. object_number object < object_count kept) told.changed.items
+  pub ended : All (λ process. process_number process < process_count kept) told.ended.items
 
 -- the values, the nodes and the processes are those of a state
 pub record AreBothOf (machine : Machine) (state : State) (nets : NetState) (table : ProcessTable) : Type 0 where
@@ -74,6 +84,12 @@ pub record IsMoving (m : Simulated) : Type 0 where
   pub first : Turn
   pub at : Moment
   pub log : SlotLog
+  pub is : IsAt (machine_kept m) first at m log
+
+-- the same with a given log of the slot
+pub record IsMovingIn (m : Simulated) (log : SlotLog) : Type 0 where
+  pub first : Turn
+  pub at : Moment
   pub is : IsAt (machine_kept m) first at m log
 
 -- from each moment at which the machine stood, so few steps into the slot that it may go on, it comes to another

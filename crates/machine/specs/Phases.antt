@@ -104,11 +104,10 @@ pub record IsEnded (hyper : Bool) (m : Simulated) (log : SlotLog) : Type 0 where
   pub begins : State
   pub ends : EndsSlot (machine_kept m) first begins hyper m log
 
--- the next slot begins, with an empty log at its time
+-- the next slot begins, with an empty log
 pub record BeginsSlotHere (old new : Simulated) (log : SlotLog) : Type 0 where
   pub machine_is : machine_kept new ≡ machine_kept old
   pub runs : (begins : State) → begins_next old ≡ Some begins → Runs (machine_kept old) (first_turn old.stage) begins 0 new log
-  pub time : (begins : State) → begins_next old ≡ Some begins → log.time ≡ begins.time
 
 -- the outcome of a slot, by whether it is hyperactive and by its first race
 abbrev pub outcome_told : Bool → Option Pair → SlotOutcome
@@ -123,5 +122,5 @@ stage_after false = Between
 -- the slot is at its end: its last phase is recorded, and the machine stands between two slots
 pub record FinishesSlot (hyper : Bool) (end : SlotEnd) (old new : Simulated) (log_old log_new : SlotLog) : Type 0 where
   pub machine_is : machine_kept new ≡ machine_kept old
-  pub runs : (machine : Machine) (first : Turn) (begins : State) → EndsSlot machine first begins hyper old log_old → log_old.time ≡ begins.time → RunsSlot machine begins first end new log_new
+  pub runs : (machine : Machine) (first : Turn) (begins : State) → EndsSlot machine first begins hyper old log_old → RunsSlot machine begins first end new log_new
   pub standing : (machine : Machine) (first : Turn) (begins : State) → EndsSlot machine first begins hyper old log_old → IsStanding new

@@ -17,7 +17,7 @@ use process_table::ProcessTable;
 use slot_record::SlotRecord;
 use std::alloc::Global;
 use std::sync::ledger::Ledger;
-use v_design::{Design, Fault, inject};
+use v_design::{Design, Fault, View};
 use vf_base::{NoMemory, Steps};
 
 impl<'d> Machine<'d> {
@@ -38,7 +38,7 @@ impl<'d> Machine<'d> {
         ensures standing { IfOk result (λ m. IsStanding m) }
     {
         order_laws::nets();
-        let nets = NetState::new(alloc, inject(design, fault), graph)?;
+        let nets = NetState::new(alloc, View { design, fault }, graph)?;
         let table = ProcessTable::new(alloc, design)?;
         let processes = design.processes.as_slice().len();
         let record = SlotRecord::new(alloc, processes, nets.object_count())?;

@@ -10,6 +10,7 @@ mod calls;
 mod end;
 mod moves;
 mod nodes;
+mod notes;
 mod parts;
 mod phases;
 mod slots;

@@ -8,8 +8,8 @@ ghost use Rattle.v_design.specs.Runs.{work_of, named_event};
 ghost use Rattle.slot_laws.specs.SlotLoop.{IsIdle};
 ghost use Rattle.net_state.specs.States.{nodes_in};
 ghost use Rattle.machine.specs.Standing.{machine_kept, state_kept};
-ghost use Rattle.machine.specs.Moments.{IsMoving, StaysAt};
-ghost use Rattle.machine.specs.Phases.{TellsTurn, IsBegun, MakesMove, ComesToEnd, TurnsPhase};
+ghost use Rattle.machine.specs.Moments.{IsMovingIn, StaysAt};
+ghost use Rattle.machine.specs.Phases.{TellsTurn, IsBegun, MakesMove, ComesToEnd, TurnsPhase, steps_made};
 
 use crate::parts::Machine;
 use crate::phases::{begin_phase, slot_turn};
@@ -23,6 +23,16 @@ pub(crate) enum Made {
     Counted,
     Uncounted,
     Nothing,
+}
+
+/// How many process and lane steps were made.
+fn counted(made: Made) -> u32
+    ensures { result ≡ steps_made made }
+{
+    match made {
+        Made::Counted => 1,
+        Made::Uncounted | Made::Nothing => 0,
+    }
 }
 
 impl<'d> Machine<'d> {
@@ -40,7 +50,7 @@ impl<'d> Machine<'d> {
     ///
     /// Want of memory.
     fn turn_phase(&mut self, turn: Turn, log: &mut SlotLog) -> Result<(), NoMemory>
-        requires moving { IsMoving self.old }
+        requires moving { IsMovingIn self.old log.old }
         requires idle { IsIdle (state_kept self.old) }
         requires turn { TellsTurn (Some turn) (turn_of (state_kept self.old)) }
         ensures { OnOk result (TurnsPhase self.old self.new log.old log.new) }
@@ -62,7 +72,7 @@ impl<'d> Machine<'d> {
         log: &mut SlotLog,
         steps: &mut Steps<L>,
     ) -> Result<Made, NoMemory>
-        requires { IsMoving self.old }
+        requires { IsMovingIn self.old log.old }
         ensures { IfOk result (λ made. MakesMove made self.old self.new log.old log.new) }
     {
         if let Some(node) = self.least_node() {
@@ -103,11 +113,11 @@ impl<'d> Machine<'d> {
             if taken > MAX_SLOT_STEPS {
                 return Ok(true);
             }
-            match self.make_move(log, steps)? {
-                Made::Counted => taken += 1,
-                Made::Uncounted => {}
-                Made::Nothing => return Ok(false),
+            let made = self.make_move(log, steps)?;
+            if let Made::Nothing = made {
+                return Ok(false);
             }
+            taken += counted(made);
         }
         Err(NoMemory)
     }

@@ -8,6 +8,7 @@ ghost use Rattle.slot_laws.specs.SlotLoop.{after_node};
 ghost use Rattle.net_state.specs.States.{nodes_in};
 ghost use Rattle.machine.specs.Moments.{IsMoving, GoesOn};
 
+use crate::notes::note_node;
 use crate::parts::Machine;
 use vf_base::{NoMemory, NodeId};
 
@@ -31,13 +32,7 @@ impl<'d> Machine<'d> {
             &mut self.told.ended,
         )?;
         let own = &self.graph.design.nodes.as_slice()[node.0 as usize];
-        self.record.note_node(
-            node,
-            own.inputs.as_slice(),
-            &self.changes,
-            &self.told.accesses,
-            &self.told.ended,
-        )?;
+        note_node(&mut self.record, &self.told, node, own, &self.changes)?;
         Ok(())
     }
 }

@@ -59,7 +59,9 @@ pub(crate) fn later_time(table: &ProcessTable) -> Option<u64>
 {
     match table.next_turn() {
         Some(TableTurn::Time(time)) => Some(time),
-        Some(TableTurn::Postponed | TableTurn::Updates) | None => None,
+        Some(TableTurn::Postponed) => None,
+        Some(TableTurn::Updates) => None,
+        None => None,
     }
 }
 

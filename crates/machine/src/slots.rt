@@ -76,6 +76,7 @@ impl<'d> Machine<'d> {
     {
         slot_laws::slot_ends();
         self.record.end_phase(self.graph, log)?;
+        log.time = self.table.time();
         self.stage = stage_after(hyper);
         Ok(end_of(hyper, self.record.race()))
     }

@@ -1,11 +1,9 @@
 // A step of a process or of its lane.
 
-ghost use Rattle.std.specs.Prelude.{◌≡◌, ◌<◌, ℕ, true, Some, None, length, map, OnOk, IfSome, IsTrue};
-ghost use Rattle.std.specs.Option.{option_map};
+ghost use Rattle.std.specs.Prelude.{◌≡◌, ◌<◌, Some, None, length, OnOk, IsTrue};
 ghost use Rattle.vf_base.specs.Base.{object_number, process_number};
-ghost use Rattle.v_design.specs.States.{State, Step, LaneStep};
-ghost use Rattle.v_design.specs.Accesses.{Reading, waiting_entries};
-ghost use Rattle.causal_monitor.specs.Notes.{IsNoted, noted_access};
+ghost use Rattle.v_design.specs.States.{Step, LaneStep};
+ghost use Rattle.v_design.specs.Accesses.{waiting_entries};
 ghost use Rattle.slot_laws.specs.SlotLoop.{NoNodeWorks, first_lane, first_ready, after_event};
 ghost use Rattle.net_state.specs.States.{values_in, machine_in};
 ghost use Rattle.process_table.specs.Arranged.{IsKept, table_of};
@@ -14,6 +12,7 @@ ghost use Rattle.machine.specs.Standing.{state_kept};
 ghost use Rattle.machine.specs.Moments.{FitsDesign, IsMoving, GoesOn};
 ghost use Rattle.machine.specs.StepDeeds.{TellsQuiet, FinishesStep};
 
+use crate::notes::{note_lane, note_step};
 use crate::parts::Machine;
 use crate::told::Told;
 use crate::write::write_update;
@@ -24,11 +23,41 @@ use process_table::{Act, ProcessTable, Stepped};
 use std::sync::ledger::Ledger;
 use vf_base::{Access, AccessKind, NoMemory, ObjectId, ProcId, Steps};
 
-/// The read of an object, by a process and the line of its statement.
-fn read_of(object: ObjectId, process: ProcId, line: u32) -> Noted
-    ensures access { noted_access result ≡ record { act = Reading; object = object_number object; process = process_number process; line = line } }
-    ensures object { result.access.object ≡ object }
-    ensures noted { IsNoted result }
+/// Whether an object is one of the design.
+fn is_there(nets: &NetState, object: ObjectId) -> bool
+    ensures { IsTrue result → object_number object < length (values_in nets.now) }
+{
+    (object.0 as usize) < nets.object_count()
+}
+
+/// Tells the wait that a process is in, by the step that began it; nothing where it is in none.
+fn tell_wait(
+    table: &ProcessTable,
+    told: &mut Told,
+    process: ProcId,
+    line: u32,
+) -> Result<(), NoMemory>
+    requires { IsKept table.now }
+    ensures tells { OnOk result (TellsQuiet (process_number process) line None (waiting_entries (process_in (table_of table.now) (process_number process)).activity) told.new) }
+    ensures fits { OnOk result (FitsDesign (table_of table.now).design told.new) }
+{
+    told.clear();
+    table.note_wait(process, line, &mut told.accesses)?;
+    Ok(())
+}
+
+/// Tells the read of an object, and the wait that the process is in after it.
+fn tell_read(
+    table: &ProcessTable,
+    told: &mut Told,
+    object: ObjectId,
+    process: ProcId,
+    line: u32,
+) -> Result<(), NoMemory>
+    requires kept { IsKept table.now }
+    requires object { object_number object < length (table_of table.now).design.objects }
+    ensures tells { OnOk result (TellsQuiet (process_number process) line (Some (object_number object)) (waiting_entries (process_in (table_of table.now) (process_number process)).activity) told.new) }
+    ensures fits { OnOk result (FitsDesign (table_of table.now).design told.new) }
 {
     let old: Option<Vec4> = None;
     let new: Option<Vec4> = None;
@@ -38,38 +67,13 @@ fn read_of(object: ObjectId, process: ProcId, line: u32) -> Noted
         process,
         line,
     };
-    Noted {
+    told.clear();
+    told.accesses.push(Noted {
         access,
         old,
         new,
         entry: None,
-    }
-}
-
-/// Whether an object is one of the design.
-fn is_there(nets: &NetState, object: ObjectId) -> bool
-    ensures { IsTrue result → object_number object < length (values_in nets.now) }
-{
-    (object.0 as usize) < nets.object_count()
-}
-
-/// What a step tells that writes nothing: its read, if it reads, and the wait that it begins.
-fn tell_quiet(
-    table: &ProcessTable,
-    told: &mut Told,
-    process: ProcId,
-    line: u32,
-    read: Option<ObjectId>,
-) -> Result<(), NoMemory>
-    requires kept { IsKept table.now }
-    requires object { IfSome read (λ object. object_number object < length (table_of table.now).design.objects) }
-    ensures tells { OnOk result (TellsQuiet (process_number process) line (option_map object_number read) (waiting_entries (process_in (table_of table.now) (process_number process)).activity) told.new) }
-    ensures fits { OnOk result (FitsDesign (table_of table.now).design told.new) }
-{
-    told.clear();
-    if let Some(object) = read {
-        told.accesses.push(read_of(object, process, line))?;
-    }
+    })?;
     table.note_wait(process, line, &mut told.accesses)?;
     Ok(())
 }
@@ -103,11 +107,11 @@ fn finish_step(
             if !is_there(nets, object) {
                 return Err(NoMemory);
             }
-            tell_quiet(table, told, process, stepped.line, Some(object))?;
+            tell_read(table, told, object, process, stepped.line)?;
             Ok(())
         }
         None => {
-            tell_quiet(table, told, process, stepped.line, None)?;
+            tell_wait(table, told, process, stepped.line)?;
             Ok(())
         }
     }
@@ -139,13 +143,7 @@ impl<'d> Machine<'d> {
             process,
             &stepped,
         )?;
-        self.record.note_step(
-            process,
-            stepped.line,
-            &self.told.accesses,
-            &self.told.changed,
-            &self.told.ended,
-        )?;
+        note_step(&mut self.record, &self.told, process, stepped.line)?;
         Ok(())
     }
 
@@ -175,13 +173,7 @@ impl<'d> Machine<'d> {
             process,
             update.line,
         )?;
-        self.record.note_lane(
-            process,
-            update.line,
-            &self.told.accesses,
-            &self.told.changed,
-            &self.told.ended,
-        )?;
+        note_lane(&mut self.record, &self.told, process, update.line)?;
         Ok(())
     }
 }

@@ -44,9 +44,8 @@ returns c =
       fits = record {
         noted = c.in_ok-wake.ensures.noted (subst (λ (l : List Noted). AreNoted design l) (sym first) (record {
           noted = (c.write_of.ensures.noted, tt);
-          objects = subst (λ (l : List Noted). All (λ (n : Noted). object_number n.access.object < length design.objects) l) refl
-              (All-push (λ (n : Noted). object_number n.access.object < length design.objects) [] c.write_of.result (All-nil (λ (n : Noted). object_number n.access.object < length design.objects))
-              (subst (λ o. object_number o < length design.objects) (sym c.write_of.ensures.object) low));
+          objects = All-push (λ (n : Noted). object_number n.access.object < length design.objects) [] c.write_of.result (All-nil (λ (n : Noted). object_number n.access.object < length design.objects))
+              (subst (λ o. object_number o < length design.objects) (sym c.write_of.ensures.object) low);
         }));
         changed = c.in_ok-note_changed.ensures.there (length design.objects) low
             (subst (λ (l : List ObjectId). All (λ (o : ObjectId). object_number o < length design.objects) l) (sym c.clear.ensures.changed) (All-nil (λ (o : ObjectId). object_number o < length design.objects)));
