@@ -8,3 +8,4 @@ pub mod Made
 pub mod NodesOn
 pub mod Beginnings
 pub mod Endings
+pub mod Started

@@ -1,11 +1,11 @@
 -- Moves of a slot (IEEE 1364-2001, clause 5).
 use Rattle.std.proofs.Common.{◌≡◌, ℕ, ◌+◌, ◌≤◌, true, false, None, length, refl, sym, ap, subst, ◌∙◌, arith}
 use Rattle.v_design.specs.Designs.{Machine}
-use Rattle.v_design.specs.States.{State, turn_of}
+use Rattle.v_design.specs.States.{State, Event, turn_of}
 use Rattle.v_design.specs.Runs.{most_steps, turn_in_slot}
 use Rattle.causal_monitor.specs.declared.slot.Turn.{Turn}
 use Rattle.causal_monitor.specs.declared.slot.SlotLog.{SlotLog}
-use Rattle.slot_laws.specs.SlotLoop.{Moment, QuietSlotsEnd, HyperSlotsEnd, IsIdle, present_phase}
+use Rattle.slot_laws.specs.SlotLoop.{Moment, after_event, after_node, steps_of, QuietSlotsEnd, HyperSlotsEnd, IsIdle, present_phase}
 use Rattle.slot_record.specs.SlotRecords.{RecordsSlot}
 use Rattle.net_state.specs.States.{machine_in, values_in, nodes_in}
 use Rattle.process_table.specs.Arranged.{IsKept, table_of}
@@ -13,7 +13,9 @@ use Rattle.v_design.specs.PlainDesigns.{design_of}
 use Rattle.machine.specs.declared.parts.Machine.{Machine as Simulated}
 use Rattle.machine.specs.Standing.{machine_kept, state_kept}
 use Rattle.machine.specs.Moments.{IsAt, IsMoving, IsMovingIn, GoesOn, StaysAt}
-use Rattle.machine.specs.Phases.{Runs, IsQuiet, EndsSlot}
+use Rattle.machine.specs.Phases.{Runs, IsQuiet, MakesMove, TurnsPhase, EndsSlot}
+use Rattle.machine.specs.declared.moves.Made.{Made}
+use Rattle.machine.specs.declared.moves.Made.TheVariants.{Counted, Uncounted, Nothing}
 
 -- what holds where a machine stays holds still
 pub moving-stays : (old new : Simulated) (log : SlotLog) → StaysAt old new → IsMovingIn old log → IsMovingIn new log
@@ -90,3 +92,48 @@ ends-hyper law machine first begins steps m log runs many = record {
 -- a machine that stands in a slot is moving
 pub runs-moving : (machine : Machine) (first : Turn) (begins : State) (steps : ℕ) (m : Simulated) (log : SlotLog) → Runs machine first begins steps m log → IsMovingIn m log
 runs-moving machine first begins steps m log runs = record { first = first; at = runs.at; is = subst (λ k. IsAt k first runs.at m log) (sym runs.is.machine_is) runs.is }
+
+-- Which move is made
+
+-- a machine that stays makes the move of the machine that it is then
+pub move-after : (made : Made) (old mid new : Simulated) (log logged : SlotLog) → StaysAt old mid → MakesMove made mid new log logged → MakesMove made old new log logged
+move-after made old mid new log logged stays makes = record {
+  goes_on = λ machine first begins steps runs few. makes.goes_on machine first begins steps (stays-runs old mid log stays machine first begins steps runs) few;
+  quiet = makes.quiet;
+}
+
+-- an event that isn't counted, one that is, and a turn
+pub node-made : (node : ℕ) (old mid new : Simulated) (log : SlotLog) → StaysAt old mid → GoesOn (λ machine at. after_node machine node at) mid new → MakesMove Uncounted old new log log
+node-made node old mid new log stays goes = record {
+  goes_on = made-event (λ machine at. after_node machine node at) 0 old mid new log (λ machine at. refl) (λ machine at. omega arith) stays goes;
+  quiet = tt;
+}
+
+pub event-made : (event : Event) → steps_of event ≡ 1 → (old new : Simulated) (log : SlotLog) → GoesOn (λ machine at. after_event machine event at) old new → MakesMove Counted old new log log
+event-made event one old new log goes = record {
+  goes_on = λ machine first begins steps runs few. record {
+    at = after_event machine event runs.at;
+    is = goes machine first runs.at log runs.is (subst (λ n. n ≤ most_steps) (sym runs.steps_is) few);
+    begins_is = runs.begins_is;
+    steps_is = λ i. runs.steps_is i + one i;
+  };
+  quiet = tt;
+}
+
+pub turn-made : (old new : Simulated) (log logged : SlotLog) → TurnsPhase old new log logged → MakesMove Uncounted old new log logged
+turn-made old new log logged turns = record {
+  goes_on = λ machine first begins steps runs few. subst (λ n. Runs machine first begins n new logged) (plus-none steps) (turns machine first begins steps runs few);
+  quiet = tt;
+}
+  where
+    plus-none : (n : ℕ) → n ≡ n + 0
+    plus-none n = omega arith
+
+pub nothing-made : (m : Simulated) (log : SlotLog) → IsQuiet (state_kept m) → MakesMove Nothing m m log log
+nothing-made m log quiet = record {
+  goes_on = λ machine first begins steps runs few. subst (λ n. Runs machine first begins n m log) (plus-none steps) runs;
+  quiet = quiet;
+}
+  where
+    plus-none : (n : ℕ) → n ≡ n + 0
+    plus-none n = omega arith

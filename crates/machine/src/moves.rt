@@ -1,13 +1,13 @@
 // The moves of a slot.
 
-ghost use Rattle.std.specs.Prelude.{◌≡◌, IfOk, OnOk};
+ghost use Rattle.std.specs.Prelude.{◌≡◌, Some, None, IfOk, OnOk};
 ghost use Rattle.std.specs.Option.{option_map};
 ghost use Rattle.vf_base.specs.Base.{node_number};
 ghost use Rattle.v_design.specs.States.{Evaluation, turn_of};
 ghost use Rattle.v_design.specs.Runs.{work_of, named_event};
-ghost use Rattle.slot_laws.specs.SlotLoop.{IsIdle};
+ghost use Rattle.slot_laws.specs.SlotLoop.{IsIdle, NoNodeWorks, first_lane};
 ghost use Rattle.net_state.specs.States.{nodes_in};
-ghost use Rattle.machine.specs.Standing.{machine_kept, state_kept};
+ghost use Rattle.machine.specs.Standing.{state_kept};
 ghost use Rattle.machine.specs.Moments.{IsMovingIn, StaysAt};
 ghost use Rattle.machine.specs.Phases.{TellsTurn, IsBegun, MakesMove, ComesToEnd, TurnsPhase, steps_made};
 
@@ -62,6 +62,78 @@ impl<'d> Machine<'d> {
         Ok(())
     }
 
+    /// Makes the next move of the slot where no event is possible: a turn.
+    ///
+    /// # Errors
+    ///
+    /// Want of memory.
+    fn turn_move(&mut self, log: &mut SlotLog) -> Result<Made, NoMemory>
+        requires moving { IsMovingIn self.old log.old }
+        requires idle { IsIdle (state_kept self.old) }
+        ensures { IfOk result (λ made. MakesMove made self.old self.new log.old log.new) }
+    {
+        match slot_turn(&self.table) {
+            Some(turn) => {
+                self.turn_phase(turn, log)?;
+                Ok(Made::Uncounted)
+            }
+            None => Ok(Made::Nothing),
+        }
+    }
+
+    /// Makes the next move of the slot where no node has work and no lane has an update: a step of the least ready process, else a turn.
+    ///
+    /// # Errors
+    ///
+    /// Want of memory.
+    fn ready_move<L: Ledger>(
+        &mut self,
+        log: &mut SlotLog,
+        steps: &mut Steps<L>,
+    ) -> Result<Made, NoMemory>
+        requires moving { IsMovingIn self.old log.old }
+        requires nodes { NoNodeWorks (state_kept self.old) }
+        requires lanes { first_lane (state_kept self.old) ≡ None }
+        ensures { IfOk result (λ made. MakesMove made self.old self.new log.old log.new) }
+    {
+        match self.table.first_ready() {
+            Some(process) => {
+                self.process_step(process, steps)?;
+                Ok(Made::Counted)
+            }
+            None => {
+                let made = self.turn_move(log)?;
+                Ok(made)
+            }
+        }
+    }
+
+    /// Makes the next move of the slot where no node has work: that of the least lane, else of the least ready process, else a turn.
+    ///
+    /// # Errors
+    ///
+    /// Want of memory.
+    fn process_move<L: Ledger>(
+        &mut self,
+        log: &mut SlotLog,
+        steps: &mut Steps<L>,
+    ) -> Result<Made, NoMemory>
+        requires moving { IsMovingIn self.old log.old }
+        requires nodes { NoNodeWorks (state_kept self.old) }
+        ensures { IfOk result (λ made. MakesMove made self.old self.new log.old log.new) }
+    {
+        match self.table.first_lane() {
+            Some(process) => {
+                self.lane_step(process)?;
+                Ok(Made::Counted)
+            }
+            None => {
+                let made = self.ready_move(log, steps)?;
+                Ok(made)
+            }
+        }
+    }
+
     /// Makes the next move of the slot: the event of the least node, lane or process, else a turn.
     ///
     /// # Errors
@@ -75,23 +147,16 @@ impl<'d> Machine<'d> {
         requires { IsMovingIn self.old log.old }
         ensures { IfOk result (λ made. MakesMove made self.old self.new log.old log.new) }
     {
-        if let Some(node) = self.least_node() {
-            self.node_work(node)?;
-            return Ok(Made::Uncounted);
+        match self.least_node() {
+            Some(node) => {
+                self.node_work(node)?;
+                Ok(Made::Uncounted)
+            }
+            None => {
+                let made = self.process_move(log, steps)?;
+                Ok(made)
+            }
         }
-        if let Some(process) = self.table.first_lane() {
-            self.lane_step(process)?;
-            return Ok(Made::Counted);
-        }
-        if let Some(process) = self.table.first_ready() {
-            self.process_step(process, steps)?;
-            return Ok(Made::Counted);
-        }
-        if let Some(turn) = slot_turn(&self.table) {
-            self.turn_phase(turn, log)?;
-            return Ok(Made::Uncounted);
-        }
-        Ok(Made::Nothing)
     }
 
     /// Makes the moves of a slot that has begun, and tells whether it is hyperactive.
