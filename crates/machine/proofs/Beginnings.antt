@@ -14,7 +14,8 @@ use Rattle.slot_record.specs.declared.record.SlotRecord.{SlotRecord}
 use Rattle.slot_record.specs.SlotRecords.{BeginsSlot, BeginsPhase, RecordedSlot, IsEmptyLog}
 use Rattle.net_state.specs.declared.state.NetState.{NetState}
 use Rattle.net_state.specs.States.{AreNetsOf}
-use Rattle.process_table.specs.Tables.{IsTableOf}
+use Rattle.process_table.specs.Tables.{TableState, IsTableOf}
+use Rattle.v_design.specs.Runs.{turned_by}
 use Rattle.process_table.specs.Arranged.{IsKept, table_of}
 use Rattle.machine.specs.declared.parts.Stage.{Stage}
 use Rattle.machine.specs.declared.parts.Stage.TheVariants.{Start, Between, Over}
@@ -71,3 +72,20 @@ slot-begun law begins old new log turn between standing next low first table kep
 -- there is room for as many objects as the design has
 pub begun-room : (m : Simulated) (between : SlotRecord) (log : SlotLog) → IsStanding m → BeginsSlot m.record between → IsEmptyLog log → object_count between.phase ≡ length (machine_kept m).design.objects
 begun-room m between log standing slot empty = (slot (machine_kept m) (first_turn m.stage) standing.earlier log standing.causes empty).causes.objects
+
+-- The turn before a slot
+
+-- at the start there is none
+pub start-table : (stage : Stage) (machine : Machine) (state begins : State) (table : TableState) → stage ≡ Start → IsTableOf machine state table → begins_at stage state ≡ Some begins → IsTableOf machine begins table
+start-table stage machine state begins table is of next =
+    subst (λ s. IsTableOf machine s table) (some-state state begins (sym (ap (λ g. begins_at g state) is) ∙ next)) of
+
+-- between two slots time moves on
+pub between-table : (stage : Stage) (machine : Machine) (state begins : State) (table : TableState) → stage ≡ Between → IsTableOf machine (turned_by (turn_of state) state) table → begins_at stage state ≡ Some begins → IsTableOf machine begins table
+between-table stage machine state begins table is of next =
+    let l = later-slot state begins (turn_of state) (sym (ap (λ g. begins_at g state) is) ∙ next) in
+    subst (λ s. IsTableOf machine s table) (ap (λ o. turned_by o state) l.1 ∙ l.2) of
+
+-- and none comes after a loop
+pub over-none : (stage : Stage) (state begins : State) → stage ≡ Over → begins_at stage state ≡ Some begins → ⊥
+over-none stage state begins is next = let no : None ≡ Some begins = sym (ap (λ g. begins_at g state) is) ∙ next in cc

@@ -1,21 +1,20 @@
 -- What a step of a process or of its lane tells of itself (IEEE 1364-2001, clauses 5 and 9).
-use Rattle.std.proofs.Common.{◌≡◌, ℕ, zero, suc, ◌<◌, List, [], ◌∷◌, ◌++◌, map, Bool, true, false, not, ◌&&◌, ◌⊎◌, inl, inr, refl, sym, ap, subst, ◌∙◌}
-use Rattle.std.specs.Prelude.{Option, Some, None, nat_eq, slice_get}
+use Rattle.std.proofs.Common.{◌≡◌, ℕ, zero, suc, List, [], ◌∷◌, ◌++◌, map, Bool, true, false, not, ◌&&◌, ◌⊎◌, inl, inr, refl, sym, ap, ◌∙◌}
+use Rattle.std.specs.Prelude.{Option, Some, None}
 use Rattle.std.proofs.lemmas.Bool.{cases_eq}
 use Rattle.vf_base.specs.Base.{SourcePlace}
 use Rattle.four_value.specs.Values.{LogicValue, same_value, with_part, is_true}
 use Rattle.four_value.specs.ValueLaws.{same_value-refl}
-use Rattle.v_design.specs.Lists.{has, joined, map_numbered, change_at}
 use Rattle.v_design.specs.Trees.{Entry, Statement, Null, Block, If, Case, For, While, Repeat, Forever, Delay, EventControl, Wait, Blocking, Nonblocking, Finish}
 use Rattle.v_design.specs.Expressions.{Progress, Needs, Has, read_expression}
 use Rattle.v_design.specs.Designs.{FlatProcess, Machine, forced_variable}
 use Rattle.v_design.specs.Assignments.{ValueUpdate, value_at}
 use Rattle.v_design.specs.Processes.{Task, Run, Turns, Writes, Appends, Activity, Ready, Waiting, Asleep, Postponed, Done, Action, WritesObject, ReadsObject, AppendsUpdate, TouchesNothing, ProcessStep, goes_on, turns_to, reads_or, write_step, append_step, assignment_step, turns_step, wait_step, statement_step, end_step, process_step, loop_of}
-use Rattle.v_design.specs.States.{State, NodeState, ProcessState, Event, Step, LaneStep, found_or, idle_process, process_at, is_ready, written, written_if, write_of, step_of, activity_step, source_at, after, after_step, after_lane_step, with_process, next_activity, with_operand, first_update}
-use Rattle.v_design.specs.Accesses.{ObjectAccess, Writing, Awaiting, is_waiting, accesses_of, action_accesses, await_accesses, update_accesses, ended_accesses, step_accesses, lane_accesses, waiting_entries}
+use Rattle.v_design.specs.States.{State, NodeState, ProcessState, Event, Step, LaneStep, found_or, idle_process, process_at, is_ready, written, written_if, write_of, step_of, activity_step, source_at, after, after_step, after_lane_step, with_process, next_activity, first_update}
+use Rattle.v_design.specs.Accesses.{ObjectAccess, Writing, Awaiting, is_waiting, accesses_of, action_accesses, await_accesses, update_accesses, lane_accesses}
 use Rattle.v_design.specs.PhaseLogs.{writer_process, writer_line, lane_line}
 use Rattle.event_causes.specs.Causes.{Tells}
-use Rattle.machine_laws.specs.Waits.{WaitSeen, wait_in, wait_of, no_wait, AreInSameWaits, same-seen, changed-here, changed-elsewhere, ended-alike, waits-alike}
+use Rattle.machine_laws.specs.Waits.{WaitSeen, wait_in, wait_of, no_wait, AreInSameWaits, same-seen, changed-elsewhere, ended-alike, waits-alike}
 use Rattle.machine_laws.specs.WriteTells.{TellsWrite}
 
 -- what a process or lane step in a state tells of itself: its line, its accesses, the objects that it changed, and the processes whose waits it ended

@@ -1,14 +1,14 @@
 -- What a write of an update does and tells (IEEE 1364-2001, clauses 5 and 9.7).
-use Rattle.std.proofs.Common.{◌≡◌, ℕ, zero, suc, ◌+◌, ◌<◌, List, [], ◌∷◌, ◌++◌, map, length, Bool, true, false, not, ◌&&◌, ◌||◌, refl, sym, ap, subst, ◌∙◌, arith, ◌⊎◌, inl, inr, get_or}
-use Rattle.std.specs.Prelude.{Option, Some, None, nat_eq, slice_get}
-use Rattle.std.proofs.lemmas.Bool.{cases_Bool, cases_eq, ne_eqb, eq-eqb}
+use Rattle.std.proofs.Common.{◌≡◌, ℕ, zero, suc, ◌<◌, List, [], ◌∷◌, map, length, Bool, true, false, not, ◌&&◌, ◌||◌, refl, sym, ap, subst, ◌∙◌, arith, ◌⊎◌, inl, inr}
+use Rattle.std.specs.Prelude.{nat_eq, slice_get}
+use Rattle.std.proofs.lemmas.Bool.{cases_eq, ne_eqb, eq-eqb}
 use Rattle.four_value.specs.Values.{LogicValue, same_value}
 use Rattle.four_value.specs.ValueLaws.{same_value-refl}
 use Rattle.v_design.specs.Lists.{has, joined, map_numbered, change_at}
 use Rattle.v_design.specs.Designs.{Machine}
 use Rattle.v_design.specs.Assignments.{ValueUpdate, value_at}
-use Rattle.v_design.specs.States.{State, ProcessState, found_or, idle_process, process_at, written, value_written, woken_process, is_ready, some_entry}
-use Rattle.v_design.specs.Accesses.{ObjectAccess, Writing, is_waiting, waiting_entries, ended_accesses, write_accesses, update_accesses}
+use Rattle.v_design.specs.States.{State, ProcessState, found_or, idle_process, process_at, written, value_written, is_ready, some_entry}
+use Rattle.v_design.specs.Accesses.{ObjectAccess, is_waiting, waiting_entries, update_accesses}
 use Rattle.value_change.specs.Changes.{ObjectChange, matches_one, woken_by, ended_by_changes}
 use Rattle.value_change.specs.ChangeLaws.{write_of_change, wakes-by-change, ends-by-change, woken-waits}
 use Rattle.event_queue.specs.Queues.{numbers_where}
