@@ -4,6 +4,6 @@ pub mod Sleeps
 pub mod Steps
 pub mod Bodies
 pub mod RowSteps
-pub mod Woken
+pub mod Wakes
 pub mod Members
 pub mod TableCalls

@@ -25,7 +25,7 @@ use Rattle.process_table.specs.Rows.{RowState, row_state, row_states, row_text, 
 use Rattle.process_table.specs.Arranged.{with_held, processes_of, row_ready, row_busy, row_holding, row_activity, IsTable}
 use Rattle.process_table.specs.Wakes.{HasWoken, HasWaiters}
 use Rattle.process_table.proofs.Lists.{first_place-map, change-none}
-use Rattle.process_table.proofs.Woken.{wakes, woken-none, ended-none}
+use Rattle.process_table.proofs.Wakes.{wakes, woken-none, ended-none}
 use Rattle.process_table.proofs.Changed.{no_row, processes-change_row, at-process, map-processes, length-processes, queue-length, holding-at, changed, ready-unseen, lanes-unseen, queue-unseen, after-at, waits-at, rows-length}
 use Rattle.process_table.proofs.Steps.{waitable-readied, readied-free}
 

@@ -6,4 +6,3 @@ pub mod WaitedLaws
 pub mod Rows
 pub mod Arranged
 pub mod Wakes
-pub mod Noted

@@ -12,9 +12,6 @@ mod row;
 mod rows;
 mod set;
 mod table;
-mod turns;
-mod waits;
-mod wakes;
 
 pub use deed::{Act, Stepped, TableTurn};
 pub use table::ProcessTable;

@@ -1,4 +1,0 @@
-pub mod Standing
-pub mod Moments
-pub mod StepDeeds
-pub mod Phases
