@@ -1,0 +1,4 @@
+pub mod ObjectViews
+pub mod PieceLaws
+pub mod WordLaws
+pub mod Driven
