@@ -137,8 +137,10 @@ fn stand_so(nodes: &[Node], order: &[u8]) -> bool {
 /// Whether the nodes of a row stand in the row's order.
 fn is_right(alloc: Global, row: &Row) -> Result<bool, NoMemory> {
     let mut nodes = Vec::new(alloc);
-    for (number, (inputs, outputs)) in row.nodes.iter().enumerate() {
-        nodes.push(node(alloc, number as u8, inputs, outputs)?)?;
+    let mut number = 0u8;
+    for (inputs, outputs) in row.nodes {
+        nodes.push(node(alloc, number, inputs, outputs)?)?;
+        number = number.saturating_add(1);
     }
     let all = declared(alloc, row.objects)?;
     if all.len() > 65536 || !are_among(&nodes, all.len()) {
