@@ -1,4 +1,5 @@
 pub mod Lists
+pub mod Numbers
 pub mod Changed
 pub mod Sleeps
 pub mod Steps
@@ -7,3 +8,12 @@ pub mod RowSteps
 pub mod Woken
 pub mod Members
 pub mod TableCalls
+pub mod Matching
+pub mod Candidates
+pub mod Nets
+pub mod NotedLaws
+pub mod WaitCalls
+pub mod EachChanged
+pub mod TurnedLaws
+pub mod SmallRules
+pub mod SmallTables

@@ -41,7 +41,7 @@ wait-wakes now place condition body tasks false = tt
 
 statement-wakes : (now : ℕ) (operands : List LogicValue) (statement : Statement) (tasks : List Task) → Wakes now (statement_step now operands statement tasks)
 statement-wakes now operands Null tasks = tt
-statement-wakes now operands (Block statements) tasks = tt
+statement-wakes now operands (Block inner) tasks = tt
 statement-wakes now operands (If place condition first second) tasks = reads-wakes now place.line _ operands (read_expression condition operands) _ (λ value. tt)
 statement-wakes now operands (Case place kind value items default) tasks = reads-wakes now place.line _ operands (read_case kind value items default operands) _ (λ statement. tt)
 statement-wakes now operands (For place first_targets first condition next_targets next body) tasks =

@@ -66,7 +66,7 @@ change-stays d f k [] e = refl
 change-stays d f zero (x ∷ xs) e = ap (λ y. y ∷ xs) e
 change-stays d f (suc k) (x ∷ xs) e = ap (λ ys. x ∷ ys) (change-stays d f k xs e)
 
-listed-more : {A B : Type 0} (d : A) (give : ℕ → A → List B) (n k m : ℕ) (xs : List A) → n + k ≡ m → give m d ≡ [] → listed_below give n (suc k) xs ≡ listed_below give n k xs ++ give m (found_or d (slice_get xs k))
+pub listed-more : {A B : Type 0} (d : A) (give : ℕ → A → List B) (n k m : ℕ) (xs : List A) → n + k ≡ m → give m d ≡ [] → listed_below give n (suc k) xs ≡ listed_below give n k xs ++ give m (found_or d (slice_get xs k))
 listed-more d give n zero m [] e none = sym none
 listed-more d give n zero m (x ∷ xs) e none = append-nil (give n x) ∙ (let same : n ≡ m = omega (arith, e) in ap (λ i. give i x) same)
 listed-more d give n (suc k) m [] e none = sym none
@@ -81,7 +81,7 @@ below-all f zero (x ∷ xs) past = absurd (omega (arith, past))
 below-all f (suc k) [] past = refl
 below-all f (suc k) (x ∷ xs) past = ap (λ ys. f x ∷ ys) (below-all f k xs (omega (arith, past)))
 
-listed-all : {A B : Type 0} (give : ℕ → A → List B) (n k : ℕ) (xs : List A) → length xs ≤ k → listed_below give n k xs ≡ joined (map_numbered give n xs)
+pub listed-all : {A B : Type 0} (give : ℕ → A → List B) (n k : ℕ) (xs : List A) → length xs ≤ k → listed_below give n k xs ≡ joined (map_numbered give n xs)
 listed-all give n zero [] past = refl
 listed-all give n zero (x ∷ xs) past = absurd (omega (arith, past))
 listed-all give n (suc k) [] past = refl
@@ -193,16 +193,17 @@ one-none changes table entries0 entries1 ended n none noted = record {
   ended = sym (append-nil ended) ∙ ap (λ es. ended ++ es) (sym (number-none changes n (process_in table n) none));
 }
 
+-- a process that isn't there is done
+pub nobody : (xs : List ProcessState) (n : ℕ) → length xs ≤ n → found_or idle_process (slice_get xs n) ≡ idle_process
+nobody [] n past = refl
+nobody (x ∷ xs) zero past = absurd (omega (arith, past))
+nobody (x ∷ xs) (suc n) past = nobody xs n (omega (arith, past))
+
 -- one that isn't there
 pub one-past : (changes : List ObjectChange) (table : TableState) (entries0 : List ObjectAccess) (ended : List ℕ) (n : ℕ) → length table.processes ≤ n → IsWokenAt changes table table entries0 entries0 ended ended n
 one-past changes table entries0 ended n past =
     let idle : process_in table n ≡ idle_process = nobody table.processes n past in
     one-none changes table entries0 entries0 ended n (ap (is_woken changes) idle) (sym (append-nil entries0) ∙ ap (λ p. entries0 ++ ended_by_changes changes n p) (sym idle))
-  where
-    nobody : (xs : List ProcessState) (n : ℕ) → length xs ≤ n → found_or idle_process (slice_get xs n) ≡ idle_process
-    nobody [] n past = refl
-    nobody (x ∷ xs) zero past = absurd (omega (arith, past))
-    nobody (x ∷ xs) (suc n) past = nobody xs n (omega (arith, past))
 
 -- one that is woken
 pub one-woken : (changes : List ObjectChange) (old new : TableState) (entries0 entries1 : List ObjectAccess) (ended0 ended1 : List ℕ) (n : ℕ) → is_woken changes (process_in old n) ≡ true →
@@ -213,3 +214,50 @@ one-woken changes old new entries0 entries1 ended0 ended1 n some becomes noted n
   entries = noted;
   ended = numbered ∙ ap (λ b. ended0 ++ number_if b n []) (sym some);
 }
+
+-- One candidate after another
+
+-- before the first
+pub reach-start : (candidates : List ℕ) → Reaches candidates 0 0
+reach-start candidates = record { seen = λ j low. absurd (omega (arith, low)); ahead = λ j low high. omega arith }
+
+-- a candidate that was seen
+pub reach-seen : (candidates : List ℕ) (place next number : ℕ) → number ≡ get_or candidates place 0 → number < next → Reaches candidates place next → Reaches candidates (place + 1) next
+reach-seen candidates place next number is low reaches = record {
+  seen = λ j below.
+      elim (cases_lt j place) [
+        | inl before ↦ reaches.seen j before
+        | inr after ↦ let same : j ≡ place = omega (arith, below, after) in subst (λ k. get_or candidates k 0 < next) (sym same) (omega (arith, is, low))
+      ];
+  ahead = λ j above within. reaches.ahead j (omega (arith, above)) within;
+}
+
+-- the next candidate
+pub reach-next : (candidates : List ℕ) (place next number : ℕ) → number ≡ get_or candidates place 0 → next ≤ number → Climbs candidates → Reaches candidates place next → Reaches candidates (place + 1) (number + 1)
+reach-next candidates place next number is low climbs reaches = record {
+  seen = λ j below.
+      elim (cases_lt j place) [
+        | inl before ↦ omega (arith, reaches.seen j before, low)
+        | inr after ↦ let same : j ≡ place = omega (arith, below, after) in subst (λ k. get_or candidates k 0 < number + 1) (sym same) (omega (arith, is))
+      ];
+  ahead = λ j above within. omega (arith, is, climbs place j (omega (arith, above)) within);
+}
+
+module _ (changes : List ObjectChange) (old : TableState) (entries0 : List ObjectAccess) (ended0 : List ℕ) (candidates : List ℕ) (all : HasWoken changes old.processes candidates) where
+  -- it is woken, or stays
+  pub wake-next : (new next_table : TableState) (entries1 entries2 : List ObjectAccess) (ended1 ended2 : List ℕ) (place next number : ℕ) → place < length candidates → number ≡ get_or candidates place 0 → next ≤ number → Climbs candidates →
+      Reaches candidates place next → IsWokenBelow changes old new entries0 entries1 ended0 ended1 next → IsWokenAt changes new next_table entries1 entries2 ended1 ended2 number →
+      IsWokenBelow changes old next_table entries0 entries2 ended0 ended2 (number + 1)
+  wake-next new next_table entries1 entries2 ended1 ended2 place next number there is low climbs reaches below at =
+      let e : next + (number - next) ≡ number = omega (arith, low) in
+      woken-step changes old entries0 ended0 new next_table entries1 entries2 ended1 ended2 number
+      (subst (IsWokenBelow changes old new entries0 entries1 ended0 ended1) e
+      (woken-skips changes old entries0 ended0 new entries1 ended1 next (number - next)
+      (λ n from to. between changes old.processes candidates place next n all reaches from (λ j above within. omega (arith, climbs place j above within, is, to, e)))
+      below)) at
+
+  -- and behind the last nobody is
+  pub wake-end : (new : TableState) (entries1 : List ObjectAccess) (ended1 : List ℕ) (place next : ℕ) → length candidates ≤ place → Reaches candidates place next → IsWokenBelow changes old new entries0 entries1 ended0 ended1 next →
+      IsWoken changes old new entries0 entries1 ended0 ended1
+  wake-end new entries1 ended1 place next past reaches below =
+      woken-end changes old entries0 ended0 new entries1 ended1 next (λ n from. between changes old.processes candidates place next n all reaches from (λ j above within. absurd (omega (arith, above, within, past)))) below

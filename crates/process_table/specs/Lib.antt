@@ -7,3 +7,5 @@ pub mod Rows
 pub mod Arranged
 pub mod Wakes
 pub mod Noted
+pub mod Turned
+pub mod SmallDesign

@@ -1,6 +1,6 @@
 -- The processes that some changes may make ready (IEEE 1364-2001, clause 9.7).
 use Rattle.std.specs.Prelude.{◌≡◌, ℕ, zero, suc, ◌+◌, ◌≤◌, ◌<◌, true, List, [], ◌∷◌, ◌++◌, map, length, get_or, slice_get, Some}
-use Rattle.v_design.specs.Lists.{has, change_at, joined, map_numbered}
+use Rattle.v_design.specs.Lists.{has, AllHold, change_at, joined, map_numbered}
 use Rattle.v_design.specs.States.{ProcessState, found_or, idle_process}
 use Rattle.v_design.specs.Accesses.{ObjectAccess}
 use Rattle.value_change.specs.Changes.{ObjectChange, woken_by, ended_by_changes}
@@ -15,10 +15,9 @@ Climbs numbers = (low high : ℕ) → low ≤ high → high < length numbers →
 abbrev pub HasWoken : List ObjectChange → List ProcessState → List ℕ → Type 0
 HasWoken changes processes numbers = (number : ℕ) → is_woken changes (found_or idle_process (slice_get processes number)) ≡ true → has numbers number ≡ true
 
--- each number in the lists of the changed objects is in a list
+-- each number in the list of the object of each of some changes is in a list
 abbrev pub HasWaiters : List (List ℕ) → List ObjectChange → List ℕ → Type 0
-HasWaiters index changes numbers =
-    (place : ℕ) (change : ObjectChange) → slice_get changes place ≡ Some change → (number : ℕ) → has (get_or index change.object []) number ≡ true → has numbers number ≡ true
+HasWaiters index changes numbers = AllHold (λ (change : ObjectChange). (number : ℕ) → has (get_or index change.object []) number ≡ true → has numbers number ≡ true) changes
 
 -- the elements below a number are changed
 abbrev pub changed_below : {A : Type 0} → (A → A) → ℕ → List A → List A

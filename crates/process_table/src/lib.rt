@@ -7,11 +7,14 @@
 
 mod calls;
 mod deed;
+mod entries;
 mod holds;
 mod row;
 mod rows;
 mod set;
 mod table;
+#[cfg(test)]
+mod tests;
 mod turns;
 mod waits;
 mod wakes;
