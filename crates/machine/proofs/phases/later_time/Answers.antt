@@ -13,3 +13,6 @@ returns-in-Some-Postponed c = λ machine state of. ap time_in (ap (λ (t : Table
 
 pub returns-in-Some-Updates : goal.returns-in-Some-Updates
 returns-in-Some-Updates c = λ machine state of. ap time_in (ap (λ (t : TableTurn). Some (turn_kind t)) (sym c.in-Some-Updates.field-0-is) ∙ c.in-Some-Updates.ensures machine state of)
+
+pub returns-in-None : goal.returns-in-None
+returns-in-None c = λ machine state of. ap time_in (c.in-None.ensures machine state of)
