@@ -1,5 +1,5 @@
 -- The event of the least node, lane or process leads to the next moment (IEEE 1364-2001, clause 5).
-use Rattle.std.proofs.Common.{◌≡◌, ℕ, ◌+◌, ◌<◌, ◌≤◌, ◌^◌, List, map, length, sym, ap, subst, ◌∙◌}
+use Rattle.std.proofs.Common.{◌≡◌, ℕ, ◌+◌, ◌<◌, ◌≤◌, ◌^◌, List, [], ◌∷◌, map, length, sym, ap, subst, ◌∙◌}
 use Rattle.std.specs.Prelude.{Option, Some, None, slice_get, true}
 use Rattle.vf_base.specs.Base.{object_number, process_number}
 use Rattle.v_design.specs.PlainDesigns.{design_of}
@@ -72,6 +72,14 @@ ready-low m process moving ready =
 -- the least lane has an update, and is one of the design
 pub lane-there : (m : Simulated) (process : ℕ) → first_lane (state_kept m) ≡ Some process → is_any (process_at (state_kept m) process).lane ≡ true
 lane-there m process lane = (placed (λ (p : ProcessState). is_any p.lane) idle_process (state_kept m).processes process lane).0
+
+-- so a first one is found
+pub lane-never : (m : Simulated) (process : ℕ) → first_lane (state_kept m) ≡ Some process → None ≡ first_update (process_in (table_of m.table) process).lane → ⊥
+lane-never m process lane none = go (process_at (state_kept m) process).lane (lane-there m process lane) none
+  where
+    go : (updates : List ValueUpdate) → is_any updates ≡ true → None ≡ first_update updates → ⊥
+    go [] any none = cc
+    go (update ∷ updates) any none = cc
 
 pub lane-low : (m : Simulated) (process : ℕ) → first_lane (state_kept m) ≡ Some process → process < length (table_of m.table).processes
 lane-low m process lane = (placed (λ (p : ProcessState). is_any p.lane) idle_process (state_kept m).processes process lane).1
