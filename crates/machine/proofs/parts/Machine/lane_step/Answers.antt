@@ -21,7 +21,7 @@ note_lane-requires-clause-process c =
     (lane-low m (process_number c.args.process) c.requires.lanes)
 
 pub unreachable-requires : goal.unreachable-requires
-unreachable-requires c = lane-never c.args.self.now (process_number c.args.process) c.requires.lanes c.in-None.ensures.update
+unreachable-requires c = lane-never c.args.self.now (process_number c.args.process) c.lane_step.result c.requires.lanes c.lane_step.ensures.update c.in_default.not-Some
 
 pub returns : goal.returns
 returns c =

@@ -104,7 +104,7 @@ returns c =
       changes = c.work.new.changes;
       table = c.wake.new.self;
       told = record { accesses = c.wake.new.accesses; changed = c.clear.new.self.changed; ended = c.wake.new.ended };
-      record = c.note_node.new.record;
+      «record» = c.note_node.new.record;
     } in
     node-goes c.slot_goes_on.ensures.node m new (node_number c.args.node) (node_of c.index-as_slice-node.result) changes _ _ c.requires.node here c.in_ok-work.ensures.machine c.in_ok-work.ensures.after c.in_ok-work.ensures.changes
     woken.table c.in_ok-wake.ensures.kept
