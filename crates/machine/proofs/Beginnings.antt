@@ -1,7 +1,6 @@
 -- The next slot begins (IEEE 1364-2001, clause 5.4).
 use Rattle.std.proofs.Common.{◌≡◌, ℕ, ◌≤◌, ◌^◌, List, [], length, refl, sym, ap, subst, ◌∙◌}
-use Rattle.std.specs.Prelude.{Option, Some, None}
-use Rattle.std.specs.Option.{ForSome}
+use Rattle.std.specs.Prelude.{Option, Some, None, IsSomeAnd}
 use Rattle.v_design.specs.PlainDesigns.{design_of}
 use Rattle.v_design.specs.Designs.{FlatDesign, Machine}
 use Rattle.v_design.specs.States.{State, TurnKind, PostponedTurn, UpdatesTurn, TimeTurn, found_or, turn_of, time_turn}
@@ -30,7 +29,7 @@ pub some-state : (x y : State) → Some x ≡ Some y → x ≡ y
 some-state x y e = ap (found_or x) e
 
 -- what is left of a run
-pub found-some : (o : Option State) (P : State → Type 0) → ForSome o P → (x : State) × (o ≡ Some x) × P x
+pub found-some : (o : Option State) (P : State → Type 0) → IsSomeAnd o P → (x : State) × (o ≡ Some x) × P x
 found-some None P h = absurd h
 found-some (Some x) P h = (x, refl, h)
 

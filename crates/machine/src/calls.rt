@@ -1,6 +1,6 @@
 // What a machine can do.
 
-ghost use Rattle.std.specs.Prelude.{◌≡◌, ◌≤◌, ◌^◌, ℕ, Some, IfOk};
+ghost use Rattle.std.specs.Prelude.{◌≡◌, ◌≤◌, ◌^◌, ℕ, Some, IfOk, IsSomeAnd};
 ghost use Rattle.std.specs.Option.{ForSome, option_map};
 ghost use Rattle.v_design.specs.States.{State, start};
 ghost use Rattle.v_design.specs.Views.{machine_with};
@@ -79,6 +79,32 @@ impl<'d> Machine<'d> {
     ) -> Result<SlotEnd, NoMemory>
         requires standing { IsStanding self.old }
         requires left { ForSome (begins_next self.old) (λ begins. begins.time ≤ 2 ^ 63) }
+        ensures machine { IfOk result (λ _. machine_kept self.new ≡ machine_kept self.old) }
+        ensures slot { IfOk result (λ end. (begins : State) → begins_next self.old ≡ Some begins → RunsSlot (machine_kept self.old) begins (first_turn self.old.stage) end self.new log.new) }
+        ensures every_order { IfOk result (λ _. (begins : State) → begins_next self.old ≡ Some begins → EveryOrderEndsHere (machine_kept self.old) begins self.new) }
+        ensures standing { IfOk result (λ _. IsStanding self.new) }
+    {
+        match self.next_time() {
+            Some(_) => {
+                let end = self.next_slot(log, steps)?;
+                Ok(end)
+            }
+            None => Ok(SlotEnd::Fine),
+        }
+    }
+
+    /// Runs the next slot, which there is.
+    ///
+    /// # Errors
+    ///
+    /// Want of memory.
+    fn next_slot<L: Ledger>(
+        &mut self,
+        log: &mut SlotLog,
+        steps: &mut Steps<L>,
+    ) -> Result<SlotEnd, NoMemory>
+        requires standing { IsStanding self.old }
+        requires left { IsSomeAnd (begins_next self.old) (λ begins. begins.time ≤ 2 ^ 63) }
         ensures machine { IfOk result (λ _. machine_kept self.new ≡ machine_kept self.old) }
         ensures slot { IfOk result (λ end. (begins : State) → begins_next self.old ≡ Some begins → RunsSlot (machine_kept self.old) begins (first_turn self.old.stage) end self.new log.new) }
         ensures every_order { IfOk result (λ _. (begins : State) → begins_next self.old ≡ Some begins → EveryOrderEndsHere (machine_kept self.old) begins self.new) }

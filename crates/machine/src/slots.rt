@@ -1,7 +1,6 @@
 // The beginning and the end of a slot.
 
-ghost use Rattle.std.specs.Prelude.{◌≡◌, ◌≤◌, ◌^◌, ℕ, IfOk, OnOk};
-ghost use Rattle.std.specs.Option.{ForSome};
+ghost use Rattle.std.specs.Prelude.{◌≡◌, ◌≤◌, ◌^◌, ℕ, IfOk, OnOk, IsSomeAnd};
 ghost use Rattle.slot_record.specs.SlotRecords.{IsEmptyLog};
 ghost use Rattle.machine.specs.Standing.{IsStanding, begins_next, outcome_of};
 ghost use Rattle.machine.specs.Phases.{IsBegun, BeginsSlotHere, IsEnded, FinishesSlot, outcome_told, stage_after};
@@ -54,7 +53,7 @@ impl<'d> Machine<'d> {
     /// Want of memory.
     pub(crate) fn begin_slot(&mut self, log: &mut SlotLog) -> Result<(), NoMemory>
         requires standing { IsStanding self.old }
-        requires left { ForSome (begins_next self.old) (λ begins. begins.time ≤ 2 ^ 63) }
+        requires left { IsSomeAnd (begins_next self.old) (λ begins. begins.time ≤ 2 ^ 63) }
         ensures { OnOk result (BeginsSlotHere self.old self.new log.new) }
     {
         slot_laws::slot_goes_on();

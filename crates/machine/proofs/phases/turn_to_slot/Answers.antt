@@ -14,11 +14,11 @@ returns-in-Start-clause-turn c = sym (ap first_turn c.in-Start.is)
 pub returns-in-Start-clause-begins : goal.returns-in-Start-clause-begins
 returns-in-Start-clause-begins c = λ machine state begins of next. start-table c.args.stage machine state begins _ c.in-Start.is of next
 
-pub returns-in_ok-turn-clause-turn : goal.returns-in_ok-turn-clause-turn
-returns-in_ok-turn-clause-turn c = sym (ap first_turn c.in-Between.is)
+pub returns-in_ok-turn-in-Between-clause-turn : goal.returns-in_ok-turn-in-Between-clause-turn
+returns-in_ok-turn-in-Between-clause-turn c = sym (ap first_turn c.in-Between.is)
 
-pub returns-in_ok-turn-clause-begins : goal.returns-in_ok-turn-clause-begins
-returns-in_ok-turn-clause-begins c = λ machine state begins of next. between-table c.args.stage machine state begins _ c.in-Between.is (c.in_ok-turn.ensures.turned machine state of) next
+pub returns-in_ok-turn-in-Between-clause-begins : goal.returns-in_ok-turn-in-Between-clause-begins
+returns-in_ok-turn-in-Between-clause-begins c = λ machine state begins of next. between-table c.args.stage machine state begins _ c.in-Between.is (c.in_ok-turn-in-Between.ensures.turned machine state of) next
 
 pub returns-in-Over-clause-turn : goal.returns-in-Over-clause-turn
 returns-in-Over-clause-turn c = sym (ap first_turn c.in-Over.is)
