@@ -1,7 +1,10 @@
 -- The event of the least node, lane or process leads to the next moment (IEEE 1364-2001, clause 5).
-use Rattle.std.proofs.Common.{◌≡◌, ℕ, ◌+◌, ◌<◌, ◌≤◌, ◌^◌, List, map, length, sym, ap, subst, ◌∙◌}
+use Rattle.std.proofs.Common.{◌≡◌, ℕ, ◌+◌, ◌<◌, ◌≤◌, ◌^◌, List, [], ◌∷◌, map, length, refl, sym, ap, subst, ◌∙◌}
 use Rattle.std.specs.Prelude.{Option, Some, None, slice_get, true}
+use Rattle.std.specs.Option.{option_map}
 use Rattle.vf_base.specs.Base.{object_number, process_number}
+use Rattle.v_design.specs.declared.plan.Update.{Update}
+use Rattle.v_design.specs.Plain.{update_of}
 use Rattle.v_design.specs.PlainDesigns.{design_of}
 use Rattle.v_design.specs.WellFormed.{KeepsRules}
 use Rattle.v_design.specs.Designs.{FlatDesign, FlatNode, Machine}
@@ -72,6 +75,16 @@ ready-low m process moving ready =
 -- the least lane has an update, and is one of the design
 pub lane-there : (m : Simulated) (process : ℕ) → first_lane (state_kept m) ≡ Some process → is_any (process_at (state_kept m) process).lane ≡ true
 lane-there m process lane = (placed (λ (p : ProcessState). is_any p.lane) idle_process (state_kept m).processes process lane).0
+
+-- so that it has a first one
+pub lane-never : (m : Simulated) (process : ℕ) (found : Option Update) → first_lane (state_kept m) ≡ Some process → option_map update_of found ≡ first_update (process_in (table_of m.table) process).lane →
+    ((update : Update) → found ≡ Some update → ⊥) → ⊥
+lane-never m process found lane same none = go found (process_at (state_kept m) process).lane (lane-there m process lane) same none
+  where
+    go : (o : Option Update) (updates : List ValueUpdate) → is_any updates ≡ true → option_map update_of o ≡ first_update updates → ((update : Update) → o ≡ Some update → ⊥) → ⊥
+    go None [] any e none = cc
+    go None (first ∷ updates) any e none = cc
+    go (Some update) updates any e none = none update refl
 
 pub lane-low : (m : Simulated) (process : ℕ) → first_lane (state_kept m) ≡ Some process → process < length (table_of m.table).processes
 lane-low m process lane = (placed (λ (p : ProcessState). is_any p.lane) idle_process (state_kept m).processes process lane).1

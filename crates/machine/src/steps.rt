@@ -78,7 +78,44 @@ fn tell_read(
     Ok(())
 }
 
-/// Does to the values and the nodes what a step did, and tells it. A process names objects of its design alone.
+/// Does to the values and the nodes what a step did to an object, and tells it. A process names objects of its design alone.
+///
+/// # Errors
+///
+/// Want of memory.
+fn finish_act(
+    nets: &mut NetState,
+    table: &mut ProcessTable,
+    told: &mut Told,
+    process: ProcId,
+    stepped: &Stepped,
+    act: &Act,
+) -> Result<(), NoMemory>
+    requires kept { IsKept table.old }
+    requires design { (table_of table.old).design ≡ (machine_in nets.old).design }
+    requires values { length (values_in nets.old) ≡ length (machine_in nets.old).design.objects }
+    requires act { stepped.now.act ≡ Some act.now }
+    ensures { OnOk result (FinishesStep (process_number process) stepped.now nets.old nets.new table.old table.new told.new) }
+{
+    match act {
+        Act::Write(update) => {
+            if !is_there(nets, update.object) {
+                return Err(NoMemory);
+            }
+            write_update(nets, table, told, update, process, stepped.line)?;
+            Ok(())
+        }
+        Act::Read(object) => {
+            if !is_there(nets, *object) {
+                return Err(NoMemory);
+            }
+            tell_read(table, told, *object, process, stepped.line)?;
+            Ok(())
+        }
+    }
+}
+
+/// Does to the values and the nodes what a step did, and tells it.
 ///
 /// # Errors
 ///
@@ -95,19 +132,9 @@ fn finish_step(
     requires values { length (values_in nets.old) ≡ length (machine_in nets.old).design.objects }
     ensures { OnOk result (FinishesStep (process_number process) stepped.now nets.old nets.new table.old table.new told.new) }
 {
-    match stepped.act {
-        Some(Act::Write(update)) => {
-            if !is_there(nets, update.object) {
-                return Err(NoMemory);
-            }
-            write_update(nets, table, told, &update, process, stepped.line)?;
-            Ok(())
-        }
-        Some(Act::Read(object)) => {
-            if !is_there(nets, object) {
-                return Err(NoMemory);
-            }
-            tell_read(table, told, object, process, stepped.line)?;
+    match &stepped.act {
+        Some(act) => {
+            finish_act(nets, table, told, process, stepped, act)?;
             Ok(())
         }
         None => {
@@ -160,7 +187,7 @@ impl<'d> Machine<'d> {
     {
         slot_laws::slot_goes_on();
         let Some(update) = self.table.lane_step(process) else {
-            return Err(NoMemory);
+            unreachable!();
         };
         if !is_there(&self.nets, update.object) {
             return Err(NoMemory);

@@ -7,7 +7,7 @@ use Rattle.process_table.specs.Tables.{TableState}
 use Rattle.process_table.specs.Arranged.{table_of}
 use Rattle.machine.proofs.Counts.{table-count}
 use Rattle.machine.proofs.Moved.{is-record, room-processes, fits-record}
-use Rattle.machine.proofs.Events.{lane-low, lane-moved}
+use Rattle.machine.proofs.Events.{lane-never, lane-low, lane-moved}
 use Rattle.machine.proofs.parts.Machine.lane_step.Goals as goal
 
 pub lane_step-requires-clause-number : goal.lane_step-requires-clause-number
@@ -19,6 +19,9 @@ note_lane-requires-clause-process c =
     subst (λ n. process_number c.args.process < n)
     (table-count m.table c.requires.moving.is.parts.table ∙ ap (λ (d : FlatDesign). length d.processes) c.requires.moving.is.parts.design ∙ room-processes m c.requires.moving)
     (lane-low m (process_number c.args.process) c.requires.lanes)
+
+pub unreachable-requires : goal.unreachable-requires
+unreachable-requires c = lane-never c.args.self.now (process_number c.args.process) c.lane_step.result c.requires.lanes c.lane_step.ensures.update c.in_default.not-Some
 
 pub returns : goal.returns
 returns c =

@@ -1,5 +1,5 @@
 -- The work is done and recorded, and leads to the next moment.
-use Rattle.std.proofs.Common.{◌≡◌, ◌<◌, ◌∙◌, ℕ, List, [], ◌∷◌, ◌++◌, Some, length, map, refl, sym, ap, subst, arith}
+use Rattle.std.proofs.Common.{◌≡◌, ◌<◌, ◌+◌, ◌∙◌, ℕ, List, [], ◌∷◌, ◌++◌, Some, length, map, refl, sym, ap, subst, arith}
 use Rattle.std.specs.Prelude.{slice_get}
 use Rattle.std.specs.List.{All}
 use Rattle.std.proofs.lemmas.List.{length-map}
@@ -25,6 +25,8 @@ use Rattle.phase_record.specs.Records.{object_count}
 use Rattle.process_table.specs.Tables.{is_woken}
 use Rattle.process_table.specs.Arranged.{table_of}
 use Rattle.process_table.specs.Noted.{AreNoted}
+use Rattle.process_table.specs.Wakes.{IsWoken}
+use Rattle.machine.specs.declared.parts.Machine.{Machine as Simulated}
 use Rattle.machine.specs.Standing.{machine_kept}
 use Rattle.machine.proofs.Counts.{table-count}
 use Rattle.machine.proofs.Moved.{rules-of, is-record, room-objects, fits-record}
@@ -93,8 +95,19 @@ returns c =
     let here : slice_get (machine_kept m).design.nodes (node_number c.args.node) ≡ Some (node_of c.index-as_slice-node.result) =
     subst (λ (f : FlatDesign). slice_get f.nodes (node_number c.args.node) ≡ Some (node_of c.index-as_slice-node.result)) c.requires.moving.is.parts.graph
     (at-list d c.as_slice.result.now (node_number c.args.node) c.index-as_slice-node.result c.as_slice.ensures low c.index-as_slice-node.is) in
-    node-goes c.slot_goes_on.ensures.node m _ (node_number c.args.node) (node_of c.index-as_slice-node.result) changes _ _ c.requires.node here c.in_ok-work.ensures.machine c.in_ok-work.ensures.after c.in_ok-work.ensures.changes
-    c.in_ok-wake.ensures.woken.table c.in_ok-wake.ensures.kept
-    (c.in_ok-wake.ensures.woken.entries ∙ ap (λ (l : List Noted). map noted_access l ++ joined (map_numbered (ended_by_changes (map change_seen changes)) 0 (table_of m.table).processes)) c.clear.ensures.accesses)
-    (c.in_ok-wake.ensures.woken.ended ∙ ap (λ (l : List ProcId). map process_number l ++ numbers_where (is_woken (map change_seen changes)) 0 (table_of m.table).processes) c.clear.ensures.ended)
+    let woken : IsWoken (map change_seen changes) (table_of m.table) (table_of c.wake.new.self) (map noted_access c.clear.new.self.accesses.items) (map noted_access c.wake.new.accesses.items)
+    (map process_number c.clear.new.self.ended.items) (map process_number c.wake.new.ended.items) =
+    subst (λ (l : List Change). IsWoken (map change_seen l) (table_of m.table) (table_of c.wake.new.self) (map noted_access c.clear.new.self.accesses.items) (map noted_access c.wake.new.accesses.items)
+    (map process_number c.clear.new.self.ended.items) (map process_number c.wake.new.ended.items)) c.deref.ensures.value c.in_ok-wake.ensures.woken in
+    let new : Simulated = record m {
+      nets = c.work.new.self;
+      changes = c.work.new.changes;
+      table = c.wake.new.self;
+      told = record { accesses = c.wake.new.accesses; changed = c.clear.new.self.changed; ended = c.wake.new.ended };
+      «record» = c.note_node.new.record;
+    } in
+    node-goes c.slot_goes_on.ensures.node m new (node_number c.args.node) (node_of c.index-as_slice-node.result) changes _ _ c.requires.node here c.in_ok-work.ensures.machine c.in_ok-work.ensures.after c.in_ok-work.ensures.changes
+    woken.table c.in_ok-wake.ensures.kept
+    (woken.entries ∙ ap (λ (l : List Noted). map noted_access l ++ joined (map_numbered (ended_by_changes (map change_seen changes)) 0 (table_of m.table).processes)) c.clear.ensures.accesses)
+    (woken.ended ∙ ap (λ (l : List ProcId). map process_number l ++ numbers_where (is_woken (map change_seen changes)) 0 (table_of m.table).processes) c.clear.ensures.ended)
     refl (map object_number c.index-as_slice-node.result.inputs) refl c.in_ok-note_node.ensures
