@@ -26,11 +26,7 @@ impl<'d> Machine<'d> {
         slot_laws::slot_goes_on();
         self.told.clear();
         self.nets.work(node, &mut self.changes)?;
-        self.table.wake(
-            &self.changes,
-            &mut self.told.accesses,
-            &mut self.told.ended,
-        )?;
+        self.table.wake(&self.changes, &mut self.told.accesses, &mut self.told.ended)?;
         let own = &self.graph.design.nodes.as_slice()[node.0 as usize];
         note_node(&mut self.record, &self.told, node, own, &self.changes)?;
         Ok(())
