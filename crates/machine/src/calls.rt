@@ -67,7 +67,7 @@ impl<'d> Machine<'d> {
     }
 
     /// Runs the next slot in the first order, to its end or through its first process or lane step past 100,000, and answers how it ends. `log` is
-    /// the log of its phases afterwards, whatever it held before.
+    /// the log of its phases afterwards, whatever it held before. Where no slot is left nothing is run.
     ///
     /// # Errors
     ///

@@ -14,7 +14,7 @@ returns c = record {
   machine_is = refl;
   runs = λ machine first begins ends.
       slot-run machine first begins c.args.hyper c.end_of.result c.args.self.now _ c.args.log.now c.end_phase.new.log _ ends c.in_ok-end_phase.ensures (c.end_of.ensures ∙ ap (outcome_told c.args.hyper) c.race.ensures) refl
-      c.stage_after.ensures refl refl refl c.time.ensures;
+      c.stage_after-self.ensures refl refl refl c.time-log.ensures;
   standing = λ machine first begins ends.
-      slot-stands c.slot_ends.ensures.next machine first begins c.args.hyper c.args.self.now _ c.args.log.now c.end_phase.new.log ends c.in_ok-end_phase.ensures refl refl refl c.stage_after.ensures;
+      slot-stands c.slot_ends.ensures.next machine first begins c.args.hyper c.args.self.now _ c.args.log.now c.end_phase.new.log ends c.in_ok-end_phase.ensures refl refl refl c.stage_after-self.ensures;
 }

@@ -15,7 +15,7 @@ run-requires g c =
     record {
       first = first_turn m.stage;
       begins = f.0;
-      runs = subst (λ k. Runs k (first_turn m.stage) f.0 0 _ _) (sym c.in_ok-begin_slot.ensures.machine_is) (c.in_ok-begin_slot.ensures.runs f.0 f.1);
+      runs = subst (λ k. Runs k (first_turn m.stage) f.0 0 c.begin_slot.new.self c.begin_slot.new.log) (sym c.in_ok-begin_slot.ensures.machine_is) (c.in_ok-begin_slot.ensures.runs f.0 f.1);
     }
 
 pub finish-requires : goal.finish-requires
@@ -23,7 +23,7 @@ finish-requires g c =
     let m = c.args.self.now in
     let f = found-some (begins_next m) (λ begins. begins.time ≤ 2 ^ 63) c.requires.left in
     let ends = c.in_ok-hyper.ensures.ends (machine_kept m) (first_turn m.stage) f.0 (c.in_ok-begin_slot.ensures.runs f.0 f.1) in
-    record { first = first_turn m.stage; begins = f.0; ends = subst (λ k. EndsSlot k (first_turn m.stage) f.0 c.in_ok-hyper.hyper _ _) (sym ends.is.machine_is) ends }
+    record { first = first_turn m.stage; begins = f.0; ends = subst (λ k. EndsSlot k (first_turn m.stage) f.0 c.in_ok-hyper.hyper c.run.new.self c.run.new.log) (sym ends.is.machine_is) ends }
 
 pub returns-clause-machine : goal.returns-clause-machine
 returns-clause-machine g c =
