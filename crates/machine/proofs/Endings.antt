@@ -1,0 +1,97 @@
+-- A slot is at its end (IEEE 1364-2001, clause 5.4).
+use Rattle.std.proofs.Common.{◌≡◌, ℕ, ◌≤◌, List, map, length, Bool, true, false, refl, sym, ap, subst, ◌∙◌}
+use Rattle.std.specs.Prelude.{Option, Some, None}
+use Rattle.v_design.specs.PlainDesigns.{design_of}
+use Rattle.v_design.specs.Designs.{Machine}
+use Rattle.v_design.specs.States.{State, ProcessState, TimeTurn, time_turn, turn_of, has_event, some_in}
+use Rattle.v_design.specs.Runs.{slot_end, is_hyper}
+use Rattle.v_design.specs.Laws.{BeginsPhase}
+use Rattle.v_design.specs.Grades.{SlotOutcome, slot_outcome}
+use Rattle.causal_monitor.specs.declared.slot.Turn.{Turn}
+use Rattle.causal_monitor.specs.declared.slot.SlotLog.{SlotLog}
+use Rattle.causal_monitor.specs.declared.slot.Actor.{Actor}
+use Rattle.event_causes.specs.Causes.{AreCausesOf}
+use Rattle.phase_record.specs.Records.{event_of}
+use Rattle.phase_record.specs.SlotLogs.{IsSlotLog}
+use Rattle.slot_laws.specs.SlotLoop.{Moment, NextSlotsBegin, EndsAt, slot_from, phases_so_far}
+use Rattle.slot_record.specs.declared.record.SlotRecord.{SlotRecord}
+use Rattle.slot_record.specs.SlotRecords.{EndsPhase, RecordedSlot}
+use Rattle.slot_record.specs.SlotEnds.{outcome_kept, outcome-recorded, log-recorded}
+use Rattle.net_state.specs.States.{machine_in, values_in, nodes_in}
+use Rattle.process_table.specs.Arranged.{IsKept, table_of}
+use Rattle.machine.specs.declared.end.SlotEnd.{SlotEnd}
+use Rattle.machine.specs.declared.parts.Stage.{Stage}
+use Rattle.machine.specs.declared.parts.Stage.TheVariants.{Start, Between, Over}
+use Rattle.machine.specs.declared.parts.Machine.{Machine as Simulated}
+use Rattle.machine.specs.Standing.{machine_kept, state_kept, slot_after, begins_at, begins_next, following, outcome_of, IsStanding, RunsSlot}
+use Rattle.machine.specs.Phases.{EndsSlot, outcome_told, stage_after}
+use Rattle.machine.proofs.Moved.{graph-of}
+use Rattle.machine.proofs.Events.{rules-at}
+use Rattle.machine.proofs.TurnsOn.{idle-processes}
+use Rattle.machine.proofs.Beginnings.{later-slot}
+
+told-kept : (hyper : Bool) (kept : SlotRecord) → outcome_told hyper kept.race ≡ outcome_kept hyper kept
+told-kept true kept = refl
+told-kept false kept = refl
+
+next-is : (machine : Machine) (begins state : State) (hyper : Bool) → is_hyper (slot_from machine begins) ≡ hyper → state ≡ slot_end machine (slot_from machine begins) →
+    begins_at (stage_after hyper) state ≡ following machine (slot_from machine begins)
+next-is machine begins state true is same =
+    sym (ap (λ b. elim b [ true ↦ None | false ↦ slot_after (slot_end machine (slot_from machine begins)) (turn_of (slot_end machine (slot_from machine begins))) ]) is)
+next-is machine begins state false is same =
+    ap (λ s. slot_after s (turn_of s)) same
+    ∙ sym (ap (λ b. elim b [ true ↦ None | false ↦ slot_after (slot_end machine (slot_from machine begins)) (turn_of (slot_end machine (slot_from machine begins))) ]) is)
+
+-- the last phase is recorded
+pub ended-record : (machine : Machine) (first : Turn) (begins : State) (hyper : Bool) (old : Simulated) (log logged : SlotLog) (kept : SlotRecord) (ends : EndsSlot machine first begins hyper old log) →
+    EndsPhase (design_of old.graph.now.design.now) old.record kept log logged → RecordedSlot machine first (phases_so_far ends.at) kept logged
+ended-record machine first begins hyper old log logged kept ends phase = phase machine first ends.at.ended _ (sym (graph-of machine first ends.at old log ends.is)) ends.is.recorded
+
+-- what the slot gives
+pub slot-run : (machine : Machine) (first : Turn) (begins : State) (hyper : Bool) (end : SlotEnd) (old new : Simulated) (log logged timed : SlotLog) → EndsSlot machine first begins hyper old log →
+    EndsPhase (design_of old.graph.now.design.now) old.record new.record log logged → outcome_of end ≡ outcome_told hyper new.record.race → state_kept new ≡ state_kept old → new.stage ≡ stage_after hyper →
+    timed.phases ≡ logged.phases → timed.actors ≡ logged.actors → timed.turns ≡ logged.turns → timed.time ≡ (table_of old.table).time → RunsSlot machine begins first end new timed
+slot-run machine first begins hyper end old new log logged timed ends phase says same stage phases actors turns time =
+    let recorded : RecordedSlot machine first (phases_so_far ends.at) new.record logged = ended-record machine first begins hyper old log logged new.record ends phase in
+    let had = log-recorded machine hyper ends.at first new.record logged ends.ends recorded in
+    subst (λ b. RunsSlot machine b first end new timed) ends.begins_is
+    (record {
+      outcome = says ∙ told-kept hyper new.record ∙ sym (outcome-recorded machine hyper ends.at first new.record logged ends.ends recorded);
+      state = same ∙ ends.is.state_is ∙ sym ends.ends.end_is;
+      next = ap (λ s. begins_at s (state_kept new)) stage ∙ next-is machine ends.at.begins (state_kept new) hyper ends.ends.hyper_is (same ∙ ends.is.state_is ∙ sym ends.ends.end_is);
+      logged = record { phases_are = phases ∙ had.phases_are; actors_are = ap (map (λ (one : List Actor). map event_of one)) actors ∙ had.actors_are; turns_are = turns ∙ had.turns_are };
+      log_time = time ∙ ap (λ (s : State). s.time) ends.is.state_is ∙ ends.is.comes.same_time;
+    })
+
+between-not-hyper : (hyper : Bool) → stage_after hyper ≡ Between → hyper ≡ false
+between-not-hyper true e = cc
+between-not-hyper false e = refl
+
+next-begins : NextSlotsBegin → (machine : Machine) (first : Turn) (begins next : State) (hyper : Bool) (old : Simulated) (log : SlotLog) → EndsSlot machine first begins hyper old log → begins_at (stage_after hyper) (state_kept old) ≡ Some next →
+    BeginsPhase machine next
+next-begins law machine first begins next true old log ends e = cc
+next-begins law machine first begins next false old log ends e =
+    let l = later-slot (state_kept old) next (turn_of (state_kept old)) e in
+    subst (BeginsPhase machine) (ap (λ s. time_turn l.0 s) (sym ends.is.state_is) ∙ l.2)
+    (law machine ends.at l.0 (rules-at machine first ends.at old log ends.is) ends.is.comes (ends.idle refl) (ap turn_of (sym ends.is.state_is) ∙ l.1))
+
+-- the machine stands between two slots
+pub slot-stands : NextSlotsBegin → (machine : Machine) (first : Turn) (begins : State) (hyper : Bool) (old new : Simulated) (log logged : SlotLog) → EndsSlot machine first begins hyper old log →
+    EndsPhase (design_of old.graph.now.design.now) old.record new.record log logged → new.nets ≡ old.nets → new.table ≡ old.table → design_of new.graph.now.design.now ≡ design_of old.graph.now.design.now → new.stage ≡ stage_after hyper → IsStanding new
+slot-stands law machine first begins hyper old new log logged ends phase nets table graph stage =
+    let recorded : RecordedSlot machine first (phases_so_far ends.at) new.record logged = ended-record machine first begins hyper old log logged new.record ends phase in
+    let same : machine_kept new ≡ machine = ap machine_in nets ∙ ends.is.machine_is in
+    record {
+      table = subst IsKept (sym table) ends.is.parts.table;
+      design = ap (λ t. (table_of t).design) table ∙ ends.is.parts.design ∙ ap (λ n. (machine_in n).design) (sym nets);
+      graph = graph ∙ ends.is.parts.graph ∙ ap (λ n. (machine_in n).design) (sym nets);
+      values = subst (λ n. length (values_in n) ≡ length (machine_in n).design.objects) (sym nets) ends.is.parts.values;
+      earlier = recorded.earlier;
+      causes = subst (λ k. AreCausesOf k recorded.earlier new.record.phase.causes) (sym same) recorded.causes;
+      quiet = λ between.
+          ap (λ t. some_in has_event (table_of t).processes) table ∙ ap (λ (s : State). some_in has_event s.processes) ends.is.state_is
+          ∙ idle-processes ends.at.state (ends.idle (between-not-hyper hyper (sym stage ∙ between)));
+      begins = λ next e. subst (λ k. BeginsPhase k next) (sym same)
+          (next-begins law machine first begins next hyper old log ends
+          ((λ i. begins_at (sym stage i) (record { time = (table_of (sym table i)).time; values = values_in (sym nets i); nodes = nodes_in (sym nets i); processes = (table_of (sym table i)).processes })) ∙ e));
+    }

@@ -1,0 +1,11 @@
+pub mod Counts
+pub mod Moved
+pub mod Written
+pub mod Finished
+pub mod Events
+pub mod TurnsOn
+pub mod Made
+pub mod NodesOn
+pub mod Beginnings
+pub mod Endings
+pub mod Started

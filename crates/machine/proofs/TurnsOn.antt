@@ -1,0 +1,108 @@
+-- A phase ends, and a turn within the slot begins the next one (IEEE 1364-2001, clauses 5.3 and 5.4).
+use Rattle.std.proofs.Common.{◌≡◌, ℕ, ◌+◌, ◌<◌, ◌≤◌, ◌^◌, List, [], ◌∷◌, ◌++◌, Bool, true, false, not, ◌&&◌, ◌||◌, map, length, refl, sym, ap, subst, ◌∙◌}
+use Rattle.std.specs.Prelude.{Option, Some, None}
+use Rattle.four_value.specs.Values.{LogicValue}
+use Rattle.v_design.specs.PlainDesigns.{design_of}
+use Rattle.v_design.specs.Lists.{first_place, earlier_place, joined, map_numbered}
+use Rattle.v_design.specs.Designs.{FlatDesign, Machine}
+use Rattle.v_design.specs.States.{State, ProcessState, NodeState, TurnKind, PostponedTurn, UpdatesTurn, TimeTurn, turn_of, turned, has_event, some_in, is_ready, is_any}
+use Rattle.v_design.specs.Runs.{Turns, most_steps, turn_in_slot, turned_by}
+use Rattle.v_design.specs.Accesses.{ObjectAccess, held_by, held_accesses}
+use Rattle.causal_monitor.specs.declared.slot.Turn.{Turn}
+use Rattle.causal_monitor.specs.declared.slot.SlotLog.{SlotLog}
+use Rattle.causal_monitor.specs.Phases.{IsLogOf}
+use Rattle.phase_record.specs.SlotLogs.{turn_before}
+use Rattle.phase_record.specs.Records.{object_count}
+use Rattle.slot_laws.specs.SlotLoop.{Moment, TurnsGoOn, IsIdle, after_turn, phases_so_far, first_lane, first_ready}
+use Rattle.slot_record.specs.declared.record.SlotRecord.{SlotRecord}
+use Rattle.slot_record.specs.SlotRecords.{BeginsPhase, EndsPhase, RecordedSlot}
+use Rattle.net_state.specs.declared.state.NetState.{NetState}
+use Rattle.net_state.specs.States.{AreNetsOf}
+use Rattle.process_table.specs.declared.table.ProcessTable.{ProcessTable}
+use Rattle.process_table.specs.Tables.{TableState, IsTableOf}
+use Rattle.process_table.specs.Arranged.{IsKept, table_of}
+use Rattle.machine.specs.declared.parts.Machine.{Machine as Simulated}
+use Rattle.machine.specs.Standing.{machine_kept, state_kept}
+use Rattle.machine.specs.Moments.{AreBothOf, IsAt, IsMovingIn}
+use Rattle.machine.specs.Phases.{held_in, TellsTurn, Runs}
+use Rattle.machine.proofs.Moved.{both-at, moved, graph-of}
+use Rattle.machine.proofs.Events.{rules-at}
+
+-- No process has an event
+
+none-placed : {A : Type 0} (test : A → Bool) (xs : List A) → first_place test xs ≡ None → some_in test xs ≡ false
+none-placed test [] e = refl
+none-placed test (x ∷ xs) e = go (test x) (first_place test xs) e (none-placed test xs)
+  where
+    go : (b : Bool) (o : Option ℕ) → earlier_place b o ≡ None → (o ≡ None → some_in test xs ≡ false) → (b || some_in test xs) ≡ false
+    go true o h rest = cc
+    go false None h rest = rest refl
+    go false (Some m) h rest = cc
+
+both-none : (xs : List ProcessState) → some_in (λ (p : ProcessState). is_any p.lane) xs ≡ false → some_in (λ (p : ProcessState). is_ready p.activity) xs ≡ false → some_in has_event xs ≡ false
+both-none [] a b = refl
+both-none (x ∷ xs) a b =
+    let l = neither (is_any x.lane) (some_in (λ (p : ProcessState). is_any p.lane) xs) a in
+    let r = neither (is_ready x.activity) (some_in (λ (p : ProcessState). is_ready p.activity) xs) b in
+    λ i. (r.0 i || l.0 i) || both-none xs l.1 r.1 i
+  where
+    neither : (a b : Bool) → (a || b) ≡ false → (a ≡ false) × (b ≡ false)
+    neither true b e = cc
+    neither false b e = (refl, e)
+
+-- where no event is possible, no process has one
+pub idle-processes : (state : State) → IsIdle state → some_in has_event state.processes ≡ false
+idle-processes state idle =
+    both-none state.processes (none-placed (λ (p : ProcessState). is_any p.lane) state.processes idle.1) (none-placed (λ (p : ProcessState). is_ready p.activity) state.processes idle.2)
+
+-- Turns
+
+-- a turn changes no value and no node
+pub turned-nets : (kind : TurnKind) (nets : NetState) (state : State) → AreNetsOf nets state → AreNetsOf nets (turned kind state)
+turned-nets PostponedTurn nets state are = record { values = are.values; nodes = are.nodes }
+turned-nets UpdatesTurn nets state are = record { values = are.values; nodes = are.nodes }
+turned-nets (TimeTurn time) nets state are = record { values = are.values; nodes = are.nodes }
+
+-- what a phase holds which begins with the processes of a state
+pub held-is : (machine : Machine) (state : State) (table : TableState) → IsTableOf machine state table → held_in table ≡ held_accesses machine state
+held-is machine state table is = λ i. joined (map_numbered (held_by (is.design i)) 0 (is.processes i))
+
+-- the log of the phase names objects of the graph's design
+pub log-named : (m : Simulated) (log : SlotLog) → IsMovingIn m log → IsLogOf (design_of m.graph.now.design.now) m.record.phase.log.log
+log-named m log moving = subst (λ d. IsLogOf d m.record.phase.log.log) (sym moving.is.parts.graph) moving.is.recorded.present.names
+
+-- after it there is still room for as many objects as the design has
+pub ended-room : (m : Simulated) (after : SlotRecord) (log logged : SlotLog) → IsMovingIn m log → EndsPhase (design_of m.graph.now.design.now) m.record after log logged → object_count after.phase ≡ length (machine_kept m).design.objects
+ended-room m after log logged moving ends = (ends (machine_kept m) moving.first moving.at.ended _ (sym moving.is.parts.graph) moving.is.recorded).causes.objects
+
+-- the turn leads to the next moment
+pub turn-moved : TurnsGoOn → (machine : Machine) (first : Turn) (begins : State) (steps : ℕ) (old new : Simulated) (log logged : SlotLog) (turn : Turn) (between : SlotRecord) → Runs machine first begins steps old log → steps ≤ most_steps →
+    IsIdle (state_kept old) → TellsTurn (Some turn) (turn_of (state_kept old)) → EndsPhase (design_of old.graph.now.design.now) old.record between log logged →
+    ((state : State) → IsTableOf machine state (table_of old.table) → IsTableOf machine (turned_by (turn_of state) state) (table_of new.table)) → IsKept new.table → AreNetsOf new.nets (state_kept old) →
+    machine_kept new ≡ machine_kept old → design_of new.graph.now.design.now ≡ design_of old.graph.now.design.now →
+    BeginsPhase turn (table_of new.table).time (held_in (table_of new.table)) between new.record → Runs machine first begins steps new logged
+turn-moved law machine first begins steps old new log logged turn between runs few idle told ends turns kept nets same graph starts =
+    go (turn_of runs.at.state) refl (subst (λ (s : State). TellsTurn (Some turn) (turn_of s)) runs.is.state_is told)
+  where
+    go : (found : Option TurnKind) → turn_of runs.at.state ≡ found → TellsTurn (Some turn) found → Runs machine first begins steps new logged
+    go None is tells = absurd tells
+    go (Some kind) is tells =
+        let at = runs.at in
+        let next : State = turned kind at.state in
+        let table : IsTableOf machine next (table_of new.table) =
+        subst (λ o. IsTableOf machine (turned_by o at.state) (table_of new.table)) is (turns at.state (both-at machine first at old log runs.is).table_is) in
+        let both : AreBothOf machine next new.nets new.table = record {
+          machine_is = same ∙ runs.is.machine_is;
+          nets_are = turned-nets kind new.nets at.state (subst (AreNetsOf new.nets) runs.is.state_is nets);
+          table_is = table;
+        } in
+        let recorded : RecordedSlot machine first (phases_so_far at) between logged = ends machine first at.ended _ (sym (graph-of machine first at old log runs.is)) runs.is.recorded in
+        record {
+          at = after_turn kind at;
+          is = moved machine first (after_turn kind at) new logged
+              (law machine at kind (rules-at machine first at old log runs.is) runs.is.comes (subst (λ n. n ≤ most_steps) (sym runs.steps_is) few) (subst IsIdle runs.is.state_is idle) is tells.0)
+              both kept (graph ∙ graph-of machine first at old log runs.is)
+              (starts machine first (phases_so_far at) (Some kind) next logged recorded (tells.1 first) (sym table.time) (held-is machine next (table_of new.table) table)) runs.is.in_time;
+          begins_is = runs.begins_is;
+          steps_is = runs.steps_is;
+        }

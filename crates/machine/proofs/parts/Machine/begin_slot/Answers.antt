@@ -1,0 +1,27 @@
+-- The slot begins.
+use Rattle.std.proofs.Common.{◌≡◌, ◌≤◌, ◌^◌, ◌∙◌, length, refl, sym, ap, subst}
+use Rattle.v_design.specs.Designs.{FlatDesign}
+use Rattle.v_design.specs.States.{State}
+use Rattle.machine.specs.Standing.{machine_kept, state_kept, begins_next}
+use Rattle.machine.proofs.Beginnings.{some-state, found-some, begins-table, slot-begun, begun-room}
+use Rattle.machine.proofs.parts.Machine.begin_slot.Goals as goal
+
+pub begin_phase-requires-clause-room : goal.begin_phase-requires-clause-room
+begin_phase-requires-clause-room c =
+    let m = c.args.self.now in
+    let f = found-some (begins_next m) (λ begins. begins.time ≤ 2 ^ 63) c.requires.left in
+    begun-room m c.begin_slot.new.self _ c.requires.standing c.begin_slot.ensures c.empty_log.ensures.empty
+    ∙ ap (λ (d : FlatDesign). length d.objects) (sym (c.in_ok-turn.ensures.begins (machine_kept m) (state_kept m) f.0 (begins-table m c.requires.standing) f.1).design)
+
+pub returns : goal.returns
+returns c =
+    let m = c.args.self.now in
+    let f = found-some (begins_next m) (λ begins. begins.time ≤ 2 ^ 63) c.requires.left in
+    record {
+      machine_is = refl;
+      runs = λ begins next.
+          slot-begun c.slot_goes_on.ensures.begin begins m _ _ c.in_ok-turn.turn c.begin_slot.new.self c.requires.standing next
+          (subst (λ (s : State). s.time ≤ 2 ^ 63) (some-state f.0 begins (sym f.1 ∙ next)) f.2) c.in_ok-turn.ensures.turn
+          (c.in_ok-turn.ensures.begins (machine_kept m) (state_kept m) begins (begins-table m c.requires.standing) next) c.in_ok-turn.ensures.kept (record { values = refl; nodes = refl }) refl refl
+          c.empty_log.ensures.empty c.begin_slot.ensures c.in_ok-begin_phase.ensures;
+    }

@@ -1,0 +1,20 @@
+-- The last phase is logged, and the machine stands between two slots.
+use Rattle.std.proofs.Common.{◌≡◌, ◌∙◌, refl, sym, ap}
+use Rattle.machine.specs.Standing.{machine_kept}
+use Rattle.machine.specs.Phases.{outcome_told}
+use Rattle.machine.proofs.TurnsOn.{log-named}
+use Rattle.machine.proofs.Endings.{slot-run, slot-stands}
+use Rattle.machine.proofs.parts.Machine.finish.Goals as goal
+
+pub end_phase-requires : goal.end_phase-requires
+end_phase-requires c = log-named c.args.self.now c.args.log.now (record { first = c.requires.first; at = c.requires.ends.at; is = c.requires.ends.is })
+
+pub returns : goal.returns
+returns c = record {
+  machine_is = refl;
+  runs = λ machine first begins ends.
+      slot-run machine first begins c.args.hyper c.end_of.result c.args.self.now _ c.args.log.now c.end_phase.new.log _ ends c.in_ok-end_phase.ensures (c.end_of.ensures ∙ ap (outcome_told c.args.hyper) c.race.ensures) refl
+      c.stage_after-self.ensures refl refl refl c.time-log.ensures;
+  standing = λ machine first begins ends.
+      slot-stands c.slot_ends.ensures.next machine first begins c.args.hyper c.args.self.now _ c.args.log.now c.end_phase.new.log ends c.in_ok-end_phase.ensures refl refl refl c.stage_after-self.ensures;
+}

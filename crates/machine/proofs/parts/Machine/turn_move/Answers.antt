@@ -1,0 +1,14 @@
+-- A turn is made, or nothing is left.
+use Rattle.std.proofs.Common.{refl}
+use Rattle.machine.specs.Standing.{machine_kept, state_kept}
+use Rattle.machine.proofs.Made.{turn-made, nothing-made}
+use Rattle.machine.proofs.parts.Machine.turn_move.Goals as goal
+
+pub turn_phase-requires-clause-turn : goal.turn_phase-requires-clause-turn
+turn_phase-requires-clause-turn c = c.in-Some.ensures (machine_kept c.args.self.now) (state_kept c.args.self.now) (record { design = c.requires.moving.is.parts.design; time = refl; processes = refl })
+
+pub returns-in-None : goal.returns-in-None
+returns-in-None c = nothing-made c.args.self.now c.args.log.now (record {
+  idle = c.requires.idle;
+  no_turn = c.in-None.ensures (machine_kept c.args.self.now) (state_kept c.args.self.now) (record { design = c.requires.moving.is.parts.design; time = refl; processes = refl });
+})

@@ -1,0 +1,4 @@
+pub mod Standing
+pub mod Moments
+pub mod StepDeeds
+pub mod Phases

@@ -1,0 +1,126 @@
+-- A machine at the beginning and at the end of a slot and of its phases (IEEE 1364-2001, clause 5).
+use Rattle.std.specs.Prelude.{◌≡◌, ℕ, ◌+◌, ◌≤◌, Bool, true, false, Option, Some, None, List}
+use Rattle.std.specs.Option.{option_map}
+use Rattle.vf_base.specs.Base.{reported_pair}
+use Rattle.vf_base.specs.declared.finding.Pair.{Pair}
+use Rattle.v_design.specs.Grades.{SlotOutcome, Hyper, race_or_fine}
+use Rattle.v_design.specs.Lists.{joined, map_numbered}
+use Rattle.v_design.specs.Designs.{Machine}
+use Rattle.v_design.specs.States.{State, TurnKind, PostponedTurn, UpdatesTurn, TimeTurn, turn_of}
+use Rattle.v_design.specs.Runs.{Turns, most_steps, turn_in_slot}
+use Rattle.v_design.specs.Accesses.{ObjectAccess, held_by}
+use Rattle.causal_monitor.specs.declared.slot.Turn.{Turn}
+use Rattle.causal_monitor.specs.declared.slot.SlotLog.{SlotLog}
+use Rattle.phase_record.specs.SlotLogs.{turn_before}
+use Rattle.slot_laws.specs.SlotLoop.{Moment, EndsAt, IsIdle}
+use Rattle.process_table.specs.Tables.{TableState}
+use Rattle.machine.specs.declared.end.SlotEnd.{SlotEnd}
+use Rattle.machine.specs.declared.moves.Made.{Made}
+use Rattle.machine.specs.declared.moves.Made.TheVariants.{Counted, Uncounted, Nothing}
+use Rattle.machine.specs.declared.parts.Machine.{Machine as Simulated}
+use Rattle.machine.specs.declared.parts.Stage.{Stage}
+use Rattle.machine.specs.declared.parts.Stage.TheVariants.{Between, Over}
+use Rattle.machine.specs.Standing.{machine_kept, state_kept, begins_next, first_turn, IsStanding, RunsSlot}
+use Rattle.machine.specs.Moments.{IsAt}
+
+-- Turns
+
+-- the accesses that a phase holds which begins with the processes of a table
+abbrev pub held_in : TableState → List ObjectAccess
+held_in table = joined (map_numbered (held_by table.design) 0 table.processes)
+
+-- the turn before the next phase, as it is logged: none exactly where no turn within the slot comes
+abbrev pub TellsTurn : Option Turn → Option TurnKind → Type 0
+TellsTurn None kind = turn_in_slot kind ≡ None
+TellsTurn (Some turn) None = ⊥
+TellsTurn (Some turn) (Some kind) = (turn_in_slot (Some kind) ≡ Some Turns) × ((first : Turn) → turn ≡ turn_before first (Some kind))
+
+-- the time to which a turn leads, where it leads to a later one
+abbrev pub time_in : Option TurnKind → Option ℕ
+time_in None = None
+time_in (Some PostponedTurn) = None
+time_in (Some UpdatesTurn) = None
+time_in (Some (TimeTurn time)) = Some time
+
+-- Moves
+
+-- a machine stands in the slot that a state begins, so many process and lane steps into it
+pub record Runs (machine : Machine) (first : Turn) (begins : State) (steps : ℕ) (m : Simulated) (log : SlotLog) : Type 0 where
+  pub at : Moment
+  pub is : IsAt machine first at m log
+  pub begins_is : at.begins ≡ begins
+  pub steps_is : at.steps ≡ steps
+
+-- a machine stands at the beginning of some slot
+pub record IsBegun (m : Simulated) (log : SlotLog) : Type 0 where
+  pub first : Turn
+  pub begins : State
+  pub runs : Runs (machine_kept m) first begins 0 m log
+
+-- from wherever the machine stood in a slot, a turn within the slot begins its next phase
+abbrev pub TurnsPhase : (old new : Simulated) (log_old log_new : SlotLog) → Type 0
+TurnsPhase old new log_old log_new =
+    (machine : Machine) (first : Turn) (begins : State) (steps : ℕ) → Runs machine first begins steps old log_old → steps ≤ most_steps → Runs machine first begins steps new log_new
+
+-- neither an event nor a turn within the slot is possible
+pub record IsQuiet (state : State) : Type 0 where
+  pub idle : IsIdle state
+  pub no_turn : turn_in_slot (turn_of state) ≡ None
+
+-- how many process and lane steps were made
+abbrev pub steps_made : Made → ℕ
+steps_made Counted = 1
+steps_made Uncounted = 0
+steps_made Nothing = 0
+
+-- nothing was made only where the slot is at its end
+abbrev pub QuietIfNothing : Made → State → Type 0
+QuietIfNothing Counted state = Unit {0}
+QuietIfNothing Uncounted state = Unit {0}
+QuietIfNothing Nothing state = IsQuiet state
+
+-- from wherever the machine stood in a slot, it made a move of it
+pub record MakesMove (made : Made) (old new : Simulated) (log_old log_new : SlotLog) : Type 0 where
+  pub goes_on : (machine : Machine) (first : Turn) (begins : State) (steps : ℕ) → Runs machine first begins steps old log_old → steps ≤ most_steps → Runs machine first begins (steps + steps_made made) new log_new
+  pub quiet : QuietIfNothing made (state_kept new)
+
+-- The end
+
+-- the machine stands at the end of the slot that a state begins
+pub record EndsSlot (machine : Machine) (first : Turn) (begins : State) (hyper : Bool) (m : Simulated) (log : SlotLog) : Type 0 where
+  pub at : Moment
+  pub is : IsAt machine first at m log
+  pub begins_is : at.begins ≡ begins
+  pub ends : EndsAt machine hyper at
+  pub idle : hyper ≡ false → IsIdle at.state
+
+-- from the beginning of a slot the machine came to its end, hyperactive or not
+pub record ComesToEnd (hyper : Bool) (old new : Simulated) (log_old log_new : SlotLog) : Type 0 where
+  pub ends : (machine : Machine) (first : Turn) (begins : State) → Runs machine first begins 0 old log_old → EndsSlot machine first begins hyper new log_new
+
+-- the same of some slot
+pub record IsEnded (hyper : Bool) (m : Simulated) (log : SlotLog) : Type 0 where
+  pub first : Turn
+  pub begins : State
+  pub ends : EndsSlot (machine_kept m) first begins hyper m log
+
+-- the next slot begins, with an empty log
+pub record BeginsSlotHere (old new : Simulated) (log : SlotLog) : Type 0 where
+  pub machine_is : machine_kept new ≡ machine_kept old
+  pub runs : (begins : State) → begins_next old ≡ Some begins → Runs (machine_kept old) (first_turn old.stage) begins 0 new log
+
+-- the outcome of a slot, by whether it is hyperactive and by its first race
+abbrev pub outcome_told : Bool → Option Pair → SlotOutcome
+outcome_told true race = Hyper
+outcome_told false race = race_or_fine (option_map reported_pair race)
+
+-- where a machine stands after a slot
+abbrev pub stage_after : Bool → Stage
+stage_after true = Over
+stage_after false = Between
+
+-- the slot is at its end: its last phase is recorded, and the machine stands between two slots
+pub record FinishesSlot (hyper : Bool) (end : SlotEnd) (old new : Simulated) (log_old log_new : SlotLog) : Type 0 where
+  pub machine_is : machine_kept new ≡ machine_kept old
+  pub runs : (machine : Machine) (first : Turn) (begins : State) → EndsSlot machine first begins hyper old log_old → RunsSlot machine begins first end new log_new
+  pub standing : (machine : Machine) (first : Turn) (begins : State) → EndsSlot machine first begins hyper old log_old → IsStanding new

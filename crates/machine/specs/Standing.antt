@@ -1,0 +1,121 @@
+-- Where a machine stands in its first run, and what the run of a slot gives (slots and phases by IEEE 1364-2001, clause 5).
+use Rattle.std.specs.Prelude.{◌≡◌, ℕ, ◌<◌, Bool, true, false, Option, Some, None, IsTrue, nat_le, slice_get, List, length}
+use Rattle.std.proofs.Common.{refl}
+use Rattle.vf_base.specs.Base.{reported_pair}
+use Rattle.four_value.specs.Values.{LogicValue}
+use Rattle.v_design.specs.PlainDesigns.{design_of}
+use Rattle.v_design.specs.Designs.{Machine}
+use Rattle.v_design.specs.States.{State, TurnKind, PostponedTurn, UpdatesTurn, TimeTurn, turn_of, time_turn, has_event, some_in}
+use Rattle.v_design.specs.Runs.{Move, FirstSlot, Leads, ends_by, only_if, first_run, slot_end, is_hyper, next_slot, next_slot_at}
+use Rattle.v_design.specs.Laws.{BeginsPhase}
+use Rattle.v_design.specs.PhaseLogs.{NotedEvent}
+use Rattle.v_design.specs.Grades.{SlotOutcome, Fine, Race, Hyper, phases, slot_outcome}
+use Rattle.slot_laws.specs.SlotLoop.{slot_from}
+use Rattle.event_causes.specs.Causes.{AreCausesOf}
+use Rattle.causal_monitor.specs.declared.slot.Turn.{Turn}
+use Rattle.causal_monitor.specs.declared.slot.Turn.TheVariants as turn
+use Rattle.causal_monitor.specs.declared.slot.SlotLog.{SlotLog}
+use Rattle.phase_record.specs.SlotLogs.{IsSlotLog}
+use Rattle.net_state.specs.States.{machine_in, values_in, nodes_in}
+use Rattle.process_table.specs.Arranged.{IsKept, table_of}
+use Rattle.machine.specs.declared.end.SlotEnd.{SlotEnd}
+use Rattle.machine.specs.declared.end.SlotEnd.TheVariants as ends
+use Rattle.machine.specs.declared.parts.Stage.{Stage}
+use Rattle.machine.specs.declared.parts.Stage.TheVariants as at
+use Rattle.machine.specs.declared.parts.Machine.{Machine as Simulated}
+
+-- What a machine stands for
+
+-- the design and its fault
+abbrev pub machine_kept : Simulated → Machine
+machine_kept m = machine_in m.nets
+
+-- the state: the present time, the value of each object, and the state of each node and each process
+abbrev pub state_kept : Simulated → State
+state_kept m = record {
+  time = (table_of m.table).time;
+  values = values_in m.nets;
+  nodes = nodes_in m.nets;
+  processes = (table_of m.table).processes;
+}
+
+-- Slots
+
+-- the state in which the slot after a turn begins, where the turn leads to a later time
+abbrev pub slot_after : State → Option TurnKind → Option State
+slot_after state None = None
+slot_after state (Some PostponedTurn) = None
+slot_after state (Some UpdatesTurn) = None
+slot_after state (Some (TimeTurn time)) = Some (time_turn time state)
+
+-- the state in which the slot after this one begins, at whatever time; none comes after a slot that is hyperactive
+abbrev pub following : Machine → FirstSlot → Option State
+following machine slot = elim (is_hyper slot) [ true ↦ None | false ↦ slot_after (slot_end machine slot) (turn_of (slot_end machine slot)) ]
+
+-- a beginning up to a time
+abbrev pub begun_within : ℕ → Option State → Option State
+begun_within time None = None
+begun_within time (Some begins) = only_if (nat_le begins.time time) begins
+
+-- the state in which the next slot begins
+abbrev pub begins_at : Stage → State → Option State
+begins_at at.Start state = Some state
+begins_at at.Between state = slot_after state (turn_of state)
+begins_at at.Over state = None
+
+-- the same of a machine
+abbrev pub begins_next : Simulated → Option State
+begins_next m = begins_at m.stage (state_kept m)
+
+-- the turn before the first phase of the next slot
+abbrev pub first_turn : Stage → Turn
+first_turn at.Start = turn.Start
+first_turn at.Between = turn.Time
+first_turn at.Over = turn.Time
+
+-- the parts of a machine agree between two slots
+pub record IsStanding (m : Simulated) : Type 0 where
+  pub table : IsKept m.table
+  pub design : (table_of m.table).design ≡ (machine_kept m).design
+  pub graph : design_of m.graph.now.design.now ≡ (machine_kept m).design
+  pub values : length (state_kept m).values ≡ length (machine_kept m).design.objects
+  pub earlier : List NotedEvent
+  pub causes : AreCausesOf (machine_kept m) earlier m.record.phase.causes
+  -- no event is possible between two slots
+  pub quiet : m.stage ≡ at.Between → some_in has_event (table_of m.table).processes ≡ false
+  -- the next slot begins as the laws ask
+  pub begins : (begins : State) → begins_next m ≡ Some begins → BeginsPhase (machine_kept m) begins
+
+-- How a slot ends
+
+-- the outcome that the end of a slot tells
+abbrev pub outcome_of : SlotEnd → SlotOutcome
+outcome_of ends.Fine = Fine
+outcome_of (ends.Race pair) = Race (reported_pair pair)
+outcome_of ends.Hyper = Hyper
+
+-- a slot that a state begins was run: its outcome, the state at its end, the next slot, and the log of its phases, the first of which comes after a turn
+pub record RunsSlot (machine : Machine) (begins : State) (first : Turn) (end : SlotEnd) (m : Simulated) (log : SlotLog) : Type 0 where
+  pub outcome : outcome_of end ≡ slot_outcome machine (slot_from machine begins)
+  pub state : state_kept m ≡ slot_end machine (slot_from machine begins)
+  pub next : begins_next m ≡ following machine (slot_from machine begins)
+  pub logged : IsSlotLog machine first (phases machine (slot_from machine begins)) log
+  pub log_time : log.time ≡ begins.time
+
+-- where a slot of the first run is fine, every legal run of it ends in the state in which the machine stands
+abbrev pub EveryOrderEndsHere : (machine : Machine) (begins : State) (m : Simulated) → Type 0
+EveryOrderEndsHere machine begins m =
+    slot_outcome machine (slot_from machine begins) ≡ Fine → (time number : ℕ) → slice_get (first_run machine time) number ≡ Some (slot_from machine begins) →
+    (moves : List Move) (final : State) → Leads machine begins.time begins moves final → IsTrue (ends_by begins.time final) → final ≡ state_kept m
+
+-- the next slot of the first run up to a time is the following one, if it begins by then
+pub next-is-following : (machine : Machine) (time : ℕ) (slot : FirstSlot) → next_slot machine time slot ≡ begun_within time (following machine slot)
+next-is-following machine time slot = go (is_hyper slot) (turn_of (slot_end machine slot))
+  where
+    go : (hyper : Bool) (turn : Option TurnKind) →
+        elim hyper [ true ↦ None | false ↦ next_slot_at time (slot_end machine slot) turn ] ≡ begun_within time (elim hyper [ true ↦ None | false ↦ slot_after (slot_end machine slot) turn ])
+    go true turn = refl
+    go false None = refl
+    go false (Some PostponedTurn) = refl
+    go false (Some UpdatesTurn) = refl
+    go false (Some (TimeTurn later)) = refl

@@ -1,0 +1,119 @@
+// What a machine can do.
+
+ghost use Rattle.std.specs.Prelude.{◌≡◌, ◌≤◌, ◌^◌, ℕ, Some, IfOk, IsSomeAnd};
+ghost use Rattle.std.specs.Option.{ForSome, option_map};
+ghost use Rattle.v_design.specs.States.{State, start};
+ghost use Rattle.v_design.specs.Views.{machine_with};
+ghost use Rattle.machine.specs.Standing.{IsStanding, RunsSlot, EveryOrderEndsHere, machine_kept, state_kept, begins_next, first_turn};
+
+use crate::end::SlotEnd;
+use crate::parts::{Machine, Stage};
+use crate::phases::later_time;
+use crate::told::Told;
+use causal_monitor::SlotLog;
+use net_graph::Graph;
+use net_state::NetState;
+use process_table::ProcessTable;
+use slot_record::SlotRecord;
+use std::alloc::Global;
+use std::sync::ledger::Ledger;
+use v_design::{Design, Fault, View};
+use vf_base::{NoMemory, Steps};
+
+impl<'d> Machine<'d> {
+    /// A machine at the start of its run: a design, good or under a fault.
+    ///
+    /// # Errors
+    ///
+    /// Want of memory.
+    pub fn new(
+        alloc: Global,
+        design: &'d Design,
+        graph: &'d Graph<'d>,
+        fault: Option<Fault>,
+    ) -> Result<Machine<'d>, NoMemory>
+        requires { graph.now.design.now ≡ design.now }
+        ensures machine { IfOk result (λ m. machine_kept m ≡ machine_with design.now fault) }
+        ensures begins { IfOk result (λ m. begins_next m ≡ Some (start (machine_with design.now fault))) }
+        ensures standing { IfOk result (λ m. IsStanding m) }
+    {
+        order_laws::nets();
+        let nets = NetState::new(alloc, View { design, fault }, graph)?;
+        let table = ProcessTable::new(alloc, design)?;
+        let processes = design.processes.as_slice().len();
+        let record = SlotRecord::new(alloc, processes, nets.object_count())?;
+        Ok(Machine {
+            alloc,
+            graph,
+            nets,
+            table,
+            record,
+            stage: Stage::Start,
+            changes: Vec::new(alloc),
+            told: Told::new(alloc),
+        })
+    }
+
+    /// The time of the slot that comes next, in steps: 0 at the start. `None` where no slot is left.
+    pub fn next_time(&self) -> Option<u64>
+        requires { IsStanding self.now }
+        ensures { result ≡ option_map (λ (begins : State). begins.time) (begins_next self.now) }
+    {
+        match self.stage {
+            Stage::Start => Some(self.table.time()),
+            Stage::Between => later_time(&self.table),
+            Stage::Over => None,
+        }
+    }
+
+    /// Runs the next slot in the first order, to its end or through its first process or lane step past 100,000, and answers how it ends. `log` is
+    /// the log of its phases afterwards, whatever it held before. Where no slot is left nothing is run.
+    ///
+    /// # Errors
+    ///
+    /// Want of memory.
+    pub fn slot<L: Ledger>(
+        &mut self,
+        log: &mut SlotLog,
+        steps: &mut Steps<L>,
+    ) -> Result<SlotEnd, NoMemory>
+        requires standing { IsStanding self.old }
+        requires left { ForSome (begins_next self.old) (λ begins. begins.time ≤ 2 ^ 63) }
+        ensures machine { IfOk result (λ _. machine_kept self.new ≡ machine_kept self.old) }
+        ensures slot { IfOk result (λ end. (begins : State) → begins_next self.old ≡ Some begins → RunsSlot (machine_kept self.old) begins (first_turn self.old.stage) end self.new log.new) }
+        ensures every_order { IfOk result (λ _. (begins : State) → begins_next self.old ≡ Some begins → EveryOrderEndsHere (machine_kept self.old) begins self.new) }
+        ensures standing { IfOk result (λ _. IsStanding self.new) }
+    {
+        match self.next_time() {
+            Some(_) => {
+                let end = self.next_slot(log, steps)?;
+                Ok(end)
+            }
+            None => Ok(SlotEnd::Fine),
+        }
+    }
+
+    /// Runs the next slot, which there is.
+    ///
+    /// # Errors
+    ///
+    /// Want of memory.
+    fn next_slot<L: Ledger>(
+        &mut self,
+        log: &mut SlotLog,
+        steps: &mut Steps<L>,
+    ) -> Result<SlotEnd, NoMemory>
+        requires standing { IsStanding self.old }
+        requires left { IsSomeAnd (begins_next self.old) (λ begins. begins.time ≤ 2 ^ 63) }
+        ensures machine { IfOk result (λ _. machine_kept self.new ≡ machine_kept self.old) }
+        ensures slot { IfOk result (λ end. (begins : State) → begins_next self.old ≡ Some begins → RunsSlot (machine_kept self.old) begins (first_turn self.old.stage) end self.new log.new) }
+        ensures every_order { IfOk result (λ _. (begins : State) → begins_next self.old ≡ Some begins → EveryOrderEndsHere (machine_kept self.old) begins self.new) }
+        ensures standing { IfOk result (λ _. IsStanding self.new) }
+    {
+        order_laws::fine_slots();
+        self.begin_slot(log)?;
+        let hyper = self.run(log, steps)?;
+        let end = self.finish(log, hyper)?;
+        Ok(end)
+    }
+}

@@ -1,0 +1,22 @@
+//! A machine: a design, good or under one fault, run slot by slot in the first order of events (IEEE 1364-2001, clause 5).
+//!
+//! A `Machine` begins at the start of a run. `next_time` tells the time of the slot that comes next, and `slot` runs that slot: the least node with work,
+//! else the least lane, else the least ready process, and where no event is possible the turn that comes, until no turn within the slot is left or
+//! more than 100,000 process and lane steps were taken. Its main contract: `slot` answers the outcome of that slot of the first run, the machine
+//! stands at the slot's end, the log is that of the slot's phases, and the next slot is the one that the first run takes.
+#![tactic(auto)]
+
+mod calls;
+mod end;
+mod moves;
+mod nodes;
+mod notes;
+mod parts;
+mod phases;
+mod slots;
+mod steps;
+mod told;
+mod write;
+
+pub use end::SlotEnd;
+pub use parts::Machine;

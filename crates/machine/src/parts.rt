@@ -1,0 +1,45 @@
+// The parts of a machine.
+
+ghost use Rattle.std.specs.Prelude.{◌≡◌};
+
+use crate::told::Told;
+use four_value::Vec4;
+use net_graph::Graph;
+use net_state::NetState;
+use process_table::ProcessTable;
+use slot_record::SlotRecord;
+use std::alloc::Global;
+use v_design::Values;
+use value_change::Change;
+use vf_base::ObjectId;
+
+/// Where a machine stands in its run: at the start, after a slot, or after one that was hyperactive, after which there is none.
+#[derive(Clone, Copy, PartialEq, Eq, Debug)]
+pub enum Stage {
+    Start,
+    Between,
+    Over,
+}
+
+/// A machine: the values and the nodes, the processes, the record of the present slot, and room for what one event tells.
+///
+/// Contracts see a machine as a design with a fault, and a state of it. After a call that ran out of memory a machine isn't to be used again.
+#[derive(Drop)]
+pub struct Machine<'d> {
+    pub(crate) alloc: Global,
+    pub(crate) graph: &'d Graph<'d>,
+    pub(crate) nets: NetState<'d>,
+    pub(crate) table: ProcessTable<'d>,
+    pub(crate) record: SlotRecord,
+    pub(crate) stage: Stage,
+    pub(crate) changes: Vec<Change>,
+    pub(crate) told: Told,
+}
+
+impl<'d> Values for Machine<'d> {
+    ghost values = { λ machine. machine.nets.objects.values.items };
+
+    fn value(&self, object: ObjectId) -> Vec4 {
+        self.nets.value(object)
+    }
+}

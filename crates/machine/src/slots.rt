@@ -1,0 +1,82 @@
+// The beginning and the end of a slot.
+
+ghost use Rattle.std.specs.Prelude.{◌≡◌, ◌≤◌, ◌^◌, ℕ, IfOk, OnOk, IsSomeAnd};
+ghost use Rattle.slot_record.specs.SlotRecords.{IsEmptyLog};
+ghost use Rattle.machine.specs.Standing.{IsStanding, begins_next, outcome_of};
+ghost use Rattle.machine.specs.Phases.{IsBegun, BeginsSlotHere, IsEnded, FinishesSlot, outcome_told, stage_after};
+
+use crate::end::SlotEnd;
+use crate::parts::{Machine, Stage};
+use crate::phases::{begin_phase, turn_to_slot};
+use causal_monitor::SlotLog;
+use std::alloc::Global;
+use vf_base::{NoMemory, Pair, Seq};
+
+/// The log of a slot at a time, of which no phase has ended.
+fn empty_log(alloc: Global, time: u64) -> SlotLog
+    ensures empty { IsEmptyLog result }
+    ensures time { result.time ≡ time }
+{
+    SlotLog {
+        time,
+        phases: Seq::from_vec(Vec::new(alloc)),
+        actors: Seq::from_vec(Vec::new(alloc)),
+        turns: Seq::from_vec(Vec::new(alloc)),
+    }
+}
+
+/// How a slot ends, by whether it is hyperactive and by its first race.
+fn end_of(hyper: bool, race: Option<Pair>) -> SlotEnd
+    ensures { outcome_of result ≡ outcome_told hyper race }
+{
+    if hyper {
+        return SlotEnd::Hyper;
+    }
+    match race {
+        Some(pair) => SlotEnd::Race(pair),
+        None => SlotEnd::Fine,
+    }
+}
+
+/// Where a machine stands after a slot.
+fn stage_after(hyper: bool) -> Stage
+    ensures { result ≡ stage_after hyper }
+{
+    if hyper { Stage::Over } else { Stage::Between }
+}
+
+impl<'d> Machine<'d> {
+    /// The next slot begins, with its first phase.
+    ///
+    /// # Errors
+    ///
+    /// Want of memory.
+    pub(crate) fn begin_slot(&mut self, log: &mut SlotLog) -> Result<(), NoMemory>
+        requires standing { IsStanding self.old }
+        requires left { IsSomeAnd (begins_next self.old) (λ begins. begins.time ≤ 2 ^ 63) }
+        ensures { OnOk result (BeginsSlotHere self.old self.new log.new) }
+    {
+        slot_laws::slot_goes_on();
+        let turn = turn_to_slot(self.stage, &mut self.table)?;
+        *log = empty_log(self.alloc, self.table.time());
+        self.record.begin_slot();
+        begin_phase(&self.table, &mut self.record, &mut self.told, turn)?;
+        Ok(())
+    }
+
+    /// The slot's last phase ends.
+    ///
+    /// # Errors
+    ///
+    /// Want of memory.
+    pub(crate) fn finish(&mut self, log: &mut SlotLog, hyper: bool) -> Result<SlotEnd, NoMemory>
+        requires { IsEnded hyper self.old log.old }
+        ensures { IfOk result (λ end. FinishesSlot hyper end self.old self.new log.old log.new) }
+    {
+        slot_laws::slot_ends();
+        self.record.end_phase(self.graph, log)?;
+        log.time = self.table.time();
+        self.stage = stage_after(hyper);
+        Ok(end_of(hyper, self.record.race()))
+    }
+}
