@@ -1,0 +1,2 @@
+pub mod TargetReadings
+pub mod Spelled
