@@ -1,13 +1,12 @@
 // Sized expressions and faults as texts.
 
+use expr_reading::OwnReading;
 use four_value::{BinaryOperator, UnaryOperator, Vec4};
 use sized_tree::SizedExpr;
 use std::alloc::Global;
 use v_names::{Found, Reason, Size};
+use v_width::first_fault;
 use vf_base::NoMemory;
-
-/// How many bytes stand before the expression in a row's text.
-const BEFORE: u32 = 21;
 
 /// A number in decimal.
 fn put_number(alloc: Global, text: &mut Vec<u8>, number: u128) -> Result<(), NoMemory> {
@@ -179,8 +178,13 @@ pub(crate) fn put_tree(
     }
 }
 
-/// A fault, with its column in the expression.
-pub(crate) fn put_fault(alloc: Global, text: &mut Vec<u8>, found: Found) -> Result<(), NoMemory> {
+/// A fault, with its column behind so many bytes of the row's text.
+pub(crate) fn put_fault(
+    alloc: Global,
+    text: &mut Vec<u8>,
+    found: Found,
+    before: u32,
+) -> Result<(), NoMemory> {
     let reason: &'static [u8] = match found.reason {
         Reason::BadWidth => b"bad width at ",
         Reason::WrongKind => b"wrong kind at ",
@@ -190,6 +194,48 @@ pub(crate) fn put_fault(alloc: Global, text: &mut Vec<u8>, found: Found) -> Resu
     put_number(
         alloc,
         text,
-        u128::from(found.place.column.saturating_sub(BEFORE)),
+        u128::from(found.place.column.saturating_sub(before)),
     )
+}
+
+/// A fault behind what has it; nothing where there is none.
+pub(crate) fn put_found(
+    alloc: Global,
+    text: &mut Vec<u8>,
+    found: Option<Found>,
+    before: u32,
+) -> Result<(), NoMemory> {
+    match found {
+        None => Ok(()),
+        Some(found) => {
+            text.extend_from_slice(b", ")?;
+            put_fault(alloc, text, found, before)
+        }
+    }
+}
+
+/// A width; `refused` where there is none.
+pub(crate) fn put_width(
+    alloc: Global,
+    text: &mut Vec<u8>,
+    width: Option<u8>,
+) -> Result<(), NoMemory> {
+    match width {
+        None => Ok(text.extend_from_slice(b"refused")?),
+        Some(width) => put_number(alloc, text, u128::from(width)),
+    }
+}
+
+/// The size that something has by itself, with the first thing that is wrong with its sizes.
+pub(crate) fn put_own(
+    alloc: Global,
+    text: &mut Vec<u8>,
+    own: OwnReading,
+    before: u32,
+) -> Result<(), NoMemory> {
+    match own.size {
+        None => text.extend_from_slice(b"refused")?,
+        Some(size) => put_size(alloc, text, size)?,
+    }
+    put_found(alloc, text, first_fault(own.faults), before)
 }
