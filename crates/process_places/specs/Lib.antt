@@ -1,0 +1,4 @@
+pub mod Counted
+pub mod Bodies
+pub mod Walked
+pub mod Apart

@@ -1,0 +1,9 @@
+pub mod InOrder
+pub mod Ascending
+pub mod Words
+pub mod Targets
+pub mod Items
+pub mod Units
+pub mod Declared
+pub mod Texts
+pub mod KeptRules
