@@ -75,11 +75,7 @@ fn selects_in(alloc: Global, parts: &[Expr]) -> Result<Option<Seq<Select>>, NoMe
 }
 
 /// A concatenation as a target; none where a part of it is no select.
-fn joined_target(
-    alloc: Global,
-    place: Place,
-    parts: &[Expr],
-) -> Result<Option<Target>, NoMemory>
+fn joined_target(alloc: Global, place: Place, parts: &[Expr]) -> Result<Option<Target>, NoMemory>
     ensures { IfOk result (λ target. option_map views.target_of target ≡ joined_target (source_place place) (selects_of_parts (expressions_of parts.now))) }
 {
     match selects_in(alloc, parts)? {
