@@ -124,11 +124,7 @@ fn note_item(
 
 /// The first thing that is wrong with the sizes and the kinds of names of an item, by its place in the text and at one place by its reason;
 /// none where nothing is. Nothing is said of instances, whose connections are looked at with their modules.
-pub fn item_fault(
-    alloc: Global,
-    scope: &Scope<'_>,
-    item: &Item,
-) -> Result<Option<Found>, NoMemory>
+pub fn item_fault(alloc: Global, scope: &Scope<'_>, item: &Item) -> Result<Option<Found>, NoMemory>
     ensures { IfOk result (λ found. option_map fault_of found ≡ first_fault (item_faults scope.now (item_of item.now))) }
 {
     let mut first = FirstFault::new();
