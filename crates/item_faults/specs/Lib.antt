@@ -1,4 +1,3 @@
-pub mod ReadViews
 pub mod Widths
 pub mod Wholes
 pub mod Memories

@@ -10,13 +10,14 @@ ghost use Rattle.v_width.specs.Summaries.{AreFaults};
 ghost use Rattle.v_width.specs.Targets.{ByNode, width_of_size, target_reading, target_alone_faults};
 ghost use Rattle.v_elab.specs.ItemFaults.{is_not_one, assigned_faults, output_faults, terminal_faults, gate_faults, wire_faults};
 ghost use Rattle.name_faults.specs.Noted.{noted};
-ghost use Rattle.item_faults.specs.ReadViews.{writer_of};
+ghost use Rattle.target_reading.specs.TargetReadings.{writer_of};
 ghost use Rattle.item_faults.specs.Wholes.{net_width_faults, whole_net_faults};
 
 use crate::groups::{note_group, note_where};
-use crate::readings::{Writer, own_reading, target_reading};
+use expr_reading::own_reading;
 use name_faults::FirstFault;
 use std::alloc::Global;
+use target_reading::{Writer, target_reading};
 use v_names::{Entry, Reason, Scope, Size, place_of_expr, size_within, span};
 use v_tree::{Assignment, Expr, Gate, Target, Wire};
 use v_width::{Faults, bad_width, no_faults, together, wrong_kind};

@@ -8,7 +8,7 @@ ghost use Rattle.name_faults.specs.Noted.{noted};
 ghost use Rattle.item_faults.specs.Groups.{group_of, labels_group, item_group, Grows};
 
 use crate::groups::note_group;
-use crate::readings::own_reading;
+use expr_reading::own_reading;
 use name_faults::FirstFault;
 use std::alloc::Global;
 use v_names::Scope;

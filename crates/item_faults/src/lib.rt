@@ -13,7 +13,6 @@ mod cases;
 mod groups;
 mod items;
 mod memories;
-mod readings;
 mod sizes;
 mod statements;
 mod waits;

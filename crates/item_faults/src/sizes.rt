@@ -8,7 +8,7 @@ ghost use Rattle.name_faults.specs.Noted.{noted};
 ghost use Rattle.item_faults.specs.Widths.{is_too_wide};
 
 use crate::groups::{note_group, note_where};
-use crate::readings::own_reading;
+use expr_reading::own_reading;
 use name_faults::{Bounds, FirstFault, range_of, width_of};
 use std::alloc::Global;
 use v_names::{Reason, Scope};

@@ -10,11 +10,11 @@ ghost use Rattle.item_faults.specs.CodeFaults.{case_item_faults};
 
 use crate::assigned::note_assigned;
 use crate::cases::note_case;
-use crate::readings::Writer;
 use crate::sizes::{note_optional_size, note_size};
 use crate::waits::{note_wait, note_waits};
 use name_faults::FirstFault;
 use std::alloc::Global;
+use target_reading::Writer;
 use v_names::Scope;
 use v_tree::{CaseItem, Expr, Stmt, Target};
 use vf_base::NoMemory;

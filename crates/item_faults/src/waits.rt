@@ -9,7 +9,7 @@ ghost use Rattle.name_faults.specs.Noted.{noted};
 
 use crate::groups::note_group;
 use crate::memories::{is_memory, memory_faults};
-use crate::readings::{own_reading, select_reading};
+use expr_reading::{own_reading, select_reading};
 use name_faults::FirstFault;
 use std::alloc::Global;
 use v_names::{Entry as Meaning, Found, Reason, Scope};

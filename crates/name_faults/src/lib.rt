@@ -17,7 +17,7 @@ mod range;
 mod statements;
 
 pub use bounds::{Bounds, bounds_of};
-pub use expressions::note_known;
+pub use expressions::{note_fixed_target, note_known};
 pub use first_fault::FirstFault;
 pub use items::{note_items, note_parameter_groups, note_port_groups};
 pub use range::{BitRange, bound_number, context_width, is_same_range, range_of, width_of};

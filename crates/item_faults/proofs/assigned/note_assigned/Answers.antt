@@ -2,7 +2,7 @@ use Rattle.std.proofs.Common.{◌++◌}
 use Rattle.v_tree.specs.Views.{expression_of, target_of}
 use Rattle.v_names.specs.Readings.{Reading, reading_of}
 use Rattle.v_width.specs.Targets.{TargetReading, target_reading}
-use Rattle.item_faults.specs.ReadViews.{writer_of}
+use Rattle.target_reading.specs.TargetReadings.{writer_of}
 use Rattle.item_faults.proofs.assigned.note_assigned.Goals as goal
 
 pub returns : goal.returns
