@@ -10,7 +10,10 @@ use std::alloc::Global;
 use std::marker::Brand;
 use std::sync::ledger::{Blank, Ledger};
 use std::test::Fail;
-use v_design::{Design, FlatExpr, FlatStmt, FlatTarget, Object, ObjectKind, PieceRef, Process, Values, VariableRef, VectorRef, WaitEntry};
+use v_design::{
+    Design, FlatExpr, FlatStmt, FlatTarget, Object, ObjectKind, PieceRef, Process, Values,
+    VariableRef, VectorRef, WaitEntry,
+};
 use vf_base::{NoMemory, ObjectId, Place, Seq, Steps, Text};
 
 fn place(line: u32) -> Place {
@@ -32,46 +35,93 @@ fn object(alloc: Global, name: &[u8]) -> Result<Object, NoMemory> {
 }
 
 fn constant(bit: Bit) -> FlatExpr {
-    FlatExpr::Constant { width: 1, signed: false, value: Vec4::of_bit(bit) }
+    FlatExpr::Constant {
+        width: 1,
+        signed: false,
+        value: Vec4::of_bit(bit),
+    }
 }
 
 fn value(alloc: Global, object: u32) -> Result<FlatExpr, NoMemory> {
-    let piece = PieceRef { object: ObjectId(object), width: 1 };
+    let piece = PieceRef {
+        object: ObjectId(object),
+        width: 1,
+    };
     Ok(FlatExpr::Name {
         width: 1,
         signed: false,
-        vector: VectorRef { high: 0, low: 0, pieces: Seq::from_vec(Vec::from_slice(alloc, &[piece])?) },
+        vector: VectorRef {
+            high: 0,
+            low: 0,
+            pieces: Seq::from_vec(Vec::from_slice(alloc, &[piece])?),
+        },
     })
 }
 
 fn target(alloc: Global, object: u32) -> Result<Vec<FlatTarget>, NoMemory> {
     let mut list = Vec::new(alloc);
-    list.push(FlatTarget::Whole(VariableRef { object: ObjectId(object), width: 1, high: 0, low: 0 }))?;
+    list.push(FlatTarget::Whole(VariableRef {
+        object: ObjectId(object),
+        width: 1,
+        high: 0,
+        low: 0,
+    }))?;
     Ok(list)
 }
 
 fn blocking(alloc: Global, line: u32, object: u32, value: FlatExpr) -> Result<FlatStmt, NoMemory> {
-    Ok(FlatStmt::Blocking { place: place(line), targets: target(alloc, object)?, delay: None, value })
+    Ok(FlatStmt::Blocking {
+        place: place(line),
+        targets: target(alloc, object)?,
+        delay: None,
+        value,
+    })
 }
 
-fn nonblocking(alloc: Global, line: u32, object: u32, value: FlatExpr) -> Result<FlatStmt, NoMemory> {
-    Ok(FlatStmt::Nonblocking { place: place(line), targets: target(alloc, object)?, delay: 0, value })
+fn nonblocking(
+    alloc: Global,
+    line: u32,
+    object: u32,
+    value: FlatExpr,
+) -> Result<FlatStmt, NoMemory> {
+    Ok(FlatStmt::Nonblocking {
+        place: place(line),
+        targets: target(alloc, object)?,
+        delay: 0,
+        value,
+    })
 }
 
 fn two(alloc: Global, line: u32, first: FlatStmt, second: FlatStmt) -> Result<FlatStmt, NoMemory> {
     let mut statements = Vec::new(alloc);
     statements.push(first)?;
     statements.push(second)?;
-    Ok(FlatStmt::Block { place: place(line), statements })
+    Ok(FlatStmt::Block {
+        place: place(line),
+        statements,
+    })
 }
 
 fn delayed(alloc: Global, line: u32, delay: u32, body: FlatStmt) -> Result<FlatStmt, NoMemory> {
-    Ok(FlatStmt::Delay { place: place(line), delay, body: Box::new(alloc, body)? })
+    Ok(FlatStmt::Delay {
+        place: place(line),
+        delay,
+        body: Box::new(alloc, body)?,
+    })
 }
 
 fn at_posedge(alloc: Global, line: u32, object: u32, body: FlatStmt) -> Result<FlatStmt, NoMemory> {
-    let entry = WaitEntry { object: ObjectId(object), low: 0, width: 1, edge: Edge::Pos };
-    Ok(FlatStmt::EventControl { place: place(line), entries: Seq::from_vec(Vec::from_slice(alloc, &[entry])?), body: Box::new(alloc, body)? })
+    let entry = WaitEntry {
+        object: ObjectId(object),
+        low: 0,
+        width: 1,
+        edge: Edge::Pos,
+    };
+    Ok(FlatStmt::EventControl {
+        place: place(line),
+        entries: Seq::from_vec(Vec::from_slice(alloc, &[entry])?),
+        body: Box::new(alloc, body)?,
+    })
 }
 
 fn design_of(alloc: Global, objects: Vec<Object>, processes: Vec<Process>) -> Design {
@@ -92,7 +142,11 @@ fn objects(alloc: Global) -> Result<Vec<Object>, NoMemory> {
 }
 
 fn process(body: FlatStmt, line: u32, always: bool) -> Process {
-    Process { always, body, place: place(line) }
+    Process {
+        always,
+        body,
+        place: place(line),
+    }
 }
 
 /// `initial a = 1;` beside `initial b = a;`
@@ -111,7 +165,11 @@ fn clocked(alloc: Global) -> Result<Design, NoMemory> {
     processes.push(process(two(alloc, 3, first, second)?, 3, false))?;
     let update = nonblocking(alloc, 6, 0, value(alloc, 1)?)?;
     processes.push(process(at_posedge(alloc, 5, 2, update)?, 5, true))?;
-    processes.push(process(delayed(alloc, 7, 2, blocking(alloc, 7, 1, constant(Bit::One))?)?, 7, false))?;
+    processes.push(process(
+        delayed(alloc, 7, 2, blocking(alloc, 7, 1, constant(Bit::One))?)?,
+        7,
+        false,
+    ))?;
     Ok(design_of(alloc, objects(alloc)?, processes))
 }
 
@@ -143,7 +201,11 @@ fn code_of(end: SlotEnd) -> u32 {
 }
 
 /// Runs five slots at most.
-fn rows<L: Ledger>(alloc: Global, design: &Design, blank: Blank) -> Result<(Vec<Row>, Bit), NoMemory>
+fn rows<L: Ledger>(
+    alloc: Global,
+    design: &Design,
+    blank: Blank,
+) -> Result<(Vec<Row>, Bit), NoMemory>
     requires name { blank.name ≡ L.name }
     requires parts { blank.parts ≡ L.parts }
     requires one { blank.parts ≡ 1 }
@@ -157,7 +219,12 @@ fn rows<L: Ledger>(alloc: Global, design: &Design, blank: Blank) -> Result<(Vec<
     'slots: for _ in 0..5 {
         if let Some(time) = machine.next_time() {
             let end = machine.slot(&mut log, &mut steps)?;
-            list.push((time, code_of(end), log.phases.as_slice().len(), events_of(&log)))?;
+            list.push((
+                time,
+                code_of(end),
+                log.phases.as_slice().len(),
+                events_of(&log),
+            ))?;
         }
     }
     let last = machine.value(ObjectId(0)).bit(0);
@@ -176,7 +243,10 @@ fn a_read_races_with_a_write(rt: HostRuntime) -> Result<(), Fail> {
 fn a_clocked_process_updates_after_the_edge(rt: HostRuntime) -> Result<(), Fail> {
     let design = clocked(rt.alloc())?;
     let (list, last) = rows::<Brand>(rt.alloc(), &design, Blank::new(1))?;
-    assert_eq!(rt; list.as_slice(), [(0, 0, 1, 4), (2, 0, 1, 2), (5, 0, 2, 7)].as_slice());
+    assert_eq!(rt;
+        list.as_slice(),
+        [(0, 0, 1, 4), (2, 0, 1, 2), (5, 0, 2, 7)].as_slice()
+    );
     assert_eq!(rt; last, Bit::One);
     Ok(())
 }
@@ -190,5 +260,10 @@ fn a_loop_is_hyperactive(rt: HostRuntime) -> Result<(), Fail> {
 }
 
 fn empty_log(alloc: Global) -> SlotLog {
-    SlotLog { time: 0, phases: Seq::from_vec(Vec::new(alloc)), actors: Seq::from_vec(Vec::new(alloc)), turns: Seq::from_vec(Vec::new(alloc)) }
+    SlotLog {
+        time: 0,
+        phases: Seq::from_vec(Vec::new(alloc)),
+        actors: Seq::from_vec(Vec::new(alloc)),
+        turns: Seq::from_vec(Vec::new(alloc)),
+    }
 }
