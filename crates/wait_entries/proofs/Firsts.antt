@@ -1,8 +1,10 @@
 -- A list into which objects are put has each once, in the order of first occurrence.
-use Rattle.std.proofs.Common.{◌≡◌, ℕ, Bool, true, false, cond, ◌||◌, List, [], ◌∷◌, ◌++◌, refl, sym, ap, ap₂, ◌∙◌, nat_eq}
+use Rattle.std.proofs.Common.{◌≡◌, ◌≤◌, ℕ, map, drop, length, Bool, true, false, cond, ◌||◌, List, [], ◌∷◌, ◌++◌, refl, sym, ap, ap₂, ◌∙◌, nat_eq}
 use Rattle.std.specs.List.{list_any}
 use Rattle.std.proofs.lemmas.Bool.{eq-eqb, eqb-true}
-use Rattle.std.proofs.lemmas.List.{append_assoc}
+use Rattle.std.proofs.lemmas.List.{append_assoc, drop_all}
+use Rattle.vf_base.specs.declared.ids.ObjectId.{ObjectId}
+use Rattle.vf_base.specs.Base.{object_number}
 use Rattle.v_design.specs.Lists.{has, fresh_only, without_repeats}
 use Rattle.wait_entries.specs.ObjectLists.{with_object, with_objects}
 
@@ -72,5 +74,8 @@ behind-seen list seen (x ∷ xs) same = by-test (λ l s e. behind-seen l s xs e)
         ∙ append_assoc list (x ∷ []) (without_repeats (x ∷ seen) xs)
         ∙ ap (λ b. list ++ fresh_only b x (without_repeats (x ∷ seen) xs)) (sym (sym (same x) ∙ h))
 
-pub put_all : (xs : List ℕ) → with_objects [] xs ≡ without_repeats [] xs
-put_all xs = behind-seen [] [] xs (λ y. refl)
+-- once the last object is put in
+pub put_done : (objects : List ObjectId) (i : ℕ) (list once : List ℕ) → length objects ≤ i → with_objects list (map object_number (drop i objects)) ≡ with_objects [] (map object_number objects) →
+    once ≡ list → once ≡ without_repeats [] (map object_number objects)
+put_done objects i list once past had is =
+    is ∙ ap (λ l. with_objects list (map object_number l)) (sym (drop_all i objects past)) ∙ had ∙ behind-seen [] [] (map object_number objects) (λ y. refl)

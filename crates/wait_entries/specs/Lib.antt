@@ -1,1 +1,2 @@
 pub mod ObjectLists
+pub mod Selects

@@ -61,7 +61,6 @@ impl ObjectList {
 /// # Errors
 ///
 /// Want of memory.
-#[tactic(auto, using(crate::proofs::Firsts::put_all))]
 pub fn first_occurrences(alloc: Global, objects: &[ObjectId]) -> Result<Vec<ObjectId>, NoMemory>
     ensures { IfOk result (λ once. map object_number once.items ≡ without_repeats [] (map object_number objects.now)) }
 {

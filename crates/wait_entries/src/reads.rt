@@ -33,11 +33,7 @@ fn add_all(more: &[ObjectId], objects: &mut Vec<ObjectId>) -> Result<(), NoMemor
 }
 
 /// Adds the objects of the pieces that an expression reads where it has no memory.
-fn add_read(
-    alloc: Global,
-    expr: &FlatExpr,
-    objects: &mut Vec<ObjectId>,
-) -> Result<(), NoMemory>
+fn add_read(alloc: Global, expr: &FlatExpr, objects: &mut Vec<ObjectId>) -> Result<(), NoMemory>
     requires { IsSized (expression_of expr.now) }
     ensures { IfOk result (λ _. map object_number objects.new.items ≡ map object_number objects.old.items ++ objects_of (expression_of expr.now)) }
 {
@@ -118,11 +114,7 @@ pub fn add_objects(
 
 /// Adds the objects that the parts of an expression read.
 #[cycle(reads)]
-fn add_parts(
-    alloc: Global,
-    parts: &[FlatExpr],
-    objects: &mut Vec<ObjectId>,
-) -> Result<(), NoMemory>
+fn add_parts(alloc: Global, parts: &[FlatExpr], objects: &mut Vec<ObjectId>) -> Result<(), NoMemory>
     requires { AreSizedAlone (expressions_of parts.now) }
     ensures { IfOk result (λ _. map object_number objects.new.items ≡ map object_number objects.old.items ++ part_objects_in_text (expressions_of parts.now)) }
 {
