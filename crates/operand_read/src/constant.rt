@@ -8,7 +8,7 @@ use v_design::FlatExpr;
 
 /// Whether an expression names no object.
 #[cycle(constant)]
-pub(crate) fn names_nothing(expr: &FlatExpr) -> bool
+pub fn names_nothing(expr: &FlatExpr) -> bool
     ensures { result ≡ is_constant (expression_of expr.now) }
 {
     match expr {

@@ -15,6 +15,7 @@ mod room;
 mod target;
 
 pub use choice::read_choice;
+pub use constant::names_nothing;
 pub use expression::read_value;
 pub use pieces::pieces_read;
 pub use room::{most_assignment_reads, most_case_reads, most_reads};

@@ -1,0 +1,2 @@
+pub mod ObjectLists
+pub mod Selects
