@@ -91,9 +91,10 @@ fn variable_has_the_content_of_its_driver(rt: HostRuntime) -> Result<(), Fail> {
     let content = Vec4::filled(Bit::One, 4);
     let driving = four_bits(rt.alloc(), true, Some(content))?;
     let held = variable_object(rt.alloc(), &outer, &driving)?;
-    assert_eq!(rt; held.object.kind, ObjectKind::Var);
-    assert_eq!(rt; held.object.first.bit(0), Bit::One);
-    assert_eq!(rt; held.object.first.bit(3), Bit::One);
+    let object = &held.object;
+    assert_eq!(rt; object.kind, ObjectKind::Var);
+    assert_eq!(rt; object.first.bit(0), Bit::One);
+    assert_eq!(rt; object.first.bit(3), Bit::One);
     Ok(())
 }
 
@@ -203,26 +204,40 @@ fn assignment<'p>(value: &'p ValueIn, drives: Vec<Drive>) -> WalkedNode<'p> {
     }
 }
 
+/// A select of `u.w` and two of `u.v.p`, from the left of a target.
+fn three_selects(alloc: Global) -> Result<Vec<Drive>, NoMemory> {
+    let mut drives = Vec::new(alloc);
+    drives.push(select(alloc, b"u.w", false)?)?;
+    drives.push(select(alloc, b"u.v.p", true)?)?;
+    drives.push(select(alloc, b"u.v.p", false)?)?;
+    Ok(drives)
+}
+
+/// A node that drives `u.x`, and one that drives the three selects.
+fn two_nodes<'p>(alloc: Global, value: &'p ValueIn) -> Result<Vec<WalkedNode<'p>>, NoMemory> {
+    let mut other = Vec::new(alloc);
+    other.push(select(alloc, b"u.x", false)?)?;
+    let mut nodes = Vec::new(alloc);
+    nodes.push(assignment(value, other))?;
+    nodes.push(assignment(value, three_selects(alloc)?))?;
+    Ok(nodes)
+}
+
 #[test]
 fn drives_stand_under_the_outermost_name(rt: HostRuntime) -> Result<(), Fail> {
     let parts = net_and_port(rt.alloc())?;
     let signals = Signals::new(rt.alloc(), &parts)?;
     let value = value(rt.alloc())?;
-    let mut other = Vec::new(rt.alloc());
-    other.push(select(rt.alloc(), b"u.x", false)?)?;
-    let mut both = Vec::new(rt.alloc());
-    both.push(select(rt.alloc(), b"u.w", false)?)?;
-    both.push(select(rt.alloc(), b"u.v.p", true)?)?;
-    both.push(select(rt.alloc(), b"u.v.p", false)?)?;
-    let nodes = [assignment(&value, other), assignment(&value, both)];
-    let drives = Grouped::new(rt.alloc(), list_drives(rt.alloc(), &signals, &nodes)?)?;
+    let nodes = two_nodes(rt.alloc(), &value)?;
+    let drives = list_drives(rt.alloc(), &signals, &nodes)?;
     let mut offsets = Vec::new(rt.alloc());
-    for drive in &drives.all(rt.alloc(), b"u.w")? {
-        assert_eq!(rt; drive.node, 1);
-        offsets.push(drive.offset)?;
+    for drive in &drives {
+        if drive.key == b"u.w".as_slice() {
+            assert_eq!(rt; drive.item.node, 1);
+            offsets.push(drive.item.offset)?;
+        }
     }
     assert_eq!(rt; offsets.as_slice(), [4, 1, 0].as_slice());
-    assert!(rt; drives.all(rt.alloc(), b"u.v.p")?.is_empty());
-    assert_eq!(rt; drives.all(rt.alloc(), b"u.x")?.len(), 1);
+    assert_eq!(rt; drives.len(), 4);
     Ok(())
 }
