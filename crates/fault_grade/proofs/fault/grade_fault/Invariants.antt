@@ -1,0 +1,10 @@
+-- The grading is on its way.
+use Rattle.std.proofs.Common.{◌≡◌, drop, map}
+use Rattle.v_design.specs.Plain.{fault_of}
+use Rattle.fault_grade.specs.Benches.{bench_design, bench_plan}
+use Rattle.fault_grade.specs.Gradings.{IsGradingAt}
+use Rattle.fault_grade.specs.Samples.{sample_of}
+use Rattle.fault_grade.proofs.fault.grade_fault.Given as goal
+
+abbrev pub invariant-strobes : goal.invariant-strobes
+invariant-strobes g l = IsGradingAt (bench_design l.bench) (bench_plan l.bench) (fault_of l.fn.fault) l.machine (map sample_of (drop l.sample-index l.good.samples.items)) l.grader

@@ -1,0 +1,6 @@
+pub mod Stops
+pub mod Reached
+pub mod Benches
+pub mod Samples
+pub mod Gradings
+pub mod Results

@@ -1,0 +1,148 @@
+// The grade of one fault.
+
+ghost use Rattle.std.specs.Prelude.{◌≡◌, ◌≤◌, ◌^◌, ℕ, List, [], length, Some, IfOk};
+ghost use Rattle.v_design.specs.Designs.{FlatDesign, TestPlan, StuckAt};
+ghost use Rattle.v_design.specs.Grades.{Judged, grade};
+ghost use Rattle.v_design.specs.Lists.{AllHold};
+ghost use Rattle.v_design.specs.Plain.{fault_of, grade_of};
+ghost use Rattle.strobe_detect.specs.Verdicts.{verdict_view};
+ghost use Rattle.grade_laws.specs.Grading.{IsGoodRun, StopsWithin, good_stop};
+ghost use Rattle.machine.specs.Standing.{machine_kept};
+ghost use Rattle.fault_grade.specs.Benches.{IsBench, IsObjectOf, bench_design, bench_plan};
+ghost use Rattle.fault_grade.specs.Reached.{IsReached};
+ghost use Rattle.fault_grade.specs.Samples.{sample_of, samples_kept};
+ghost use Rattle.fault_grade.specs.Stops.{race_if};
+ghost use Rattle.fault_grade.specs.Gradings.{IsGradingAt, Passes, AdvancesTo, last_before};
+
+use crate::bench::Bench;
+use crate::good::{GoodSamples, Sample};
+use crate::run::advance;
+use crate::stop::{Stop, end_by_faulty};
+use machine::Machine;
+use std::alloc::Global;
+use std::sync::ledger::Ledger;
+use strobe_detect::{Grade, Grader};
+use v_design::Fault;
+use vf_base::{End, NoMemory, Pair, Side, Steps};
+
+/// How the strobes' verdict ends a grading.
+fn end_by_strobes(verdict: Grade) -> End
+    ensures { grade_of result ≡ Judged (verdict_view verdict) }
+{
+    match verdict {
+        Grade::Detected(time) => End::Detected(time),
+        Grade::Possible(time) => End::Possible(time),
+        Grade::Undetected => End::Undetected,
+    }
+}
+
+/// Runs the faulty machine to a strobe and compares. The answer is the grading's end, where it comes here.
+fn pass_strobe<L: Ledger>(
+    alloc: Global,
+    machine: &mut Machine<'_>,
+    grader: &mut Grader<'_>,
+    sample: &Sample,
+    steps: &mut Steps<L>,
+) -> Result<Option<End>, NoMemory>
+    requires reached { IsReached sample.now.time machine.old }
+    requires limit { sample.now.time ≤ 2 ^ 63 }
+    requires kept { length sample.now.bits.items ≡ length grader.old.watched }
+    requires watched { AllHold (IsObjectOf (machine_kept machine.old).design) grader.old.watched }
+    ensures { IfOk result (λ end. Passes (sample_of sample.now) machine.old grader.old end machine.new grader.new) }
+{
+    if let Some(stop) = advance(alloc, machine, sample.time, steps)? {
+        return Ok(Some(end_by_faulty(stop)));
+    }
+    let hard = grader.strobe_kept(sample.time, &sample.bits, machine);
+    if hard {
+        return Ok(Some(End::Detected(sample.time)));
+    }
+    Ok(None)
+}
+
+/// The time to which the faulty machine runs after the last strobe: to the plan's end, or to the last time before the good machine's race, if there is one.
+fn last_time(race: Option<Pair>, end: u64) -> Option<u64>
+    ensures { result ≡ last_before race end }
+{
+    match race {
+        None => Some(end),
+        Some(pair) => pair.time.checked_sub(1),
+    }
+}
+
+/// Runs a machine to a time, if there is one.
+fn advance_to<L: Ledger>(
+    alloc: Global,
+    machine: &mut Machine<'_>,
+    until: Option<u64>,
+    steps: &mut Steps<L>,
+) -> Result<Option<Stop>, NoMemory>
+    requires reached { (time : ℕ) → until ≡ Some time → IsReached time machine.old }
+    requires limit { (time : ℕ) → until ≡ Some time → time ≤ 2 ^ 63 }
+    ensures { IfOk result (λ stop. AdvancesTo until machine.old stop machine.new) }
+{
+    match until {
+        None => Ok(None),
+        Some(time) => {
+            let stop = advance(alloc, machine, time, steps)?;
+            Ok(stop)
+        }
+    }
+}
+
+/// Ends a grading after the last strobe that comes before a race of the good machine.
+fn finish<L: Ledger>(
+    alloc: Global,
+    machine: &mut Machine<'_>,
+    grader: &Grader<'_>,
+    race: Option<Pair>,
+    end: u64,
+    steps: &mut Steps<L>,
+) -> Result<End, NoMemory>
+    requires reached { (time : ℕ) → last_before race end ≡ Some time → IsReached time machine.old }
+    requires limit { (time : ℕ) → last_before race end ≡ Some time → time ≤ 2 ^ 63 }
+    ensures { IfOk result (λ ended. (design : FlatDesign) (plan : TestPlan) (fault : StuckAt) → plan.end ≡ end → IsGradingAt design plan fault machine.old [] grader.now → good_stop design plan ≡ race_if race → StopsWithin plan.end (race_if race) → grade design plan fault ≡ Some (grade_of ended)) }
+{
+    if let Some(stop) = advance_to(alloc, machine, last_time(race, end), steps)? {
+        return Ok(end_by_faulty(stop));
+    }
+    match race {
+        Some(pair) => Ok(End::Race(Side::Good, pair)),
+        None => Ok(end_by_strobes(grader.verdict())),
+    }
+}
+
+/// The grade of a fault: its faulty machine is run beside what the good machine showed, from strobe to strobe.
+///
+/// # Errors
+///
+/// Want of memory.
+pub fn grade_fault<L: Ledger>(
+    alloc: Global,
+    bench: &Bench<'_>,
+    good: &GoodSamples,
+    fault: Fault,
+    steps: &mut Steps<L>,
+) -> Result<End, NoMemory>
+    requires bench { IsBench bench.now }
+    requires good { IsGoodRun (bench_design bench.now) (bench_plan bench.now) (samples_kept good.now) (race_if good.now.race) }
+    ensures { IfOk result (λ end. grade (bench_design bench.now) (bench_plan bench.now) (fault_of fault) ≡ Some (grade_of end)) }
+{
+    order_laws::first_run_goes_on();
+    let mut machine = Machine::new(alloc, bench.design, bench.graph, Some(fault))?;
+    let mut grader = Grader::new(bench.plan.watched.as_slice());
+    'strobes: for sample in &good.samples {
+        if let Some(end) = pass_strobe(alloc, &mut machine, &mut grader, sample, steps)? {
+            return Ok(end);
+        }
+    }
+    let end = finish(
+        alloc,
+        &mut machine,
+        &grader,
+        good.race,
+        bench.plan.end,
+        steps,
+    )?;
+    Ok(end)
+}

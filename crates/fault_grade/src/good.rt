@@ -1,0 +1,85 @@
+// What the good machine shows.
+
+ghost use Rattle.std.specs.Prelude.{◌≡◌, map, IfOk};
+ghost use Rattle.v_design.specs.Designs.{FlatDesign, TestPlan};
+ghost use Rattle.grade_laws.specs.Grading.{IsGoodRun};
+ghost use Rattle.fault_grade.specs.Benches.{IsBench, bench_design, bench_plan};
+ghost use Rattle.fault_grade.specs.Samples.{sample_of, stop_if, IsGood};
+
+use crate::bench::Bench;
+use crate::run::advance;
+use crate::stop::Stop;
+use four_value::Bit;
+use machine::Machine;
+use std::alloc::Global;
+use std::sync::ledger::Ledger;
+use strobe_detect::watched_bits;
+use vf_base::{NoMemory, Pair, Steps};
+
+/// The watched bits at a strobe, whose time is in steps.
+#[derive(Drop)]
+pub struct Sample {
+    pub time: u64,
+    pub bits: Vec<Bit>,
+}
+
+/// The watched bits of the good machine at each strobe before its first race, in order, and that race, if there is one up to the plan's end.
+#[derive(Drop)]
+pub struct GoodSamples {
+    pub samples: Vec<Sample>,
+    pub race: Option<Pair>,
+}
+
+/// What the first run of the good machine shows, or the time, in steps, at which it is hyperactive before a race of its own.
+#[derive(Drop)]
+pub enum GoodRun {
+    Shown(GoodSamples),
+    Loop(u64),
+}
+
+/// What the good machine shows, by the samples that were kept and its first stop.
+fn shown_by(samples: Vec<Sample>, stop: Option<Stop>) -> GoodRun
+    ensures { (design : FlatDesign) (plan : TestPlan) → IsGoodRun design plan (map sample_of samples.items) (stop_if stop) → IsGood design plan result }
+{
+    match stop {
+        None => GoodRun::Shown(GoodSamples {
+            samples,
+            race: None,
+        }),
+        Some(Stop::Race(pair)) => GoodRun::Shown(GoodSamples {
+            samples,
+            race: Some(pair),
+        }),
+        Some(Stop::Loop(time)) => GoodRun::Loop(time),
+    }
+}
+
+/// Runs the good machine to the plan's end, or to its first race or loop.
+///
+/// # Errors
+///
+/// Want of memory.
+pub fn run_good<L: Ledger>(
+    alloc: Global,
+    bench: &Bench<'_>,
+    steps: &mut Steps<L>,
+) -> Result<GoodRun, NoMemory>
+    requires { IsBench bench.now }
+    ensures { IfOk result (IsGood (bench_design bench.now) (bench_plan bench.now)) }
+{
+    order_laws::first_run_goes_on();
+    let mut machine = Machine::new(alloc, bench.design, bench.graph, None)?;
+    let mut samples = Vec::new(alloc);
+    'strobes: for strobe in bench.plan.strobes.as_slice() {
+        if let Some(stop) = advance(alloc, &mut machine, *strobe, steps)? {
+            return Ok(shown_by(samples, Some(stop)));
+        }
+        let bits = watched_bits(alloc, bench.plan.watched.as_slice(), &machine)?;
+        samples.push(Sample {
+            time: *strobe,
+            bits,
+        })?;
+    }
+    let stop = advance(alloc, &mut machine, bench.plan.end, steps)?;
+    Ok(shown_by(samples, stop))
+}

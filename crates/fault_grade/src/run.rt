@@ -1,0 +1,68 @@
+// A machine's first run, slot by slot to a time.
+
+ghost use Rattle.std.specs.Prelude.{◌≡◌, ◌≤◌, ◌^◌, ℕ, Some, IfOk};
+ghost use Rattle.fault_grade.specs.Reached.{GoesOn, IsReached, RunsOn, Advanced, next_of};
+ghost use Rattle.machine.specs.Standing.{IsStanding};
+
+use crate::stop::{Stop, stop_at};
+use causal_monitor::SlotLog;
+use machine::Machine;
+use std::alloc::Global;
+use std::sync::ledger::Ledger;
+use vf_base::{NoMemory, Seq, Steps};
+
+/// A log of no phases, which takes no memory.
+fn empty_log(alloc: Global) -> SlotLog {
+    SlotLog {
+        time: 0,
+        phases: Seq::from_vec(Vec::new(alloc)),
+        actors: Seq::from_vec(Vec::new(alloc)),
+        turns: Seq::from_vec(Vec::new(alloc)),
+    }
+}
+
+/// Runs the next slot of a machine, which is at this time. The answer is the slot as a stop, where it isn't fine.
+fn run_slot<L: Ledger>(
+    machine: &mut Machine<'_>,
+    time: u64,
+    log: &mut SlotLog,
+    steps: &mut Steps<L>,
+) -> Result<Option<Stop>, NoMemory>
+    requires standing { IsStanding machine.old }
+    requires next { next_of machine.old ≡ Some time }
+    requires limit { time ≤ 2 ^ 63 }
+    ensures { IfOk result (λ stop. RunsOn time machine.old stop machine.new) }
+{
+    order_laws::first_run_goes_on();
+    let end = machine.slot(log, steps)?;
+    Ok(stop_at(time, end))
+}
+
+/// Runs all slots of a machine up to a time, in steps, or through the first that isn't fine. The answer is that slot.
+///
+/// # Errors
+///
+/// Want of memory.
+pub fn advance<L: Ledger>(
+    alloc: Global,
+    machine: &mut Machine<'_>,
+    until: u64,
+    steps: &mut Steps<L>,
+) -> Result<Option<Stop>, NoMemory>
+    requires reached { IsReached until machine.old }
+    requires limit { until ≤ 2 ^ 63 }
+    ensures { IfOk result (λ stop. Advanced until machine.old stop machine.new) }
+{
+    let mut log = empty_log(alloc);
+    let mut next = machine.next_time();
+    'slots: while let Some(time) = next {
+        if until < time {
+            return Ok(None);
+        }
+        if let Some(stop) = run_slot(machine, time, &mut log, steps)? {
+            return Ok(Some(stop));
+        }
+        next = machine.next_time();
+    }
+    Ok(None)
+}
