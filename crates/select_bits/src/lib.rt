@@ -5,6 +5,7 @@
 //! connected to one.
 #![tactic(auto)]
 
+mod part;
 mod select;
 
 pub use select::select_bits;
