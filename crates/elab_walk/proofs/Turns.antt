@@ -1,14 +1,15 @@
 -- A walk goes on step by step.
-use Rattle.std.proofs.Common.{◌≡◌, ℕ, ◌+◌, ◌<◌, ◌≤◌, List, [], ◌∷◌, ◌++◌, Option, Some, None, Result, Ok, Err, drop, get_or, length, refl, sym, ap, subst, ◌∙◌, append_assoc, append-nil}
+use Rattle.std.proofs.Common.{◌≡◌, ℕ, ◌+◌, ◌<◌, ◌≤◌, List, [], ◌∷◌, ◌++◌, Option, Some, None, option_map, Result, Ok, Err, MatchResult, drop, get_or, length, refl, sym, ap, subst, ◌∙◌, append_assoc, append-nil}
 use Rattle.name_faults.specs.Rows.{drop-step, drop-past}
 use Rattle.v_names.specs.Faults.{Fault, first_fault, or_fault}
 use Rattle.v_names.specs.FaultViews.{fault_of}
 use Rattle.v_elab.specs.Refusals.{Refusal, Faulty, as_refusal, then_go, checked}
 use Rattle.v_elab.specs.Parts.{Part}
 use Rattle.v_elab.specs.Walk.{added}
-use Rattle.elab_walk.specs.WalkFaults.{IsWalkFault}
+use Rattle.v_names.specs.declared.found.Found.{Found}
+use Rattle.elab_walk.specs.WalkFaults.{IsWalkFault, refusal_in}
 use Rattle.elab_walk.specs.CountViews.{AreCounts}
-use Rattle.elab_walk.specs.Leaves.{parts_in, IsWithin, Grows}
+use Rattle.elab_walk.specs.Leaves.{parts_in, IsWithin, Grows, Leaves}
 use Rattle.elab_walk.specs.declared.fault.WalkFault.{WalkFault}
 use Rattle.elab_walk.specs.declared.fault.WalkFault.TheVariants as faults
 use Rattle.elab_walk.specs.declared.walked.Walked.{Walked}
@@ -119,3 +120,42 @@ grows-counted before more old mid new pushed within = record {
   pushed = within.kept ∙ pushed;
   counted = within.counted;
 }
+
+-- what is found is the first fault
+pub clean-of : {S : Type 0} (found : Option Found) (faults_in : S → List Fault) (seen scope : S) → seen ≡ scope → option_map fault_of found ≡ first_fault (faults_in seen) → found ≡ None → first_fault (faults_in scope) ≡ None
+clean-of {S} found faults_in seen scope same is none = ap (λ (s : S). first_fault (faults_in s)) (sym same) ∙ sym is ∙ ap (option_map fault_of) none
+
+pub wrong-of : {A S : Type 0} (found : Option Found) (faults_in : S → List Fault) (seen scope : S) (answer : A) (next : A → Answer) (fault : WalkFault) → seen ≡ scope → option_map fault_of found ≡ first_fault (faults_in seen)
+    → refusal_in found ≡ Some fault → IsWalkFault (then_go (checked (faults_in scope) answer) next) fault
+wrong-of {A} {S} None faults_in seen scope answer next fault same is some = absurd cc
+wrong-of {A} {S} (Some f) faults_in seen scope answer next fault same is some =
+    let fault-is : fault ≡ faults.Found f = cc in
+    rw fault-is (then-wrong (faults_in scope) answer next (fault_of f) (ap (λ (s : S). first_fault (faults_in s)) (sym same) ∙ sym is))
+
+-- the last step of a walk, whatever it answers
+pub leaves-last : {A : Type 0} (before : List Part) (whole : Answer) (rest : List Part → Answer) (old mid new : Walked) (result : Result A WalkFault)
+    → ((all : List Part) → AreCounts all mid.counts → Leaves all (rest all) result mid new) → GoesOn before whole rest old mid → Leaves before whole result old new
+leaves-last {A} before whole rest old mid new (Ok done) turn going = goes-last before whole rest old mid new turn going
+leaves-last {A} before whole rest old mid new (Err fault) turn going = goes-wrong-last before whole rest old mid fault turn going
+
+-- the same answer in other words
+pub leaves-same : {A : Type 0} (before : List Part) (answer whole : Answer) (old new : Walked) (result : Result A WalkFault) → answer ≡ whole → Leaves before answer result old new → Leaves before whole result old new
+leaves-same {A} before answer whole old new result e leaves = subst (λ (a : Answer). Leaves before a result old new) e leaves
+
+-- nothing is done
+pub leaves-none : (before : List Part) (whole : Answer) (walked : Walked) → whole ≡ Ok before → AreCounts before walked.counts → Grows before whole walked walked
+leaves-none before whole walked is counted = record {
+  more = [];
+  wanted_are = is ∙ ap (λ (ps : List Part). Ok ps) (sym (append-nil before));
+  pushed = sym (append-nil (parts_in walked));
+  counted = subst (λ (all : List Part). AreCounts all walked.counts) (sym (append-nil before)) counted;
+}
+
+-- two steps and one more
+pub then-both : (answer : Answer) (first second both : List Part → Answer) → ((all : List Part) → both all ≡ then_go (first all) second) → then_go answer both ≡ then_go (then_go answer first) second
+then-both (Ok all) first second both e = e all
+then-both (Err refusal) first second both e = refl
+
+-- a fault that is handed out as it came
+pub err-is : {A : Type 0} (wanted : Answer) (P : A → Type 0) (result : Result A WalkFault) (one fault : WalkFault) → result ≡ Err one → one ≡ fault → IsWalkFault wanted fault → MatchResult result P (IsWalkFault wanted)
+err-is {A} wanted P result one fault e same wrong = subst (λ (r : Result A WalkFault). MatchResult r P (IsWalkFault wanted)) (sym e) (subst (IsWalkFault wanted) (sym same) wrong)

@@ -18,11 +18,7 @@ use Rattle.elab_walk.specs.declared.site.Inner.{Inner}
 -- the instance whose items are walked, among all modules
 pub record IsSite (h : plain.Here) (site : Site) : Type 0 where
   pub modules_are : AreModules h.modules site.modules.now
-  pub mode_is : site.mode ≡ h.mode
   pub here_is : IsHere h site.here.now
-  pub path_is : site.path.now.value ≡ h.instance.path
-  pub depth_is : site.depth ≡ h.instance.depth
-  pub scope_is : site.scope.now ≡ h.scope
 
 -- an instance that is about to be walked
 pub record IsEntrance (e : plain.Entered) (entrance : Entrance) : Type 0 where

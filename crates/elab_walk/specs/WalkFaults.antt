@@ -1,5 +1,6 @@
 -- When a fault is answered in place of the parts of a walk.
-use Rattle.std.specs.Prelude.{◌≡◌, ◌+◌, Result, Err}
+use Rattle.std.specs.Prelude.{◌≡◌, ◌+◌, Option, Some, None, Result, Err}
+use Rattle.v_names.specs.declared.found.Found as found
 use Rattle.v_names.specs.FaultViews.{fault_of}
 use Rattle.v_design.specs.WellFormed.{most_parts}
 use Rattle.v_elab.specs.declared.What.{What}
@@ -16,3 +17,8 @@ abbrev pub IsWalkFault : {A : Type 0} → Result A Refusal → WalkFault → Typ
 IsWalkFault wanted (Found found) = wanted ≡ Err (Faulty (fault_of found))
 IsWalkFault wanted (TooMany what) = wanted ≡ Err (over_most what)
 IsWalkFault wanted NoMemory = Unit {0}
+
+-- a fault that may be found
+abbrev pub refusal_in : Option found.Found → Option WalkFault
+refusal_in None = None
+refusal_in (Some f) = Some (Found f)

@@ -1,5 +1,8 @@
 // Why a walk has no parts.
 
+ghost use Rattle.std.specs.Prelude.{◌≡◌, Some, None, MatchResult};
+ghost use Rattle.elab_walk.specs.WalkFaults.{refusal_in};
+
 use module_names::NameFault;
 use std::alloc::{AllocError, AllocFailed};
 use thiserror::Error;
@@ -64,5 +67,15 @@ impl From<NameFault> for WalkFault {
             NameFault::Found(found) => WalkFault::Found(found),
             NameFault::NoMemory => WalkFault::NoMemory,
         }
+    }
+}
+
+/// Refuses what is found to be wrong, if something is.
+pub fn refuse(found: Option<Found>) -> Result<(), WalkFault>
+    ensures { MatchResult result (λ done. found ≡ None) (λ fault. refusal_in found ≡ Some fault) }
+{
+    match found {
+        None => Ok(()),
+        Some(found) => Err(WalkFault::Found(found)),
     }
 }

@@ -17,7 +17,7 @@ ghost use Rattle.elab_walk.specs.Sites.{IsSite, IsEntrance, IsInner};
 ghost use Rattle.elab_walk.specs.CountViews.{AreCounts};
 ghost use Rattle.elab_walk.specs.Leaves.{Leaves};
 
-use crate::fault::WalkFault;
+use crate::fault::{WalkFault, refuse};
 use crate::items::{walk_heads, walk_param_groups, walk_plain_item};
 use crate::modules::Modules;
 use crate::site::{Entrance, Inner, Site};
@@ -71,7 +71,7 @@ fn walk_inside<'u>(
     instance: &'u Instance,
     walked: &mut Walked<'u>,
 ) -> Result<(), WalkFault>
-    requires { site.entry.depth + levels ≤ 64 }
+    requires { site.here.now.depth + levels ≤ 64 }
     ensures { (h : plain.Here) (m : SourceModule) (given : List GivenParameter) → IsSite h site.entry → IsInner h m given inner.entry → ArePaths (paths_of h (instance_of instance.now)) paths.now → (before : List parts.Part) → AreCounts before walked.old.counts → Leaves before (plain.walked h.modules h.mode levels (entered h m given (instance_of instance.now)) before) result walked.old walked.new }
 {
     let connections = instance.connections.as_slice();
@@ -81,11 +81,10 @@ fn walk_inside<'u>(
         formals: inner.child.formals,
         given: inner.given,
         path: Rc::clone(&paths.inner)?,
-        depth: site.depth + 1,
+        depth: site.here.depth + 1,
         joins: &joins,
     };
-    enter(alloc, site.modules, site.mode, levels, entrance, walked)?;
-    Ok(())
+    enter(alloc, site.modules, site.here.mode, levels, entrance, walked)
 }
 
 /// Walks an instance: its connections, and what stands in it. A port that is wider than any vector may be is refused where its module declares it,
@@ -99,10 +98,10 @@ fn walk_instance<'u>(
     instance: &'u Instance,
     walked: &mut Walked<'u>,
 ) -> Result<(), WalkFault>
-    requires { site.entry.depth + levels ≤ 64 }
+    requires { site.here.now.depth + levels ≤ 64 }
     ensures { (h : plain.Here) (m : SourceModule) (given : List GivenParameter) → IsSite h site.entry → IsInner h m given inner.entry → (before : List parts.Part) → AreCounts before walked.old.counts → Leaves before (walked_instance (plain.walked h.modules h.mode levels) h m given (instance_of instance.now) before) result walked.old walked.new }
 {
-    let paths = instance_paths(alloc, site.path, instance)?;
+    let paths = instance_paths(alloc, &site.here.path, instance)?;
     let connections = instance.connections.as_slice();
     if connects_wide_port(inner.child, connections) {
         walked.count_instance(connection_nodes(alloc, inner.child, connections)?)?;
@@ -113,8 +112,7 @@ fn walk_instance<'u>(
     walked.parts.push(Part::Instance)?;
     push_connection_parts(alloc, inner.child, &paths, connections, &mut walked.parts)?;
     walked.count_from(start)?;
-    walk_inside(alloc, site, levels, inner, &paths, instance, walked)?;
-    Ok(())
+    walk_inside(alloc, site, levels, inner, &paths, instance, walked)
 }
 
 /// Walks instances of one module.
@@ -127,7 +125,7 @@ fn walk_instances<'u>(
     instances: &'u [Instance],
     walked: &mut Walked<'u>,
 ) -> Result<(), WalkFault>
-    requires { site.entry.depth + levels ≤ 64 }
+    requires { site.here.now.depth + levels ≤ 64 }
     ensures { (h : plain.Here) (m : SourceModule) (given : List GivenParameter) → IsSite h site.entry → IsInner h m given inner.entry → (before : List parts.Part) → AreCounts before walked.old.counts → Leaves before (walked_instances (plain.walked h.modules h.mode levels) h m given (map instance_of instances.now) before) result walked.old walked.new }
 {
     'instances: for instance in instances {
@@ -147,28 +145,25 @@ fn walk_instance_item<'u>(
     instances: &'u [Instance],
     walked: &mut Walked<'u>,
 ) -> Result<(), WalkFault>
-    requires { site.entry.depth + levels ≤ 64 }
+    requires { site.here.now.depth + levels ≤ 64 }
     ensures { (h : plain.Here) → IsSite h site.entry → (before : List parts.Part) (place : SourcePlace) → AreCounts before walked.old.counts → Leaves before (walked_instance_item (plain.walked h.modules h.mode levels) h (Some (module_of «module».now)) place (map connection_of parameters.now) (map instance_of instances.now) before) result walked.old walked.new }
 {
     let formals = Formals::of(alloc, module)?;
-    let given = given_parameters(alloc, site.scope, &formals, parameters)?;
+    let given = given_parameters(alloc, &site.here.scope, &formals, parameters)?;
     let scope = scope_of_module(alloc, module, &given)?;
     let child = Child {
         formals: &formals,
         inner: &scope,
-        outer: site.scope,
+        outer: &site.here.scope,
     };
-    let depth = u32::from(site.depth) + 1;
-    if let Some(found) = instance_fault(alloc, child, depth, parameters, instances)? {
-        return Err(WalkFault::Found(found));
-    }
+    let depth = u32::from(site.here.depth) + 1;
+    refuse(instance_fault(alloc, child, depth, parameters, instances)?)?;
     let inner = Inner {
         module,
         given: &given,
         child,
     };
-    walk_instances(alloc, site, levels, inner, instances, walked)?;
-    Ok(())
+    walk_instances(alloc, site, levels, inner, instances, walked)
 }
 
 /// Walks an item; the gates of the module before it are counted.
@@ -181,7 +176,7 @@ fn walk_item<'u>(
     item: &'u Item,
     walked: &mut Walked<'u>,
 ) -> Result<(), WalkFault>
-    requires { site.entry.depth + levels ≤ 64 }
+    requires { site.here.now.depth + levels ≤ 64 }
     ensures { (h : plain.Here) → IsSite h site.entry → (before : List parts.Part) → AreCounts before walked.old.counts → Leaves before (walked_item (plain.walked h.modules h.mode levels) h gates (item_of item.now) before) result walked.old walked.new }
 {
     match item {
@@ -199,13 +194,9 @@ fn walk_item<'u>(
             };
             let parameters = parameters.as_slice();
             let instances = instances.as_slice();
-            walk_instance_item(alloc, site, levels, module, parameters, instances, walked)?;
-            Ok(())
+            walk_instance_item(alloc, site, levels, module, parameters, instances, walked)
         }
-        _ => {
-            walk_plain_item(alloc, site, gates, item, walked)?;
-            Ok(())
-        }
+        _ => walk_plain_item(alloc, site, gates, item, walked),
     }
 }
 
@@ -218,7 +209,7 @@ fn walk_items<'u>(
     items: &'u [Item],
     walked: &mut Walked<'u>,
 ) -> Result<(), WalkFault>
-    requires { site.entry.depth + levels ≤ 64 }
+    requires { site.here.now.depth + levels ≤ 64 }
     ensures { (h : plain.Here) → IsSite h site.entry → (before : List parts.Part) → AreCounts before walked.old.counts → Leaves before (walked_items (plain.walked h.modules h.mode levels) h 0 (map item_of items.now) before) result walked.old walked.new }
 {
     let mut gates = 0;
@@ -239,16 +230,13 @@ fn walk_module<'u>(
     formals: &Formals<'u>,
     walked: &mut Walked<'u>,
 ) -> Result<(), WalkFault>
-    requires { site.entry.depth + levels ≤ 64 }
+    requires { site.here.now.depth + levels ≤ 64 }
     ensures { (h : plain.Here) → IsSite h site.entry → AreFormals (module_of «module».now) formals.now → (before : List parts.Part) → AreCounts before walked.old.counts → Leaves before (walked_module (plain.walked h.modules h.mode levels) h (module_of «module».now) before) result walked.old walked.new }
 {
     walk_param_groups(alloc, site, module.params.as_slice(), walked)?;
-    if let Some(found) = not_port_fault(formals, &module.ports) {
-        return Err(WalkFault::Found(found));
-    }
+    refuse(not_port_fault(formals, &module.ports))?;
     walk_heads(alloc, site, &module.ports, walked)?;
-    walk_items(alloc, site, levels, module.items.as_slice(), walked)?;
-    Ok(())
+    walk_items(alloc, site, levels, module.items.as_slice(), walked)
 }
 
 /// Walks what stands in an instance, with at most so many levels.
@@ -261,32 +249,27 @@ fn enter<'u>(
     entrance: Entrance<'_, 'u>,
     walked: &mut Walked<'u>,
 ) -> Result<(), WalkFault>
-    requires { entrance.entry.depth + levels ≤ 65 }
+    requires { entrance.depth + levels ≤ 65 }
     ensures { (all : List SourceModule) (e : plain.Entered) → AreModules all modules.now → IsEntrance e entrance.entry → (before : List parts.Part) → AreCounts before walked.old.counts → Leaves before (plain.walked all mode levels e before) result walked.old walked.new }
 {
     if levels == 0 {
         return Ok(());
     }
-    let scope = Rc::new(alloc, names(alloc, entrance.module, entrance.given)?)?;
+    let scope = names(alloc, entrance.module, entrance.given)?;
     let here = Here::new(
         alloc,
         mode,
-        Rc::clone(&entrance.path)?,
+        entrance.path,
         entrance.depth,
-        Rc::clone(&scope)?,
+        Rc::new(alloc, scope)?,
         entrance.joins,
         entrance.module,
     )?;
     let site = Site {
         modules,
-        mode,
         here: &here,
-        path: &entrance.path,
-        depth: entrance.depth,
-        scope: &scope,
     };
-    walk_module(alloc, site, levels - 1, entrance.module, entrance.formals, walked)?;
-    Ok(())
+    walk_module(alloc, site, levels - 1, entrance.module, entrance.formals, walked)
 }
 
 /// The parts of the design whose top is a module, in the order of the walk, or the first reason why there are none. Instances are of the modules

@@ -10,7 +10,7 @@ ghost use Rattle.elab_walk.specs.Sites.{IsSite};
 ghost use Rattle.elab_walk.specs.CountViews.{AreCounts};
 ghost use Rattle.elab_walk.specs.Leaves.{plain_item, Leaves};
 
-use crate::fault::WalkFault;
+use crate::fault::{WalkFault, refuse};
 use crate::site::Site;
 use crate::walked::Walked;
 use elab_items::{push_item_parts, push_port_parts};
@@ -27,10 +27,9 @@ fn walk_params<'u>(
 ) -> Result<(), WalkFault>
     ensures { (h : plain.Here) (walker : Walker) → IsSite h site.entry → (before : List parts.Part) → AreCounts before walked.old.counts → Leaves before (walked_item walker h 0 (ParameterItem (parameters_of group.now)) before) result walked.old walked.new }
 {
-    if let Some(found) = params_fault(alloc, site.scope, group)? {
-        return Err(WalkFault::Found(found));
-    }
-    walked.count_from(walked.parts.len())?;
+    refuse(params_fault(alloc, &site.here.scope, group)?)?;
+    let start = walked.parts.len();
+    walked.count_from(start)?;
     Ok(())
 }
 
@@ -58,9 +57,7 @@ fn walk_ports<'u>(
 ) -> Result<(), WalkFault>
     ensures { (h : plain.Here) (walker : Walker) → IsSite h site.entry → (before : List parts.Part) → AreCounts before walked.old.counts → Leaves before (walked_item walker h 0 (PortItem (ports_of group.now)) before) result walked.old walked.new }
 {
-    if let Some(found) = ports_fault(alloc, site.scope, group)? {
-        return Err(WalkFault::Found(found));
-    }
+    refuse(ports_fault(alloc, &site.here.scope, group)?)?;
     let start = walked.parts.len();
     push_port_parts(alloc, site.here, group, &mut walked.parts)?;
     walked.count_from(start)?;
@@ -110,9 +107,7 @@ pub fn walk_plain_item<'u>(
 ) -> Result<(), WalkFault>
     ensures { (h : plain.Here) → IsSite h site.entry → (before : List parts.Part) → AreCounts before walked.old.counts → Leaves before (plain_item h gates (item_of item.now) before) result walked.old walked.new }
 {
-    if let Some(found) = item_fault(alloc, site.scope, item)? {
-        return Err(WalkFault::Found(found));
-    }
+    refuse(item_fault(alloc, &site.here.scope, item)?)?;
     let start = walked.parts.len();
     push_item_parts(alloc, site.here, gates, item, &mut walked.parts)?;
     walked.count_from(start)?;

@@ -26,11 +26,11 @@ impl<'u> Modules<'u> {
     pub fn new(alloc: Global, unit: &'u Unit) -> Result<Modules<'u>, NoMemory>
         ensures { IfOk result (λ modules. AreModules (unit_of unit.now).modules modules) }
     {
+        let modules = unit.modules.as_slice();
         let mut by_name = NameMap::new(alloc);
-        'modules: for module in unit.modules.as_slice() {
-            if by_name.get(module.name.as_bytes()).is_none() {
-                by_name.put(module.name.as_bytes(), module)?;
-            }
+        'modules: for place in (0..modules.len()).rev() {
+            let module = &modules[place];
+            by_name.put(module.name.as_bytes(), module)?;
         }
         Ok(Modules { by_name })
     }

@@ -7,20 +7,15 @@ use elab_items::{Here, PortJoined};
 use instance_faults::{Child, Formals};
 use module_names::Given;
 use std::rc::Rc;
-use v_elab::Mode;
 use v_names::Scope;
 use v_tree::Module;
 use vf_base::Text;
 
-/// The instance whose items are walked, with its path, its depth (the top stands at 0) and its scope, among all modules.
+/// The instance whose items are walked, among all modules.
 #[derive(Clone, Copy)]
 pub struct Site<'w, 'u> {
     pub modules: &'w Modules<'u>,
-    pub mode: Mode,
     pub here: &'w Here<'w, 'u>,
-    pub path: &'w Rc<Text>,
-    pub depth: u8,
-    pub scope: &'w Scope<'u>,
 }
 
 /// An instance that is about to be walked: its module and what that offers, the parameters that are given, its path and its depth, and its ports

@@ -1,6 +1,6 @@
 // The parts of a walk so far.
 
-ghost use Rattle.std.specs.Prelude.{◌≡◌, ◌≤◌, List, [], ◌∷◌, ◌++◌, length, None, MatchResult};
+ghost use Rattle.std.specs.Prelude.{◌≡◌, List, [], ◌∷◌, ◌++◌, length, None, MatchResult};
 ghost use Rattle.v_elab.specs.Parts as plain;
 ghost use Rattle.v_elab.specs.Parts.{InstancePart, too_many_parts};
 ghost use Rattle.v_elab.specs.Refusals.{unless_refused};
@@ -45,9 +45,9 @@ impl<'u> Walked<'u> {
 
     /// Counts the parts from a number on, which stand behind those that are counted, and refuses the first count that passes its limit.
     pub fn count_from(&mut self, start: usize) -> Result<(), WalkFault>
-        requires { start ≤ length self.old.parts.items }
         ensures { (before front more : List plain.Part) → AreCounts before self.old.counts → parts_in self.old ≡ front ++ more → start ≡ length front → IsCounted before more result self.old self.new }
     {
+        let start = start.min(self.parts.len());
         self.counts.add_all(&self.parts[start..]);
         self.few()?;
         Ok(())
