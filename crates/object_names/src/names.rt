@@ -54,7 +54,7 @@ impl<'p> ObjectNames<'p> {
     pub fn new(
         alloc: Global,
         signals: &'p Signals<'p>,
-        parts: &'p [Part<'p>],
+        parts: &'p [Part<'_>],
         objects: &'p [HeldObject],
     ) -> Result<ObjectNames<'p>, NoMemory>
         requires { signals.now ≡ signals_of (parts_of parts.now) }
