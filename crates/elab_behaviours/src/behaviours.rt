@@ -48,9 +48,9 @@ fn push_block<'p>(
             drives: NodeDrives::Targets(drives),
             function: NodeFunction::Block(process),
         })?;
-    } else {
-        behaviours.processes.push(process)?;
+        return Ok(());
     }
+    behaviours.processes.push(process)?;
     Ok(())
 }
 

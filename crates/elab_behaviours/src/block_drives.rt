@@ -52,7 +52,7 @@ fn target_drive(
     let bits = DrivenBits {
         outside_below: 0,
         low: 0,
-        width,
+        width: u64::from(width),
         outside_above: 0,
     };
     Ok(Drive {

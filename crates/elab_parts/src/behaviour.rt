@@ -1,4 +1,4 @@
-// What parts do: nodes and processes.
+// What parts do that are nodes.
 
 ghost use Rattle.std.specs.Prelude.{◌≡◌};
 ghost use Rattle.elab_parts.specs.PartViews.{drives_of};
@@ -34,13 +34,6 @@ pub struct WalkedNode<'p> {
     pub name: Option<&'p Text>,
     pub drives: NodeDrives<'p>,
     pub function: NodeFunction<'p>,
-}
-
-/// What a part does.
-#[derive(Drop)]
-pub enum Behaviour<'p> {
-    Node(WalkedNode<'p>),
-    Process(&'p WalkedProcess<'p>),
 }
 
 impl<'p> NodeDrives<'p> {
