@@ -22,19 +22,19 @@ const MOST_PARTS: usize = 65_536;
 
 /// What parts do: the nodes and the processes, each in the order of the walk.
 #[derive(Drop)]
-pub struct Behaviours<'p> {
-    pub nodes: Vec<WalkedNode<'p>>,
-    pub processes: Vec<&'p WalkedProcess<'p>>,
+pub struct Behaviours<'p, 'u> {
+    pub nodes: Vec<WalkedNode<'p, 'u>>,
+    pub processes: Vec<&'p WalkedProcess<'u>>,
 }
 
 /// Adds a block that by itself is of combinational form, and is the part of a number: a node, or else a process.
-fn push_block<'p>(
+fn push_block<'p, 'u>(
     alloc: Global,
-    wiring: &Wiring<'p>,
+    wiring: &Wiring<'p, 'u>,
     number: usize,
-    process: &'p WalkedProcess<'p>,
+    process: &'p WalkedProcess<'u>,
     targets: &[Text],
-    behaviours: &mut Behaviours<'p>,
+    behaviours: &mut Behaviours<'p, 'u>,
 ) -> Result<(), NoMemory>
     requires { IsWiring wiring.now }
     ensures nodes { OnOk result (all_nodes_of behaviours.new ≡ all_nodes_of behaviours.old ++ plain.nodes_of (plain.process_behaviour (parts_of wiring.now.parts.now) number (process_of process.now) (Some targets.now) ∷ [])) }
@@ -55,12 +55,12 @@ fn push_block<'p>(
 }
 
 /// Adds what an `initial` or `always` does that is the part of a number.
-fn push_process<'p>(
+fn push_process<'p, 'u>(
     alloc: Global,
-    wiring: &Wiring<'p>,
+    wiring: &Wiring<'p, 'u>,
     number: usize,
-    process: &'p WalkedProcess<'p>,
-    behaviours: &mut Behaviours<'p>,
+    process: &'p WalkedProcess<'u>,
+    behaviours: &mut Behaviours<'p, 'u>,
 ) -> Result<(), NoMemory>
     requires { IsWiring wiring.now }
     ensures nodes { OnOk result (all_nodes_of behaviours.new ≡ all_nodes_of behaviours.old ++ plain.nodes_of (plain.process_behaviour (parts_of wiring.now.parts.now) number (process_of process.now) process.now.targets ∷ [])) }
@@ -86,12 +86,12 @@ fn push_process<'p>(
 }
 
 /// Adds what the part of a number does.
-fn push_part<'p>(
+fn push_part<'p, 'u>(
     alloc: Global,
-    wiring: &Wiring<'p>,
+    wiring: &Wiring<'p, 'u>,
     number: usize,
-    part: &'p Part<'p>,
-    behaviours: &mut Behaviours<'p>,
+    part: &'p Part<'u>,
+    behaviours: &mut Behaviours<'p, 'u>,
 ) -> Result<(), NoMemory>
     requires { IsWiring wiring.now }
     ensures nodes { OnOk result (all_nodes_of behaviours.new ≡ all_nodes_of behaviours.old ++ plain.nodes_of (plain.part_behaviour (parts_of wiring.now.parts.now) number (part_of part.now))) }
@@ -133,7 +133,10 @@ fn push_part<'p>(
 }
 
 /// What some parts do, by the tables of their names.
-pub fn behaviours_of<'p>(alloc: Global, wiring: &Wiring<'p>) -> Result<Behaviours<'p>, NoMemory>
+pub fn behaviours_of<'p, 'u>(
+    alloc: Global,
+    wiring: &Wiring<'p, 'u>,
+) -> Result<Behaviours<'p, 'u>, NoMemory>
     requires { IsWiring wiring.now }
     ensures nodes { IfOk result (λ b. map node_of b.nodes.items ≡ plain.nodes_of (plain.behaviours_of (parts_of wiring.now.parts.now))) }
     ensures processes { IfOk result (λ b. map (λ p. process_of p.now) b.processes.items ≡ plain.processes_of (plain.behaviours_of (parts_of wiring.now.parts.now))) }
@@ -149,7 +152,7 @@ pub fn behaviours_of<'p>(alloc: Global, wiring: &Wiring<'p>) -> Result<Behaviour
 }
 
 /// What there are too many of: nodes, or else processes.
-pub fn too_many_behaviours(behaviours: &Behaviours<'_>) -> Option<What>
+pub fn too_many_behaviours(behaviours: &Behaviours<'_, '_>) -> Option<What>
     ensures { (all : List plain.Behaviour) → plain.nodes_of all ≡ all_nodes_of behaviours.now → plain.processes_of all ≡ all_processes_of behaviours.now → too_many_behaviours all ≡ option_map (λ what. TooMany what (most_parts + 1)) result }
 {
     if behaviours.nodes.len() > MOST_PARTS {
