@@ -1,8 +1,7 @@
 -- What names mean by the tables, and that this is what the definition says.
-use Rattle.std.proofs.Common.{◌≡◌, ℕ, Bool, true, false, List, [], ◌∷◌, ◌++◌, map, Option, Some, None, option_map, refl, sym, ap, ap₂, ◌∙◌}
+use Rattle.std.proofs.Common.{◌≡◌, ℕ, Bool, true, false, List, [], ◌∷◌, ◌++◌, map, Option, Some, option_map, refl, sym, ap, ap₂, ◌∙◌}
 use Rattle.std.specs.Prelude.{filter, cond, flat_map}
 use Rattle.std.specs.Borrow.{Bor}
-use Rattle.std.specs.Str.{bytes_eq}
 use Rattle.v_design.specs.Plain.{piece_of}
 use Rattle.v_design.specs.Sized.{span}
 use Rattle.v_design.specs.Trees.{Piece, Vector, Memory}
@@ -13,27 +12,19 @@ use Rattle.v_elab.specs.Parts as plain
 use Rattle.v_elab.specs.Parts.{Signal, Part}
 use Rattle.v_elab.specs.Drivers.{signals_of, signal_named, outermost, is_unjoined}
 use Rattle.v_elab.specs.Objects.{HeldObject, range_of_signal, vector_of_name, memories_of, memory_if, memory_of_name, pieces_held, joined_if, names_joined}
-use Rattle.key_index.specs.Groups.{item_if, items_under, first_of, first_under}
+use Rattle.key_index.specs.Groups.{items_under, first_of, first_under}
 use Rattle.wire_laws.specs.Keyed.{under-map}
 use Rattle.wire_laws.specs.Held.{all_pieces, pieces-under}
 use Rattle.elab_parts.specs.PartViews.{range_of, memory_of}
 use Rattle.elab_parts.specs.declared.range.DeclaredRange.{DeclaredRange}
 use Rattle.elab_parts.specs.declared.signal.WalkedMemory.{WalkedMemory}
-use Rattle.object_names.specs.NameTables.{NameTables, memory_keyed, AreNamesOf, vector_by, words_by, memory_found, memory_by, joined_as, joined_by}
+use Rattle.elab_objects.specs.Found.{viewed-under}
+use Rattle.object_names.specs.NameTables.{NameTables, AreNamesOf, vector_by, words_by, memory_found, memory_by, joined_as, joined_by}
 use Rattle.object_names.specs.NameViews.{memory_borrowed, memory_seen, piece_seen}
 use Rattle.object_names.specs.Instances.{HoldNames}
 use Rattle.object_names.specs.declared.instance.InstanceNames.{InstanceNames}
 
 -- What is found under keys
-
-viewed-under : {A B : Type 0} (view : A → B) (ps : List (List ℕ × A)) (key : List ℕ) → items_under (map (λ (p : List ℕ × A). (p.0, view p.1)) ps) key ≡ map view (items_under ps key)
-viewed-under view [] key = refl
-viewed-under {A} view (p ∷ ps) key = by_test (bytes_eq key p.0) (viewed-under view ps key)
-  where
-    by_test : (test : Bool) → items_under (map (λ (q : List ℕ × A). (q.0, view q.1)) ps) key ≡ map view (items_under ps key) →
-        item_if test (view p.1) (items_under (map (λ (q : List ℕ × A). (q.0, view q.1)) ps) key) ≡ map view (item_if test p.1 (items_under ps key))
-    by_test true e = ap (λ l. view p.1 ∷ l) e
-    by_test false e = e
 
 first-viewed : {A B : Type 0} (view : A → B) (xs : List A) → first_of (map view xs) ≡ option_map view (first_of xs)
 first-viewed view [] = refl

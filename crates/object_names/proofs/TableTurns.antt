@@ -1,13 +1,12 @@
 -- The tables of names, one memory or one object more at a time.
-use Rattle.std.proofs.Common.{◌≡◌, ℕ, ◌+◌, ◌<◌, ◌≤◌, List, [], ◌∷◌, ◌++◌, length, get_or, take, map, refl, sym, ap, ap₂, ◌∙◌, arith}
+use Rattle.std.proofs.Common.{◌≡◌, ℕ, ◌+◌, ◌<◌, List, [], ◌∷◌, ◌++◌, length, get_or, take, map, refl, sym, ap, ap₂, ◌∙◌, arith}
 use Rattle.std.specs.Prelude.{flat_map}
 use Rattle.std.proofs.lemmas.Grind.{flat_map-append}
 use Rattle.std.proofs.lemmas.List.{map_push, length-map, length-take-le}
 use Rattle.vf_base.specs.Base.{object_number}
 use Rattle.v_design.specs.Trees.{Piece}
-use Rattle.v_design.specs.Designs.{NameJoined}
 use Rattle.v_tree.specs.Trees.{Identifier}
-use Rattle.v_elab.specs.Parts.{WalkedMemory, Part, SignalPart, MemoryPart, AssignPart, GatePart, ProcessPart, InstancePart}
+use Rattle.v_elab.specs.Parts.{Part, SignalPart, MemoryPart, AssignPart, GatePart, ProcessPart, InstancePart}
 use Rattle.v_elab.specs.Drivers.{signals_of}
 use Rattle.v_elab.specs.Objects as plain
 use Rattle.v_elab.specs.Objects.{memories_of}

@@ -1,4 +1,4 @@
-use Rattle.std.proofs.Common.{map, sym, ap, ◌∙◌}
+use Rattle.std.proofs.Common.{map, ap, ◌∙◌}
 use Rattle.v_design.specs.Plain.{piece_of}
 use Rattle.v_elab.specs.Drivers.{outermost}
 use Rattle.v_elab.specs.Objects.{range_of_signal}
