@@ -1,13 +1,13 @@
 // The objects that nodes write.
 
 ghost use Rattle.std.specs.Prelude.{◌≡◌, ◌≤◌, IfOk, OnOk, [], length, map, option_map, replicate};
+ghost use Rattle.vf_base.specs.Base.{object_number};
 ghost use Rattle.v_design.specs.Expressions.{up_from};
 ghost use Rattle.v_design.specs.WellFormed.{most_parts};
 ghost use Rattle.v_elab.specs.Flat.{outputs_of};
 ghost use Rattle.elab_objects.specs.ObjectViews.{driver_of, held_objects};
 ghost use Rattle.object_names.specs.OutputViews.{output_lists, with_output};
 
-use crate::tables::object_id;
 use elab_objects::{HeldObject, PieceDriver};
 use std::alloc::Global;
 use vf_base::{NoMemory, ObjectId};
@@ -32,16 +32,15 @@ fn empty_lists(alloc: Global, count: usize) -> Result<Vec<Vec<NodeOutput>>, NoMe
 
 /// Adds an object to what the node that writes it writes. A place beyond its numbers is that of a value in no memory.
 fn push_output(
-    object: usize,
+    object: ObjectId,
     driver: PieceDriver,
     outputs: &mut Vec<Vec<NodeOutput>>,
 ) -> Result<(), NoMemory>
-    ensures { OnOk result (output_lists outputs.new.items ≡ with_output object (Some (driver_of driver)) (output_lists outputs.old.items)) }
+    ensures { OnOk result (output_lists outputs.new.items ≡ with_output (object_number object) (Some (driver_of driver)) (output_lists outputs.old.items)) }
 {
     let Ok(place) = u32::try_from(driver.place) else {
         return Err(NoMemory);
     };
-    let object = object_id(object)?;
     if driver.node < outputs.len() {
         outputs[driver.node].push(NodeOutput { object, place })?;
     }
@@ -50,16 +49,16 @@ fn push_output(
 
 /// Adds an object to what its node writes, where it has one.
 fn push_object(
-    number: usize,
+    object: ObjectId,
     driver: Option<PieceDriver>,
     outputs: &mut Vec<Vec<NodeOutput>>,
 ) -> Result<(), NoMemory>
-    ensures { OnOk result (output_lists outputs.new.items ≡ with_output number (option_map driver_of driver) (output_lists outputs.old.items)) }
+    ensures { OnOk result (output_lists outputs.new.items ≡ with_output (object_number object) (option_map driver_of driver) (output_lists outputs.old.items)) }
 {
     match driver {
         None => Ok(()),
         Some(driver) => {
-            push_output(number, driver, outputs)?;
+            push_output(object, driver, outputs)?;
             Ok(())
         }
     }
@@ -76,7 +75,7 @@ pub fn node_outputs(
 {
     let mut outputs = empty_lists(alloc, nodes)?;
     'objects: for (number, held) in objects.iter().enumerate() {
-        push_object(number, held.driver, &mut outputs)?;
+        push_object(ObjectId(number as u32), held.driver, &mut outputs)?;
     }
     Ok(outputs)
 }

@@ -18,7 +18,7 @@ use v_design::PieceRef;
 use vf_base::{NoMemory, ObjectId};
 
 /// An object by its number; more than such numbers count are in no memory.
-pub fn object_id(number: usize) -> Result<ObjectId, NoMemory>
+fn object_id(number: usize) -> Result<ObjectId, NoMemory>
     ensures { IfOk result (λ object. object_number object ≡ number) }
 {
     match u32::try_from(number) {
