@@ -3,7 +3,7 @@
 ghost use Rattle.std.specs.Prelude.{◌≡◌};
 
 use crate::{Behaviours, behaviours_of, too_many_behaviours};
-use elab_parts::{DeclaredRange, Drive, Part, Signal, WalkedProcess};
+use elab_parts::{DeclaredRange, Drive, Part, Signal, WalkedNode, WalkedProcess};
 use elab_wires::{PortWriters, Signals, Wiring, Writers, list_written};
 use four_value::{Bit, Vec4};
 use std::alloc::Global;
@@ -79,6 +79,13 @@ fn block<'u>(alloc: Global, body: &'u Stmt, is_form: bool) -> Result<Part<'u>, N
     }))
 }
 
+/// What some parts do: the lines and the widths of the drives of all nodes, and how many processes there are.
+#[derive(Drop)]
+struct Outline {
+    drives: Vec<(u32, u64)>,
+    processes: usize,
+}
+
 /// Adds the lines and the widths of some drives.
 fn push_drives(drives: &[Drive], lines: &mut Vec<(u32, u64)>) -> Result<(), NoMemory> {
     for drive in drives {
@@ -87,8 +94,20 @@ fn push_drives(drives: &[Drive], lines: &mut Vec<(u32, u64)>) -> Result<(), NoMe
     Ok(())
 }
 
-/// What some parts do: of the drives of all nodes the lines and the widths, and how many processes there are.
-fn outline(alloc: Global, parts: &[Part<'_>]) -> Result<(Vec<(u32, u64)>, usize), NoMemory> {
+/// The lines and the widths of the drives of some nodes.
+fn list_drives(
+    alloc: Global,
+    nodes: &[WalkedNode<'_, '_>],
+) -> Result<Vec<(u32, u64)>, NoMemory> {
+    let mut drives = Vec::new(alloc);
+    for node in nodes {
+        push_drives(node.drives.as_slice(), &mut drives)?;
+    }
+    Ok(drives)
+}
+
+/// What some parts do.
+fn outline_of(alloc: Global, parts: &[Part<'_>]) -> Result<Outline, NoMemory> {
     let signals = Signals::new(alloc, parts)?;
     let written = list_written(alloc, parts)?;
     let writers = Writers::new(alloc, &signals, &written)?;
@@ -100,34 +119,38 @@ fn outline(alloc: Global, parts: &[Part<'_>]) -> Result<(Vec<(u32, u64)>, usize)
         ports: &ports,
     };
     let behaviours = behaviours_of(alloc, &wiring)?;
-    let mut drives = Vec::new(alloc);
-    for node in &behaviours.nodes {
-        push_drives(node.drives.as_slice(), &mut drives)?;
-    }
-    Ok((drives, behaviours.processes.len()))
+    Ok(Outline {
+        drives: list_drives(alloc, &behaviours.nodes)?,
+        processes: behaviours.processes.len(),
+    })
+}
+
+/// The variable, and a block of combinational form.
+fn one_block<'u>(alloc: Global, body: &'u Stmt) -> Result<Vec<Part<'u>>, NoMemory> {
+    let mut parts = Vec::new(alloc);
+    parts.push(variable(alloc)?)?;
+    parts.push(block(alloc, body, true)?)?;
+    Ok(parts)
 }
 
 #[test]
 fn block_drives_its_target_whole(rt: HostRuntime) -> Result<(), Fail> {
     let body = cleared(rt.alloc())?;
-    let parts = [variable(rt.alloc())?, block(rt.alloc(), &body, true)?];
-    let (drives, processes) = outline(rt.alloc(), &parts)?;
-    assert_eq!(rt; drives.as_slice(), [(7, 4)].as_slice());
-    assert_eq!(rt; processes, 0);
+    let parts = one_block(rt.alloc(), &body)?;
+    let outline = outline_of(rt.alloc(), &parts)?;
+    assert_eq!(rt; outline.drives.as_slice(), [(7, 4)].as_slice());
+    assert_eq!(rt; outline.processes, 0);
     Ok(())
 }
 
 #[test]
 fn block_whose_target_is_written_elsewhere_is_a_process(rt: HostRuntime) -> Result<(), Fail> {
     let body = cleared(rt.alloc())?;
-    let parts = [
-        block(rt.alloc(), &body, true)?,
-        variable(rt.alloc())?,
-        block(rt.alloc(), &body, false)?,
-    ];
-    let (drives, processes) = outline(rt.alloc(), &parts)?;
-    assert_eq!(rt; drives.len(), 0);
-    assert_eq!(rt; processes, 2);
+    let mut parts = one_block(rt.alloc(), &body)?;
+    parts.push(block(rt.alloc(), &body, false)?)?;
+    let outline = outline_of(rt.alloc(), &parts)?;
+    assert_eq!(rt; outline.drives.len(), 0);
+    assert_eq!(rt; outline.processes, 2);
     Ok(())
 }
 
