@@ -3,8 +3,5 @@ use Rattle.std.specs.Prelude.{◌≡◌}
 use Rattle.v_elab.specs.Connections as plain
 use Rattle.elab_connections.specs.declared.paths.Paths.{Paths}
 
-abbrev pub paths_of : Paths → plain.Paths
-paths_of paths = record { inner = paths.inner.value; outer = paths.outer.value }
-
 abbrev pub ArePaths : plain.Paths → Paths → Type 0
-ArePaths p paths = paths_of paths ≡ p
+ArePaths p paths = (paths.inner.value ≡ p.inner) × (paths.outer.value ≡ p.outer)

@@ -1,7 +1,5 @@
 // The paths of an instance.
 
-ghost use Rattle.std.specs.Prelude.{◌≡◌};
-
 use std::rc::Rc;
 use vf_base::Text;
 
