@@ -7,9 +7,9 @@ ghost use Rattle.v_elab.specs.Walk as plain;
 ghost use Rattle.elab_items.specs.Joins.{port_joined_of};
 ghost use Rattle.elab_items.specs.Heres.{IsHere};
 
-use crate::joins::PortJoined;
+use crate::joins::{PortJoined, joins_by_name};
 use elab_parts::Joining;
-use module_names::{Declaration, NameMap};
+use module_names::{Declaration, NameMap, declarations_by_name, declared_names};
 use std::alloc::Global;
 use std::rc::Rc;
 use v_elab::Mode;
@@ -46,6 +46,16 @@ impl<'h, 'u> Here<'h, 'u> {
         ensures depth { IfOk result (λ here. here.depth ≡ depth) }
         ensures scope { IfOk result (λ here. here.scope.value ≡ scope.entry.value) }
     {
-        Err(NoMemory)
+        let joins = joins_by_name(alloc, joins)?;
+        let list = declared_names(alloc, module)?;
+        let declared = declarations_by_name(alloc, &list)?;
+        Ok(Here {
+            mode,
+            path,
+            depth,
+            scope,
+            joins,
+            declared,
+        })
     }
 }

@@ -6,10 +6,15 @@
 //! which it stands: its names are looked up in maps that are made once.
 #![tactic(auto)]
 
+mod blocks;
+mod content;
+mod declared;
 mod drives;
+mod gates;
 mod here;
 mod item;
 mod joins;
+mod nodes;
 
 pub use drives::{drives_of, hierarchical};
 pub use here::Here;
