@@ -27,7 +27,7 @@ finds-step f d ds apart rest name = step (is_parameter (Some (f d))) refl (same_
     step false e true s = simp (s, e) (rest name ∙ ap is_parameter (subst (λ n. looked_up (named_by f ds) n ≡ None) (equal-name d.name name s) (none-found f d.name ds apart)))
 
 finds-named : (f : Declaration → ScopeEntry) (ds : List Declaration) → AreApart ds → FindsParameters (named_by f ds)
-finds-named f [] apart name = refl
+finds-named f [] apart = λ name. refl
 finds-named f (d ∷ ds) apart = finds-step f d ds apart.0 (finds-named f ds apart.1)
 
 is-answer : {A : Type 0} (answer : A) (fault : Option Fault) (other : A) → or_fault answer fault ≡ Ok other → answer ≡ other

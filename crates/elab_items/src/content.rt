@@ -3,9 +3,9 @@
 ghost use Rattle.std.specs.Prelude.{◌≡◌, IfOk};
 ghost use Rattle.four_value.specs.Values.{IsWidth};
 ghost use Rattle.v_elab.specs.Walk.{first_content_of, content_of};
-ghost use Rattle.v_names.specs.Scopes.{DeclaredRange as SourceRange};
 ghost use Rattle.elab_parts.specs.PartViews.{range_of};
 ghost use Rattle.module_names.specs.Declarations.{first_seen, declared_seen};
+ghost use Rattle.elab_items.specs.Wholes.{range_between};
 
 use elab_parts::DeclaredRange;
 use four_value::Vec4;
@@ -17,7 +17,7 @@ use vf_base::NoMemory;
 
 /// A declared range. One of more than 128 bits was refused before.
 pub fn declared_range(ranged: bool, high: u32, low: u32) -> Result<DeclaredRange, NoMemory>
-    ensures { IfOk result (λ range. (plain : SourceRange) → plain.ranged ≡ ranged → plain.high ≡ high → plain.low ≡ low → range_of range ≡ plain) }
+    ensures { IfOk result (λ range. range_of range ≡ range_between ranged high low) }
 {
     if span(high, low) > 128 {
         return Err(NoMemory);

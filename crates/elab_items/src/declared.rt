@@ -1,6 +1,6 @@
 // The nets, variables and memories that an item declares.
 
-ghost use Rattle.std.specs.Prelude.{◌≡◌, ◌∷◌, [], ◌++◌, IfOk, OnOk, map, flat_map, option_map};
+ghost use Rattle.std.specs.Prelude.{◌≡◌, ◌∷◌, [], ◌++◌, Some, IfOk, OnOk, map, flat_map, option_map};
 ghost use Rattle.vf_base.specs.Base.{source_place};
 ghost use Rattle.v_tree.specs.Views.{name_of, wire_of, reg_of};
 ghost use Rattle.v_names.specs.Scopes.{looked_up};
@@ -84,7 +84,55 @@ fn memory_part<'u>(
     }))
 }
 
-/// Adds what a declaration is by the meaning of its name, if that is a net, a variable or a memory.
+/// Adds what a declaration is whose name means this, if that is a net, a variable or a memory.
+fn push_meaning<'u>(
+    alloc: Global,
+    here: &Here<'_, 'u>,
+    own: Declaration<'u>,
+    meaning: &Entry,
+    parts: &mut Vec<Part<'u>>,
+) -> Result<(), NoMemory>
+    ensures { OnOk result ((h : plain.Here) → IsHere h here.now → parts_of parts.new.items ≡ parts_of parts.old.items ++ part_by_entry h (declaration_seen own.entry) (Some (entry_of meaning.now))) }
+{
+    match meaning {
+        Entry::Net {
+            ranged, high, low, ..
+        } => {
+            let range = declared_range(*ranged, *high, *low)?;
+            let part = signal_part(alloc, here, own, false, range)?;
+            push_part(part, parts)?;
+            Ok(())
+        }
+        Entry::Reg {
+            ranged, high, low, ..
+        } => {
+            let range = declared_range(*ranged, *high, *low)?;
+            let part = signal_part(alloc, here, own, true, range)?;
+            push_part(part, parts)?;
+            Ok(())
+        }
+        Entry::Memory {
+            ranged,
+            high,
+            low,
+            first,
+            last,
+            ..
+        } => {
+            let range = declared_range(*ranged, *high, *low)?;
+            let part = memory_part(alloc, here, own, range, *first, *last)?;
+            push_part(part, parts)?;
+            Ok(())
+        }
+        Entry::Param(_, _) => Ok(()),
+        Entry::RefusedParam => Ok(()),
+        Entry::WaitingParam => Ok(()),
+        Entry::Gate => Ok(()),
+        Entry::Instance => Ok(()),
+    }
+}
+
+/// Adds what a declaration is by what its name means, if it means anything.
 fn push_entry<'u>(
     alloc: Global,
     here: &Here<'_, 'u>,
@@ -95,41 +143,11 @@ fn push_entry<'u>(
     ensures { OnOk result ((h : plain.Here) → IsHere h here.now → parts_of parts.new.items ≡ parts_of parts.old.items ++ part_by_entry h (declaration_seen own.entry) (option_map entry_of entry.now)) }
 {
     match entry {
-        Some(Entry::Net {
-            ranged, high, low, ..
-        }) => {
-            let range = declared_range(*ranged, *high, *low)?;
-            let part = signal_part(alloc, here, own, false, range)?;
-            push_part(part, parts)?;
-            Ok(())
-        }
-        Some(Entry::Reg {
-            ranged, high, low, ..
-        }) => {
-            let range = declared_range(*ranged, *high, *low)?;
-            let part = signal_part(alloc, here, own, true, range)?;
-            push_part(part, parts)?;
-            Ok(())
-        }
-        Some(Entry::Memory {
-            ranged,
-            high,
-            low,
-            first,
-            last,
-            ..
-        }) => {
-            let range = declared_range(*ranged, *high, *low)?;
-            let part = memory_part(alloc, here, own, range, *first, *last)?;
-            push_part(part, parts)?;
-            Ok(())
-        }
-        Some(Entry::Param(_, _)) => Ok(()),
-        Some(Entry::RefusedParam) => Ok(()),
-        Some(Entry::WaitingParam) => Ok(()),
-        Some(Entry::Gate) => Ok(()),
-        Some(Entry::Instance) => Ok(()),
         None => Ok(()),
+        Some(meaning) => {
+            push_meaning(alloc, here, own, meaning, parts)?;
+            Ok(())
+        }
     }
 }
 
