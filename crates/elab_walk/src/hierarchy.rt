@@ -64,7 +64,7 @@ fn instance_paths(alloc: Global, path: &Rc<Text>, instance: &Instance) -> Result
 #[cycle(walk)]
 fn walk_inside<'u>(
     alloc: Global,
-    site: Site<'_, 'u>,
+    site: Site<'_, '_, '_, 'u>,
     levels: u8,
     inner: Inner<'_, 'u>,
     paths: &Paths,
@@ -92,7 +92,7 @@ fn walk_inside<'u>(
 #[cycle(walk)]
 fn walk_instance<'u>(
     alloc: Global,
-    site: Site<'_, 'u>,
+    site: Site<'_, '_, '_, 'u>,
     levels: u8,
     inner: Inner<'_, 'u>,
     instance: &'u Instance,
@@ -119,7 +119,7 @@ fn walk_instance<'u>(
 #[cycle(walk)]
 fn walk_instances<'u>(
     alloc: Global,
-    site: Site<'_, 'u>,
+    site: Site<'_, '_, '_, 'u>,
     levels: u8,
     inner: Inner<'_, 'u>,
     instances: &'u [Instance],
@@ -138,7 +138,7 @@ fn walk_instances<'u>(
 #[cycle(walk)]
 fn walk_instance_item<'u>(
     alloc: Global,
-    site: Site<'_, 'u>,
+    site: Site<'_, '_, '_, 'u>,
     levels: u8,
     module: &'u Module,
     parameters: &'u [Connection],
@@ -170,7 +170,7 @@ fn walk_instance_item<'u>(
 #[cycle(walk)]
 fn walk_item<'u>(
     alloc: Global,
-    site: Site<'_, 'u>,
+    site: Site<'_, '_, '_, 'u>,
     levels: u8,
     gates: u64,
     item: &'u Item,
@@ -204,7 +204,7 @@ fn walk_item<'u>(
 #[cycle(walk)]
 fn walk_items<'u>(
     alloc: Global,
-    site: Site<'_, 'u>,
+    site: Site<'_, '_, '_, 'u>,
     levels: u8,
     items: &'u [Item],
     walked: &mut Walked<'u>,
@@ -224,7 +224,7 @@ fn walk_items<'u>(
 #[cycle(walk)]
 fn walk_module<'u>(
     alloc: Global,
-    site: Site<'_, 'u>,
+    site: Site<'_, '_, '_, 'u>,
     levels: u8,
     module: &'u Module,
     formals: &Formals<'u>,

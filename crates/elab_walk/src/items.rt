@@ -21,7 +21,7 @@ use v_tree::{Heads, Item, Params, Ports};
 /// Walks parameters that are declared together in the head of a module.
 fn walk_params<'u>(
     alloc: Global,
-    site: Site<'_, 'u>,
+    site: Site<'_, '_, '_, 'u>,
     group: &'u Params,
     walked: &mut Walked<'u>,
 ) -> Result<(), WalkFault>
@@ -36,7 +36,7 @@ fn walk_params<'u>(
 /// Walks the parameters in the head of a module.
 pub fn walk_param_groups<'u>(
     alloc: Global,
-    site: Site<'_, 'u>,
+    site: Site<'_, '_, '_, 'u>,
     groups: &'u [Params],
     walked: &mut Walked<'u>,
 ) -> Result<(), WalkFault>
@@ -51,7 +51,7 @@ pub fn walk_param_groups<'u>(
 /// Walks ports that are declared together in the list of ports of a module.
 fn walk_ports<'u>(
     alloc: Global,
-    site: Site<'_, 'u>,
+    site: Site<'_, '_, '_, 'u>,
     group: &'u Ports,
     walked: &mut Walked<'u>,
 ) -> Result<(), WalkFault>
@@ -67,7 +67,7 @@ fn walk_ports<'u>(
 /// Walks groups of ports in the list of ports of a module.
 fn walk_port_groups<'u>(
     alloc: Global,
-    site: Site<'_, 'u>,
+    site: Site<'_, '_, '_, 'u>,
     groups: &'u [Ports],
     walked: &mut Walked<'u>,
 ) -> Result<(), WalkFault>
@@ -82,7 +82,7 @@ fn walk_port_groups<'u>(
 /// Walks the ports that are declared in the list of ports of a module.
 pub fn walk_heads<'u>(
     alloc: Global,
-    site: Site<'_, 'u>,
+    site: Site<'_, '_, '_, 'u>,
     heads: &'u Heads,
     walked: &mut Walked<'u>,
 ) -> Result<(), WalkFault>
@@ -100,7 +100,7 @@ pub fn walk_heads<'u>(
 /// Walks an item that is no instance; the gates of the module before it are counted.
 pub fn walk_plain_item<'u>(
     alloc: Global,
-    site: Site<'_, 'u>,
+    site: Site<'_, '_, '_, 'u>,
     gates: u64,
     item: &'u Item,
     walked: &mut Walked<'u>,

@@ -13,9 +13,9 @@ use vf_base::Text;
 
 /// The instance whose items are walked, among all modules.
 #[derive(Clone, Copy)]
-pub struct Site<'w, 'u> {
-    pub modules: &'w Modules<'u>,
-    pub here: &'w Here<'w, 'u>,
+pub struct Site<'m, 'h, 'j, 'u> {
+    pub modules: &'m Modules<'u>,
+    pub here: &'h Here<'j, 'u>,
 }
 
 /// An instance that is about to be walked: its module and what that offers, the parameters that are given, its path and its depth, and its ports
