@@ -9,7 +9,7 @@ use Rattle.elab_drivers.specs.DriveViews.{object_drive_of, drive_keyed}
 use Rattle.elab_drivers.specs.declared.drives.ObjectDrive.{ObjectDrive}
 use Rattle.elab_objects.specs.Driven.{driving_keyed}
 
-viewed-under : {A B : Type 0} (view : A → B) (ps : List (List ℕ × A)) (key : List ℕ) → items_under (map (λ (p : List ℕ × A). (p.0, view p.1)) ps) key ≡ map view (items_under ps key)
+pub viewed-under : {A B : Type 0} (view : A → B) (ps : List (List ℕ × A)) (key : List ℕ) → items_under (map (λ (p : List ℕ × A). (p.0, view p.1)) ps) key ≡ map view (items_under ps key)
 viewed-under view [] key = refl
 viewed-under {A} view (p ∷ ps) key = by_test (bytes_eq key p.0) (viewed-under view ps key)
   where
