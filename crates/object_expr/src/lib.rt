@@ -7,6 +7,9 @@
 
 mod expression;
 mod target;
+mod value;
+mod variable;
 
 pub use expression::{all_over_objects, over_objects};
-pub use target::{expr_alone, expr_assigned, targets_over};
+pub use target::targets_over;
+pub use value::{expr_alone, expr_assigned};
