@@ -102,12 +102,7 @@ fn scope_of(alloc: Global) -> Result<Scope<'static>, NoMemory> {
 
 /// The bits of a run as the rows write them.
 fn shown(bits: DrivenBits) -> (u64, u64, u64, u64) {
-    (
-        bits.outside_below,
-        bits.low,
-        bits.width,
-        bits.outside_above,
-    )
+    (bits.outside_below, bits.low, bits.width, bits.outside_above)
 }
 
 #[test]

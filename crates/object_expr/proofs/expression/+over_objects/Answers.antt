@@ -1,4 +1,4 @@
-use Rattle.std.proofs.Common.{map, take, ap, sym, ◌∙◌}
+use Rattle.std.proofs.Common.{map, ap, sym, ◌∙◌}
 use Rattle.std.proofs.lemmas.List.{take_all}
 use Rattle.v_design.specs.Trees.{Concatenation, Replication}
 use Rattle.v_design.specs.Plain.{expression_of}
