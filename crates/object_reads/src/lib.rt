@@ -6,7 +6,11 @@
 #![tactic(auto)]
 
 mod expression;
+mod inputs;
 mod shape;
+mod statement;
 
 pub use expression::push_reads;
+pub use inputs::objects_among;
 pub use shape::{Shape, shape_of, sized_target};
+pub use statement::{push_all_reads, push_statement_reads};
