@@ -7,6 +7,8 @@
 
 mod expression;
 mod target;
+#[cfg(test)]
+mod tests;
 mod value;
 mod variable;
 
