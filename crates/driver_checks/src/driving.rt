@@ -76,7 +76,7 @@ fn is_driving(signal: &Signal, targets: &KeyIndex<'_>) -> bool
 
 /// Adds a signal under the outermost name of its object, where it drives.
 fn push_signal<'p>(
-    signals: &'p Signals<'p>,
+    signals: &'p Signals<'_>,
     targets: &KeyIndex<'_>,
     signal: &'p Signal,
     items: &mut Vec<Keyed<'p, &'p Signal>>,
@@ -96,7 +96,7 @@ fn push_signal<'p>(
 
 /// Adds a part, where it is a variable that drives.
 fn push_part<'p>(
-    signals: &'p Signals<'p>,
+    signals: &'p Signals<'_>,
     targets: &KeyIndex<'_>,
     part: &'p Part<'_>,
     items: &mut Vec<Keyed<'p, &'p Signal>>,
@@ -119,7 +119,7 @@ fn push_part<'p>(
 /// The variables among some parts that are no target of these names.
 fn list_besides<'p>(
     alloc: Global,
-    signals: &'p Signals<'p>,
+    signals: &'p Signals<'_>,
     targets: &KeyIndex<'_>,
     parts: &'p [Part<'_>],
 ) -> Result<Vec<Keyed<'p, &'p Signal>>, NoMemory>
@@ -136,7 +136,7 @@ fn list_besides<'p>(
 /// among some nodes.
 pub fn list_driving<'p>(
     alloc: Global,
-    signals: &'p Signals<'p>,
+    signals: &'p Signals<'_>,
     nodes: &[WalkedNode<'_, '_>],
     parts: &'p [Part<'_>],
 ) -> Result<Vec<Keyed<'p, &'p Signal>>, NoMemory>

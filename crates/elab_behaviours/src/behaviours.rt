@@ -6,12 +6,11 @@ ghost use Rattle.v_elab.specs.Refusals.{TooMany};
 ghost use Rattle.v_elab.specs.Drivers as plain;
 ghost use Rattle.v_elab.specs.Flat.{too_many_behaviours};
 ghost use Rattle.elab_parts.specs.PartViews.{process_of, part_of, parts_of};
-ghost use Rattle.elab_parts.specs.BehaviourViews.{node_of};
 ghost use Rattle.elab_wires.specs.Wirings.{IsWiring};
 ghost use Rattle.elab_behaviours.specs.BehaviourLists.{all_nodes_of, all_processes_of};
 
 use crate::block_drives::block_drives;
-use elab_parts::{NodeDrives, NodeFunction, Part, WalkedNode, WalkedProcess};
+use elab_parts::{NodeDrives, NodeFunction, Part, ProcessPart, WalkedNode, WalkedProcess};
 use elab_wires::{Wiring, is_block_node};
 use std::alloc::Global;
 use v_elab::What;
@@ -24,7 +23,7 @@ const MOST_PARTS: usize = 65_536;
 #[derive(Drop)]
 pub struct Behaviours<'p, 'u> {
     pub nodes: Vec<WalkedNode<'p, 'u>>,
-    pub processes: Vec<&'p WalkedProcess<'u>>,
+    pub processes: Vec<ProcessPart<'p, 'u>>,
 }
 
 /// Adds a block that by itself is of combinational form, and is the part of a number: a node, or else a process.
@@ -50,7 +49,7 @@ fn push_block<'p, 'u>(
         })?;
         return Ok(());
     }
-    behaviours.processes.push(process)?;
+    behaviours.processes.push(ProcessPart { process })?;
     Ok(())
 }
 
@@ -68,7 +67,7 @@ fn push_process<'p, 'u>(
 {
     match &process.targets {
         None => {
-            behaviours.processes.push(process)?;
+            behaviours.processes.push(ProcessPart { process })?;
             Ok(())
         }
         Some(targets) => {
@@ -138,8 +137,8 @@ pub fn behaviours_of<'p, 'u>(
     wiring: &Wiring<'p, 'u>,
 ) -> Result<Behaviours<'p, 'u>, NoMemory>
     requires { IsWiring wiring.now }
-    ensures nodes { IfOk result (λ b. map node_of b.nodes.items ≡ plain.nodes_of (plain.behaviours_of (parts_of wiring.now.parts.now))) }
-    ensures processes { IfOk result (λ b. map (λ p. process_of p.now) b.processes.items ≡ plain.processes_of (plain.behaviours_of (parts_of wiring.now.parts.now))) }
+    ensures nodes { IfOk result (λ b. all_nodes_of b ≡ plain.nodes_of (plain.behaviours_of (parts_of wiring.now.parts.now))) }
+    ensures processes { IfOk result (λ b. all_processes_of b ≡ plain.processes_of (plain.behaviours_of (parts_of wiring.now.parts.now))) }
 {
     let mut behaviours = Behaviours {
         nodes: Vec::new(alloc),

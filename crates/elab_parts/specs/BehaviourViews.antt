@@ -10,6 +10,7 @@ use Rattle.elab_parts.specs.declared.behaviour.NodeFunction.TheVariants as funct
 use Rattle.elab_parts.specs.declared.behaviour.NodeDrives.{NodeDrives}
 use Rattle.elab_parts.specs.declared.behaviour.NodeDrives.TheVariants as drives
 use Rattle.elab_parts.specs.declared.behaviour.WalkedNode.{WalkedNode}
+use Rattle.elab_parts.specs.declared.behaviour.ProcessPart.{ProcessPart}
 
 abbrev pub function_of : NodeFunction → plain.NodeFunction
 function_of (functions.Assign value) = plain.AssignFunction (value_of value.now)
@@ -26,3 +27,7 @@ name_or_none (Some name) = name.now
 
 abbrev pub node_of : WalkedNode → plain.WalkedNode
 node_of n = record { name = name_or_none n.name; drives = node_drives_of n.drives; function = function_of n.function }
+
+-- a part that is a process
+abbrev pub process_in : ProcessPart → parts.WalkedProcess
+process_in p = process_of p.process.now

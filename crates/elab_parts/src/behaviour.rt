@@ -36,6 +36,12 @@ pub struct WalkedNode<'p, 'u> {
     pub function: NodeFunction<'p, 'u>,
 }
 
+/// A part that is a process.
+#[derive(Drop)]
+pub struct ProcessPart<'p, 'u> {
+    pub process: &'p WalkedProcess<'u>,
+}
+
 impl<'p> NodeDrives<'p> {
     /// The drives from the left of the node's target.
     pub fn as_slice(&self) -> &[Drive]
