@@ -1,0 +1,18 @@
+-- An item of a `case` by itself (IEEE 1364-2001, clause 9.5).
+use Rattle.std.specs.Prelude.{ℕ, List, ◌++◌, Option}
+use Rattle.v_names.specs.Readings.{Size}
+use Rattle.v_names.specs.Scopes.{Scope}
+use Rattle.v_tree.specs.Views.{expressions_of, statement_of}
+use Rattle.v_tree.specs.declared.statement.CaseItem.{CaseItem}
+use Rattle.v_tree.specs.declared.statement.CaseItem.TheVariants.{Labelled, Default}
+use Rattle.v_elab.specs.Statements.{Meaning, labels_in_text, read_in_text, labels_size}
+
+-- the objects that an item reads
+abbrev pub item_read_in_text : Meaning → CaseItem → List ℕ
+item_read_in_text meaning (Labelled labels statement) = labels_in_text meaning (expressions_of labels) ++ read_in_text meaning (statement_of statement)
+item_read_in_text meaning (Default statement) = read_in_text meaning (statement_of statement)
+
+-- the size of an item's labels together with another size
+abbrev pub item_size : Scope → CaseItem → Option Size → Option Size
+item_size scope (Labelled labels statement) size = labels_size scope (expressions_of labels) size
+item_size scope (Default statement) size = size
