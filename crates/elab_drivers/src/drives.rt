@@ -27,7 +27,7 @@ pub struct ObjectDrive {
 fn select_width(bits: DrivenBits) -> usize
     ensures { result ≡ length (places_of bits) }
 {
-    bits.outside_below as usize + bits.width as usize + bits.outside_above as usize
+    (bits.outside_below + bits.width + bits.outside_above) as usize
 }
 
 /// How many bits some selects have together; more than a number counts are in no memory.

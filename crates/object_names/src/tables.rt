@@ -1,0 +1,1 @@
+// The tables in which names are found.
