@@ -99,7 +99,7 @@ pub fn case_size(
 /// An expression at the size of a `case`.
 pub fn expr_at(
     alloc: Global,
-    meaning: Meaning<'_>,
+    meaning: Meaning<'_, '_>,
     expr: &Expr,
     size: Option<Size>,
 ) -> Result<FlatExpr, NoMemory>
@@ -113,7 +113,7 @@ pub fn expr_at(
 /// The labels of an item at the size of its `case`.
 pub fn labels_over(
     alloc: Global,
-    meaning: Meaning<'_>,
+    meaning: Meaning<'_, '_>,
     labels: &[Expr],
     size: Option<Size>,
 ) -> Result<Vec<FlatExpr>, NoMemory>

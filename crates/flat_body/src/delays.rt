@@ -37,7 +37,7 @@ fn in_32_bits(number: u128) -> Result<u32, NoMemory>
 }
 
 /// A delay, 0 where it has no number.
-pub fn delay_over(alloc: Global, meaning: Meaning<'_>, delay: &Expr) -> Result<u32, NoMemory>
+pub fn delay_over(alloc: Global, meaning: Meaning<'_, '_>, delay: &Expr) -> Result<u32, NoMemory>
     ensures { IfOk result (λ units. (plain : PlainMeaning) → IsMeaning plain meaning.entry → units ≡ delay_number plain (expression_of delay.now)) }
 {
     let constant = constant_of(alloc, delay, meaning.scope, 0)?;
@@ -48,7 +48,7 @@ pub fn delay_over(alloc: Global, meaning: Meaning<'_>, delay: &Expr) -> Result<u
 /// A delay that may be there.
 pub fn delay_if(
     alloc: Global,
-    meaning: Meaning<'_>,
+    meaning: Meaning<'_, '_>,
     delay: &Option<Expr>,
 ) -> Result<Option<u32>, NoMemory>
     ensures { IfOk result (λ units. (plain : PlainMeaning) → IsMeaning plain meaning.entry → units ≡ option_map (delay_number plain) (expression_in delay.now)) }
@@ -65,7 +65,7 @@ pub fn delay_if(
 /// A delay, 0 where there is none.
 pub fn delay_or_zero(
     alloc: Global,
-    meaning: Meaning<'_>,
+    meaning: Meaning<'_, '_>,
     delay: &Option<Expr>,
 ) -> Result<u32, NoMemory>
     ensures { IfOk result (λ units. (plain : PlainMeaning) → IsMeaning plain meaning.entry → units ≡ delay_or_zero plain (expression_in delay.now)) }

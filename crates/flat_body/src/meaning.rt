@@ -15,8 +15,8 @@ use vf_base::NoMemory;
 
 /// What the names of a process mean: their entries, their objects, and the width of each object of the design in bits, by its number.
 #[derive(Clone, Copy)]
-pub struct Meaning<'n> {
-    pub scope: &'n Scope<'n>,
+pub struct Meaning<'n, 'u> {
+    pub scope: &'n Scope<'u>,
     pub names: InstanceNames<'n>,
     pub widths: &'n [u8],
 }
@@ -25,7 +25,7 @@ pub struct Meaning<'n> {
 #[tactic(auto, using(crate::specs::Meanings::names_meant))]
 pub fn expr_alone(
     alloc: Global,
-    meaning: Meaning<'_>,
+    meaning: Meaning<'_, '_>,
     expr: &Expr,
 ) -> Result<FlatExpr, NoMemory>
     ensures { IfOk result (λ flat. (plain : PlainMeaning) → IsMeaning plain meaning.entry → expression_of flat ≡ alone_expression plain (source.expression_of expr.now)) }
@@ -38,7 +38,7 @@ pub fn expr_alone(
 #[tactic(auto, using(crate::specs::Meanings::names_meant))]
 pub fn expr_assigned(
     alloc: Global,
-    meaning: Meaning<'_>,
+    meaning: Meaning<'_, '_>,
     target: &Target,
     expr: &Expr,
 ) -> Result<FlatExpr, NoMemory>
@@ -52,7 +52,7 @@ pub fn expr_assigned(
 #[tactic(auto, using(crate::specs::Meanings::names_meant))]
 pub fn targets_over(
     alloc: Global,
-    meaning: Meaning<'_>,
+    meaning: Meaning<'_, '_>,
     target: &Target,
 ) -> Result<Vec<FlatTarget>, NoMemory>
     ensures { IfOk result (λ flats. (plain : PlainMeaning) → IsMeaning plain meaning.entry → map target_of flats.items ≡ targets_over plain (source.target_of target.now)) }

@@ -9,21 +9,17 @@ ghost use Rattle.flat_body.specs.Meanings.{IsMeaning};
 ghost use Rattle.flat_body.specs.CaseItems.{item_read_in_text};
 
 use crate::meaning::{Meaning, expr_alone, targets_over};
-use object_reads::{sized_target, sized_width};
+use object_reads::{shape_of, sized_target};
 use std::alloc::Global;
 use v_design::{FlatExpr, FlatTarget};
 use v_tree::{CaseItem, Expr, Stmt, Target};
 use vf_base::{NoMemory, ObjectId};
 
 /// Adds the objects that an expression over objects reads; its sizes agree, since those of the text do.
-fn add_flat(
-    alloc: Global,
-    expr: &FlatExpr,
-    objects: &mut Vec<ObjectId>,
-) -> Result<(), NoMemory>
+fn add_flat(alloc: Global, expr: &FlatExpr, objects: &mut Vec<ObjectId>) -> Result<(), NoMemory>
     ensures { IfOk result (λ _. map object_number objects.new.items ≡ map object_number objects.old.items ++ objects_in_text (expression_of expr.now)) }
 {
-    match sized_width(expr) {
+    match shape_of(expr) {
         None => Err(NoMemory),
         Some(_) => {
             wait_entries::add_objects(alloc, expr, objects)?;
@@ -65,7 +61,7 @@ fn add_indexes(
 /// Adds the objects that an expression reads.
 fn add_expr(
     alloc: Global,
-    meaning: Meaning<'_>,
+    meaning: Meaning<'_, '_>,
     expr: &Expr,
     objects: &mut Vec<ObjectId>,
 ) -> Result<(), NoMemory>
@@ -79,7 +75,7 @@ fn add_expr(
 /// Adds the objects that an assignment reads: for the indexes of its target, then for its value.
 fn add_assignment(
     alloc: Global,
-    meaning: Meaning<'_>,
+    meaning: Meaning<'_, '_>,
     target: &Target,
     value: &Expr,
     objects: &mut Vec<ObjectId>,
@@ -95,7 +91,7 @@ fn add_assignment(
 /// Adds the objects that some labels read.
 fn add_labels(
     alloc: Global,
-    meaning: Meaning<'_>,
+    meaning: Meaning<'_, '_>,
     labels: &[Expr],
     objects: &mut Vec<ObjectId>,
 ) -> Result<(), NoMemory>
@@ -111,7 +107,7 @@ fn add_labels(
 #[cycle(reads)]
 fn add_statement(
     alloc: Global,
-    meaning: Meaning<'_>,
+    meaning: Meaning<'_, '_>,
     statement: &Stmt,
     objects: &mut Vec<ObjectId>,
 ) -> Result<(), NoMemory>
@@ -204,7 +200,7 @@ fn add_statement(
 #[cycle(reads)]
 fn add_statements(
     alloc: Global,
-    meaning: Meaning<'_>,
+    meaning: Meaning<'_, '_>,
     statements: &[Stmt],
     objects: &mut Vec<ObjectId>,
 ) -> Result<(), NoMemory>
@@ -220,7 +216,7 @@ fn add_statements(
 #[cycle(reads)]
 fn add_items(
     alloc: Global,
-    meaning: Meaning<'_>,
+    meaning: Meaning<'_, '_>,
     items: &[CaseItem],
     objects: &mut Vec<ObjectId>,
 ) -> Result<(), NoMemory>
@@ -236,7 +232,7 @@ fn add_items(
 #[cycle(reads)]
 fn add_item(
     alloc: Global,
-    meaning: Meaning<'_>,
+    meaning: Meaning<'_, '_>,
     item: &CaseItem,
     objects: &mut Vec<ObjectId>,
 ) -> Result<(), NoMemory>
@@ -258,7 +254,7 @@ fn add_item(
 /// The objects that a statement reads, in the order of the text; one that is read twice stands twice.
 pub fn objects_read(
     alloc: Global,
-    meaning: Meaning<'_>,
+    meaning: Meaning<'_, '_>,
     statement: &Stmt,
 ) -> Result<Vec<ObjectId>, NoMemory>
     ensures { IfOk result (λ objects. (plain : PlainMeaning) → IsMeaning plain meaning.entry → map object_number objects.items ≡ read_in_text plain (source.statement_of statement.now)) }

@@ -6,7 +6,9 @@ ghost use Rattle.v_design.specs.PlainLemmas.{statements_of, items_of};
 ghost use Rattle.v_tree.specs.Views as source;
 ghost use Rattle.v_names.specs.SizeViews.{size_of};
 ghost use Rattle.v_elab.specs.Statements.{Meaning as PlainMeaning, statement_over, statements_over, items_over, default_over};
+ghost use Rattle.v_design.specs.Trees.{CaseItems};
 ghost use Rattle.flat_body.specs.Meanings.{IsMeaning};
+ghost use Rattle.flat_body.specs.CaseItems.{item_over, then_items};
 
 use crate::cases::{case_size, expr_at, labels_over};
 use crate::delays::{delay_if, delay_or_zero, delay_over};
@@ -26,7 +28,7 @@ use vf_base::{NoMemory, Seq};
 #[cycle(statement)]
 pub fn statement_over(
     alloc: Global,
-    meaning: Meaning<'_>,
+    meaning: Meaning<'_, '_>,
     statement: &Stmt,
 ) -> Result<FlatStmt, NoMemory>
     ensures { IfOk result (λ flat. (plain : PlainMeaning) → IsMeaning plain meaning.entry → statement_of flat ≡ statement_over plain (source.statement_of statement.now)) }
@@ -82,14 +84,14 @@ pub fn statement_over(
         } => {
             let size = case_size(alloc, meaning.scope, value, items)?;
             let value = expr_at(alloc, meaning, value, size)?;
-            let default = default_over(alloc, meaning, items)?;
+            let other = default_over(alloc, meaning, items)?;
             let items = items_over(alloc, meaning, items, size)?;
             Ok(FlatStmt::Case {
                 place: *place,
                 kind: *kind,
                 value,
                 items,
-                default,
+                default: other,
             })
         }
         Stmt::For {
@@ -216,7 +218,7 @@ pub fn statement_over(
 #[cycle(statement)]
 fn boxed_over(
     alloc: Global,
-    meaning: Meaning<'_>,
+    meaning: Meaning<'_, '_>,
     statement: &Stmt,
 ) -> Result<Box<FlatStmt>, NoMemory>
     ensures { IfOk result (λ flat. (plain : PlainMeaning) → IsMeaning plain meaning.entry → statement_of flat.value ≡ statement_over plain (source.statement_of statement.now)) }
@@ -229,7 +231,7 @@ fn boxed_over(
 #[cycle(statement)]
 fn statements_over(
     alloc: Global,
-    meaning: Meaning<'_>,
+    meaning: Meaning<'_, '_>,
     statements: &[Stmt],
 ) -> Result<Vec<FlatStmt>, NoMemory>
     ensures { IfOk result (λ flats. (plain : PlainMeaning) → IsMeaning plain meaning.entry → statements_of flats.items ≡ statements_over plain (source.statements_of statements.now)) }
@@ -242,11 +244,33 @@ fn statements_over(
     Ok(flats)
 }
 
+/// Puts an item of a `case` over objects behind others, where it has labels.
+#[cycle(statement)]
+fn push_item(
+    alloc: Global,
+    meaning: Meaning<'_, '_>,
+    item: &CaseItem,
+    size: Option<Size>,
+    flats: &mut Vec<FlatItem>,
+) -> Result<(), NoMemory>
+    ensures { IfOk result (λ _. (plain : PlainMeaning) → IsMeaning plain meaning.entry → (rest : CaseItems) → then_items (items_of flats.new.items) rest ≡ then_items (items_of flats.old.items) (item_over plain (option_map size_of size) item.now rest)) }
+{
+    match item {
+        CaseItem::Labelled { labels, statement } => {
+            let labels = labels_over(alloc, meaning, labels.as_slice(), size)?;
+            let statement = statement_over(alloc, meaning, statement)?;
+            flats.push(FlatItem { labels, statement })?;
+            Ok(())
+        }
+        CaseItem::Default { .. } => Ok(()),
+    }
+}
+
 /// The items of a `case` that have labels, over objects.
 #[cycle(statement)]
 fn items_over(
     alloc: Global,
-    meaning: Meaning<'_>,
+    meaning: Meaning<'_, '_>,
     items: &[CaseItem],
     size: Option<Size>,
 ) -> Result<Vec<FlatItem>, NoMemory>
@@ -254,11 +278,7 @@ fn items_over(
 {
     let mut flats = Vec::new(alloc);
     'items: for item in items {
-        if let CaseItem::Labelled { labels, statement } = item {
-            let labels = labels_over(alloc, meaning, labels.as_slice(), size)?;
-            let statement = statement_over(alloc, meaning, statement)?;
-            flats.push(FlatItem { labels, statement })?;
-        }
+        push_item(alloc, meaning, item, size, &mut flats)?;
     }
     Ok(flats)
 }
@@ -267,15 +287,18 @@ fn items_over(
 #[cycle(statement)]
 fn default_over(
     alloc: Global,
-    meaning: Meaning<'_>,
+    meaning: Meaning<'_, '_>,
     items: &[CaseItem],
 ) -> Result<Box<FlatStmt>, NoMemory>
     ensures { IfOk result (λ flat. (plain : PlainMeaning) → IsMeaning plain meaning.entry → statement_of flat.value ≡ default_over plain (source.case_items_of items.now)) }
 {
     'items: for item in items {
-        if let CaseItem::Default { statement } = item {
-            let flat = boxed_over(alloc, meaning, statement)?;
-            return Ok(flat);
+        match item {
+            CaseItem::Labelled { .. } => {}
+            CaseItem::Default { statement } => {
+                let flat = boxed_over(alloc, meaning, statement)?;
+                return Ok(flat);
+            }
         }
     }
     Ok(Box::new(alloc, FlatStmt::Null)?)

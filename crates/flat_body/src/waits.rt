@@ -18,30 +18,44 @@ use v_tree::{Entry, Stmt, Waits};
 use vf_base::NoMemory;
 use wait_entries::SelectedBits;
 
-/// The bits of a select as those that an entry is on.
-fn selected(bits: DrivenBits) -> SelectedBits
-    ensures { run_places result.outside_below result.low result.width result.outside_above ≡ places_of bits }
+/// The bits of a select as those that an entry is on; a name has 128 bits at most where nothing is wrong with it.
+fn selected(bits: DrivenBits) -> Result<SelectedBits, NoMemory>
+    ensures { IfOk result (λ own. run_places own.outside_below own.low own.width own.outside_above ≡ places_of bits) }
 {
-    SelectedBits {
-        outside_below: bits.outside_below,
-        low: bits.low,
-        width: bits.width,
-        outside_above: bits.outside_above,
+    let outside_below = in_8_bits(bits.outside_below)?;
+    let low = in_8_bits(bits.low)?;
+    let width = in_8_bits(bits.width)?;
+    let outside_above = in_8_bits(bits.outside_above)?;
+    Ok(SelectedBits {
+        outside_below,
+        low,
+        width,
+        outside_above,
+    })
+}
+
+/// A number of bits in 8 bits.
+fn in_8_bits(number: u64) -> Result<u8, NoMemory>
+    ensures { IfOk result (λ short. short ≡ number) }
+{
+    match u8::try_from(number) {
+        Ok(short) => Ok(short),
+        Err(_) => Err(NoMemory),
     }
 }
 
 /// The entries of an entry of the text: one for each object that holds some of its bits.
 fn entries_of(
     alloc: Global,
-    meaning: Meaning<'_>,
+    meaning: Meaning<'_, '_>,
     entry: &Entry,
 ) -> Result<Vec<WaitEntry>, NoMemory>
     ensures { IfOk result (λ entries. (plain : PlainMeaning) → IsMeaning plain meaning.entry → map entry_of entries.items ≡ entries_of_select plain (source.entry_of entry.now)) }
 {
     let bits = select_bits(alloc, meaning.scope, &entry.select)?;
     let vector = meaning.names.vector(alloc, &entry.select.name)?;
-    let entries =
-        wait_entries::entries_of_select(alloc, entry.edge, selected(bits), &vector)?;
+    let own = selected(bits)?;
+    let entries = wait_entries::entries_of_select(alloc, entry.edge, own, &vector)?;
     Ok(entries)
 }
 
@@ -58,7 +72,7 @@ fn append(more: &[WaitEntry], entries: &mut Vec<WaitEntry>) -> Result<(), NoMemo
 /// The entries of a list in the text.
 fn listed_entries(
     alloc: Global,
-    meaning: Meaning<'_>,
+    meaning: Meaning<'_, '_>,
     listed: &[Entry],
 ) -> Result<Vec<WaitEntry>, NoMemory>
     ensures { IfOk result (λ entries. (plain : PlainMeaning) → IsMeaning plain meaning.entry → map entry_of entries.items ≡ flat_map (entries_of_select plain) (map source.entry_of listed.now)) }
@@ -74,7 +88,7 @@ fn listed_entries(
 /// The entries of `@*`: one on each object that its statement reads, in the order of the text.
 fn star_entries(
     alloc: Global,
-    meaning: Meaning<'_>,
+    meaning: Meaning<'_, '_>,
     body: &Stmt,
 ) -> Result<Vec<WaitEntry>, NoMemory>
     ensures { IfOk result (λ entries. (plain : PlainMeaning) → IsMeaning plain meaning.entry → map entry_of entries.items ≡ star_entries plain (source.statement_of body.now)) }
@@ -87,7 +101,7 @@ fn star_entries(
 /// What an event control waits for, over objects.
 pub fn wait_entries(
     alloc: Global,
-    meaning: Meaning<'_>,
+    meaning: Meaning<'_, '_>,
     waits: &Waits,
     body: &Stmt,
 ) -> Result<Vec<WaitEntry>, NoMemory>
