@@ -73,7 +73,7 @@ fn push_drives<'w>(
 pub fn list_drives<'w>(
     alloc: Global,
     signals: &'w Signals<'_>,
-    nodes: &'w [WalkedNode<'_>],
+    nodes: &'w [WalkedNode<'_, '_>],
 ) -> Result<Vec<Keyed<'w, ObjectDrive>>, NoMemory>
     ensures { IfOk result (λ items. drives_listed items.items ≡ all_drives signals.now 0 (map node_of nodes.now)) }
 {

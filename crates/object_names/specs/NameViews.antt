@@ -25,3 +25,7 @@ piece_seen p = (p.0, piece_of p.1)
 
 abbrev pub pieces_listed : List (Keyed PieceRef) → List (List ℕ × Piece)
 pieces_listed items = map piece_seen (map keyed_of items)
+
+-- the objects of some pieces, by their numbers
+abbrev pub objects_in : List PieceRef → List ℕ
+objects_in pieces = map (λ (p : Piece). p.object) (map piece_of pieces)

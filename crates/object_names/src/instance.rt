@@ -23,13 +23,17 @@ impl InstanceNames<'_> {
     pub fn vector(&self, alloc: Global, name: &Text) -> Result<VectorRef, NoMemory>
         ensures { IfOk result (λ v. (holders : Holders) → HoldNames holders self.now → vector_of v ≡ holders.vector name.now) }
     {
-        Err(NoMemory)
+        let whole = hierarchical(alloc, self.path, name.as_bytes())?;
+        let vector = self.names.vector(alloc, whole.as_bytes())?;
+        Ok(vector)
     }
 
     /// The memory that a name of the instance is, with its words by address.
     pub fn memory(&self, alloc: Global, name: &Text) -> Result<MemoryRef, NoMemory>
         ensures { IfOk result (λ m. (holders : Holders) → HoldNames holders self.now → memory_of m ≡ holders.memory name.now) }
     {
-        Err(NoMemory)
+        let whole = hierarchical(alloc, self.path, name.as_bytes())?;
+        let memory = self.names.memory(alloc, whole.as_bytes())?;
+        Ok(memory)
     }
 }

@@ -11,6 +11,8 @@ mod joined;
 mod names;
 mod outputs;
 mod tables;
+#[cfg(test)]
+mod tests;
 
 pub use instance::InstanceNames;
 pub use joined::names_joined;
