@@ -121,9 +121,9 @@ pub fn output_part<'u>(
 ) -> Result<Part<'u>, NoMemory>
     ensures { IfOk result (λ part. (c : plain.Child) → IsChild c child.entry → (p : plain.Paths) → ArePaths p paths.now → part_of part ≡ output_part c p port.now (expression_of expr.now) (views.target_of target.now)) }
 {
-    let port = name_alone(alloc, place_of_expr(expr), port)?;
+    let alone = name_alone(alloc, place_of_expr(expr), port)?;
     let width = target_width_in(alloc, Writer::Node, target, child.outer)?;
-    let value = value_in(alloc, &paths.inner, child.inner, &port, width)?;
+    let value = value_in(alloc, &paths.inner, child.inner, &alone, width)?;
     let drives = drives_of(alloc, &paths.outer, child.outer, target)?;
     Ok(Part::Assign { drives, value })
 }

@@ -1,8 +1,8 @@
 -- The parts of a name at the place where it is declared first, and no parts elsewhere.
-use Rattle.std.proofs.Common.{◌≡◌, true, false, List, [], ◌∷◌, ◌++◌, filter, flat_map, cond, refl, ap, ◌∙◌, append-nil}
+use Rattle.std.proofs.Common.{◌≡◌, true, false, List, [], ◌∷◌, filter, flat_map, cond, ap, ◌∙◌, append-nil}
 use Rattle.vf_base.specs.Base.{SourcePlace}
 use Rattle.v_names.specs.Faults.{same_place}
-use Rattle.v_names.specs.Scopes.{DeclaredRange, looked_up}
+use Rattle.v_names.specs.Scopes.{looked_up}
 use Rattle.v_names.specs.Names.{Declaration}
 use Rattle.v_elab.specs.Parts.{Part}
 use Rattle.v_elab.specs.Walk.{Here, part_by_entry}

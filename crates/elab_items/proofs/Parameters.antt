@@ -1,9 +1,9 @@
 -- The parameters of a module's scope are found by their names.
-use Rattle.std.proofs.Common.{◌≡◌, ℕ, ◌+◌, Bool, true, false, List, [], ◌∷◌, map, Option, Some, None, Ok, refl, sym, ap, subst, ◌∙◌, add-one}
+use Rattle.std.proofs.Common.{◌≡◌, ℕ, Bool, true, false, List, [], ◌∷◌, map, Option, Some, None, Ok, refl, sym, ap, subst, ◌∙◌, add-one}
 use Rattle.v_tree.specs.Trees.{Identifier, SourceModule, same_name, has_name}
 use Rattle.v_names.specs.Faults.{Fault, first_fault, or_fault}
 use Rattle.v_names.specs.Scopes.{ScopeEntry, ScopeName, Scope, looked_up, is_parameter}
-use Rattle.v_names.specs.Names.{Declaration, GivenParameter, names_declared, meaning_of, meanings, scope_after, parameter_count, scope_of, module_name_faults, names}
+use Rattle.v_names.specs.Names.{Declaration, GivenParameter, names_declared, meaning_of, scope_after, parameter_count, scope_of, module_name_faults, names}
 use Rattle.v_elab.specs.Blocks.{parameter_names}
 use Rattle.module_names.specs.Settled.{NoneNamed, AreApart}
 use Rattle.elab_items.specs.Heres.{FindsParameters}

@@ -51,8 +51,6 @@ pub fn content_of(
     };
     match constant_of(alloc, first, scope, width)? {
         None => Ok(None),
-        Some(constant) => Ok(Some(
-            constant.value.resize_by_sign(constant.signed, width),
-        )),
+        Some(constant) => Ok(Some(constant.value.resize_by_sign(constant.signed, width))),
     }
 }

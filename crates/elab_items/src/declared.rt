@@ -3,11 +3,9 @@
 ghost use Rattle.std.specs.Prelude.{◌≡◌, ◌∷◌, [], ◌++◌, Some, IfOk, OnOk, map, flat_map, option_map};
 ghost use Rattle.vf_base.specs.Base.{source_place};
 ghost use Rattle.v_tree.specs.Views.{name_of, wire_of, reg_of};
-ghost use Rattle.v_names.specs.Scopes.{looked_up};
 ghost use Rattle.v_names.specs.ScopeViews.{entry_of};
 ghost use Rattle.v_names.specs.Names as source;
 ghost use Rattle.v_names.specs.Names.{names_declared, Bounds, reg_declarations};
-ghost use Rattle.v_elab.specs.Parts as parts;
 ghost use Rattle.v_elab.specs.Walk as plain;
 ghost use Rattle.v_elab.specs.Walk.{signal_part, part_by_entry, parts_of_own};
 ghost use Rattle.elab_parts.specs.PartViews.{range_of, part_of, parts_of};
@@ -96,7 +94,10 @@ fn push_meaning<'u>(
 {
     match meaning {
         Entry::Net {
-            ranged, high, low, ..
+            ranged,
+            high,
+            low,
+            ..
         } => {
             let range = declared_range(*ranged, *high, *low)?;
             let part = signal_part(alloc, here, own, false, range)?;
@@ -104,7 +105,10 @@ fn push_meaning<'u>(
             Ok(())
         }
         Entry::Reg {
-            ranged, high, low, ..
+            ranged,
+            high,
+            low,
+            ..
         } => {
             let range = declared_range(*ranged, *high, *low)?;
             let part = signal_part(alloc, here, own, true, range)?;

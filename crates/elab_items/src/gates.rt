@@ -1,12 +1,11 @@
 // Gates.
 
-ghost use Rattle.std.specs.Prelude.{◌≡◌, ◌∷◌, [], ◌++◌, ◌+◌, ℕ, IfOk, OnOk, map};
+ghost use Rattle.std.specs.Prelude.{◌≡◌, ◌++◌, ◌+◌, IfOk, OnOk, map};
 ghost use Rattle.v_tree.specs.Views.{expression_of, name_in, gate_of};
 ghost use Rattle.v_elab.specs.Walk as plain;
 ghost use Rattle.v_elab.specs.Walk.{terminals_of, gate_name, gate_parts};
-ghost use Rattle.sized_tree.specs.SizedViews.{sized_of, all_sized_of};
+ghost use Rattle.sized_tree.specs.SizedViews.{all_sized_of};
 ghost use Rattle.elab_parts.specs.PartViews.{part_of, parts_of};
-ghost use Rattle.v_names.specs.Readings.{tree_in, reading_of};
 ghost use Rattle.elab_items.specs.Heres.{IsHere};
 ghost use Rattle.elab_items.specs.Gates.{gate_part};
 

@@ -75,7 +75,9 @@ pub fn push_item_parts<'u>(
             Ok(())
         }
         Item::Gate {
-            kind, gates: all, ..
+            kind,
+            gates: all,
+            ..
         } => {
             push_gates(alloc, here, *kind, gates, all.as_slice(), parts)?;
             Ok(())

@@ -51,10 +51,7 @@ pub fn joins_by_name<'h>(
 }
 
 /// A copy of how a port is joined, if it is.
-pub fn copy_joining(
-    alloc: Global,
-    joining: Option<&Joining>,
-) -> Result<Option<Joining>, NoMemory>
+pub fn copy_joining(alloc: Global, joining: Option<&Joining>) -> Result<Option<Joining>, NoMemory>
     ensures { IfOk result (λ copy. option_map joining_of copy ≡ option_map joining_seen joining.entry) }
 {
     match joining {

@@ -1,6 +1,6 @@
 // Continuous assignments.
 
-ghost use Rattle.std.specs.Prelude.{◌≡◌, ◌∷◌, [], ◌++◌, IfOk, OnOk, map, flat_map};
+ghost use Rattle.std.specs.Prelude.{◌≡◌, ◌++◌, IfOk, OnOk, map, flat_map};
 ghost use Rattle.vf_base.specs.Base.{source_place};
 ghost use Rattle.v_tree.specs.Trees.{SourceAssignment};
 ghost use Rattle.v_tree.specs.Views.{expression_of, target_of, wire_of, assignment_of};

@@ -7,6 +7,11 @@
 
 mod expression;
 mod target;
+#[cfg(test)]
+mod tests;
+mod value;
+mod variable;
 
 pub use expression::{all_over_objects, over_objects};
-pub use target::{expr_alone, expr_assigned, targets_over};
+pub use target::targets_over;
+pub use value::{expr_alone, expr_assigned};

@@ -7,5 +7,7 @@
 
 mod part;
 mod select;
+#[cfg(test)]
+mod tests;
 
 pub use select::select_bits;

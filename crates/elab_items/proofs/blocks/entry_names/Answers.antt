@@ -1,4 +1,4 @@
-use Rattle.std.proofs.Common.{◌≡◌, ℕ, ◌+◌, Bool, ◌||◌, List, Option, map, is_some, drop, ap, sym, ◌∙◌}
+use Rattle.std.proofs.Common.{ℕ, ◌+◌, Bool, ◌||◌, List, Option, map, is_some, drop, ap, sym, ◌∙◌}
 use Rattle.v_tree.specs.Trees.{same_name, has_name}
 use Rattle.v_tree.specs.Views.{entry_of}
 use Rattle.v_tree.specs.declared.statement.Entry.{Entry}

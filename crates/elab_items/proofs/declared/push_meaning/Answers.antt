@@ -1,4 +1,4 @@
-use Rattle.std.proofs.Common.{◌≡◌, true, false, List, [], ◌∷◌, ◌++◌, Some, ap, sym, ◌∙◌}
+use Rattle.std.proofs.Common.{true, false, List, [], ◌∷◌, ◌++◌, Some, ap, sym, ◌∙◌}
 use Rattle.v_names.specs.Scopes.{DeclaredRange}
 use Rattle.v_names.specs.ScopeViews.{entry_of}
 use Rattle.v_names.specs.declared.entry.Entry.{Entry}

@@ -18,8 +18,8 @@ returns-in_ok-push_entry-in-Some c h d i n p =
     let before : List Part = parts_of c.args.parts.now.items in
     let same : same_place own.place (source_place c.args.place) ≡ true = search rules in
     let found : of_name d.name (names_declared h.instance.inner) ≡ own ∷ [] =
-      ap (λ (name : _). of_name name (names_declared h.instance.inner)) n ∙ i.declared_are c.args.name.now
-      ∙ ap (λ (o : Option code.Declaration). listed (option_map declaration_seen o)) (sym (c.in-Some.ensures ∙ ap (kept c.args.here.now.declared) c.as_bytes.ensures)) in
+    ap (λ (name : _). of_name name (names_declared h.instance.inner)) n ∙ i.declared_are c.args.name.now
+    ∙ ap (λ (o : Option code.Declaration). listed (option_map declaration_seen o)) (sym (c.in-Some.ensures ∙ ap (kept c.args.here.now.declared) c.as_bytes.ensures)) in
     c.in_ok-push_entry-in-Some.ensures h i
     ∙ ap (λ (o : Option ScopeEntry). before ++ part_by_entry h own o) (c.lookup.ensures ∙ ap (λ (s : Scope). looked_up s own.name) (c.deref.ensures ∙ i.scope_is))
     ∙ ap (λ (ps : List Part). before ++ ps) (sym (ap (parts_at h d.place) found ∙ own-here h d.place own (ap (same_place own.place) p ∙ same)))

@@ -1,4 +1,4 @@
-use Rattle.std.proofs.Common.{◌≡◌, ℕ, ◌+◌, List, Option, map, option_map, drop, ap, sym, ◌∙◌}
+use Rattle.std.proofs.Common.{ℕ, ◌+◌, List, Option, map, option_map, drop, ap, sym, ◌∙◌}
 use Rattle.std.specs.Option.{option_or}
 use Rattle.v_elab.specs.Parts.{Joining}
 use Rattle.v_elab.specs.Walk.{joining_of}

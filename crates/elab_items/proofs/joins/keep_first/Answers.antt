@@ -1,4 +1,4 @@
-use Rattle.std.proofs.Common.{◌≡◌, ℕ, List, Some, cond, option_map, ap, sym, ◌∙◌}
+use Rattle.std.proofs.Common.{ℕ, List, Some, cond, option_map, ap, sym, ◌∙◌}
 use Rattle.v_tree.specs.Trees.{same_name}
 use Rattle.module_names.specs.Kept.{kept}
 use Rattle.elab_parts.specs.PartViews.{joining_of}

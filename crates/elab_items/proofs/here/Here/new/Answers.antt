@@ -1,6 +1,5 @@
-use Rattle.std.proofs.Common.{◌≡◌, List, map, sym, ap, subst, ◌∙◌}
-use Rattle.v_tree.specs.Trees.{SourceModule}
-use Rattle.v_names.specs.Names.{Declaration, names_declared, of_name}
+use Rattle.std.proofs.Common.{◌≡◌, List, sym, ap, subst, ◌∙◌}
+use Rattle.v_names.specs.Names.{names_declared, of_name}
 use Rattle.v_elab.specs.Connections.{PortJoined}
 use Rattle.v_elab.specs.Walk.{joining_of}
 use Rattle.module_names.specs.Declarations.{declarations_seen}
