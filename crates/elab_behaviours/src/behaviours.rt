@@ -29,7 +29,7 @@ pub struct Behaviours<'p, 'u> {
 /// Adds a block that by itself is of combinational form, and is the part of a number: a node, or else a process.
 fn push_block<'p, 'u>(
     alloc: Global,
-    wiring: &Wiring<'p, 'u>,
+    wiring: &Wiring<'_, 'p, 'u>,
     number: usize,
     process: &'p WalkedProcess<'u>,
     targets: &[Text],
@@ -56,7 +56,7 @@ fn push_block<'p, 'u>(
 /// Adds what an `initial` or `always` does that is the part of a number.
 fn push_process<'p, 'u>(
     alloc: Global,
-    wiring: &Wiring<'p, 'u>,
+    wiring: &Wiring<'_, 'p, 'u>,
     number: usize,
     process: &'p WalkedProcess<'u>,
     behaviours: &mut Behaviours<'p, 'u>,
@@ -87,7 +87,7 @@ fn push_process<'p, 'u>(
 /// Adds what the part of a number does.
 fn push_part<'p, 'u>(
     alloc: Global,
-    wiring: &Wiring<'p, 'u>,
+    wiring: &Wiring<'_, 'p, 'u>,
     number: usize,
     part: &'p Part<'u>,
     behaviours: &mut Behaviours<'p, 'u>,
@@ -134,7 +134,7 @@ fn push_part<'p, 'u>(
 /// What some parts do, by the tables of their names.
 pub fn behaviours_of<'p, 'u>(
     alloc: Global,
-    wiring: &Wiring<'p, 'u>,
+    wiring: &Wiring<'_, 'p, 'u>,
 ) -> Result<Behaviours<'p, 'u>, NoMemory>
     requires { IsWiring wiring.now }
     ensures nodes { IfOk result (λ b. all_nodes_of b ≡ plain.nodes_of (plain.behaviours_of (parts_of wiring.now.parts.now))) }

@@ -4,7 +4,7 @@ ghost use Rattle.std.specs.Prelude.{◌≡◌};
 
 use crate::{Behaviours, behaviours_of, too_many_behaviours};
 use elab_parts::{DeclaredRange, Drive, Part, Signal, WalkedNode, WalkedProcess};
-use elab_wires::{PortWriters, Signals, Wiring, Writers, list_written};
+use elab_wires::{Signals, Wiring, list_written};
 use four_value::{Bit, Vec4};
 use std::alloc::Global;
 use std::rc::Rc;
@@ -110,14 +110,7 @@ fn list_drives(
 fn outline_of(alloc: Global, parts: &[Part<'_>]) -> Result<Outline, NoMemory> {
     let signals = Signals::new(alloc, parts)?;
     let written = list_written(alloc, parts)?;
-    let writers = Writers::new(alloc, &signals, &written)?;
-    let ports = PortWriters::new(alloc, parts)?;
-    let wiring = Wiring {
-        parts,
-        signals: &signals,
-        writers: &writers,
-        ports: &ports,
-    };
+    let wiring = Wiring::new(alloc, parts, &signals, &written)?;
     let behaviours = behaviours_of(alloc, &wiring)?;
     Ok(Outline {
         drives: list_drives(alloc, &behaviours.nodes)?,

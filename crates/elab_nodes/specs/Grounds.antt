@@ -27,4 +27,4 @@ names_at parts objects ground path names are same at =
 pub meant : (parts : List Part) (objects : List HeldObject) (ground : Ground) (process : WalkedProcess) (meaning : Meaning) → IsGround parts objects ground → meaning.scope.now ≡ process.scope → meaning.names.names ≡ ground.names →
     meaning.names.path.now ≡ process.path → meaning.widths ≡ ground.widths → IsMeaning (meaning_in parts objects process) meaning
 meant parts objects ground process meaning are scope names at widths =
-    record { scope_is = sym scope; names_hold = names_at parts objects ground process.path meaning.names are names at; widths_are = sym are.widths_are ∙ ap (λ (w : Bor (List ℕ)). w.now) (sym widths) }
+    record { scope_is = sym scope; names_are = names_at parts objects ground process.path meaning.names are names at; widths_are = sym are.widths_are ∙ ap (λ (w : Bor (List ℕ)). w.now) (sym widths) }

@@ -102,7 +102,7 @@ pub fn node_kind(
     alloc: Global,
     ground: Ground<'_>,
     outputs: &[NodeOutput],
-    function: &NodeFunction<'_>,
+    function: &NodeFunction<'_, '_>,
 ) -> Result<NodeKind, NoMemory>
     ensures { IfOk result (λ kind. (parts : List Part) (objects : List HeldObject) → IsGround parts objects ground.entry → node_kind_of kind ≡ plain.node_kind parts objects (map output_of outputs.now) (function_of function.now)) }
 {

@@ -52,7 +52,7 @@ fn flat_node(
     alloc: Global,
     ground: Ground<'_>,
     outputs: &[NodeOutput],
-    node: &WalkedNode<'_>,
+    node: &WalkedNode<'_, '_>,
 ) -> Result<Node, NoMemory>
     requires { length ground.widths.now ≤ most_parts }
     ensures { IfOk result (λ flat. (parts : List Part) (objects : List HeldObject) → IsGround parts objects ground.entry → node_of flat ≡ node_by parts objects (map output_of outputs.now) (walked.node_of node.now)) }
@@ -86,7 +86,7 @@ pub fn walked_nodes(
     alloc: Global,
     ground: Ground<'_>,
     outputs: &[Vec<NodeOutput>],
-    nodes: &[WalkedNode<'_>],
+    nodes: &[WalkedNode<'_, '_>],
 ) -> Result<Vec<Node>, NoMemory>
     requires { length ground.widths.now ≤ most_parts }
     ensures { IfOk result (λ flats. (parts : List Part) (objects : List HeldObject) → IsGround parts objects ground.entry →

@@ -6,11 +6,12 @@ ghost use Rattle.v_elab.specs.Parts.{Part};
 ghost use Rattle.v_elab.specs.Objects.{HeldObject};
 ghost use Rattle.v_elab.specs.Flat as plain;
 ghost use Rattle.elab_parts.specs.PartViews as walked;
+ghost use Rattle.elab_parts.specs.BehaviourViews.{process_in};
 ghost use Rattle.elab_nodes.specs.Grounds.{IsGround};
-ghost use Rattle.elab_nodes.specs.Processes.{process_seen, IsMeantBy};
+ghost use Rattle.elab_nodes.specs.Processes.{IsMeantBy};
 
 use crate::ground::Ground;
-use elab_parts::WalkedProcess;
+use elab_parts::{ProcessPart, WalkedProcess};
 use flat_body::{Meaning, statement_over};
 use object_names::InstanceNames;
 use std::alloc::Global;
@@ -18,7 +19,10 @@ use v_design::Process;
 use vf_base::NoMemory;
 
 /// What the names of a process mean.
-pub fn meaning_of<'n>(ground: Ground<'n>, process: &'n WalkedProcess<'_>) -> Meaning<'n>
+pub fn meaning_of<'n, 'u>(
+    ground: Ground<'n>,
+    process: &'n WalkedProcess<'u>,
+) -> Meaning<'n, 'u>
     ensures { IsMeantBy ground.entry (walked.process_of process.now) result }
 {
     Meaning {
@@ -55,13 +59,13 @@ fn flat_process(
 pub fn flat_processes(
     alloc: Global,
     ground: Ground<'_>,
-    processes: &[&WalkedProcess<'_>],
+    processes: &[ProcessPart<'_, '_>],
 ) -> Result<Vec<Process>, NoMemory>
-    ensures { IfOk result (λ flats. (parts : List Part) (objects : List HeldObject) → IsGround parts objects ground.entry → map process_of flats.items ≡ map (plain.flat_process parts objects) (map process_seen processes.now)) }
+    ensures { IfOk result (λ flats. (parts : List Part) (objects : List HeldObject) → IsGround parts objects ground.entry → map process_of flats.items ≡ map (plain.flat_process parts objects) (map process_in processes.now)) }
 {
     let mut flats = Vec::new(alloc);
     'processes: for process in processes {
-        flats.push(flat_process(alloc, ground, process)?)?;
+        flats.push(flat_process(alloc, ground, process.process)?)?;
     }
     Ok(flats)
 }

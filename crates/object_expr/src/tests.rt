@@ -154,15 +154,11 @@ const VARIABLE: VariableRef = VariableRef {
 fn shown(target: &FlatTarget) -> &'static str {
     match target {
         FlatTarget::Whole(variable) if *variable == VARIABLE => "variable",
-        FlatTarget::Bit(variable, FlatExpr::Constant { width: 32, .. }) if *variable == VARIABLE => {
-            "bit"
-        }
+        FlatTarget::Bit(variable, FlatExpr::Constant { width: 32, .. }) if *variable == VARIABLE =>
+            { "bit" }
         FlatTarget::Part(variable, 2, 1) if *variable == VARIABLE => "part",
         FlatTarget::Word(memory, FlatExpr::Constant { width: 32, .. })
-            if memory.words.as_slice() == [ObjectId(1), ObjectId(2)].as_slice() =>
-        {
-            "word"
-        }
+            if memory.words.as_slice() == [ObjectId(1), ObjectId(2)].as_slice() => { "word" }
         _ => "other",
     }
 }
@@ -195,7 +191,10 @@ fn expect_assignment(
     for flat in &targets_over(alloc, scope, names, &target)? {
         words.push(shown(flat))?;
     }
-    assert_eq!(rt; words.as_slice(), ["variable", "bit", "part", "word"].as_slice());
+    assert_eq!(rt;
+        words.as_slice(),
+        ["variable", "bit", "part", "word"].as_slice()
+    );
     let value = negated(alloc)?;
     let assigned = expr_assigned(alloc, scope, names, &target, &value)?;
     assert_eq!(rt; width_of_negated(&assigned), Some(11));
@@ -221,10 +220,19 @@ fn expect_sized(rt: &impl Abort, alloc: Global, names: InstanceNames<'_>) -> Res
         },
     ];
     let flats = all_over_objects(alloc, names, &exprs)?;
-    assert!(rt; matches!(
-        flats.as_slice(),
-        [FlatExpr::Name { width: 4, signed: true, .. }, FlatExpr::Constant { .. }]
-    ));
+    assert!(rt;
+        matches!(
+            flats.as_slice(),
+            [
+                FlatExpr::Name {
+                    width: 4,
+                    signed: true,
+                    ..
+                },
+                FlatExpr::Constant { .. }
+            ]
+        )
+    );
     Ok(())
 }
 
