@@ -152,6 +152,19 @@ fn compared(flat: &FlatStmt) -> Option<(u8, usize)> {
     }
 }
 
+/// What the names of the process mean.
+fn meaning_of<'n, 'u>(
+    scope: &'n Scope<'u>,
+    names: InstanceNames<'n>,
+    widths: &'n [u8],
+) -> Meaning<'n, 'u> {
+    Meaning {
+        scope,
+        names,
+        widths,
+    }
+}
+
 /// What the process is over the object.
 fn expect_process(
     rt: &impl Abort,
@@ -165,14 +178,12 @@ fn expect_process(
     let names = ObjectNames::new(alloc, signals, parts, &objects)?;
     let path = Text::from_bytes(alloc, b"u.")?;
     let scope = scope_of(alloc)?;
-    let meaning = Meaning {
-        scope: &scope,
-        names: InstanceNames {
-            names: &names,
-            path: &path,
-        },
-        widths: &[4],
+    let instance = InstanceNames {
+        names: &names,
+        path: &path,
     };
+    let widths = [4];
+    let meaning = meaning_of(&scope, instance, &widths);
     let statement = process(alloc)?;
     let FlatStmt::EventControl { entries, body, .. } = statement_over(alloc, meaning, &statement)?
     else {
