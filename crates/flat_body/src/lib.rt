@@ -11,6 +11,8 @@ mod delays;
 mod meaning;
 mod reads;
 mod statements;
+#[cfg(test)]
+mod tests;
 mod waits;
 
 pub use meaning::Meaning;
