@@ -1,5 +1,5 @@
 -- Modules by their names.
-use Rattle.std.proofs.Common.{◌≡◌, ℕ, ◌+◌, ◌-◌, ◌<◌, ◌≤◌, Bool, true, false, not, cond, List, [], ◌∷◌, Option, Some, None, option_map, is_some, map, filter, drop, get_or, length, refl, sym, ap, subst, ◌∙◌, arith}
+use Rattle.std.proofs.Common.{◌≡◌, ℕ, ◌+◌, ◌<◌, ◌≤◌, Bool, true, false, not, cond, List, [], ◌∷◌, Option, Some, None, option_map, is_some, map, filter, drop, get_or, length, refl, sym, ap, ◌∙◌}
 use Rattle.std.specs.Borrow.{Bor}
 use Rattle.name_faults.specs.Rows.{drop-step, drop-past}
 use Rattle.vf_base.specs.Base.{source_place}
@@ -9,7 +9,7 @@ use Rattle.v_names.specs.Readings.{is_empty}
 use Rattle.v_tree.specs.Trees.{Identifier, SourceModule, same_name}
 use Rattle.v_tree.specs.Views.{module_of}
 use Rattle.v_tree.specs.declared.item.Module.{Module}
-use Rattle.v_elab.specs.Refusals.{Refusal, Faulty}
+use Rattle.v_elab.specs.Refusals.{Faulty}
 use Rattle.v_elab.specs.Walk.{module_if, module_named}
 use Rattle.v_elab.specs.Flat.{twice_if, second_module}
 use Rattle.module_names.specs.Kept.{kept}

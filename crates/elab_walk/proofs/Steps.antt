@@ -1,22 +1,21 @@
 -- Steps of the walk from instance to instance.
-use Rattle.std.proofs.Common.{◌≡◌, ℕ, zero, suc, ◌+◌, ◌-◌, ◌<◌, ◌≤◌, List, [], ◌∷◌, ◌++◌, Option, Some, None, option_map, Result, Ok, Err, map, refl, sym, ap, subst, ◌∙◌, append_assoc, arith}
+use Rattle.std.proofs.Common.{◌≡◌, ℕ, zero, suc, ◌-◌, ◌<◌, List, [], ◌∷◌, ◌++◌, Option, Some, None, option_map, Result, Ok, Err, map, refl, sym, ap, ◌∙◌, append_assoc, arith}
 use Rattle.std.specs.Borrow.{Bor}
-use Rattle.vf_base.specs.Base.{SourcePlace, source_place}
+use Rattle.vf_base.specs.Base.{source_place}
 use Rattle.vf_base.specs.declared.ids.Place.{Place}
-use Rattle.v_tree.specs.Trees.{Identifier, SourceParameters, ParameterItem, SourcePorts, SourceHeads, PlainHeads, DeclaredHeads, SourceItem, PortItem, SourceModule}
+use Rattle.v_tree.specs.Trees.{Identifier, SourcePorts, SourceHeads, PlainHeads, DeclaredHeads, SourceItem, PortItem, SourceModule}
 use Rattle.v_tree.specs.Views.{item_of, module_of, connection_of, instance_of}
 use Rattle.v_tree.specs.declared.item.Item.{Item}
 use Rattle.v_tree.specs.declared.item.Item.TheVariants as items
 use Rattle.v_tree.specs.declared.item.Module.{Module}
 use Rattle.v_tree.specs.declared.item.Connection.{Connection}
 use Rattle.v_tree.specs.declared.item.Instance.{Instance}
-use Rattle.vf_base.specs.declared.text.Text.{Text}
 use Rattle.v_names.specs.Names.{GivenParameter, names}
 use Rattle.v_names.specs.Scopes.{Scope}
 use Rattle.v_names.specs.Faults.{Fault, UnknownName, fault_at}
 use Rattle.v_names.specs.FaultViews.{fault_of}
 use Rattle.v_elab.specs.declared.Mode.{Mode}
-use Rattle.v_elab.specs.Refusals.{Refusal, Faulty, as_refusal, then_go, checked}
+use Rattle.v_elab.specs.Refusals.{Faulty, as_refusal, then_go, checked}
 use Rattle.std.proofs.lemmas.List.{map_push}
 use Rattle.v_elab.specs.Parts.{Part, InstancePart}
 use Rattle.elab_parts.specs.PartViews.{part_of, parts_of}

@@ -29,13 +29,7 @@ fn objects_of(part: &Part<'_>) -> u64
     ensures { result ≡ objects_of_part (part_of part.now) }
 {
     match part {
-        Part::Signal(signal) => {
-            if signal.joined.is_some() {
-                0
-            } else {
-                1
-            }
-        }
+        Part::Signal(signal) => { if signal.joined.is_some() { 0 } else { 1 } }
         Part::Memory(memory) => span(memory.first, memory.last),
         _ => 0,
     }
@@ -57,13 +51,7 @@ fn processes_of(part: &Part<'_>) -> u64
     ensures { result ≡ processes_of_part (part_of part.now) }
 {
     match part {
-        Part::Process(process) => {
-            if process.targets.is_some() {
-                0
-            } else {
-                1
-            }
-        }
+        Part::Process(process) => { if process.targets.is_some() { 0 } else { 1 } }
         _ => 0,
     }
 }

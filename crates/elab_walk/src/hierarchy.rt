@@ -27,9 +27,7 @@ use elab_connections::{
 };
 use elab_items::{Here, gates_in, hierarchical};
 use elab_parts::Part;
-use instance_faults::{
-    Child, Formals, MOST_DEPTH, given_parameters, instance_fault, not_port_fault,
-};
+use instance_faults::{Child, Formals, given_parameters, instance_fault, not_port_fault};
 use module_names::{names, scope_of_module};
 use std::alloc::Global;
 use std::rc::Rc;
@@ -84,7 +82,14 @@ fn walk_inside<'u>(
         depth: site.here.depth + 1,
         joins: &joins,
     };
-    enter(alloc, site.modules, site.here.mode, levels, entrance, walked)
+    enter(
+        alloc,
+        site.modules,
+        site.here.mode,
+        levels,
+        entrance,
+        walked,
+    )
 }
 
 /// Walks an instance: its connections, and what stands in it. A port that is wider than any vector may be is refused where its module declares it,
@@ -269,7 +274,14 @@ fn enter<'u>(
         modules,
         here: &here,
     };
-    walk_module(alloc, site, levels - 1, entrance.module, entrance.formals, walked)
+    walk_module(
+        alloc,
+        site,
+        levels - 1,
+        entrance.module,
+        entrance.formals,
+        walked,
+    )
 }
 
 /// The parts of the design whose top is a module, in the order of the walk, or the first reason why there are none. Instances are of the modules

@@ -1,9 +1,9 @@
 // The modules of a text by their names.
 
-ghost use Rattle.std.specs.Prelude.{◌≡◌, List, [], ◌∷◌, IfOk, OnOk, option_map, map};
+ghost use Rattle.std.specs.Prelude.{◌≡◌, List, [], IfOk, option_map};
 ghost use Rattle.vf_base.specs.Base.{source_place};
 ghost use Rattle.v_tree.specs.Trees.{SourceModule};
-ghost use Rattle.v_tree.specs.Views.{module_of, unit_of};
+ghost use Rattle.v_tree.specs.Views.{unit_of};
 ghost use Rattle.v_names.specs.Faults.{DeclaredTwice, fault_at};
 ghost use Rattle.v_elab.specs.Refusals.{Faulty};
 ghost use Rattle.v_elab.specs.Walk.{module_named};

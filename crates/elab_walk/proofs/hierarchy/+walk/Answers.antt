@@ -1,4 +1,4 @@
-use Rattle.std.proofs.Common.{◌≡◌, ◌<◌, ◌+◌, ℕ, ◌-◌, List, [], ◌∷◌, ◌++◌, Option, Some, Ok, length, map, flat_map, drop, refl, sym, ap, subst, ◌∙◌, arith}
+use Rattle.std.proofs.Common.{◌≡◌, ◌<◌, ◌+◌, ℕ, ◌-◌, List, [], ◌∷◌, ◌++◌, Some, Ok, length, map, flat_map, drop, refl, sym, ap, subst, ◌∙◌, arith}
 use Rattle.std.proofs.lemmas.List.{length-map}
 use Rattle.std.proofs.lemmas.Result.{err_from_is_err_and}
 use Rattle.vf_base.specs.Base.{source_place}
@@ -18,13 +18,11 @@ use Rattle.v_elab.specs.Walk.{Here, Walker, walked, walked_module, walked_items,
 use Rattle.module_names.specs.Givens.{given_parameter}
 use Rattle.module_names.specs.declared.given.Given.{Given}
 use Rattle.instance_faults.specs.Offered.{AreFormals}
-use Rattle.instance_faults.specs.Children.{IsChild}
 use Rattle.elab_parts.specs.PartViews.{part_of}
 use Rattle.elab_items.specs.Heres.{IsHere}
 use Rattle.elab_connections.specs.PathViews.{ArePaths}
 use Rattle.elab_walk.specs.WalkFaults.{IsWalkFault}
 use Rattle.elab_walk.specs.Leaves.{parts_in, Grows}
-use Rattle.elab_walk.specs.Sites.{IsSite, IsInner}
 use Rattle.elab_walk.proofs.Turns.{goes-first, goes-turn, goes-wrong, turn-of, then-clean, clean-of, wrong-of, grows-counted, leaves-last, leaves-same}
 use Rattle.elab_walk.proofs.Steps.{enter-is, enter-wrong, heads-split, item-plain, item-known, pushed-instance, behind_parameters}
 use Rattle.elab_walk.proofs.hierarchy.+walk.Goals as goal

@@ -1,6 +1,5 @@
-use Rattle.std.proofs.Common.{List, ◌++◌, ap, subst}
+use Rattle.std.proofs.Common.{List, ◌++◌, subst}
 use Rattle.std.proofs.lemmas.List.{take_all}
-use Rattle.v_elab.specs.Parts as plain
 use Rattle.elab_parts.specs.PartViews.{parts_of}
 use Rattle.elab_parts.specs.declared.part.Part.{Part}
 use Rattle.elab_walk.specs.CountViews.{AreCounts}

@@ -1,6 +1,5 @@
-use Rattle.std.proofs.Common.{◌≡◌, ◌+◌, ◌-◌, ◌<◌, ℕ, List, length, map, drop, option_map, subst, arith}
+use Rattle.std.proofs.Common.{◌≡◌, ◌+◌, ◌-◌, ◌<◌, ℕ, length, map, drop, option_map, subst, arith}
 use Rattle.v_tree.specs.Views.{module_of}
-use Rattle.v_tree.specs.declared.item.Module.{Module}
 use Rattle.v_elab.specs.Walk.{module_named}
 use Rattle.module_names.specs.Kept.{kept}
 use Rattle.elab_walk.specs.ModuleViews.{module_seen}
