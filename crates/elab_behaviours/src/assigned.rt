@@ -25,10 +25,7 @@ fn push_selects<'t>(
 }
 
 /// Adds the names that a target assigns.
-fn push_target<'t>(
-    target: &'t Target,
-    names: &mut Vec<Keyed<'t, Place>>,
-) -> Result<(), NoMemory>
+fn push_target<'t>(target: &'t Target, names: &mut Vec<Keyed<'t, Place>>) -> Result<(), NoMemory>
     ensures { OnOk result (assignments_listed names.new.items ≡ assignments_listed names.old.items ++ target_assigned target.now) }
 {
     match target {

@@ -95,10 +95,7 @@ fn push_drives(drives: &[Drive], lines: &mut Vec<(u32, u64)>) -> Result<(), NoMe
 }
 
 /// The lines and the widths of the drives of some nodes.
-fn list_drives(
-    alloc: Global,
-    nodes: &[WalkedNode<'_, '_>],
-) -> Result<Vec<(u32, u64)>, NoMemory> {
+fn list_drives(alloc: Global, nodes: &[WalkedNode<'_, '_>]) -> Result<Vec<(u32, u64)>, NoMemory> {
     let mut drives = Vec::new(alloc);
     for node in nodes {
         push_drives(node.drives.as_slice(), &mut drives)?;

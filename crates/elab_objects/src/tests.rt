@@ -214,7 +214,10 @@ fn three_selects(alloc: Global) -> Result<Vec<Drive>, NoMemory> {
 }
 
 /// A node that drives `u.x`, and one that drives the three selects.
-fn two_nodes<'p>(alloc: Global, value: &'p ValueIn) -> Result<Vec<WalkedNode<'p, 'static>>, NoMemory> {
+fn two_nodes<'p>(
+    alloc: Global,
+    value: &'p ValueIn,
+) -> Result<Vec<WalkedNode<'p, 'static>>, NoMemory> {
     let mut other = Vec::new(alloc);
     other.push(select(alloc, b"u.x", false)?)?;
     let mut nodes = Vec::new(alloc);
