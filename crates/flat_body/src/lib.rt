@@ -11,8 +11,6 @@ mod delays;
 mod meaning;
 mod reads;
 mod statements;
-#[cfg(test)]
-mod tests;
 mod waits;
 
 pub use meaning::Meaning;
