@@ -159,3 +159,8 @@ then-both (Err refusal) first second both e = refl
 -- a fault that is handed out as it came
 pub err-is : {A : Type 0} (wanted : Answer) (P : A → Type 0) (result : Result A WalkFault) (one fault : WalkFault) → result ≡ Err one → one ≡ fault → IsWalkFault wanted fault → MatchResult result P (IsWalkFault wanted)
 err-is {A} wanted P result one fault e same wrong = subst (λ (r : Result A WalkFault). MatchResult r P (IsWalkFault wanted)) (sym e) (subst (IsWalkFault wanted) (sym same) wrong)
+
+-- want of memory
+pub leaves-memory : {A : Type 0} (before : List Part) (wanted : Answer) (old new : Walked) (result : Result A WalkFault) (one : WalkFault) → result ≡ Err one → one ≡ faults.NoMemory → Leaves before wanted result old new
+leaves-memory {A} before wanted old new result one e same =
+    subst (λ (r : Result A WalkFault). Leaves before wanted r old new) (sym e) (subst (IsWalkFault wanted) (sym same) tt)

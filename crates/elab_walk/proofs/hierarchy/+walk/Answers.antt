@@ -23,7 +23,7 @@ use Rattle.elab_items.specs.Heres.{IsHere}
 use Rattle.elab_connections.specs.PathViews.{ArePaths}
 use Rattle.elab_walk.specs.WalkFaults.{IsWalkFault}
 use Rattle.elab_walk.specs.Leaves.{parts_in, Grows}
-use Rattle.elab_walk.proofs.Turns.{goes-first, goes-turn, goes-wrong, turn-of, then-clean, clean-of, wrong-of, grows-counted, leaves-last, leaves-same}
+use Rattle.elab_walk.proofs.Turns.{goes-first, goes-turn, goes-wrong, turn-of, then-clean, clean-of, wrong-of, grows-counted, leaves-last, leaves-same, leaves-memory}
 use Rattle.elab_walk.proofs.Steps.{enter-is, enter-wrong, heads-split, item-plain, item-known, pushed-instance, behind_parameters}
 use Rattle.elab_walk.proofs.hierarchy.+walk.Goals as goal
 
@@ -64,6 +64,21 @@ walk_instance-returns t c h m given is inner before counted =
     (goes-turn before _ (walked_instance walker h m given i) (walker (entered h m given i)) (λ all. added all more) c.args.walked.now c.args.walked.now c.count_from.new.self (λ all. refl)
     (λ all k. grows-counted all more c.args.walked.now (record c.args.walked.now { parts = c.push_connection_parts.new.parts }) c.count_from.new.self pushed (c.in_ok-count_from.ensures all (parts_in c.args.walked.now) more k pushed at))
     (goes-first before (walked_instance walker h m given i) c.args.walked.now counted))
+
+pub walk_instance_item-returns-in_err-given : goal.walk_instance_item-returns-in_err-given
+walk_instance_item-returns-in_err-given t c h is before place counted =
+    let p = err_from_is_err_and c.from_residual-in_err-given.result c.from_residual-in_err-given.ensures.1 in
+    leaves-memory before _ c.args.walked.now c.args.walked.now c.from_residual-in_err-given.result p.0 p.1 p.2
+
+pub walk_instance_item-returns-in_err-scope : goal.walk_instance_item-returns-in_err-scope
+walk_instance_item-returns-in_err-scope t c h is before place counted =
+    let p = err_from_is_err_and c.from_residual-in_err-scope.result c.from_residual-in_err-scope.ensures.1 in
+    leaves-memory before _ c.args.walked.now c.args.walked.now c.from_residual-in_err-scope.result p.0 p.1 p.2
+
+pub walk_instance_item-returns-in_err-instance_fault : goal.walk_instance_item-returns-in_err-instance_fault
+walk_instance_item-returns-in_err-instance_fault t c h is before place counted =
+    let p = err_from_is_err_and c.from_residual-in_err-instance_fault.result c.from_residual-in_err-instance_fault.ensures.1 in
+    leaves-memory before _ c.args.walked.now c.args.walked.now c.from_residual-in_err-instance_fault.result p.0 p.1 p.2
 
 pub walk_instance_item-returns-in_err-refuse : goal.walk_instance_item-returns-in_err-refuse
 walk_instance_item-returns-in_err-refuse t c h is before place counted =

@@ -3,8 +3,14 @@ use Rattle.std.proofs.lemmas.Result.{err_from_is_err_and}
 use Rattle.v_tree.specs.Views.{module_of}
 use Rattle.v_elab.specs.Parts.{Part}
 use Rattle.v_elab.specs.Walk.{Entered, walked_from}
+use Rattle.elab_walk.specs.declared.fault.WalkFault.TheVariants.{NoMemory}
 use Rattle.elab_walk.proofs.Turns.{err-is}
 use Rattle.elab_walk.proofs.hierarchy.walked_from.Goals as goal
+
+pub returns-in_err-new : goal.returns-in_err-new
+returns-in_err-new c all modules =
+    let p = err_from_is_err_and c.from_residual-in_err-new.result c.from_residual-in_err-new.ensures.1 in
+    err-is (walked_from all c.args.mode (module_of c.args.top.now)) _ c.from_residual-in_err-new.result p.0 NoMemory p.1 p.2 tt
 
 pub returns-in_err-enter : goal.returns-in_err-enter
 returns-in_err-enter c all modules =
