@@ -1,5 +1,5 @@
 -- From what each step gives to what the output's making gives.
-use Rattle.std.proofs.Common.{◌≡◌, ℕ, ◌+◌, ◌<◌, ◌≤◌, List, ◌++◌, length, Option, Some, None, Result, Ok, Err, Vec, refl, sym, ap, subst, ◌∙◌, ◌⊎◌, inl, inr, arith}
+use Rattle.std.proofs.Common.{◌≡◌, ℕ, ◌+◌, ◌<◌, ◌≤◌, List, length, Option, Some, None, Result, Ok, Err, Vec, refl, sym, ap, subst, ◌∙◌, ◌⊎◌, inl, inr, arith}
 use Rattle.std.specs.Result.{IsErrAnd}
 use Rattle.std.specs.declared.alloc.Global.{Global}
 use Rattle.vf_base.specs.Counts.{raised, Rose}
@@ -22,9 +22,7 @@ use Rattle.vf_words.specs.declared.status.Refusal.TheVariants as refusals
 use Rattle.vf_words.specs.declared.status.Status.{Status}
 use Rattle.vf_words.specs.declared.status.Status.TheVariants.{Done, Refused, Usage, ReadFault, WriteFault, NoMemory, GoodLoop, TooLong}
 use Rattle.vfault.specs.Answers.{Answer, Outputs, Refuses, Lacks, Exceeds, Loops, status_of, AfterSource, refusal_of, IsAnswer, IsTheAnswer, StandsInEveryOrder, Stands}
-use Rattle.vf_base.specs.Sink.{Gains}
-use Rattle.std.specs.Prelude.{IfSome}
-use Rattle.vfault.specs.Outside.{IfTold, ShelfCounts, ReadFailed, ToldLong, Answers, IsOutput, PutsSome, PutGives, files_of, Keeps, as_answered, no_memory, no_read, no_put}
+use Rattle.vfault.specs.Outside.{IfTold, ShelfCounts, ReadFailed, ToldLong, PutGives, Keeps, as_answered, no_memory, no_read, no_put}
 use Rattle.vfault.specs.Making.{IsFile, IsLongFile, LongFile, NoFile, FileGives, HoldDesign, HoldRefused, DesignGives, status_if, design_status, report_status, OutputGives}
 use Rattle.vfault.proofs.OneAnswer.{The, source-lacks, source-exceeds, source-refused, plan-lacks, plan-exceeds, plan-tells, over_design, grade-form, check_next, check-form, faults_next, faults-form, check-tells, faults-tell}
 
@@ -185,107 +183,26 @@ module _ (form : Form) (held : Option Files) (old new : ShelfCounts) (sink_old s
 -- The call at its end
 
 module _ (asked : Option Form) (form : Form) (is_form : Some form ≡ asked) (held : Option Files) (old new : ShelfCounts) where
-  told-answer : (found : Option Files) (answer : Answer) → IfTold found (λ files. IsTheAnswer form files answer) → IfTold found (λ files. IsAnswer form files answer)
-  told-answer None answer h = tt
-  told-answer (Some files) answer h = h.is
-
-  answers : (answer : Answer) → IfTold held (λ files. IsTheAnswer form files answer) → Answers asked held answer
-  answers answer h = subst (λ o. Answers o held answer) is_form (told-answer held answer h)
-
-  handed : (status told : Status) → OutputGives form held old new (Err status) → status ≡ told → OutputGives form held old new (Err told)
-  handed status told h e = subst (λ s. OutputGives form held old new (Err s)) e h
-
-  pub refused-at-err : (status : Status) (why : Refusal) → OutputGives form held old new (Err status) → status ≡ Refused why → Answers asked held (Refuses why)
-  refused-at-err status why h e = answers (Refuses why) (handed status (Refused why) h e)
-
-  pub loops-at-err : (status : Status) (time : ℕ) → OutputGives form held old new (Err status) → status ≡ GoodLoop time → Answers asked held (Loops time)
-  loops-at-err status time h e = answers (Loops time) (handed status (GoodLoop time) h e)
-
-  pub read-at-err : (status : Status) (which : Which) → OutputGives form held old new (Err status) → status ≡ ReadFault which →
-      ReadFailed which old new ⊎ IfSome asked (λ (f : Form). (files : Files) × (held ≡ Some files) × IsAnswer f files (Lacks which))
-  read-at-err status which h e = by (handed status (ReadFault which) h e)
-    where
-      by : ReadFailed which old new ⊎ ((files : Files) × (held ≡ Some files) × IsTheAnswer form files (Lacks which)) → ReadFailed which old new ⊎ IfSome asked (λ (f : Form). (files : Files) × (held ≡ Some files) × IsAnswer f files (Lacks which))
-      by (inl failed) = inl failed
-      by (inr lacks) = inr (subst (λ o. IfSome o (λ (f : Form). (files : Files) × (held ≡ Some files) × IsAnswer f files (Lacks which))) is_form (lacks.0, lacks.1, lacks.2.is))
-
-  pub long-at-err : (status : Status) (which : Which) → OutputGives form held old new (Err status) → status ≡ TooLong which →
-      ToldLong held which old new ⊎ IfSome asked (λ (f : Form). (files : Files) × (held ≡ Some files) × IsAnswer f files (Exceeds which))
-  long-at-err status which h e = by (handed status (TooLong which) h e)
-    where
-      by : ToldLong held which old new ⊎ ((files : Files) × (held ≡ Some files) × IsTheAnswer form files (Exceeds which)) → ToldLong held which old new ⊎ IfSome asked (λ (f : Form). (files : Files) × (held ≡ Some files) × IsAnswer f files (Exceeds which))
-      by (inl failed) = inl failed
-      by (inr long) = inr (subst (λ o. IfSome o (λ (f : Form). (files : Files) × (held ≡ Some files) × IsAnswer f files (Exceeds which))) is_form (long.0, long.1, long.2.is))
-
-  pub never-at-err : (status : Status) (X : Type 0) → OutputGives form held old new (Err status) → (status ≡ Done) ⊎ ((status ≡ WriteFault) ⊎ (status ≡ Usage)) → X
-  never-at-err status X h (inl e) = absurd (handed status Done h e)
-  never-at-err status X h (inr (inl e)) = absurd (handed status WriteFault h e)
-  never-at-err status X h (inr (inr e)) = absurd (handed status Usage h e)
-
-  asked-is : (other : Form) → asked ≡ Some other → form ≡ other
-  asked-is other e = let same : Some form ≡ Some other = is_form ∙ e in cc
+  as-asked : (other : Form) (files : Files) (answer : Answer) → asked ≡ Some other → IsAnswer other files answer → IsAnswer form files answer
+  as-asked other files answer e is = let same : Some other ≡ Some form = sym (is_form ∙ e) in subst (λ f. IsAnswer f files answer) (cc) is
 
   pub keeps-at-err : (sink_old sink_new : ℕ) (status : Status) → OutputGives form held old new (Err status) → (other : Form) (files : Files) (answer : Answer) → asked ≡ Some other → held ≡ Some files → IsAnswer other files answer →
       Keeps answer old.faults new.faults sink_old sink_new status
-  keeps-at-err sink_old sink_new status h other files answer e told is =
-      keeps-status form held old new sink_old sink_new files answer told (subst (λ f. IsAnswer f files answer) (sym (asked-is other e)) is) status h
+  keeps-at-err sink_old sink_new status h other files answer e told is = keeps-status form held old new sink_old sink_new files answer told (as-asked other files answer e is) status h
 
-  pub few-reads : (other : Form) → asked ≡ Some other → new.reads ≤ old.reads + files_of form → new.reads ≤ old.reads + files_of other
-  few-reads other e h = subst (λ f. new.reads ≤ old.reads + files_of f) (asked-is other e) h
+  pub keeps-at-end : (text : List ℕ) → IfTold held (λ files. IsTheAnswer form files (Outputs text) × Stands form files text) → (sink_held sink_after : Option (List ℕ)) (before after : ℕ) (status : Status) →
+      PutGives sink_held text sink_after before after status → (other : Form) (files : Files) (answer : Answer) → asked ≡ Some other → held ≡ Some files → IsAnswer other files answer → Keeps answer old.faults new.faults before after status
+  keeps-at-end text made sink_held sink_after before after status h other files answer e told is = by status h
+    where
+      done : status_of answer ≡ Done
+      done = output-status form held old new before after files answer told (as-asked other files answer e is) text made
 
-  -- Where the output is put
-
-  module _ (text : List ℕ) (made : IfTold held (λ files. IsTheAnswer form files (Outputs text) × Stands form files text)) (sink_held sink_after : Option (List ℕ)) (before after : ℕ) where
-    output : (found : Option Files) → IfTold found (λ files. IsTheAnswer form files (Outputs text) × Stands form files text) → (X : Files → Type 0) → ((files : Files) → IsOutput form files text → X files) → IfTold found X
-    output None h X give = tt
-    output (Some files) h X give = give files (record { answers = h.0.is; every_order = h.1 })
-
-    put : (status told : Status) → PutGives sink_held text sink_after before after status → status ≡ told → PutGives sink_held text sink_after before after told
-    put status told h e = subst (PutGives sink_held text sink_after before after) e h
-
-
-
-
-
-    gained : (files : Files) → IsOutput form files text → (found : Option (List ℕ)) → Gains found text sink_after → IfTold found (λ bytes. (t : List ℕ) × IsOutput form files t × (sink_after ≡ Some (bytes ++ t)))
-    gained files o None g = tt
-    gained files o (Some bytes) g = (text, o, g)
-
-    pub done-at-end : (status : Status) → PutGives sink_held text sink_after before after status → status ≡ Done →
-        IfSome asked (λ (f : Form). IfTold held (λ files. IfTold sink_held (λ bytes. (t : List ℕ) × IsOutput f files t × (sink_after ≡ Some (bytes ++ t)))))
-    done-at-end status h e =
-        subst (λ o. IfSome o (λ (f : Form). IfTold held (λ files. IfTold sink_held (λ bytes. (t : List ℕ) × IsOutput f files t × (sink_after ≡ Some (bytes ++ t)))))) is_form
-        (output held made (λ files. IfTold sink_held (λ bytes. (t : List ℕ) × IsOutput form files t × (sink_after ≡ Some (bytes ++ t)))) (λ files o. gained files o sink_held (put status Done h e)))
-
-    some-put : PutsSome sink_held text sink_after → IfSome asked (λ (f : Form). IfTold held (λ files. (t : List ℕ) × IsOutput f files t × PutsSome sink_held t sink_after))
-    some-put p =
-        subst (λ o. IfSome o (λ (f : Form). IfTold held (λ files. (t : List ℕ) × IsOutput f files t × PutsSome sink_held t sink_after))) is_form
-        (output held made (λ files. (t : List ℕ) × IsOutput form files t × PutsSome sink_held t sink_after) (λ files o. (text, o, p)))
-
-    pub fault-at-end : (status : Status) → PutGives sink_held text sink_after before after status → status ≡ WriteFault →
-        Rose before after × IfSome asked (λ (f : Form). IfTold held (λ files. (t : List ℕ) × IsOutput f files t × PutsSome sink_held t sink_after))
-    fault-at-end status h e = let p = put status WriteFault h e in (p.1, some-put p.0)
-
-    pub no-memory-at-end : (status : Status) → PutGives sink_held text sink_after before after status → status ≡ NoMemory →
-        (sink_after ≡ sink_held) ⊎ IfSome asked (λ (f : Form). IfTold held (λ files. (t : List ℕ) × IsOutput f files t × PutsSome sink_held t sink_after))
-    no-memory-at-end status h e = inr (some-put (put status NoMemory h e))
-
-    pub keeps-at-end : (status : Status) → PutGives sink_held text sink_after before after status → (other : Form) (files : Files) (answer : Answer) → asked ≡ Some other → held ≡ Some files → IsAnswer other files answer →
-        Keeps answer old.faults new.faults before after status
-    keeps-at-end status h other files answer e told is = by status h
-      where
-        done : status_of answer ≡ Done
-        done = output-status form held old new before after files answer told (subst (λ f. IsAnswer f files answer) (sym (asked-is other e)) is) text made
-
-        by : (s : Status) → PutGives sink_held text sink_after before after s → Keeps answer old.faults new.faults before after s
-        by Done p = as_answered (sym done)
-        by (Refused why) p = absurd p
-        by Usage p = absurd p
-        by (ReadFault which) p = absurd p
-        by WriteFault p = no_put refl done p.1
-        by NoMemory p = no_memory refl
-        by (GoodLoop time) p = absurd p
-        by (TooLong which) p = absurd p
-
-    pub never-at-end : (status told : Status) (X : Type 0) → (PutGives sink_held text sink_after before after told → ⊥) → PutGives sink_held text sink_after before after status → status ≡ told → X
-    never-at-end status told X none h e = absurd (none (put status told h e))
+      by : (s : Status) → PutGives sink_held text sink_after before after s → Keeps answer old.faults new.faults before after s
+      by Done p = as_answered (sym done)
+      by (Refused why) p = absurd p
+      by Usage p = absurd p
+      by (ReadFault which) p = absurd p
+      by WriteFault p = no_put refl done p.1
+      by NoMemory p = no_memory refl
+      by (GoodLoop time) p = absurd p
+      by (TooLong which) p = absurd p
