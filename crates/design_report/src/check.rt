@@ -33,9 +33,24 @@ pub fn check_text(alloc: Global, design: &Design) -> Result<Vec<u8>, NoMemory>
     ensures { IfOk result (λ text. text.items ≡ check_text (design_of design.now)) }
 {
     let mut out = Vec::new(alloc);
-    append_count(alloc, &mut out, b"objects ", design.objects.as_slice().len() as u64)?;
-    append_count(alloc, &mut out, b" nodes ", design.nodes.as_slice().len() as u64)?;
-    append_count(alloc, &mut out, b" processes ", design.processes.as_slice().len() as u64)?;
+    append_count(
+        alloc,
+        &mut out,
+        b"objects ",
+        design.objects.as_slice().len() as u64,
+    )?;
+    append_count(
+        alloc,
+        &mut out,
+        b" nodes ",
+        design.nodes.as_slice().len() as u64,
+    )?;
+    append_count(
+        alloc,
+        &mut out,
+        b" processes ",
+        design.processes.as_slice().len() as u64,
+    )?;
     append(&mut out, b"\n")?;
     Ok(out)
 }

@@ -93,12 +93,7 @@ fn design_form<'w>(form: &str, source: Source<'w>) -> Option<Form<'w>>
 }
 
 /// The form over a design and a plan, where the words are of it.
-fn grade_form<'w>(
-    form: &str,
-    source: Source<'w>,
-    plan: &'w str,
-    workers: &[u8],
-) -> Option<Form<'w>>
+fn grade_form<'w>(form: &str, source: Source<'w>, plan: &'w str, workers: &[u8]) -> Option<Form<'w>>
     ensures { option_map plain_form result ≡ grade_form form.now (plain_source source.entry) plan.now (workers_of workers.now) }
 {
     if form != "grade" || plan.is_empty() {

@@ -1,12 +1,10 @@
 -- From what each step gives to what the output's making gives.
-use Rattle.std.proofs.Common.{◌≡◌, ℕ, ◌+◌, ◌<◌, ◌≤◌, List, length, Option, Some, None, Result, Ok, Err, Vec, refl, sym, ap, subst, ◌∙◌, ◌⊎◌, inl, inr, arith}
+use Rattle.std.proofs.Common.{◌≡◌, ℕ, ◌≤◌, List, Option, Some, None, Result, Ok, Err, Vec, refl, sym, ap, subst, ◌∙◌, ◌⊎◌, inl, inr, arith}
 use Rattle.std.specs.Result.{IsErrAnd}
 use Rattle.std.specs.declared.alloc.Global.{Global}
 use Rattle.vf_base.specs.Counts.{raised, Rose}
-use Rattle.vf_base.specs.Shelf.{Files, content_of}
+use Rattle.vf_base.specs.Shelf.{Files}
 use Rattle.v_design.specs.Designs.{FlatDesign}
-use Rattle.v_design.specs.PlainDesigns.{design_of}
-use Rattle.v_design.specs.declared.plan.Design.{Design}
 use Rattle.design_text.specs.declared.fault.DesignFault.{DesignFault}
 use Rattle.design_text.specs.declared.fault.DesignFault.TheVariants as designs
 use Rattle.design_text.specs.Meanings as texts
@@ -15,16 +13,15 @@ use Rattle.plan_report.specs.declared.fault.ReportFault.{ReportFault}
 use Rattle.plan_report.specs.declared.fault.ReportFault.TheVariants as reported
 use Rattle.plan_report.specs.Reports as reports
 use Rattle.vf_words.specs.Words.{Source, Form, Grade, Check, Faults}
-use Rattle.vf_words.specs.declared.status.Which.{Which}
 use Rattle.vf_words.specs.declared.status.Which.TheVariants as whiches
 use Rattle.vf_words.specs.declared.status.Refusal.{Refusal}
 use Rattle.vf_words.specs.declared.status.Refusal.TheVariants as refusals
 use Rattle.vf_words.specs.declared.status.Status.{Status}
 use Rattle.vf_words.specs.declared.status.Status.TheVariants.{Done, Refused, Usage, ReadFault, WriteFault, NoMemory, GoodLoop, TooLong}
-use Rattle.vfault.specs.Answers.{Answer, Outputs, Refuses, Lacks, Exceeds, Loops, status_of, AfterSource, refusal_of, IsAnswer, IsTheAnswer, StandsInEveryOrder, Stands}
+use Rattle.vfault.specs.Answers.{Answer, Outputs, Refuses, Lacks, Exceeds, Loops, status_of, AfterSource, refusal_of, IsAnswer, IsTheAnswer, Stands}
 use Rattle.vfault.specs.Outside.{IfTold, ShelfCounts, ReadFailed, ToldLong, PutGives, Keeps, as_answered, no_memory, no_read, no_put}
-use Rattle.vfault.specs.Making.{IsFile, IsLongFile, LongFile, NoFile, FileGives, HoldDesign, HoldRefused, DesignGives, status_if, design_status, report_status, OutputGives}
-use Rattle.vfault.proofs.OneAnswer.{The, source-lacks, source-exceeds, source-refused, plan-lacks, plan-exceeds, plan-tells, over_design, grade-form, check_next, check-form, faults_next, faults-form, check-tells, faults-tell}
+use Rattle.vfault.specs.Making.{IsFile, FileGives, HoldDesign, DesignGives, status_if, design_status, report_status, OutputGives}
+use Rattle.vfault.proofs.OneAnswer.{The, source-lacks, source-exceeds, source-refused, plan-lacks, plan-exceeds, plan-tells, check-tells, faults-tell}
 
 -- what is handed on
 pub err-gives : (form : Form) (held : Option Files) (old new : ShelfCounts) (r : Result (Vec ℕ Global) Status) (status : Status) → IsErrAnd r (λ e. e ≡ status) → OutputGives form held old new (Err status) → OutputGives form held old new r

@@ -1,5 +1,5 @@
 -- What is decided is decided alone.
-use Rattle.std.proofs.Common.{◌≡◌, ℕ, ◌<◌, ◌≤◌, List, length, Option, Some, None, Result, Ok, Err, refl, sym, ap, subst, ◌∙◌, ◌⊎◌, inl, inr, arith}
+use Rattle.std.proofs.Common.{◌≡◌, ℕ, ◌<◌, ◌≤◌, List, length, Option, Some, None, Result, Ok, Err, refl, sym, ap, subst, ◌∙◌, inl, inr, arith}
 use Rattle.vf_base.specs.Shelf.{Files, content_of}
 use Rattle.v_design.specs.Designs.{FlatDesign}
 use Rattle.design_text.specs.declared.fault.DesignFault.{DesignFault}
@@ -8,11 +8,11 @@ use Rattle.design_report.specs.Texts.{check_text, IsFaultsText}
 use Rattle.plan_report.specs.declared.fault.ReportFault.{ReportFault}
 use Rattle.plan_report.specs.declared.fault.ReportFault.TheVariants as reported
 use Rattle.plan_report.specs.Reports as reports
-use Rattle.vf_words.specs.Words.{Source, Form, Grade, Check, Faults}
+use Rattle.vf_words.specs.Words.{Source, Grade, Check, Faults}
 use Rattle.vf_words.specs.declared.status.Which.{Which}
 use Rattle.vf_words.specs.declared.status.Which.TheVariants as whiches
 use Rattle.vf_words.specs.declared.status.Refusal.{Refusal}
-use Rattle.vfault.specs.Answers.{Answer, Outputs, Refuses, Lacks, Exceeds, Loops, status_of, most_of, AfterFile, refusal_of, IsRefusal, GoesOn, AfterDesign, AfterSource, IsReported, AfterPlan, IsAnswer, IsTheAnswer}
+use Rattle.vfault.specs.Answers.{Answer, Outputs, Refuses, Lacks, Exceeds, status_of, most_of, AfterFile, refusal_of, IsRefusal, GoesOn, AfterDesign, AfterSource, IsReported, AfterPlan, IsTheAnswer}
 use Rattle.vfault.specs.Making.{IsFile, IsLongFile, HoldDesign, HoldRefused}
 
 -- an answer, and the only status of one

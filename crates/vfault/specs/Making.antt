@@ -7,11 +7,9 @@ use Rattle.v_design.specs.Designs.{FlatDesign}
 use Rattle.v_design.specs.PlainDesigns.{design_of}
 use Rattle.v_design.specs.declared.plan.Design.{Design}
 use Rattle.design_text.specs.declared.fault.DesignFault.{DesignFault}
-use Rattle.design_text.specs.declared.fault.DesignFault.TheVariants as designs
 use Rattle.design_text.specs.Meanings as texts
 use Rattle.plan_report.specs.declared.fault.ReportFault.{ReportFault}
 use Rattle.plan_report.specs.declared.fault.ReportFault.TheVariants as reported
-use Rattle.plan_report.specs.Reports as reports
 use Rattle.vf_words.specs.Words.{Source, Form}
 use Rattle.vf_words.specs.declared.status.Which.{Which}
 use Rattle.vf_words.specs.declared.status.Which.TheVariants as whiches

@@ -1,14 +1,14 @@
 -- What is said of the outside (nothing of the language).
-use Rattle.std.specs.Prelude.{◌≡◌, ℕ, ◌<◌, ◌≤◌, ◌⊎◌, List, length, take, Option, Some, None}
+use Rattle.std.specs.Prelude.{◌≡◌, ℕ, ◌<◌, List, length, take, Option, Some, None}
 use Rattle.vf_base.specs.Counts.{raised, Rose}
-use Rattle.vf_base.specs.Shelf.{Files, content_of}
+use Rattle.vf_base.specs.Shelf.{Files}
 use Rattle.vf_base.specs.Sink.{Gains}
 use Rattle.vf_words.specs.Words.{Form, Grade, Check, Faults}
 use Rattle.vf_words.specs.declared.status.Which.{Which}
 use Rattle.vf_words.specs.declared.status.Which.TheVariants as whiches
 use Rattle.vf_words.specs.declared.status.Status.{Status}
 use Rattle.vf_words.specs.declared.status.Status.TheVariants.{Done, Refused, Usage, ReadFault, WriteFault, NoMemory, GoodLoop, TooLong}
-use Rattle.vfault.specs.Answers.{Answer, Outputs, Lacks, Exceeds, status_of, IsAnswer, IsTheAnswer, Stands}
+use Rattle.vfault.specs.Answers.{Answer, Outputs, status_of, IsAnswer, Stands}
 
 -- a fact about what is told, where it is told
 abbrev pub IfTold : {X : Type 0} → Option X → (X → Type 0) → Type 0

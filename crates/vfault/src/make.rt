@@ -50,11 +50,7 @@ fn graded<S: Shelf, L: Ledger>(
 }
 
 /// How large a design is.
-fn checked<S: Shelf>(
-    alloc: Global,
-    shelf: &mut S,
-    source: Source<'_>,
-) -> Result<Vec<u8>, Status>
+fn checked<S: Shelf>(alloc: Global, shelf: &mut S, source: Source<'_>) -> Result<Vec<u8>, Status>
     ensures gives { making.OutputGives (Check (plain_source source.entry)) (S.held shelf.old)
         record { faults = S.faults shelf.old; reads = S.reads shelf.old; long_answers = S.long_answers shelf.old }
         record { faults = S.faults shelf.new; reads = S.reads shelf.new; long_answers = S.long_answers shelf.new } result }
@@ -70,11 +66,7 @@ fn checked<S: Shelf>(
 }
 
 /// The faults that can be listed.
-fn listed<S: Shelf>(
-    alloc: Global,
-    shelf: &mut S,
-    source: Source<'_>,
-) -> Result<Vec<u8>, Status>
+fn listed<S: Shelf>(alloc: Global, shelf: &mut S, source: Source<'_>) -> Result<Vec<u8>, Status>
     ensures gives { making.OutputGives (Faults (plain_source source.entry)) (S.held shelf.old)
         record { faults = S.faults shelf.old; reads = S.reads shelf.old; long_answers = S.long_answers shelf.old }
         record { faults = S.faults shelf.new; reads = S.reads shelf.new; long_answers = S.long_answers shelf.new } result }

@@ -1,6 +1,5 @@
-use Rattle.std.proofs.Common.{◌≡◌, sym, subst, Err}
+use Rattle.std.proofs.Common.{subst, Err}
 use Rattle.v_design.specs.PlainDesigns.{design_of}
-use Rattle.vf_base.specs.Shelf.{Files}
 use Rattle.vf_words.specs.Forms.{plain_source}
 use Rattle.vf_words.specs.Words.{Grade}
 use Rattle.vf_words.specs.declared.status.Which.TheVariants as whiches

@@ -1,4 +1,3 @@
-use Rattle.std.proofs.Common.{◌≡◌, sym}
 use Rattle.v_design.specs.PlainDesigns.{design_of}
 use Rattle.vf_words.specs.Forms.{plain_source}
 use Rattle.vfault.specs.Outside.{ShelfCounts}

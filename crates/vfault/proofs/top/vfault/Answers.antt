@@ -1,4 +1,4 @@
-use Rattle.std.proofs.Common.{◌≡◌, sym, subst}
+use Rattle.std.proofs.Common.{sym, subst}
 use Rattle.vf_words.specs.Words.{form_of, bytes_of}
 use Rattle.vf_words.specs.Forms.{plain_form}
 use Rattle.vfault.specs.Answers.{Outputs, IsTheAnswer, Stands}
