@@ -1,11 +1,10 @@
 -- The lines of the faults so far (nothing of the language).
-use Rattle.std.proofs.Common.{◌≡◌, ℕ, zero, suc, ◌+◌, ◌<◌, ◌≤◌, List, [], ◌∷◌, ◌++◌, length, get_or, take, map, Some, refl, ap, sym, ◌∙◌, subst, arith, append_assoc, append-nil, take_all, inl, inr}
-use Rattle.std.specs.Prelude.{slice_get}
+use Rattle.std.proofs.Common.{◌≡◌, ℕ, zero, suc, ◌+◌, ◌<◌, ◌≤◌, List, [], ◌∷◌, ◌++◌, length, get_or, take, refl, ap, sym, ◌∙◌, subst, arith, append_assoc, append-nil, take_all, inl, inr}
 use Rattle.std.specs.Option.{option_map}
 use Rattle.std.proofs.lemmas.List.{take_more, map_push, length-map, length-take-le}
 use Rattle.std.proofs.lemmas.Option.{slice_get_cases, slice_get_within, slice_get-map}
 use Rattle.v_design.specs.Lists.{joined, zip_with}
-use Rattle.v_design.specs.Designs.{FlatDesign, StuckAt}
+use Rattle.v_design.specs.Designs.{FlatDesign}
 use Rattle.v_design.specs.Sites.{faults_of}
 use Rattle.v_design.specs.Plain.{fault_of}
 use Rattle.v_design.specs.declared.plan.Fault.{Fault}

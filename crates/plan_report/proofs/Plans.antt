@@ -1,12 +1,12 @@
 -- A text means one plan over a design, or one reason (the format is this program's own).
-use Rattle.std.proofs.Common.{◌≡◌, ℕ, zero, suc, ◌+◌, ◌<◌, ◌≤◌, List, [], ◌∷◌, length, take, get_or, Option, Some, None, refl, sym, ap, subst, ◌∙◌, ◌⊎◌, inl, inr, arith}
-use Rattle.std.specs.Prelude.{◌≢◌, ◌↔◌, slice_get}
+use Rattle.std.proofs.Common.{◌≡◌, ℕ, zero, suc, ◌+◌, ◌<◌, ◌≤◌, List, [], ◌∷◌, length, take, get_or, Some, None, refl, sym, ap, ◌∙◌, ◌⊎◌, inl, inr, arith}
+use Rattle.std.specs.Prelude.{◌≢◌, slice_get}
 use Rattle.std.specs.List.{Contains}
 use Rattle.v_design.specs.Lists.{AllHold}
 use Rattle.v_design.specs.Designs.{FlatDesign, TestPlan}
 use Rattle.v_design.specs.WellFormed.{IsAscending}
 use Rattle.plan_read.specs.Forms.{PlanLine}
-use Rattle.plan_read.specs.Spelled.{PlanReason, IsBad, IsUnknown, IsTooMany, reason_of, NoneRefused, IsFirstRefused, plan_lines, most_bytes, Spells, IsBadAt, bad_line, no_end, Refuses}
+use Rattle.plan_read.specs.Spelled.{PlanReason, IsBad, IsUnknown, IsTooMany, reason_of, NoneRefused, IsFirstRefused, plan_lines, Spells, IsBadAt, bad_line, no_end, Refuses}
 use Rattle.plan_read.specs.declared.fault.PlanFault.{PlanFault}
 use Rattle.plan_read.specs.declared.fault.PlanFault.TheVariants.{BadLine, UnknownSite, TooMany, TooLong, NoMemory}
 use Rattle.std.proofs.lemmas.Bool.{cases_order}

@@ -3,19 +3,17 @@ use Rattle.std.proofs.Common.{◌≡◌, ℕ, List, [], ◌∷◌, Option, Some,
 use Rattle.std.specs.Prelude.{◌≢◌}
 use Rattle.std.specs.List.{AllZip}
 use Rattle.v_design.specs.Designs.{FlatDesign, TestPlan, StuckAt}
-use Rattle.v_design.specs.Grades.{FaultGrade, Stop, Hyper, grade}
+use Rattle.v_design.specs.Grades.{FaultGrade, Stop, grade}
 use Rattle.v_design.specs.Laws.{ReportHolds}
 use Rattle.order_laws.specs.Reports.{AreGrades}
-use Rattle.grade_laws.specs.Grading.{good_stop}
 use Rattle.plan_read.specs.Spelled.{Spells, Refuses}
 use Rattle.plan_read.specs.declared.fault.PlanFault.{PlanFault}
 use Rattle.plan_read.specs.declared.fault.PlanFault.TheVariants as plans
 use Rattle.grade_report.specs.Report.{report_text}
-use Rattle.fault_grade.specs.Stops.{loop_stop}
 use Rattle.fault_grade.specs.Results.{LoopsAt, SpeaksOfOrders}
 use Rattle.plan_report.specs.declared.fault.ReportFault.{ReportFault}
 use Rattle.plan_report.specs.declared.fault.ReportFault.TheVariants.{Plan, GoodLoop, NoMemory}
-use Rattle.plan_report.specs.Reports.{IsReport, IsGoodLoop, IsFaultOf, Means, IsTheMeaning, HoldsInEveryOrder, plan_fault}
+use Rattle.plan_report.specs.Reports.{IsGoodLoop, Means, IsTheMeaning, HoldsInEveryOrder, plan_fault}
 use Rattle.plan_report.proofs.Plans.{one-reason, no-reason, one-plan}
 
 -- the answer is want of memory, or what the text means

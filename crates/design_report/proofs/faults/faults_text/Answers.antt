@@ -1,4 +1,4 @@
-use Rattle.std.proofs.Common.{◌≡◌, ◌∙◌, sym, ap, subst}
+use Rattle.std.proofs.Common.{◌∙◌, sym, ap, subst}
 use Rattle.v_design.specs.PlainDesigns.{design_of}
 use Rattle.fault_list.specs.Listed.{stuck}
 use Rattle.fault_list.specs.Classes.{AreClasses}

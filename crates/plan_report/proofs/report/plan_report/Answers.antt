@@ -1,4 +1,4 @@
-use Rattle.std.proofs.Common.{◌≡◌, sym, subst, ◌∙◌, ap}
+use Rattle.std.proofs.Common.{sym, subst, ◌∙◌, ap}
 use Rattle.v_design.specs.PlainDesigns.{design_of, plan_of}
 use Rattle.grade_report.specs.Findings.{grades_of}
 use Rattle.grade_report.specs.Report.{report_text}
