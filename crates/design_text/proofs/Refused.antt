@@ -1,8 +1,8 @@
 -- A fault tells one refusal (nothing of the language).
-use Rattle.std.proofs.Common.{◌≡◌, ℕ, Option, Some, None, refl, sym, ap, ◌∙◌, ◌⊎◌, inl, inr}
+use Rattle.std.proofs.Common.{◌≡◌, Option, Some, None, refl, sym, ap, ◌∙◌}
 use Rattle.vf_base.specs.Base.{SourcePlace}
 use Rattle.vf_base.specs.declared.ids.Place.{Place}
-use Rattle.v_names.specs.Faults.{Wrong, Fault, UnknownName, DeclaredTwice, NoConstant, BadWidth, BadConnection, WrongKind as KindOfName, TooDeep as DeepInstance}
+use Rattle.v_names.specs.Faults.{Wrong, UnknownName, DeclaredTwice, NoConstant, BadWidth, BadConnection, WrongKind as KindOfName, TooDeep as DeepInstance}
 use Rattle.v_elab.specs.Refusals.{Refusal, Faulty, TwoDrivers as DrivenTwice, NoTop as TopMissing, TooMany as OverLimit, LoopAt}
 use Rattle.elaborate.specs.ElabFaults.{refusal_of}
 use Rattle.elaborate.specs.declared.fault.ElabFault.{ElabFault}

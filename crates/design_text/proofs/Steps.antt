@@ -1,5 +1,5 @@
 -- What each step of reading tells of the text (nothing of the language).
-use Rattle.std.proofs.Common.{◌≡◌, ℕ, ◌<◌, ◌≤◌, List, Option, Some, None, Result, Ok, Err, refl, sym, ap, subst, ◌∙◌, ◌⊎◌, inl, inr, arith}
+use Rattle.std.proofs.Common.{◌≡◌, ℕ, ◌<◌, List, Option, Some, None, Result, Ok, Err, refl, sym, ap, subst, ◌∙◌, ◌⊎◌, inl, inr, arith}
 use Rattle.std.specs.Prelude.{◌≢◌}
 use Rattle.v_design.specs.Designs.{FlatDesign}
 use Rattle.v_tree.specs.Tokens.{SourceToken}
@@ -19,7 +19,7 @@ use Rattle.elaborate.specs.ElabFaults.{refusal_of, IsRefusal, IsElabFault}
 use Rattle.elaborate.specs.declared.fault.ElabFault.{ElabFault}
 use Rattle.design_text.specs.declared.fault.DesignFault.{DesignFault}
 use Rattle.design_text.specs.declared.fault.DesignFault.TheVariants.{Scan, Parse, Elab, NoMemory}
-use Rattle.design_text.specs.Meanings.{IsUnitOf, IsDesignOf, HasNoUnit, HasNoDesign, IsFaultOf, Means, IsTheMeaning, scan_fault, parse_fault, elab_fault_if, elab_fault}
+use Rattle.design_text.specs.Meanings.{IsUnitOf, HasNoUnit, Means, IsTheMeaning, scan_fault, parse_fault, elab_fault_if, elab_fault}
 use Rattle.design_text.proofs.Stops.{one-fault, no-fault}
 use Rattle.design_text.proofs.Refused.{one-refusal}
 

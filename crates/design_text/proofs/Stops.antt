@@ -1,5 +1,5 @@
 -- Tokens stop being a unit at one place and for one reason (IEEE 1364-2001, annex A).
-use Rattle.std.proofs.Common.{◌≡◌, ℕ, ◌<◌, ◌≤◌, List, [], ◌∷◌, ◌++◌, refl, sym, ap, subst, ◌∙◌, append_assoc, ◌⊎◌, inl, inr, arith}
+use Rattle.std.proofs.Common.{◌≡◌, ℕ, ◌≤◌, List, [], ◌∷◌, ◌++◌, refl, sym, ap, subst, ◌∙◌, append_assoc, ◌⊎◌, inl, inr}
 use Rattle.std.specs.Prelude.{◌≢◌}
 use Rattle.vf_base.specs.Base.{SourcePlace, source_place}
 use Rattle.vf_base.specs.declared.ids.Place.{Place}

@@ -1,5 +1,5 @@
 -- What a text means: a flat design, or the reason why it has none (IEEE 1364-2001, clauses 2 and 12, annex A; the order of the reasons is this program's own).
-use Rattle.std.specs.Prelude.{◌≡◌, ◌≢◌, ◌⊎◌, ℕ, ◌<◌, List, Option, Some, None, Result, Ok, Err}
+use Rattle.std.specs.Prelude.{◌≡◌, ◌≢◌, ℕ, ◌<◌, List, Option, Some, None, Result, Ok, Err}
 use Rattle.v_design.specs.Designs.{FlatDesign}
 use Rattle.v_tree.specs.Tokens.{SourceToken}
 use Rattle.v_tree.specs.Trees.{Identifier, SourceUnit}
@@ -16,7 +16,6 @@ use Rattle.v_elab.specs.Refusals.{Refusal}
 use Rattle.v_elab.specs.Flat.{flat}
 use Rattle.elaborate.specs.ElabFaults.{refusal_of}
 use Rattle.elaborate.specs.declared.fault.ElabFault.{ElabFault}
-use Rattle.elaborate.specs.declared.fault.ElabFault.TheVariants as elabs
 use Rattle.design_text.specs.declared.fault.DesignFault.{DesignFault}
 use Rattle.design_text.specs.declared.fault.DesignFault.TheVariants.{Scan, Parse, Elab, NoMemory}
 

@@ -1,4 +1,4 @@
-use Rattle.std.proofs.Common.{◌≡◌, sym, subst, ◌∙◌}
+use Rattle.std.proofs.Common.{sym, subst, ◌∙◌}
 use Rattle.v_design.specs.PlainDesigns.{design_of}
 use Rattle.v_tree.specs.Views.{unit_of}
 use Rattle.v_scan.specs.Texts as texts
