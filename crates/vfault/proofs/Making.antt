@@ -1,5 +1,5 @@
 -- From what each step gives to what the output's making gives.
-use Rattle.std.proofs.Common.{◌≡◌, ℕ, ◌≤◌, List, Option, Some, None, Result, Ok, Err, Vec, refl, sym, ap, subst, ◌∙◌, ◌⊎◌, inl, inr, arith}
+use Rattle.std.proofs.Common.{◌≡◌, ℕ, ◌+◌, ◌≤◌, List, length, Option, Some, None, Result, Ok, Err, Vec, refl, sym, ap, subst, ◌∙◌, ◌⊎◌, inl, inr, arith}
 use Rattle.std.specs.Result.{IsErrAnd}
 use Rattle.std.specs.declared.alloc.Global.{Global}
 use Rattle.vf_base.specs.Counts.{raised, Rose}
@@ -19,7 +19,8 @@ use Rattle.vf_words.specs.declared.status.Refusal.TheVariants as refusals
 use Rattle.vf_words.specs.declared.status.Status.{Status}
 use Rattle.vf_words.specs.declared.status.Status.TheVariants.{Done, Refused, Usage, ReadFault, WriteFault, NoMemory, GoodLoop, TooLong}
 use Rattle.vfault.specs.Answers.{Answer, Outputs, Refuses, Lacks, Exceeds, Loops, status_of, AfterSource, refusal_of, IsAnswer, IsTheAnswer, Stands}
-use Rattle.vfault.specs.Outside.{IfTold, ShelfCounts, ReadFailed, ToldLong, PutGives, Keeps, as_answered, no_memory, no_read, no_put}
+use Rattle.std.specs.Prelude.{IfSome}
+use Rattle.vfault.specs.Outside.{IsOutput, IfTold, ShelfCounts, ReadFailed, ToldLong, PutGives, Keeps, as_answered, no_memory, no_read, no_put}
 use Rattle.vfault.specs.Making.{IsFile, FileGives, HoldDesign, DesignGives, status_if, design_status, report_status, OutputGives}
 use Rattle.vfault.proofs.OneAnswer.{The, source-lacks, source-exceeds, source-refused, plan-lacks, plan-exceeds, plan-tells, check-tells, faults-tell}
 
@@ -203,3 +204,23 @@ module _ (asked : Option Form) (form : Form) (is_form : Some form ≡ asked) (he
       by NoMemory p = no_memory refl
       by (GoodLoop time) p = absurd p
       by (TooLong which) p = absurd p
+
+  -- How often the sink is put to
+
+  abbrev pub FewPuts : Option Form → ℕ → ℕ → Type 0
+  FewPuts found before after = IfSome found (λ (f : Form). IfTold held (λ files. (after ≡ before) ⊎ ((text : List ℕ) × IsOutput f files text × (after ≤ before + length text))))
+
+  pub puts-at-err : (before : ℕ) → FewPuts asked before before
+  puts-at-err before = subst (λ o. FewPuts o before before) is_form (by held)
+    where
+      by : (found : Option Files) → IfTold found (λ files. (before ≡ before) ⊎ ((text : List ℕ) × IsOutput form files text × (before ≤ before + length text)))
+      by None = tt
+      by (Some files) = inl refl
+
+  pub puts-at-end : (text : List ℕ) → IfTold held (λ files. IsTheAnswer form files (Outputs text) × Stands form files text) → (before after : ℕ) → after ≤ before + length text → FewPuts asked before after
+  puts-at-end text made before after few = subst (λ o. FewPuts o before after) is_form (by held made)
+    where
+      by : (found : Option Files) → IfTold found (λ files. IsTheAnswer form files (Outputs text) × Stands form files text) →
+          IfTold found (λ files. (after ≡ before) ⊎ ((t : List ℕ) × IsOutput form files t × (after ≤ before + length t)))
+      by None m = tt
+      by (Some files) m = inr (text, record { answers = m.0.is; every_order = m.1 }, few)

@@ -74,6 +74,10 @@ pub fn vfault<R: Threads + Sync, S: Shelf, K: Sink, G: Gate + Sync, L: Ledger + 
     ensures exactly { (form : Asked) (files : Files) (answer : Answer) → form_of (bytes_of words.now) ≡ Some form → S.held shelf.old ≡ Some files → IsAnswer form files answer →
         Keeps answer (S.faults shelf.old) (S.faults shelf.new) (K.faults sink.old) (K.faults sink.new) result }
 
+    // The sink is put to at most as often as the output has bytes.
+    ensures few_puts { IfSome (form_of (bytes_of words.now)) (λ form. IfTold (S.held shelf.old) (λ files. (K.puts sink.new ≡ K.puts sink.old)
+        ⊎ ((text : List ℕ) × IsOutput form files text × (K.puts sink.new ≤ K.puts sink.old + length text)))) }
+
     // Each file of the form is read at most once.
     ensures few_reads { (form : Asked) → form_of (bytes_of words.now) ≡ Some form → S.reads shelf.new ≤ S.reads shelf.old + files_of form }
 {
