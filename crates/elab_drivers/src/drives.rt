@@ -27,7 +27,7 @@ pub struct ObjectDrive {
 fn select_width(bits: DrivenBits) -> usize
     ensures { result ≡ length (places_of bits) }
 {
-    bits.outside_below as usize + bits.width as usize + bits.outside_above as usize
+    (bits.outside_below + bits.width + bits.outside_above) as usize
 }
 
 /// How many bits some selects have together; more than a number counts are in no memory.
@@ -73,7 +73,7 @@ fn push_drives<'w>(
 pub fn list_drives<'w>(
     alloc: Global,
     signals: &'w Signals<'_>,
-    nodes: &'w [WalkedNode<'_>],
+    nodes: &'w [WalkedNode<'_, '_>],
 ) -> Result<Vec<Keyed<'w, ObjectDrive>>, NoMemory>
     ensures { IfOk result (λ items. drives_listed items.items ≡ all_drives signals.now 0 (map node_of nodes.now)) }
 {

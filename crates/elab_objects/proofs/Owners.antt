@@ -1,41 +1,26 @@
--- The drives and the driving variables under the name of a signal.
-use Rattle.std.proofs.Common.{◌≡◌, ℕ, ◌+◌, ◌<◌, Bool, true, false, List, [], ◌∷◌, length, map, get_or, take, Option, Some, None, refl, sym, ap, ◌∙◌}
+-- The driving variables under the name of a signal, and turns of loops.
+use Rattle.std.proofs.Common.{◌≡◌, ℕ, ◌+◌, ◌<◌, List, length, map, get_or, take, Option, Some, sym, ap, ◌∙◌}
 use Rattle.std.specs.Prelude.{option_map}
 use Rattle.std.specs.Borrow.{Bor}
-use Rattle.std.specs.Str.{bytes_eq}
 use Rattle.std.proofs.lemmas.Option.{slice_get-map, slice_get-get_or}
 use Rattle.v_design.specs.Lists.{AllHold}
 use Rattle.graph_order.specs.ListLaws.{AllHold-slice_get}
 use Rattle.v_elab.specs.Parts as plain
-use Rattle.key_index.specs.Groups.{item_if, items_under}
+use Rattle.key_index.specs.Groups.{items_under}
 use Rattle.elab_parts.specs.PartViews.{part_of}
 use Rattle.elab_parts.specs.declared.part.Part.{Part}
 use Rattle.elab_parts.specs.declared.signal.Signal.{Signal}
 use Rattle.elab_wires.specs.SignalTables.{signal_borrowed}
-use Rattle.elab_drivers.specs.DriveViews.{object_drive_of, drive_keyed}
-use Rattle.elab_drivers.specs.declared.drives.ObjectDrive.{ObjectDrive}
 use Rattle.elab_wires.specs.Turns.{taken-more}
 use Rattle.wire_laws.specs.Depths.{sooner}
 use Rattle.elab_objects.specs.Driven.{driving_keyed, first_by_depth, first-more}
-
-viewed-under : {A B : Type 0} (view : A → B) (ps : List (List ℕ × A)) (key : List ℕ) → items_under (map (λ (p : List ℕ × A). (p.0, view p.1)) ps) key ≡ map view (items_under ps key)
-viewed-under view [] key = refl
-viewed-under {A} view (p ∷ ps) key = by_test (bytes_eq key p.0) (viewed-under view ps key)
-  where
-    by_test : (test : Bool) → items_under (map (λ (q : List ℕ × A). (q.0, view q.1)) ps) key ≡ map view (items_under ps key) →
-        item_if test (view p.1) (items_under (map (λ (q : List ℕ × A). (q.0, view q.1)) ps) key) ≡ map view (item_if test p.1 (items_under ps key))
-    by_test true e = ap (λ l. view p.1 ∷ l) e
-    by_test false e = e
+use Rattle.elab_objects.specs.Found.{variables-found}
 
 -- the first by depth among those under a name
 pub first-found : (driving : List (List ℕ × Bor Signal)) (name key : List ℕ) (variables : List (Bor Signal)) (found : Option (Bor Signal)) → key ≡ name → variables ≡ items_under driving key →
     option_map signal_borrowed found ≡ first_by_depth (map signal_borrowed variables) → option_map signal_borrowed found ≡ first_by_depth (items_under (map driving_keyed driving) name)
 first-found driving name key variables found same under is =
-    is ∙ ap first_by_depth (ap (map signal_borrowed) (under ∙ ap (items_under driving) same) ∙ sym (viewed-under signal_borrowed driving name))
-
--- the drives under a name
-pub drives-found : (drives : List (List ℕ × ObjectDrive)) (name key : List ℕ) (selects : List ObjectDrive) → key ≡ name → selects ≡ items_under drives key → map object_drive_of selects ≡ items_under (map drive_keyed drives) name
-drives-found drives name key selects same under = ap (map object_drive_of) (under ∙ ap (items_under drives) same) ∙ sym (viewed-under object_drive_of drives name)
+    is ∙ ap first_by_depth (variables-found driving name key variables same under)
 
 -- a fact of each part
 pub part-holds : (P : plain.Part → Type 0) (parts : List Part) (i : ℕ) (x : Part) → AllHold P (map part_of parts) → i < length parts → x ≡ get_or parts i x → P (part_of x)

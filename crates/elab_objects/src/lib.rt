@@ -15,6 +15,6 @@ mod tests;
 mod words;
 
 pub use object::{HeldObject, PieceDriver};
-pub use parts::objects_of_parts;
+pub use parts::{earlier, objects_of_parts};
 pub use pieces::push_net;
 pub use words::{push_words, variable_object};

@@ -19,7 +19,7 @@ use std::alloc::Global;
 use vf_base::NoMemory;
 
 /// Of two variables the one that stands less deep, and the first where they stand as deep.
-fn earlier<'p>(first: Option<&'p Signal>, signal: &'p Signal) -> &'p Signal
+pub fn earlier<'p>(first: Option<&'p Signal>, signal: &'p Signal) -> &'p Signal
     ensures { signal_borrowed result ≡ sooner (signal_of signal.now) (option_map signal_borrowed first.entry) }
 {
     match first {

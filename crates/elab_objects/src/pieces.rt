@@ -37,11 +37,12 @@ fn value_place(drive: ObjectDrive, bit: u8) -> Result<Option<usize>, NoMemory>
     ensures { IfOk result (λ place. place ≡ plain.value_place bit (object_drive_of drive)) }
 {
     let bits = drive.bits;
+    let bit = u64::from(bit);
     if bit < bits.low || bits.low + bits.width <= bit {
         return Ok(None);
     }
-    let within = bits.outside_below as usize + (bit - bits.low) as usize;
-    match drive.offset.checked_add(within) {
+    let within = bits.outside_below + (bit - bits.low);
+    match drive.offset.checked_add(within as usize) {
         Some(place) => Ok(Some(place)),
         None => Err(NoMemory),
     }
@@ -99,9 +100,11 @@ fn clip(drive: ObjectDrive, width: u8) -> Drive
     ensures is { drive_of result ≡ clipped width (run_drive drive) }
     ensures within { result.low + result.width ≤ width }
 {
+    let most = u64::from(width);
+    let low = drive.bits.low.min(most);
     Drive {
-        low: drive.bits.low.min(width),
-        width: drive.bits.width.min(width.saturating_sub(drive.bits.low)),
+        low: low as u8,
+        width: drive.bits.width.min(most - low) as u8,
         place: drive.place,
     }
 }

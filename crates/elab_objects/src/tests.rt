@@ -196,7 +196,7 @@ fn value(alloc: Global) -> Result<ValueIn, NoMemory> {
 }
 
 /// A node that assigns a value to some selects.
-fn assignment<'p>(value: &'p ValueIn, drives: Vec<Drive>) -> WalkedNode<'p> {
+fn assignment<'p>(value: &'p ValueIn, drives: Vec<Drive>) -> WalkedNode<'p, 'static> {
     WalkedNode {
         name: None,
         drives: NodeDrives::Targets(drives),
@@ -214,7 +214,10 @@ fn three_selects(alloc: Global) -> Result<Vec<Drive>, NoMemory> {
 }
 
 /// A node that drives `u.x`, and one that drives the three selects.
-fn two_nodes<'p>(alloc: Global, value: &'p ValueIn) -> Result<Vec<WalkedNode<'p>>, NoMemory> {
+fn two_nodes<'p>(
+    alloc: Global,
+    value: &'p ValueIn,
+) -> Result<Vec<WalkedNode<'p, 'static>>, NoMemory> {
     let mut other = Vec::new(alloc);
     other.push(select(alloc, b"u.x", false)?)?;
     let mut nodes = Vec::new(alloc);

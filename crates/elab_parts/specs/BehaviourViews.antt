@@ -1,4 +1,4 @@
--- What parts do, of the code, as plain nodes and processes.
+-- Nodes of the code as plain ones.
 use Rattle.std.specs.Prelude.{ℕ, List, [], Option, Some, None}
 use Rattle.std.specs.Borrow.{Bor}
 use Rattle.v_elab.specs.Parts as parts
@@ -10,8 +10,7 @@ use Rattle.elab_parts.specs.declared.behaviour.NodeFunction.TheVariants as funct
 use Rattle.elab_parts.specs.declared.behaviour.NodeDrives.{NodeDrives}
 use Rattle.elab_parts.specs.declared.behaviour.NodeDrives.TheVariants as drives
 use Rattle.elab_parts.specs.declared.behaviour.WalkedNode.{WalkedNode}
-use Rattle.elab_parts.specs.declared.behaviour.Behaviour.{Behaviour}
-use Rattle.elab_parts.specs.declared.behaviour.Behaviour.TheVariants as behaviours
+use Rattle.elab_parts.specs.declared.behaviour.ProcessPart.{ProcessPart}
 
 abbrev pub function_of : NodeFunction → plain.NodeFunction
 function_of (functions.Assign value) = plain.AssignFunction (value_of value.now)
@@ -29,6 +28,6 @@ name_or_none (Some name) = name.now
 abbrev pub node_of : WalkedNode → plain.WalkedNode
 node_of n = record { name = name_or_none n.name; drives = node_drives_of n.drives; function = function_of n.function }
 
-abbrev pub behaviour_of : Behaviour → plain.Behaviour
-behaviour_of (behaviours.Node node) = plain.IsNode (node_of node)
-behaviour_of (behaviours.Process process) = plain.IsProcess (process_of process.now)
+-- a part that is a process
+abbrev pub process_in : ProcessPart → parts.WalkedProcess
+process_in p = process_of p.process.now

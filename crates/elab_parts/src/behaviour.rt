@@ -1,4 +1,4 @@
-// What parts do: nodes and processes.
+// What parts do that are nodes.
 
 ghost use Rattle.std.specs.Prelude.{◌≡◌};
 ghost use Rattle.elab_parts.specs.PartViews.{drives_of};
@@ -11,14 +11,14 @@ use vf_base::Text;
 
 /// What a node computes: a value, a gate's function of its terminals, or what a block leaves in its targets.
 #[derive(Drop)]
-pub enum NodeFunction<'p> {
+pub enum NodeFunction<'p, 'u> {
     Assign(&'p ValueIn),
     Gate {
         kind: GateKind,
         path: &'p Text,
         terminals: &'p [SizedExpr],
     },
-    Block(&'p WalkedProcess<'p>),
+    Block(&'p WalkedProcess<'u>),
 }
 
 /// What a node drives: the drives of a continuous assignment or a gate, or those that a block has of its targets.
@@ -30,17 +30,16 @@ pub enum NodeDrives<'p> {
 
 /// A node in the order of the walk. Only a gate has a name.
 #[derive(Drop)]
-pub struct WalkedNode<'p> {
+pub struct WalkedNode<'p, 'u> {
     pub name: Option<&'p Text>,
     pub drives: NodeDrives<'p>,
-    pub function: NodeFunction<'p>,
+    pub function: NodeFunction<'p, 'u>,
 }
 
-/// What a part does.
+/// A part that is a process.
 #[derive(Drop)]
-pub enum Behaviour<'p> {
-    Node(WalkedNode<'p>),
-    Process(&'p WalkedProcess<'p>),
+pub struct ProcessPart<'p, 'u> {
+    pub process: &'p WalkedProcess<'u>,
 }
 
 impl<'p> NodeDrives<'p> {

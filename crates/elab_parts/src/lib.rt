@@ -11,7 +11,7 @@ mod part;
 mod range;
 mod signal;
 
-pub use behaviour::{Behaviour, NodeDrives, NodeFunction, WalkedNode};
+pub use behaviour::{NodeDrives, NodeFunction, ProcessPart, WalkedNode};
 pub use bits::DrivenBits;
 pub use part::{Drive, Part, ValueIn, WalkedProcess};
 pub use range::DeclaredRange;

@@ -53,12 +53,12 @@ other-read signals process targets objects name object found b absent at e there
 
 -- The same by the tables of some parts
 
-pub own-ported : (w : Wiring) (number : ℕ) (name : Identifier) (ported_here : Bool) → IsWiring w → ported_here ≡ has_name w.ports.now name → ported_here ≡ true → false ≡ is_own_target (parts_of w.parts.now) number name
+pub own-ported : (w : Wiring) (number : ℕ) (name : Identifier) (ported_here : Bool) → IsWiring w → ported_here ≡ has_name w.ports name → ported_here ≡ true → false ≡ is_own_target (parts_of w.parts.now) number name
 own-ported w number name ported_here wired e holds =
     ported (parts_of w.parts.now) number name (sym (port-written (signals_of (parts_of w.parts.now)) name) ∙ ap (λ names. has_name names name) (sym wired.ports_are) ∙ sym e ∙ holds)
 
-pub own-unported : (w : Wiring) (number : ℕ) (name object : Identifier) (ported_here other : Bool) → IsWiring w → ported_here ≡ has_name w.ports.now name → ported_here ≡ false → object ≡ outermost w.signals.now name
-    → other ≡ has_other_writer w.writers.now number object → not other ≡ is_own_target (parts_of w.parts.now) number name
+pub own-unported : (w : Wiring) (number : ℕ) (name object : Identifier) (ported_here other : Bool) → IsWiring w → ported_here ≡ has_name w.ports name → ported_here ≡ false → object ≡ outermost w.signals.now name
+    → other ≡ has_other_writer w.writers number object → not other ≡ is_own_target (parts_of w.parts.now) number name
 own-unported w number name object ported_here other wired e fails at o =
     unported (parts_of w.parts.now) number name other
     (sym (port-written (signals_of (parts_of w.parts.now)) name) ∙ ap (λ names. has_name names name) (sym wired.ports_are) ∙ sym e ∙ fails)

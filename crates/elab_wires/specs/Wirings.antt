@@ -11,8 +11,8 @@ use Rattle.elab_wires.specs.declared.wiring.Wiring.{Wiring}
 -- the tables are those of the parts
 pub record IsWiring (w : Wiring) : Type 0 where
   pub signals_are : w.signals.now ≡ signals_of (parts_of w.parts.now)
-  pub writers_are : w.writers.now ≡ objects_written (signals_of (parts_of w.parts.now)) (written_from 0 (parts_of w.parts.now))
-  pub ports_are : w.ports.now ≡ output_names (signals_of (parts_of w.parts.now))
+  pub writers_are : w.writers ≡ objects_written (signals_of (parts_of w.parts.now)) (written_from 0 (parts_of w.parts.now))
+  pub ports_are : w.ports ≡ output_names (signals_of (parts_of w.parts.now))
 
 -- names with what stands before them
 abbrev pub hierarchical_of : Identifier → List Identifier → List Identifier

@@ -23,7 +23,7 @@ use vf_base::{NoMemory, Text};
 /// Whether no other part and no port writes a target of the block that is the part of a number.
 fn is_own_target(
     alloc: Global,
-    wiring: &Wiring<'_>,
+    wiring: &Wiring<'_, '_, '_>,
     number: usize,
     name: &Text,
 ) -> Result<bool, NoMemory>
@@ -41,7 +41,7 @@ fn is_own_target(
 /// Whether that holds of all targets.
 fn are_own_targets(
     alloc: Global,
-    wiring: &Wiring<'_>,
+    wiring: &Wiring<'_, '_, '_>,
     number: usize,
     names: &[Text],
 ) -> Result<bool, NoMemory>
@@ -172,7 +172,7 @@ fn reads_by_other_name(
 /// The block is the part of a number.
 pub fn is_block_node(
     alloc: Global,
-    wiring: &Wiring<'_>,
+    wiring: &Wiring<'_, '_, '_>,
     number: usize,
     process: &WalkedProcess<'_>,
     targets: &[Text],

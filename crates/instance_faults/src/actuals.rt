@@ -8,9 +8,10 @@ ghost use Rattle.v_names.specs.Scopes.{declared_width, is_vector};
 ghost use Rattle.v_names.specs.ScopeViews.{entry_of};
 ghost use Rattle.v_width.specs.Targets.{target_of as target_spelled};
 ghost use Rattle.v_elab.specs.Connections as plain;
-ghost use Rattle.v_elab.specs.Connections.{joined_name, port_direction, output_actual_faults, actual_faults_by};
+ghost use Rattle.v_elab.specs.Connections.{joined_name, port_width, port_direction, output_actual_faults, actual_faults_by};
 ghost use Rattle.name_faults.specs.Noted.{noted};
 ghost use Rattle.instance_faults.specs.Children.{IsChild, vector_width};
+ghost use Rattle.instance_faults.specs.Offered.{name_seen};
 
 use crate::offers::Formals;
 use item_faults::{note_net_target, note_optional_size, note_size};
@@ -62,6 +63,31 @@ fn is_joined(child: Child<'_, '_>, port: &Text, expr: &Expr) -> bool
             Some(width) => width == declared_width(child.inner.lookup(port)),
         },
         _ => false,
+    }
+}
+
+impl Child<'_, '_> {
+    /// The declared width of a port; 0 where its name has none.
+    pub fn port_width(self, port: &Text) -> u64
+        ensures { (c : plain.Child) → IsChild c self.entry → result ≡ port_width c port.now }
+    {
+        declared_width(self.inner.lookup(port))
+    }
+
+    /// The net or variable that an actual is, where it is a whole one of its port's width: it and the port are one object.
+    pub fn joined_name<'e>(self, port: &Text, expr: &'e Expr) -> Option<&'e Text>
+        ensures { (c : plain.Child) → IsChild c self.entry → option_map name_seen result ≡ joined_name c port.now (expression_of expr.now) }
+    {
+        match expr {
+            Expr::Name { name, .. } => {
+                if is_joined(self, port, expr) {
+                    Some(name)
+                } else {
+                    None
+                }
+            }
+            _ => None,
+        }
     }
 }
 

@@ -1,8 +1,8 @@
 // The first thing that is wrong with an item.
 
 ghost use Rattle.std.specs.Prelude.{◌≡◌, OnOk, IfOk, map, flat_map, option_map};
-ghost use Rattle.v_tree.specs.Trees.{SourceParameter, SourceReg};
-ghost use Rattle.v_tree.specs.Views.{content_of, parameter_of, reg_of, item_of};
+ghost use Rattle.v_tree.specs.Trees.{SourceParameter, SourceReg, ParameterItem, PortItem};
+ghost use Rattle.v_tree.specs.Views.{content_of, parameter_of, parameters_of, ports_of, reg_of, item_of};
 ghost use Rattle.v_names.specs.Faults.{first_fault};
 ghost use Rattle.v_names.specs.FaultViews.{fault_of};
 ghost use Rattle.v_elab.specs.ItemFaults.{size_faults, content_size_faults, item_faults};
@@ -14,7 +14,7 @@ use crate::statements::note_statement;
 use name_faults::FirstFault;
 use std::alloc::Global;
 use v_names::{Found, Scope};
-use v_tree::{Content, Item, Param, Reg};
+use v_tree::{Content, Item, Param, Params, Ports, Reg};
 use vf_base::NoMemory;
 
 /// Notes what is wrong with the sizes of the values of parameters.
@@ -69,6 +69,20 @@ fn note_regs(
     Ok(())
 }
 
+/// Notes what is wrong with parameters that are declared together.
+fn note_params(
+    alloc: Global,
+    scope: &Scope<'_>,
+    group: &Params,
+    first: &mut FirstFault,
+) -> Result<(), NoMemory>
+    ensures { OnOk result (first.new ≡ noted first.old (item_faults scope.now (ParameterItem (parameters_of group.now)))) }
+{
+    note_declared_range(alloc, scope, &group.range, first)?;
+    note_values(alloc, scope, group.params.as_slice(), first)?;
+    Ok(())
+}
+
 /// Notes what is wrong with an item.
 fn note_item(
     alloc: Global,
@@ -80,8 +94,7 @@ fn note_item(
 {
     match item {
         Item::Params(group) => {
-            note_declared_range(alloc, scope, &group.range, first)?;
-            note_values(alloc, scope, group.params.as_slice(), first)?;
+            note_params(alloc, scope, group, first)?;
             Ok(())
         }
         Item::Ports(group) => {
@@ -129,5 +142,31 @@ pub fn item_fault(alloc: Global, scope: &Scope<'_>, item: &Item) -> Result<Optio
 {
     let mut first = FirstFault::new();
     note_item(alloc, scope, item, &mut first)?;
+    Ok(first.found())
+}
+
+/// The first thing that is wrong with the sizes of parameters that are declared together.
+pub fn params_fault(
+    alloc: Global,
+    scope: &Scope<'_>,
+    group: &Params,
+) -> Result<Option<Found>, NoMemory>
+    ensures { IfOk result (λ found. option_map fault_of found ≡ first_fault (item_faults scope.now (ParameterItem (parameters_of group.now)))) }
+{
+    let mut first = FirstFault::new();
+    note_params(alloc, scope, group, &mut first)?;
+    Ok(first.found())
+}
+
+/// The first thing that is wrong with the range of ports that are declared together.
+pub fn ports_fault(
+    alloc: Global,
+    scope: &Scope<'_>,
+    group: &Ports,
+) -> Result<Option<Found>, NoMemory>
+    ensures { IfOk result (λ found. option_map fault_of found ≡ first_fault (item_faults scope.now (PortItem (ports_of group.now)))) }
+{
+    let mut first = FirstFault::new();
+    note_declared_range(alloc, scope, &group.range, &mut first)?;
     Ok(first.found())
 }

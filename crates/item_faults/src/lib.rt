@@ -19,5 +19,5 @@ mod waits;
 
 pub use assigned::note_net_target;
 pub use groups::note_where;
-pub use items::item_fault;
+pub use items::{item_fault, params_fault, ports_fault};
 pub use sizes::{note_optional_size, note_size};

@@ -13,5 +13,5 @@ mod reads;
 mod tests;
 
 pub use entries::{SelectedBits, entries_of_select, star_entries};
-pub use object_list::first_occurrences;
+pub use object_list::{ObjectList, first_occurrences};
 pub use reads::{add_index_objects, add_objects};

@@ -2,7 +2,7 @@
 
 ghost use Rattle.std.specs.Prelude.{◌≡◌, [], IfOk, OnOk, map};
 ghost use Rattle.vf_base.specs.Base.{object_number};
-ghost use Rattle.v_design.specs.Lists.{without_repeats};
+ghost use Rattle.v_design.specs.Lists.{has, without_repeats};
 ghost use Rattle.wait_entries.specs.ObjectLists.{with_object};
 
 use indexmap::IndexSet;
@@ -12,7 +12,7 @@ use vf_base::{NoMemory, ObjectId};
 
 /// Objects in the order in which they were put in, each once. Contracts see the list of their numbers; one is found by its hash.
 #[derive(Drop)]
-struct ObjectList {
+pub struct ObjectList {
     objects: IndexSet<u32>,
 }
 
@@ -26,7 +26,7 @@ impl Model for ObjectList {
 
 impl ObjectList {
     /// A list without objects, which takes no memory.
-    fn new(alloc: Global) -> ObjectList
+    pub fn new(alloc: Global) -> ObjectList
         ensures { result ≡ [] }
     {
         ObjectList {
@@ -35,13 +35,20 @@ impl ObjectList {
     }
 
     /// Puts an object behind the others, unless it is there.
-    fn put(&mut self, object: ObjectId) -> Result<(), NoMemory>
+    pub fn put(&mut self, object: ObjectId) -> Result<(), NoMemory>
         ensures { OnOk result (self.new ≡ with_object self.old (object_number object)) }
     {
         match self.objects.insert(object.0) {
             Ok(_) => Ok(()),
             Err(_) => Err(NoMemory),
         }
+    }
+
+    /// Whether an object is in it.
+    pub fn has(&self, object: ObjectId) -> bool
+        ensures { result ≡ has self.now (object_number object) }
+    {
+        self.objects.contains(&object.0)
     }
 
     /// The objects, in order.

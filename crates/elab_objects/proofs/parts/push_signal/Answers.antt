@@ -10,7 +10,8 @@ use Rattle.elab_wires.specs.SignalTables.{signal_borrowed}
 use Rattle.elab_drivers.specs.DriveViews.{drive_keyed}
 use Rattle.elab_objects.specs.ObjectViews.{held_of, held_objects}
 use Rattle.elab_objects.specs.Driven.{driving_keyed, variable-is, net-is}
-use Rattle.elab_objects.proofs.Owners.{first-found, drives-found}
+use Rattle.elab_objects.specs.Found.{drives-found}
+use Rattle.elab_objects.proofs.Owners.{first-found}
 use Rattle.elab_objects.proofs.parts.push_signal.Goals as goal
 
 pub returns-in-Some : goal.returns-in-Some

@@ -6,9 +6,9 @@ use Rattle.elab_objects.proofs.pieces.value_place.Goals.{then-bit-bits-via-then-
 pub returns-then-bit-bits : goal.returns-then-bit-bits
 returns-then-bit-bits c =
     elim c.then-bit-bits.branch [
-      | then-bit-bits-via-then-bit-bits w ↦ no_place c.args.drive c.args.bit (inl (let h = w.if-bit-bits.true in omega arith))
-      | then-bit-bits-via-else-bit-bits+then-bits-bit w ↦ no_place c.args.drive c.args.bit (inr (let h = w.if-bits-bit.true in omega arith))
+      | then-bit-bits-via-then-bit-bits w ↦ no_place c.args.drive c.args.bit (inl (let h = w.if-bit-bits.true in let f = c.from-bit.ensures in omega (arith, h, f)))
+      | then-bit-bits-via-else-bit-bits+then-bits-bit w ↦ no_place c.args.drive c.args.bit (inr (let h = w.if-bits-bit.true in let f = c.from-bit.ensures in omega (arith, h, f)))
     ]
 
 pub returns-in-Some : goal.returns-in-Some
-returns-in-Some c = placed c.args.drive c.args.bit c.in-Some.place c.if-bit-bits.false (let h = c.if-bits-bit.false in omega arith) (let h = c.in-Some.ensures in omega (arith, h))
+returns-in-Some c = placed c.args.drive c.args.bit c.in-Some.place (let h = c.if-bit-bits.false in let f = c.from-bit.ensures in omega (arith, h, f)) (let h = c.if-bits-bit.false in let f = c.from-bit.ensures in omega (arith, h, f)) (let h = c.in-Some.ensures in let f = c.from-bit.ensures in omega (arith, h, f))

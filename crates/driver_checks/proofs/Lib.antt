@@ -1,0 +1,4 @@
+pub mod DrivingTurns
+pub mod OverlapTurns
+pub mod CheckTurns
+pub mod SecondTurns

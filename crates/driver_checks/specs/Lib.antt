@@ -1,0 +1,4 @@
+pub mod Driving
+pub mod Seconds
+pub mod Overlaps
+pub mod TwoDrivers

@@ -1,0 +1,2 @@
+pub mod ConnectionTurns
+pub mod CountLaws

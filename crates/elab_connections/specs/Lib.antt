@@ -1,0 +1,3 @@
+pub mod PathViews
+pub mod WidePorts
+pub mod NodeCounts

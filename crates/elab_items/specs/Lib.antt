@@ -1,0 +1,6 @@
+pub mod Joins
+pub mod Heres
+pub mod Drives
+pub mod Wholes
+pub mod Gates
+pub mod Forms

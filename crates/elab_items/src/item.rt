@@ -1,0 +1,97 @@
+// The parts of an item.
+
+ghost use Rattle.std.specs.Prelude.{◌≡◌, ◌++◌, OnOk};
+ghost use Rattle.v_tree.specs.Trees.{PortItem};
+ghost use Rattle.v_tree.specs.Views.{item_of, ports_of};
+ghost use Rattle.v_elab.specs.Walk as plain;
+ghost use Rattle.v_elab.specs.Walk.{declared_parts, item_parts, gates_in};
+ghost use Rattle.elab_parts.specs.PartViews.{parts_of};
+ghost use Rattle.elab_items.specs.Heres.{IsHere};
+
+use crate::blocks::process_part;
+use crate::declared::{push_names, push_nets, push_part, push_regs};
+use crate::gates::push_gates;
+use crate::here::Here;
+use crate::nodes::{push_assignments, push_wire_values};
+use elab_parts::Part;
+use std::alloc::Global;
+use v_tree::{Item, Ports};
+use vf_base::NoMemory;
+
+/// How many gates stand in an item.
+pub fn gates_in(item: &Item) -> usize
+    ensures { result ≡ gates_in (item_of item.now) }
+{
+    match item {
+        Item::Gate { gates, .. } => gates.as_slice().len(),
+        _ => 0,
+    }
+}
+
+/// Adds the parts of ports that are declared together.
+pub fn push_port_parts<'u>(
+    alloc: Global,
+    here: &Here<'_, 'u>,
+    group: &'u Ports,
+    parts: &mut Vec<Part<'u>>,
+) -> Result<(), NoMemory>
+    ensures { OnOk result ((h : plain.Here) → IsHere h here.now → parts_of parts.new.items ≡ parts_of parts.old.items ++ declared_parts h (PortItem (ports_of group.now))) }
+{
+    push_names(alloc, here, group.names.as_slice(), parts)?;
+    Ok(())
+}
+
+/// Adds the parts of an item that is no instance. `gates` counts the gates of the module that stand before the item.
+pub fn push_item_parts<'u>(
+    alloc: Global,
+    here: &Here<'_, 'u>,
+    gates: u64,
+    item: &'u Item,
+    parts: &mut Vec<Part<'u>>,
+) -> Result<(), NoMemory>
+    ensures { OnOk result ((h : plain.Here) → IsHere h here.now → parts_of parts.new.items ≡ parts_of parts.old.items ++ item_parts h gates (item_of item.now)) }
+{
+    match item {
+        Item::Params(_) => Ok(()),
+        Item::Ports(group) => {
+            push_port_parts(alloc, here, group, parts)?;
+            Ok(())
+        }
+        Item::Wire { wires, .. } => {
+            push_nets(alloc, here, wires.as_slice(), parts)?;
+            push_wire_values(alloc, here, wires.as_slice(), parts)?;
+            Ok(())
+        }
+        Item::Reg { regs, .. } => {
+            push_regs(alloc, here, regs.as_slice(), parts)?;
+            Ok(())
+        }
+        Item::Integer { regs, .. } => {
+            push_regs(alloc, here, regs.as_slice(), parts)?;
+            Ok(())
+        }
+        Item::Assign { assignments, .. } => {
+            push_assignments(alloc, here, assignments.as_slice(), parts)?;
+            Ok(())
+        }
+        Item::Gate {
+            kind,
+            gates: all,
+            ..
+        } => {
+            push_gates(alloc, here, *kind, gates, all.as_slice(), parts)?;
+            Ok(())
+        }
+        Item::Instance { .. } => Ok(()),
+        Item::Initial { place, body } => {
+            let part = process_part(alloc, here, false, *place, body)?;
+            push_part(part, parts)?;
+            Ok(())
+        }
+        Item::Always { place, body } => {
+            let part = process_part(alloc, here, true, *place, body)?;
+            push_part(part, parts)?;
+            Ok(())
+        }
+    }
+}

@@ -1,0 +1,13 @@
+use Rattle.std.proofs.Common.{map, ap, sym, ◌∙◌}
+use Rattle.v_elab.specs.Flat as plain
+use Rattle.elab_parts.specs.BehaviourViews.{function_of}
+use Rattle.object_names.specs.OutputViews.{output_of}
+use Rattle.elab_nodes.proofs.kinds.node_kind.Goals as goal
+
+pub returns-in_ok-kind-in-Gate : goal.returns-in_ok-kind-in-Gate
+returns-in_ok-kind-in-Gate c parts objects are =
+    c.in_ok-kind-in-Gate.ensures parts objects (map output_of c.args.outputs.now) are ∙ ap (λ f. plain.node_kind parts objects (map output_of c.args.outputs.now) (function_of f)) (sym c.in-Gate.is)
+
+pub returns-in_ok-kind-in-Block : goal.returns-in_ok-kind-in-Block
+returns-in_ok-kind-in-Block c parts objects are =
+    c.in_ok-kind-in-Block.ensures parts objects (map output_of c.args.outputs.now) are ∙ ap (λ f. plain.node_kind parts objects (map output_of c.args.outputs.now) (function_of f)) (sym c.in-Block.is)

@@ -1,0 +1,4 @@
+pub mod Grounds
+pub mod Processes
+pub mod Inputs
+pub mod Nodes

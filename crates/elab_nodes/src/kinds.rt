@@ -1,0 +1,127 @@
+// What the nodes of a design do.
+
+ghost use Rattle.std.specs.Prelude.{◌≡◌, IfOk, List, map};
+ghost use Rattle.v_design.specs.Plain.{node_kind_of};
+ghost use Rattle.sized_tree.specs.SizedViews.{all_sized_of};
+ghost use Rattle.v_elab.specs.Drivers.{AssignFunction, GateFunction, BlockFunction};
+ghost use Rattle.v_tree.specs.Views as source;
+ghost use Rattle.v_elab.specs.Parts.{Part};
+ghost use Rattle.v_elab.specs.Objects.{HeldObject};
+ghost use Rattle.v_elab.specs.Statements.{block_body};
+ghost use Rattle.v_elab.specs.Flat as plain;
+ghost use Rattle.elab_parts.specs.PartViews as walked;
+ghost use Rattle.elab_parts.specs.BehaviourViews.{function_of};
+ghost use Rattle.object_names.specs.OutputViews.{output_of};
+ghost use Rattle.elab_nodes.specs.Grounds.{IsGround};
+
+use crate::ground::Ground;
+use crate::process::meaning_of;
+use elab_parts::{NodeFunction, ValueIn, WalkedProcess};
+use flat_body::statement_over;
+use four_value::GateKind;
+use object_expr::{all_over_objects, over_objects};
+use object_names::{InstanceNames, NodeOutput};
+use sized_tree::SizedExpr;
+use std::alloc::Global;
+use v_design::NodeKind;
+use v_tree::Stmt;
+use vf_base::{NoMemory, Seq, Text};
+
+/// Where the outputs of a node stand in its value.
+fn output_places(alloc: Global, outputs: &[NodeOutput]) -> Result<Seq<u32>, NoMemory>
+    ensures { IfOk result (λ places. places ≡ map (λ (o : plain.NodeOutput). o.place) (map output_of outputs.now)) }
+{
+    let mut places = Vec::new(alloc);
+    'outputs: for output in outputs {
+        places.push(output.place)?;
+    }
+    Ok(Seq::from_vec(places))
+}
+
+/// A continuous assignment.
+fn assign_kind(
+    alloc: Global,
+    ground: Ground<'_>,
+    outputs: &[NodeOutput],
+    value: &ValueIn,
+) -> Result<NodeKind, NoMemory>
+    ensures { IfOk result (λ kind. (parts : List Part) (objects : List HeldObject) → IsGround parts objects ground.entry → node_kind_of kind ≡ plain.node_kind parts objects (map output_of outputs.now) (AssignFunction (walked.value_of value.now))) }
+{
+    let names = InstanceNames {
+        names: ground.names,
+        path: &value.path,
+    };
+    let expr = over_objects(alloc, names, &value.value)?;
+    let places = output_places(alloc, outputs)?;
+    Ok(NodeKind::Assign(expr, places))
+}
+
+/// A gate.
+fn gate_kind(
+    alloc: Global,
+    ground: Ground<'_>,
+    kind: GateKind,
+    path: &Text,
+    terminals: &[SizedExpr],
+) -> Result<NodeKind, NoMemory>
+    ensures { IfOk result (λ made. (parts : List Part) (objects : List HeldObject) (outputs : List plain.NodeOutput) → IsGround parts objects ground.entry → node_kind_of made ≡ plain.node_kind parts objects outputs (GateFunction kind path.now (all_sized_of terminals.now))) }
+{
+    let names = InstanceNames {
+        names: ground.names,
+        path,
+    };
+    let terminals = all_over_objects(alloc, names, terminals)?;
+    Ok(NodeKind::Gate(kind, terminals))
+}
+
+/// What a block does once it is woken.
+fn block_body(body: &Stmt) -> &Stmt
+    ensures { source.statement_of result.now ≡ block_body (source.statement_of body.now) }
+{
+    match body {
+        Stmt::Event { body, .. } => body,
+        _ => body,
+    }
+}
+
+/// A block of combinational form.
+fn block_kind(
+    alloc: Global,
+    ground: Ground<'_>,
+    process: &WalkedProcess<'_>,
+) -> Result<NodeKind, NoMemory>
+    ensures { IfOk result (λ kind. (parts : List Part) (objects : List HeldObject) (outputs : List plain.NodeOutput) → IsGround parts objects ground.entry → node_kind_of kind ≡ plain.node_kind parts objects outputs (BlockFunction (walked.process_of process.now))) }
+{
+    let meaning = meaning_of(ground, process);
+    let statement = statement_over(alloc, meaning, block_body(process.body))?;
+    Ok(NodeKind::Block(statement))
+}
+
+/// What a node with some outputs does.
+pub fn node_kind(
+    alloc: Global,
+    ground: Ground<'_>,
+    outputs: &[NodeOutput],
+    function: &NodeFunction<'_, '_>,
+) -> Result<NodeKind, NoMemory>
+    ensures { IfOk result (λ kind. (parts : List Part) (objects : List HeldObject) → IsGround parts objects ground.entry → node_kind_of kind ≡ plain.node_kind parts objects (map output_of outputs.now) (function_of function.now)) }
+{
+    match function {
+        NodeFunction::Assign(value) => {
+            let kind = assign_kind(alloc, ground, outputs, value)?;
+            Ok(kind)
+        }
+        NodeFunction::Gate {
+            kind,
+            path,
+            terminals,
+        } => {
+            let kind = gate_kind(alloc, ground, *kind, path, terminals)?;
+            Ok(kind)
+        }
+        NodeFunction::Block(process) => {
+            let kind = block_kind(alloc, ground, process)?;
+            Ok(kind)
+        }
+    }
+}

@@ -1,0 +1,71 @@
+// The processes of a design.
+
+ghost use Rattle.std.specs.Prelude.{◌≡◌, IfOk, List, map};
+ghost use Rattle.v_design.specs.Plain.{process_of};
+ghost use Rattle.v_elab.specs.Parts.{Part};
+ghost use Rattle.v_elab.specs.Objects.{HeldObject};
+ghost use Rattle.v_elab.specs.Flat as plain;
+ghost use Rattle.elab_parts.specs.PartViews as walked;
+ghost use Rattle.elab_parts.specs.BehaviourViews.{process_in};
+ghost use Rattle.elab_nodes.specs.Grounds.{IsGround};
+ghost use Rattle.elab_nodes.specs.Processes.{IsMeantBy};
+
+use crate::ground::Ground;
+use elab_parts::{ProcessPart, WalkedProcess};
+use flat_body::{Meaning, statement_over};
+use object_names::InstanceNames;
+use std::alloc::Global;
+use v_design::Process;
+use vf_base::NoMemory;
+
+/// What the names of a process mean.
+pub fn meaning_of<'n, 'u>(
+    ground: Ground<'n>,
+    process: &'n WalkedProcess<'u>,
+) -> Meaning<'n, 'u>
+    ensures { IsMeantBy ground.entry (walked.process_of process.now) result }
+{
+    Meaning {
+        scope: &process.scope,
+        names: InstanceNames {
+            names: ground.names,
+            path: &process.path,
+        },
+        widths: ground.widths,
+    }
+}
+
+/// A process over objects.
+fn flat_process(
+    alloc: Global,
+    ground: Ground<'_>,
+    process: &WalkedProcess<'_>,
+) -> Result<Process, NoMemory>
+    ensures { IfOk result (λ flat. (parts : List Part) (objects : List HeldObject) → IsGround parts objects ground.entry → process_of flat ≡ plain.flat_process parts objects (walked.process_of process.now)) }
+{
+    let body = statement_over(alloc, meaning_of(ground, process), process.body)?;
+    Ok(Process {
+        always: process.always,
+        body,
+        place: process.place,
+    })
+}
+
+/// Some processes over objects, in their order.
+///
+/// # Errors
+///
+/// Want of memory.
+pub fn flat_processes(
+    alloc: Global,
+    ground: Ground<'_>,
+    processes: &[ProcessPart<'_, '_>],
+) -> Result<Vec<Process>, NoMemory>
+    ensures { IfOk result (λ flats. (parts : List Part) (objects : List HeldObject) → IsGround parts objects ground.entry → map process_of flats.items ≡ map (plain.flat_process parts objects) (map process_in processes.now)) }
+{
+    let mut flats = Vec::new(alloc);
+    'processes: for process in processes {
+        flats.push(flat_process(alloc, ground, process.process)?)?;
+    }
+    Ok(flats)
+}

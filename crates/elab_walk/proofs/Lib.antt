@@ -1,0 +1,4 @@
+pub mod Turns
+pub mod Counting
+pub mod Steps
+pub mod Named

@@ -1,0 +1,34 @@
+use Rattle.std.proofs.Common.{◌≡◌, List, length, None, sym, subst, ◌∙◌, arith}
+use Rattle.std.proofs.lemmas.List.{length-map}
+use Rattle.std.proofs.lemmas.Result.{err_from_is_err_and}
+use Rattle.v_tree.specs.Trees.{PortItem}
+use Rattle.v_tree.specs.Views.{ports_of}
+use Rattle.v_names.specs.Faults.{Fault, first_fault}
+use Rattle.v_names.specs.Scopes.{Scope}
+use Rattle.v_elab.specs.ItemFaults.{item_faults}
+use Rattle.v_elab.specs.Parts.{Part}
+use Rattle.v_elab.specs.Walk.{added, declared_parts}
+use Rattle.elab_parts.specs.PartViews.{part_of}
+use Rattle.elab_walk.specs.Leaves.{parts_in, Grows}
+use Rattle.elab_walk.proofs.Turns.{Answer, fault-of, clean-of, then-clean, grows-counted}
+use Rattle.elab_walk.proofs.items.walk_ports.Goals as goal
+
+pub returns-in_err-count_from : goal.returns-in_err-count_from
+returns-in_err-count_from c h walker is before counted =
+    let p = err_from_is_err_and c.from_residual-in_err-count_from.result c.from_residual-in_err-count_from.ensures.1 in
+    let wrong : List Fault = item_faults h.scope (PortItem (ports_of c.args.group.now)) in
+    let more : List Part = declared_parts h (PortItem (ports_of c.args.group.now)) in
+    let clean : first_fault wrong ≡ None = clean-of _ (λ (s : Scope). item_faults s (PortItem (ports_of c.args.group.now))) c.deref.result.now h.scope (c.deref.ensures ∙ is.here_is.scope_is) c.in_ok-ports_fault.ensures c.in_ok-refuse.ensures in
+    let at : c.len-start.result ≡ length (parts_in c.args.walked.now) = omega (arith, length-map c.args.walked.now.parts.items part_of) in
+    rw (p.1, p.2)
+    (fault-of (added before more) _ _ (sym (then-clean wrong more (added before) clean))
+    (c.in_err-count_from.ensures before (parts_in c.args.walked.now) more counted (c.in_ok-push_port_parts.ensures h is.here_is) at))
+
+pub returns : goal.returns
+returns c h walker is before counted =
+    let wrong : List Fault = item_faults h.scope (PortItem (ports_of c.args.group.now)) in
+    let more : List Part = declared_parts h (PortItem (ports_of c.args.group.now)) in
+    let clean : first_fault wrong ≡ None = clean-of _ (λ (s : Scope). item_faults s (PortItem (ports_of c.args.group.now))) c.deref.result.now h.scope (c.deref.ensures ∙ is.here_is.scope_is) c.in_ok-ports_fault.ensures c.in_ok-refuse.ensures in
+    let at : c.len-start.result ≡ length (parts_in c.args.walked.now) = omega (arith, length-map c.args.walked.now.parts.items part_of) in
+    subst (λ (a : Answer). Grows before a c.args.walked.now c.count_from.new.self) (sym (then-clean wrong more (added before) clean))
+    (grows-counted before more c.args.walked.now _ c.count_from.new.self (c.in_ok-push_port_parts.ensures h is.here_is) (c.in_ok-count_from.ensures before (parts_in c.args.walked.now) more counted (c.in_ok-push_port_parts.ensures h is.here_is) at))

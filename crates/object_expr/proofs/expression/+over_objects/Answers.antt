@@ -1,0 +1,40 @@
+use Rattle.std.proofs.Common.{map, ap, sym, ◌∙◌}
+use Rattle.std.proofs.lemmas.List.{take_all}
+use Rattle.v_design.specs.Trees.{Concatenation, Replication}
+use Rattle.v_design.specs.Plain.{expression_of}
+use Rattle.v_design.specs.PlainLemmas.{expression_of-Concatenation, expression_of-Replication}
+use Rattle.v_names.specs.SizedTrees.{over_objects, all_over_objects}
+use Rattle.sized_tree.specs.declared.expression.SizedExpr.{SizedExpr}
+use Rattle.sized_tree.specs.SizedViews.{sized_of, all_sized_of}
+use Rattle.sized_tree.specs.ViewLaws.{sized-concatenation, sized-replication}
+use Rattle.object_expr.proofs.Rows.{seen_over, rows-same, one-more}
+use Rattle.object_expr.proofs.expression.+over_objects.Goals as goal
+
+pub over_objects-returns-in_ok-parts-in-Concatenation : goal.over_objects-returns-in_ok-parts-in-Concatenation
+over_objects-returns-in_ok-parts-in-Concatenation t c holders h =
+    let size = c.in-Concatenation.size in
+    let parts = c.in-Concatenation.parts in
+    expression_of-Concatenation size.width size.signed c.in_ok-parts-in-Concatenation.parts
+    ∙ ap (Concatenation size.width size.signed) (c.in_ok-parts-in-Concatenation.ensures holders h ∙ ap (λ items. all_over_objects holders (all_sized_of items)) c.deref-in-Concatenation.ensures.value)
+    ∙ ap (over_objects holders) (sym (ap (λ (e : SizedExpr). sized_of e) c.in-Concatenation.is ∙ sized-concatenation size parts))
+
+pub over_objects-returns-in_ok-parts-in-Replication : goal.over_objects-returns-in_ok-parts-in-Replication
+over_objects-returns-in_ok-parts-in-Replication t c holders h =
+    let size = c.in-Replication.size in
+    let parts = c.in-Replication.parts in
+    expression_of-Replication size.width size.signed c.in_ok-count-in-Replication.count c.in_ok-parts-in-Replication.parts
+    ∙ ap (Replication size.width size.signed c.in_ok-count-in-Replication.count)
+    (c.in_ok-parts-in-Replication.ensures holders h ∙ ap (λ items. all_over_objects holders (all_sized_of items)) c.deref-in-Replication.ensures.value)
+    ∙ ap (λ n. Replication size.width size.signed n (all_over_objects holders (all_sized_of parts.items))) c.in_ok-count-in-Replication.ensures
+    ∙ ap (over_objects holders) (sym (ap (λ (e : SizedExpr). sized_of e) c.in-Replication.is ∙ sized-replication size c.in-Replication.count parts))
+
+pub all_over_objects-exprs-preserved : goal.all_over_objects-exprs-preserved
+all_over_objects-exprs-preserved t c holders h =
+    ap (map expression_of) c.in_ok-push.ensures.items
+    ∙ one-more expression_of (seen_over holders) c.exprs.flats.items c.args.exprs.now c.exprs.expr-index c.in_ok-flat.flat c.expr-item.result c.exprs-test.true c.expr-item.is
+    (c.in_ok-flat.ensures holders h) (c.exprs.invariant holders h)
+
+pub all_over_objects-returns : goal.all_over_objects-returns
+all_over_objects-returns t c holders h =
+    rows-same holders c.exprs.flats.items c.args.exprs.now
+    (c.exprs.invariant holders h ∙ ap (map (seen_over holders)) (take_all c.exprs.expr-index c.args.exprs.now c.exprs-test.false))

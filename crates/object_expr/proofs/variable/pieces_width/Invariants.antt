@@ -1,0 +1,7 @@
+use Rattle.std.proofs.Common.{◌≡◌, map, take}
+use Rattle.v_design.specs.Plain.{piece_of}
+use Rattle.v_design.specs.Sized.{pieces_width}
+use Rattle.object_expr.proofs.variable.pieces_width.Given as goal
+
+abbrev pub invariant-pieces : goal.invariant-pieces
+invariant-pieces l = l.width ≡ pieces_width (map piece_of (take l.piece-index l.pieces))

@@ -1,0 +1,3 @@
+pub mod TableTurns
+pub mod Meanings
+pub mod OutputTurns
