@@ -1,3 +1,3 @@
 pub mod Words
-pub mod GradeWords
+pub mod Forms
 pub mod Status

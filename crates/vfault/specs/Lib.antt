@@ -1,1 +1,3 @@
-pub mod Answer
+pub mod Answers
+pub mod Outside
+pub mod Making

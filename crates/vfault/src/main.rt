@@ -1,13 +1,16 @@
 //! Grades a test: which stuck-at faults of a design it finds, and at which strobe.
 //!
-//! `vfault` is the whole program but for the outside. Where it answers `Done`, the sink gained the report on what the shelf holds: each line is
-//! the verdict of its fault in every legal order of events (IEEE 1364-2001, clause 5). `main` makes the outside, calls it, prints the line
-//! of the status on standard error, and ends with its number.
+//! `vfault` is the whole program but for the outside. Where it answers `Done`, the sink gained the output of the form that the words ask for, over what the
+//! shelf holds; each line of a report says what holds in every pair of legal orders of events (IEEE 1364-2001, clause 5). Each other status comes exactly
+//! where `specs/Answers` has it, or with its cause outside. `main` makes the outside, calls it, prints the line of the status on standard error, and
+//! ends with its number.
 #![tactic(auto)]
 
 ghost use Rattle.std.specs.Prelude.{◌≡◌, length, IfOk};
 
+mod make;
 mod output;
+mod source;
 mod top;
 
 use std::alloc::Global;

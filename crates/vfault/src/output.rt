@@ -1,7 +1,7 @@
 // Putting the whole text.
 
 ghost use Rattle.std.specs.Prelude.{◌≡◌, ◌+◌, ◌≤◌, length, drop};
-ghost use Rattle.vfault.specs.Answer.{PutGives};
+ghost use Rattle.vfault.specs.Outside.{PutGives};
 
 use vf_base::{Sink, SinkFault};
 use vf_words::Status;

@@ -5,30 +5,41 @@ use std::alloc::AllocError;
 use std::test::Fail;
 use vf_base::{MemShelf, MemSink};
 
-const DESIGN: &[u8] = b"module top;\nreg q;\ninitial begin q = 0; #10 q = 1; end\nendmodule\n";
+mod rows;
 
-const PLAN: &[u8] = b"end 20\nwatch q\nstrobe 5\nstrobe 15\nfault q 0\nfault q 1\n";
+use rows::{ROWS, Row};
 
-const REPORT: &[u8] =
-    b"vfault 1\nq sa0 detected 15\nq sa1 detected 5\ntotal 2 detected 2 possible 0 undetected 0 race 0 hyper 0\n";
-
-fn shelf(alloc: Global, failing: u64) -> Result<MemShelf, AllocError> {
+/// A shelf with the row's files, which fails at this call.
+fn shelf(alloc: Global, row: &Row, failing: u64) -> Result<MemShelf, AllocError> {
     let mut files = Vec::new(alloc);
     files.push((
         String::from_str(alloc, "d")?,
-        Vec::from_slice(alloc, DESIGN)?,
+        Vec::from_slice(alloc, row.design)?,
     ))?;
-    files.push((String::from_str(alloc, "p")?, Vec::from_slice(alloc, PLAN)?))?;
+    files.push((
+        String::from_str(alloc, "p")?,
+        Vec::from_slice(alloc, row.plan)?,
+    ))?;
     let mut list = Vec::new(alloc);
     list.push(failing)?;
     Ok(MemShelf::new(files, list))
 }
 
+/// The words, parted by single blanks.
+fn words_of(alloc: Global, text: &str) -> Result<Vec<String>, AllocError> {
+    let mut words = Vec::new(alloc);
+    for word in text.split(' ') {
+        words.push(String::from_str(alloc, word)?)?;
+    }
+    Ok(words)
+}
+
 /// The status and the output of a run whose shelf fails at this call and whose sink takes so many bytes.
-fn graded<L: Ledger + Send + Sync, R: Threads + Sync>(
+fn answered<L: Ledger + Send + Sync, R: Threads + Sync>(
     rt: &R,
     alloc: Global,
     blank: Blank,
+    row: &Row,
     failing: u64,
     most: Option<u64>,
 ) -> Result<(Status, Vec<u8>), AllocError>
@@ -40,11 +51,8 @@ fn graded<L: Ledger + Send + Sync, R: Threads + Sync>(
     let Ok(mut steps) = counters(alloc, share) else {
         return Ok((Status::NoMemory, Vec::new(alloc)));
     };
-    let mut words = Vec::new(alloc);
-    for word in ["grade", "d", "p", "top", "1"] {
-        words.push(String::from_str(alloc, word)?)?;
-    }
-    let mut shelf = shelf(alloc, failing)?;
+    let words = words_of(alloc, row.words)?;
+    let mut shelf = shelf(alloc, row, failing)?;
     let mut sink = MemSink::new(alloc, most);
     let status = vfault(
         rt, alloc, &words, &mut shelf, &mut sink, &OpenGate, &mut steps,
@@ -52,26 +60,41 @@ fn graded<L: Ledger + Send + Sync, R: Threads + Sync>(
     Ok((status, Vec::from_slice(alloc, sink.held())?))
 }
 
+/// The line of a status.
+fn line_of(alloc: Global, status: &Status) -> Result<Vec<u8>, AllocError> {
+    match line(alloc, status) {
+        Ok(text) => Vec::from_slice(alloc, text.as_bytes()),
+        Err(_) => Ok(Vec::new(alloc)),
+    }
+}
+
 #[test]
-fn a_report_is_written(rt: HostRuntime) -> Result<(), Fail> {
-    let (status, held) = graded::<Brand, HostRuntime>(
-        &rt,
-        rt.alloc(),
-        Blank::new(COUNTERS),
-        0,
-        None,
-    )?;
-    assert_eq!(rt; status, Status::Done);
-    assert_eq!(rt; held.as_slice(), REPORT);
+fn rows_are_answered(rt: HostRuntime) -> Result<(), Fail> {
+    let alloc = rt.alloc();
+    'rows: for row in ROWS {
+        let (status, held) = answered::<Brand, HostRuntime>(
+            &rt,
+            alloc,
+            Blank::new(COUNTERS),
+            row,
+            0,
+            None,
+        )?;
+        let told = line_of(alloc, &status)?;
+        assert_eq!(rt; told.as_slice(), row.line);
+        assert_eq!(rt; held.as_slice(), row.output);
+    }
     Ok(())
 }
 
 #[test]
 fn a_read_fails(rt: HostRuntime) -> Result<(), Fail> {
-    let (status, held) = graded::<Brand, HostRuntime>(
+    let row = &ROWS[0];
+    let (status, held) = answered::<Brand, HostRuntime>(
         &rt,
         rt.alloc(),
         Blank::new(COUNTERS),
+        row,
         2,
         None,
     )?;
@@ -82,10 +105,12 @@ fn a_read_fails(rt: HostRuntime) -> Result<(), Fail> {
 
 #[test]
 fn a_write_fails(rt: HostRuntime) -> Result<(), Fail> {
-    let (status, held) = graded::<Brand, HostRuntime>(
+    let row = &ROWS[0];
+    let (status, held) = answered::<Brand, HostRuntime>(
         &rt,
         rt.alloc(),
         Blank::new(COUNTERS),
+        row,
         0,
         Some(10),
     )?;

@@ -1,0 +1,15 @@
+-- What the code's forms stand for (nothing of the language).
+use Rattle.vf_words.specs.declared.words.Source.{Source}
+use Rattle.vf_words.specs.declared.words.Form.{Form}
+use Rattle.vf_words.specs.declared.words.Form.TheVariants.{Grade as GradeWords, Check as CheckWords, Faults as FaultsWords}
+use Rattle.vf_words.specs.Words as plain
+
+-- a design
+abbrev pub plain_source : Source → plain.Source
+plain_source source = record { design = source.design.now; top = source.top.now; mode = source.mode }
+
+-- a form
+abbrev pub plain_form : Form → plain.Form
+plain_form (GradeWords source design workers) = plain.Grade (plain_source source) design.now workers
+plain_form (CheckWords source) = plain.Check (plain_source source)
+plain_form (FaultsWords source) = plain.Faults (plain_source source)

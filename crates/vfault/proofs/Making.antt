@@ -1,0 +1,226 @@
+-- From what each step gives to what the output's making gives.
+use Rattle.std.proofs.Common.{◌≡◌, ℕ, ◌+◌, ◌≤◌, List, length, Option, Some, None, Result, Ok, Err, Vec, refl, sym, ap, subst, ◌∙◌, ◌⊎◌, inl, inr, arith}
+use Rattle.std.specs.Result.{IsErrAnd}
+use Rattle.std.specs.declared.alloc.Global.{Global}
+use Rattle.vf_base.specs.Counts.{raised, Rose}
+use Rattle.vf_base.specs.Shelf.{Files}
+use Rattle.v_design.specs.Designs.{FlatDesign}
+use Rattle.design_text.specs.declared.fault.DesignFault.{DesignFault}
+use Rattle.design_text.specs.declared.fault.DesignFault.TheVariants as designs
+use Rattle.design_text.specs.Meanings as texts
+use Rattle.design_report.specs.Texts.{check_text, IsFaultsText}
+use Rattle.plan_report.specs.declared.fault.ReportFault.{ReportFault}
+use Rattle.plan_report.specs.declared.fault.ReportFault.TheVariants as reported
+use Rattle.plan_report.specs.Reports as reports
+use Rattle.vf_words.specs.Words.{Source, Form, Grade, Check, Faults}
+use Rattle.vf_words.specs.declared.status.Which.TheVariants as whiches
+use Rattle.vf_words.specs.declared.status.Refusal.{Refusal}
+use Rattle.vf_words.specs.declared.status.Refusal.TheVariants as refusals
+use Rattle.vf_words.specs.declared.status.Status.{Status}
+use Rattle.vf_words.specs.declared.status.Status.TheVariants.{Done, Refused, Usage, ReadFault, WriteFault, NoMemory, GoodLoop, TooLong}
+use Rattle.vfault.specs.Answers.{Answer, Outputs, Refuses, Lacks, Exceeds, Loops, status_of, AfterSource, refusal_of, IsAnswer, IsTheAnswer, Stands}
+use Rattle.std.specs.Prelude.{IfSome}
+use Rattle.vfault.specs.Outside.{IsOutput, IfTold, ShelfCounts, ReadFailed, ToldLong, PutGives, Keeps, as_answered, no_memory, no_read, no_put}
+use Rattle.vfault.specs.Making.{IsFile, FileGives, HoldDesign, DesignGives, status_if, design_status, report_status, OutputGives}
+use Rattle.vfault.proofs.OneAnswer.{The, source-lacks, source-exceeds, source-refused, plan-lacks, plan-exceeds, plan-tells, check-tells, faults-tell}
+
+-- what is handed on
+pub err-gives : (form : Form) (held : Option Files) (old new : ShelfCounts) (r : Result (Vec ℕ Global) Status) (status : Status) → IsErrAnd r (λ e. e ≡ status) → OutputGives form held old new (Err status) → OutputGives form held old new r
+err-gives form held old new (Ok text) status same h = absurd same
+err-gives form held old new (Err found) status same h = subst (λ s. OutputGives form held old new (Err s)) (sym same) h
+
+-- Designs
+
+-- what a text without a design gives
+module _ (held : Option Files) (source : Source) (old new : ShelfCounts) (bytes text top : List ℕ) (file : IfTold held (λ files. IsFile files source.design whiches.Design bytes)) (same_text : text ≡ bytes) (same_top : top ≡ source.top) where
+  means-here : (meaning : Result FlatDesign DesignFault) → texts.IsTheMeaning text top source.mode meaning → texts.IsTheMeaning bytes source.top source.mode meaning
+  means-here meaning is = subst (λ t. texts.IsTheMeaning t source.top source.mode meaning) same_text (subst (λ w. texts.IsTheMeaning text w source.mode meaning) same_top is)
+
+  faulty : (fault : DesignFault) → (fault ≡ designs.NoMemory) ⊎ texts.IsTheMeaning text top source.mode (Err fault) → DesignGives held source old new (Err (design_status fault))
+  faulty fault (inl e) = subst (λ f. DesignGives held source old new (Err (design_status f))) (sym e) tt
+  faulty fault (inr is) = by held file (refusal_of fault) refl
+    where
+      by : (told : Option Files) → IfTold told (λ files. IsFile files source.design whiches.Design bytes) → (reason : Option Refusal) → refusal_of fault ≡ reason → DesignGives told source old new (Err (status_if reason))
+      by None f None e = tt
+      by None f (Some why) e = tt
+      by (Some files) f None e = tt
+      by (Some files) f (Some why) e = record { bytes = bytes; file = f; fault = fault; meaning = means-here (Err fault) is; told = e }
+
+  pub design-faulty : (fault : DesignFault) (status : Status) → (fault ≡ designs.NoMemory) ⊎ texts.IsTheMeaning text top source.mode (Err fault) → status ≡ design_status fault → DesignGives held source old new (Err status)
+  design-faulty fault status is told = subst (λ s. DesignGives held source old new (Err s)) (sym told) (faulty fault is)
+
+  pub design-made : (design : FlatDesign) → texts.IsTheMeaning text top source.mode (Ok design) → IfTold held (λ files. HoldDesign files source design)
+  design-made design is = by held file
+    where
+      by : (told : Option Files) → IfTold told (λ files. IsFile files source.design whiches.Design bytes) → IfTold told (λ files. HoldDesign files source design)
+      by None f = tt
+      by (Some files) f = record { bytes = bytes; file = f; meaning = means-here (Ok design) is }
+
+-- Where the design isn't read
+
+module _ (form : Form) (source : Source) (next : Files → FlatDesign → Answer → Type 0) (as_form : (files : Files) (answer : Answer) → The (AfterSource source files (next files)) answer → IsTheAnswer form files answer) where
+  pub not-read : (held : Option Files) (old new : ShelfCounts) (status : Status) → new.reads ≡ raised old.reads → DesignGives held source old new (Err status) → OutputGives form held old new (Err status)
+  not-read held old new Done reads h = absurd h
+  not-read None old new (Refused why) reads h = tt
+  not-read (Some files) old new (Refused why) reads h = as_form files (Refuses why) (source-refused source (next files) files why h)
+  not-read held old new Usage reads h = absurd h
+  not-read held old new (ReadFault which) reads (same, inl rose) =
+      subst (λ w. ReadFailed w old new ⊎ ((files : Files) × (held ≡ Some files) × IsTheAnswer form files (Lacks w))) (sym same) (inl (record { faults = rose; reads = reads }))
+  not-read None old new (ReadFault which) reads (same, inr none) = absurd none
+  not-read (Some files) old new (ReadFault which) reads (same, inr none) =
+      subst (λ w. ReadFailed w old new ⊎ ((found : Files) × (Some files ≡ Some found) × IsTheAnswer form found (Lacks w))) (sym same)
+      (inr (files, refl, as_form files (Lacks whiches.Design) (source-lacks source (next files) files none)))
+  not-read held old new WriteFault reads h = absurd h
+  not-read held old new NoMemory reads h = tt
+  not-read held old new (GoodLoop time) reads h = absurd h
+  not-read None old new (TooLong which) reads h =
+      subst (λ w. ToldLong None w old new ⊎ ((files : Files) × (None ≡ Some files) × IsTheAnswer form files (Exceeds w))) (sym h.0) (inl (record { untold = refl; long = h.1; reads = reads }))
+  not-read (Some files) old new (TooLong which) reads h =
+      subst (λ w. ToldLong (Some files) w old new ⊎ ((found : Files) × (Some files ≡ Some found) × IsTheAnswer form found (Exceeds w))) (sym h.0)
+      (inr (files, refl, as_form files (Exceeds whiches.Design) (source-exceeds source (next files) files h.1)))
+
+-- Where the plan isn't read
+
+module _ (source : Source) (plan : List ℕ) (workers : ℕ) (design : FlatDesign) where
+  rose-from : (before mid after : ℕ) → before ≤ mid → Rose mid after → Rose before after
+  rose-from before mid after low rose = omega (arith, low, rose)
+
+  pub plan-not-read : (held : Option Files) (old mid new : ShelfCounts) (status : Status) → old.faults ≤ mid.faults → old.long_answers ≤ mid.long_answers → mid.reads ≡ raised old.reads → new.reads ≡ raised mid.reads →
+      IfTold held (λ files. HoldDesign files source design) → FileGives held plan whiches.Plan mid new (Err status) → OutputGives (Grade source plan workers) held old new (Err status)
+  plan-not-read held old mid new Done faults longs one two d h = absurd h
+  plan-not-read held old mid new (Refused why) faults longs one two d h = absurd h
+  plan-not-read held old mid new Usage faults longs one two d h = absurd h
+  plan-not-read held old mid new (ReadFault which) faults longs one two d (same, inl rose) =
+      subst (λ w. ReadFailed w old new ⊎ ((files : Files) × (held ≡ Some files) × IsTheAnswer (Grade source plan workers) files (Lacks w))) (sym same)
+      (inl (record { faults = rose-from old.faults mid.faults new.faults faults rose; reads = two ∙ ap raised one }))
+  plan-not-read None old mid new (ReadFault which) faults longs one two d (same, inr none) = absurd none
+  plan-not-read (Some files) old mid new (ReadFault which) faults longs one two d (same, inr none) =
+      subst (λ w. ReadFailed w old new ⊎ ((found : Files) × (Some files ≡ Some found) × IsTheAnswer (Grade source plan workers) found (Lacks w))) (sym same)
+      (inr (files, refl, plan-lacks source plan workers files design d none))
+  plan-not-read held old mid new WriteFault faults longs one two d h = absurd h
+  plan-not-read held old mid new NoMemory faults longs one two d h = tt
+  plan-not-read held old mid new (GoodLoop time) faults longs one two d h = absurd h
+  plan-not-read None old mid new (TooLong which) faults longs one two d h =
+      subst (λ w. ToldLong None w old new ⊎ ((files : Files) × (None ≡ Some files) × IsTheAnswer (Grade source plan workers) files (Exceeds w))) (sym h.0)
+      (inl (record { untold = refl; long = rose-from old.long_answers mid.long_answers new.long_answers longs h.1; reads = two ∙ ap raised one }))
+  plan-not-read (Some files) old mid new (TooLong which) faults longs one two d h =
+      subst (λ w. ToldLong (Some files) w old new ⊎ ((found : Files) × (Some files ≡ Some found) × IsTheAnswer (Grade source plan workers) found (Exceeds w))) (sym h.0)
+      (inr (files, refl, plan-exceeds source plan workers files design d h.1))
+
+  -- Where both are read
+
+  faulty-report : (held : Option Files) (old new : ShelfCounts) (bytes : List ℕ) (fault : ReportFault) → IfTold held (λ files. HoldDesign files source design) → IfTold held (λ files. IsFile files plan whiches.Plan bytes) →
+      (fault ≡ reported.NoMemory) ⊎ reports.IsTheMeaning design bytes (Err fault) → OutputGives (Grade source plan workers) held old new (Err (report_status fault))
+  faulty-report held old new bytes fault d f (inl e) = subst (λ w. OutputGives (Grade source plan workers) held old new (Err (report_status w))) (sym e) tt
+  faulty-report None old new bytes (reported.Plan fault) d f (inr is) = tt
+  faulty-report None old new bytes (reported.GoodLoop time) d f (inr is) = tt
+  faulty-report held old new bytes reported.NoMemory d f (inr is) = tt
+  faulty-report (Some files) old new bytes (reported.Plan fault) d f (inr is) =
+      plan-tells source plan workers files design bytes (Err (reported.Plan fault)) (Refuses (refusals.Plan fault)) d f is refl
+  faulty-report (Some files) old new bytes (reported.GoodLoop time) d f (inr is) = plan-tells source plan workers files design bytes (Err (reported.GoodLoop time)) (Loops time) d f is refl
+
+  pub report-faulty : (held : Option Files) (old new : ShelfCounts) (bytes text : List ℕ) (fault : ReportFault) (status : Status) → IfTold held (λ files. HoldDesign files source design) → IfTold held (λ files. IsFile files plan whiches.Plan bytes) →
+      text ≡ bytes → (fault ≡ reported.NoMemory) ⊎ reports.IsTheMeaning design text (Err fault) → status ≡ report_status fault → OutputGives (Grade source plan workers) held old new (Err status)
+  report-faulty held old new bytes text fault status d f same is told =
+      subst (λ s. OutputGives (Grade source plan workers) held old new (Err s)) (sym told)
+      (faulty-report held old new bytes fault d f (subst (λ t. (fault ≡ reported.NoMemory) ⊎ reports.IsTheMeaning design t (Err fault)) same is))
+
+  made-report : (held : Option Files) (old new : ShelfCounts) (bytes report : List ℕ) → IfTold held (λ files. HoldDesign files source design) → IfTold held (λ files. IsFile files plan whiches.Plan bytes) →
+      reports.IsTheMeaning design bytes (Ok report) → reports.HoldsInEveryOrder design bytes report → IfTold held (λ files. IsTheAnswer (Grade source plan workers) files (Outputs report) × Stands (Grade source plan workers) files report)
+  made-report None old new bytes report d f is holds = tt
+  made-report (Some files) old new bytes report d f is holds = (
+    plan-tells source plan workers files design bytes (Ok report) (Outputs report) d f is refl,
+    record { design_text = d.bytes; design_held = d.file.held; design = design; is_design = d.meaning.means; plan_text = bytes; plan_held = f.held; holds = holds },
+  )
+
+  pub report-made : (held : Option Files) (old new : ShelfCounts) (bytes text report : List ℕ) → IfTold held (λ files. HoldDesign files source design) → IfTold held (λ files. IsFile files plan whiches.Plan bytes) →
+      text ≡ bytes → reports.IsTheMeaning design text (Ok report) → reports.HoldsInEveryOrder design text report → IfTold held (λ files. IsTheAnswer (Grade source plan workers) files (Outputs report) × Stands (Grade source plan workers) files report)
+  report-made held old new bytes text report d f same is holds =
+      made-report held old new bytes report d f (subst (λ t. reports.IsTheMeaning design t (Ok report)) same is) (subst (λ t. reports.HoldsInEveryOrder design t report) same holds)
+
+pub check-made : (held : Option Files) (source : Source) (design : FlatDesign) (text : List ℕ) → IfTold held (λ files. HoldDesign files source design) → text ≡ check_text design →
+    IfTold held (λ files. IsTheAnswer (Check source) files (Outputs text) × Stands (Check source) files text)
+check-made None source design text d e = tt
+check-made (Some files) source design text d e = (check-tells source files design text d e, tt)
+
+pub faults-made : (held : Option Files) (source : Source) (design : FlatDesign) (text : List ℕ) → IfTold held (λ files. HoldDesign files source design) → IsFaultsText design text →
+    IfTold held (λ files. IsTheAnswer (Faults source) files (Outputs text) × Stands (Faults source) files text)
+faults-made None source design text d e = tt
+faults-made (Some files) source design text d e = (faults-tell source files design text d e, tt)
+
+-- The status at last
+
+module _ (form : Form) (held : Option Files) (old new : ShelfCounts) (sink_old sink_new : ℕ) (files : Files) (answer : Answer) (told : held ≡ Some files) (is : IsAnswer form files answer) where
+  abbrev Kept : Status → Type 0
+  Kept status = Keeps answer old.faults new.faults sink_old sink_new status
+
+  here : (P : Files → Type 0) → IfTold held P → P files
+  here P h = subst (λ t. IfTold t P) told h
+
+  as-told : (found : Answer) → IsTheAnswer form files found → Kept (status_of found)
+  as-told found h = as_answered (sym (h.only answer is))
+
+  found-files : (found : Files) → held ≡ Some found → found ≡ files
+  found-files found e = let same : Some found ≡ Some files = sym e ∙ told in cc
+
+  pub keeps-status : (status : Status) → OutputGives form held old new (Err status) → Kept status
+  keeps-status Done h = absurd h
+  keeps-status (Refused why) h = as-told (Refuses why) (here (λ fs. IsTheAnswer form fs (Refuses why)) h)
+  keeps-status Usage h = absurd h
+  keeps-status (ReadFault which) (inl failed) = no_read which refl failed.faults
+  keeps-status (ReadFault which) (inr lacks) = as-told (Lacks which) (subst (λ fs. IsTheAnswer form fs (Lacks which)) (found-files lacks.0 lacks.1) lacks.2)
+  keeps-status WriteFault h = absurd h
+  keeps-status NoMemory h = no_memory refl
+  keeps-status (GoodLoop time) h = as-told (Loops time) (here (λ fs. IsTheAnswer form fs (Loops time)) h)
+  keeps-status (TooLong which) (inl long) = let none : None ≡ Some files = sym long.untold ∙ told in absurd (cc)
+  keeps-status (TooLong which) (inr long) = as-told (Exceeds which) (subst (λ fs. IsTheAnswer form fs (Exceeds which)) (found-files long.0 long.1) long.2)
+
+  pub output-status : (text : List ℕ) → IfTold held (λ fs. IsTheAnswer form fs (Outputs text) × Stands form fs text) → status_of answer ≡ Done
+  output-status text h = (here (λ fs. IsTheAnswer form fs (Outputs text) × Stands form fs text) h).0.only answer is
+
+-- The call at its end
+
+module _ (asked : Option Form) (form : Form) (is_form : Some form ≡ asked) (held : Option Files) (old new : ShelfCounts) where
+  as-asked : (other : Form) (files : Files) (answer : Answer) → asked ≡ Some other → IsAnswer other files answer → IsAnswer form files answer
+  as-asked other files answer e is = let same : Some other ≡ Some form = sym (is_form ∙ e) in subst (λ f. IsAnswer f files answer) (cc) is
+
+  pub keeps-at-err : (sink_old sink_new : ℕ) (status : Status) → OutputGives form held old new (Err status) → (other : Form) (files : Files) (answer : Answer) → asked ≡ Some other → held ≡ Some files → IsAnswer other files answer →
+      Keeps answer old.faults new.faults sink_old sink_new status
+  keeps-at-err sink_old sink_new status h other files answer e told is = keeps-status form held old new sink_old sink_new files answer told (as-asked other files answer e is) status h
+
+  pub keeps-at-end : (text : List ℕ) → IfTold held (λ files. IsTheAnswer form files (Outputs text) × Stands form files text) → (sink_held sink_after : Option (List ℕ)) (before after : ℕ) (status : Status) →
+      PutGives sink_held text sink_after before after status → (other : Form) (files : Files) (answer : Answer) → asked ≡ Some other → held ≡ Some files → IsAnswer other files answer → Keeps answer old.faults new.faults before after status
+  keeps-at-end text made sink_held sink_after before after status h other files answer e told is = by status h
+    where
+      done : status_of answer ≡ Done
+      done = output-status form held old new before after files answer told (as-asked other files answer e is) text made
+
+      by : (s : Status) → PutGives sink_held text sink_after before after s → Keeps answer old.faults new.faults before after s
+      by Done p = as_answered (sym done)
+      by (Refused why) p = absurd p
+      by Usage p = absurd p
+      by (ReadFault which) p = absurd p
+      by WriteFault p = no_put refl done p.1
+      by NoMemory p = no_memory refl
+      by (GoodLoop time) p = absurd p
+      by (TooLong which) p = absurd p
+
+  -- How often the sink is put to
+
+  abbrev pub FewPuts : Option Form → ℕ → ℕ → Type 0
+  FewPuts found before after = IfSome found (λ (f : Form). IfTold held (λ files. (after ≡ before) ⊎ ((text : List ℕ) × IsOutput f files text × (after ≤ before + length text))))
+
+  pub puts-at-err : (before : ℕ) → FewPuts asked before before
+  puts-at-err before = subst (λ o. FewPuts o before before) is_form (by held)
+    where
+      by : (found : Option Files) → IfTold found (λ files. (before ≡ before) ⊎ ((text : List ℕ) × IsOutput form files text × (before ≤ before + length text)))
+      by None = tt
+      by (Some files) = inl refl
+
+  pub puts-at-end : (text : List ℕ) → IfTold held (λ files. IsTheAnswer form files (Outputs text) × Stands form files text) → (before after : ℕ) → after ≤ before + length text → FewPuts asked before after
+  puts-at-end text made before after few = subst (λ o. FewPuts o before after) is_form (by held made)
+    where
+      by : (found : Option Files) → IfTold found (λ files. IsTheAnswer form files (Outputs text) × Stands form files text) →
+          IfTold found (λ files. (after ≡ before) ⊎ ((t : List ℕ) × IsOutput form files t × (after ≤ before + length t)))
+      by None m = tt
+      by (Some files) m = inr (text, record { answers = m.0.is; every_order = m.1 }, few)

@@ -1,0 +1,110 @@
+-- What the program answers to a form over files, where no outside fails and there is memory (orders by IEEE 1364-2001, clause 5; the rest is this program's own).
+use Rattle.std.specs.Prelude.{◌≡◌, ℕ, ◌<◌, ◌≤◌, ◌⊎◌, List, length, Option, Some, None, Result, Ok, Err}
+use Rattle.vf_base.specs.Shelf.{Files, content_of}
+use Rattle.v_design.specs.Designs.{FlatDesign}
+use Rattle.design_text.specs.declared.fault.DesignFault.{DesignFault}
+use Rattle.design_text.specs.declared.fault.DesignFault.TheVariants as designs
+use Rattle.design_text.specs.Meanings as texts
+use Rattle.design_report.specs.Texts.{check_text, IsFaultsText}
+use Rattle.plan_report.specs.declared.fault.ReportFault.{ReportFault}
+use Rattle.plan_report.specs.declared.fault.ReportFault.TheVariants as reported
+use Rattle.plan_report.specs.Reports as reports
+use Rattle.vf_words.specs.Words.{Source, Form, Grade, Check, Faults}
+use Rattle.vf_words.specs.declared.status.Which.{Which}
+use Rattle.vf_words.specs.declared.status.Which.TheVariants as whiches
+use Rattle.vf_words.specs.declared.status.Refusal.{Refusal}
+use Rattle.vf_words.specs.declared.status.Refusal.TheVariants as refusals
+use Rattle.vf_words.specs.declared.status.Status.{Status}
+use Rattle.vf_words.specs.declared.status.Status.TheVariants as statuses
+
+-- the text of an output; a refusal; a file that isn't there; a file with more bytes than it may have; the time at which the good machine loops
+pub data Answer : Type 0 where
+  Outputs : (text : List ℕ) → Answer
+  Refuses : (why : Refusal) → Answer
+  Lacks : (which : Which) → Answer
+  Exceeds : (which : Which) → Answer
+  Loops : (time : ℕ) → Answer
+
+-- the status of an answer
+abbrev pub status_of : Answer → Status
+status_of (Outputs text) = statuses.Done
+status_of (Refuses why) = statuses.Refused why
+status_of (Lacks which) = statuses.ReadFault which
+status_of (Exceeds which) = statuses.TooLong which
+status_of (Loops time) = statuses.GoodLoop time
+
+-- the most bytes of a file
+abbrev pub most_of : Which → ℕ
+most_of whiches.Design = 1048576
+most_of whiches.Plan = 262144
+
+-- Step by step: what comes first decides
+
+-- a file is read: it isn't there, or it is too long, or its bytes decide
+abbrev pub AfterFile : Which → Option (List ℕ) → (List ℕ → Answer → Type 0) → Answer → Type 0
+AfterFile which None next answer = answer ≡ Lacks which
+AfterFile which (Some bytes) next answer = ((most_of which < length bytes) × (answer ≡ Exceeds which)) ⊎ ((length bytes ≤ most_of which) × next bytes answer)
+
+-- the refusal of a text without a design
+abbrev pub refusal_of : DesignFault → Option Refusal
+refusal_of (designs.Scan fault) = Some (refusals.Scan fault)
+refusal_of (designs.Parse fault) = Some (refusals.Parse fault)
+refusal_of (designs.Elab fault) = Some (refusals.Elab fault)
+refusal_of designs.NoMemory = None
+
+abbrev pub IsRefusal : Option Refusal → Answer → Type 0
+IsRefusal None answer = ⊥
+IsRefusal (Some why) answer = answer ≡ Refuses why
+
+-- the design decides, or the text is refused
+abbrev pub GoesOn : (FlatDesign → Answer → Type 0) → Result FlatDesign DesignFault → Answer → Type 0
+GoesOn next (Ok design) answer = next design answer
+GoesOn next (Err fault) answer = IsRefusal (refusal_of fault) answer
+
+-- the design's text is read
+abbrev pub AfterDesign : Source → (FlatDesign → Answer → Type 0) → List ℕ → Answer → Type 0
+AfterDesign source next bytes answer = (meaning : Result FlatDesign DesignFault) × texts.Means bytes source.top source.mode meaning × GoesOn next meaning answer
+
+-- the design of a form is read: first its file, then its text
+abbrev pub AfterSource : Source → Files → (FlatDesign → Answer → Type 0) → Answer → Type 0
+AfterSource source files next answer = AfterFile whiches.Design (content_of files source.design) (AfterDesign source next) answer
+
+-- what a plan's text means, as an answer
+abbrev pub IsReported : Result (List ℕ) ReportFault → Answer → Type 0
+IsReported (Ok report) answer = answer ≡ Outputs report
+IsReported (Err (reported.Plan fault)) answer = answer ≡ Refuses (refusals.Plan fault)
+IsReported (Err (reported.GoodLoop time)) answer = answer ≡ Loops time
+IsReported (Err reported.NoMemory) answer = ⊥
+
+-- the plan's text is read over the design
+abbrev pub AfterPlan : FlatDesign → List ℕ → Answer → Type 0
+AfterPlan design bytes answer = (meaning : Result (List ℕ) ReportFault) × reports.Means design bytes meaning × IsReported meaning answer
+
+-- The answer to each form. No number of workers is in it
+
+abbrev pub IsAnswer : Form → Files → Answer → Type 0
+IsAnswer (Grade source plan workers) files answer = AfterSource source files (λ design. AfterFile whiches.Plan (content_of files plan) (AfterPlan design)) answer
+IsAnswer (Check source) files answer = AfterSource source files (λ design answer. answer ≡ Outputs (check_text design)) answer
+IsAnswer (Faults source) files answer = AfterSource source files (λ design answer. (text : List ℕ) × IsFaultsText design text × (answer ≡ Outputs text)) answer
+
+-- this is the answer, and every other one has its status
+pub record IsTheAnswer (form : Form) (files : Files) (answer : Answer) : Type 0 where
+  pub is : IsAnswer form files answer
+  pub only : (other : Answer) → IsAnswer form files other → status_of other ≡ status_of answer
+
+-- What the lines of a report say
+
+-- the report is that on the design and the plan of the files, and what its lines say holds in every pair of legal orders
+pub record StandsInEveryOrder (source : Source) (plan : List ℕ) (files : Files) (report : List ℕ) : Type 0 where
+  pub design_text : List ℕ
+  pub design_held : content_of files source.design ≡ Some design_text
+  pub design : FlatDesign
+  pub is_design : texts.IsDesignOf design_text source.top source.mode design
+  pub plan_text : List ℕ
+  pub plan_held : content_of files plan ≡ Some plan_text
+  pub holds : reports.HoldsInEveryOrder design plan_text report
+
+abbrev pub Stands : Form → Files → List ℕ → Type 0
+Stands (Grade source plan workers) files text = StandsInEveryOrder source plan files text
+Stands (Check source) files text = Unit {0}
+Stands (Faults source) files text = Unit {0}
