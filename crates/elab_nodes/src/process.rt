@@ -19,10 +19,7 @@ use v_design::Process;
 use vf_base::NoMemory;
 
 /// What the names of a process mean.
-pub fn meaning_of<'n, 'u>(
-    ground: Ground<'n>,
-    process: &'n WalkedProcess<'u>,
-) -> Meaning<'n, 'u>
+pub fn meaning_of<'n, 'u>(ground: Ground<'n>, process: &'n WalkedProcess<'u>) -> Meaning<'n, 'u>
     ensures { IsMeantBy ground.entry (walked.process_of process.now) result }
 {
     Meaning {

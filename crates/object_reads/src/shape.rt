@@ -155,12 +155,7 @@ fn unary_own(sizing: UnarySizing, operand: Shape) -> u64
 }
 
 /// The shape of an operator's answer.
-fn unary_shape(
-    width: u8,
-    signed: bool,
-    operator: UnaryOperator,
-    operand: Shape,
-) -> Option<Shape>
+fn unary_shape(width: u8, signed: bool, operator: UnaryOperator, operand: Shape) -> Option<Shape>
     ensures { IfSome result (λ s. (e : Expression) → HasShape e operand → HasShape (plain.Unary width signed operator e) s) }
 {
     let sizing = unary_sizing(operator);
@@ -171,13 +166,7 @@ fn unary_shape(
 }
 
 /// Whether the operands of an operator have the sizes that they take.
-fn binary_fits(
-    sizing: BinarySizing,
-    width: u8,
-    signed: bool,
-    left: Shape,
-    right: Shape,
-) -> bool
+fn binary_fits(sizing: BinarySizing, width: u8, signed: bool, left: Shape, right: Shape) -> bool
     ensures { result ≡ true → BinaryFits (binary_sizing_of sizing) width signed left right }
 {
     match sizing {

@@ -130,7 +130,9 @@ pub fn push_statement_reads(
             Ok(())
         }
         FlatStmt::While {
-            condition, body, ..
+            condition,
+            body,
+            ..
         } => {
             push_reads(alloc, condition, objects)?;
             push_statement_reads(alloc, body, objects)?;

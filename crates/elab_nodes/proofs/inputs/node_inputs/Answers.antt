@@ -13,7 +13,7 @@ returns c =
     let outputs = objects_written (map output_of c.args.outputs.now) in
     let kind = node_kind_of c.args.kind.now in
     let reads = c.in_ok-read.ensures
-        ∙ (ap (λ l. filter (is_other c.in_ok-own.own) (map object_number l)) c.deref.ensures.value
-        ∙ (ap (filter (is_other c.in_ok-own.own)) c.in_ok-named.ensures
-        ∙ (others-alike c.in_ok-own.own (own_objects kind outputs) _ c.in_ok-own.ensures ∙ reads-others kind outputs))) in
+    ∙ (ap (λ l. filter (is_other c.in_ok-own.own) (map object_number l)) c.deref.ensures.value
+    ∙ (ap (filter (is_other c.in_ok-own.own)) c.in_ok-named.ensures
+    ∙ (others-alike c.in_ok-own.own (own_objects kind outputs) _ c.in_ok-own.ensures ∙ reads-others kind outputs))) in
     c.in_ok-inputs.ensures ∙ ap (λ l. filter (has l) (up_from 0 c.args.objects)) (ap (map object_number) c.deref-2.ensures.value ∙ reads)
