@@ -1,0 +1,3 @@
+pub mod ElabFaults
+pub mod Elements
+pub mod ElementLaws
