@@ -1,5 +1,0 @@
-pub mod Plans
-pub mod Verdict
-pub mod Grade
-pub mod Difference
-pub mod Headline

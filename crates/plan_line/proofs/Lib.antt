@@ -1,5 +1,0 @@
-pub mod Cuts
-pub mod Rows
-pub mod Sorted
-pub mod EntryLemmas
-pub mod PlanLemmas

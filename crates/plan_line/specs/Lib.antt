@@ -1,4 +1,0 @@
-pub mod Text
-pub mod Spelled
-pub mod Entries
-pub mod Draft

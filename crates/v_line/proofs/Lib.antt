@@ -1,4 +1,0 @@
-pub mod Texts
-pub mod Reading
-pub mod Declared
-pub mod NameLemmas

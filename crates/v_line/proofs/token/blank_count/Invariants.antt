@@ -1,7 +1,0 @@
-use Rattle.std.proofs.Common.{◌≡◌, take, true}
-use Rattle.std.specs.List.{list_all}
-use Rattle.v_line.specs.Tokens.{is_blank}
-use Rattle.v_line.proofs.token.blank_count.Given as goal
-
-abbrev pub invariant-loop-i : goal.invariant-loop-i
-invariant-loop-i l = list_all is_blank (take l.i l.text) ≡ true
