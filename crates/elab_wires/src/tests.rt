@@ -52,7 +52,7 @@ fn assignment(alloc: Global, to: &[u8], width: u8, from: &[u8]) -> Result<Part<'
         bits: DrivenBits {
             outside_below: 0,
             low: 0,
-            width: width.min(1),
+            width: u64::from(width.min(1)),
             outside_above: 0,
         },
         place: PLACE,
