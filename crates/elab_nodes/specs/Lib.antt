@@ -1,4 +1,4 @@
-pub mod Grounds
+pub mod Bases
 pub mod Processes
 pub mod Inputs
 pub mod Nodes

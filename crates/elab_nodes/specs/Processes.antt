@@ -6,9 +6,9 @@ use Rattle.v_elab.specs.Objects.{HeldObject}
 use Rattle.v_elab.specs.Flat.{meaning_in}
 use Rattle.flat_body.specs.Meanings.{IsMeaning}
 use Rattle.flat_body.specs.declared.meaning.Meaning.{Meaning}
-use Rattle.elab_nodes.specs.declared.ground.Ground.{Ground}
-use Rattle.elab_nodes.specs.Grounds.{IsGround}
+use Rattle.elab_nodes.specs.declared.basis.Basis.{Basis}
+use Rattle.elab_nodes.specs.Bases.{IsBasis}
 
 -- a meaning is that of a process's names, whatever the parts and the objects
-abbrev pub IsMeantBy : Ground → plain.WalkedProcess → Meaning → Type 0
-IsMeantBy ground process meaning = (parts : List Part) (objects : List HeldObject) → IsGround parts objects ground → IsMeaning (meaning_in parts objects process) meaning
+abbrev pub IsMeantBy : Basis → plain.WalkedProcess → Meaning → Type 0
+IsMeantBy basis process meaning = (parts : List Part) (objects : List HeldObject) → IsBasis parts objects basis → IsMeaning (meaning_in parts objects process) meaning

@@ -12,9 +12,9 @@ ghost use Rattle.v_elab.specs.Flat as plain;
 ghost use Rattle.elab_parts.specs.PartViews as walked;
 ghost use Rattle.elab_parts.specs.BehaviourViews.{function_of};
 ghost use Rattle.object_names.specs.OutputViews.{output_of};
-ghost use Rattle.elab_nodes.specs.Grounds.{IsGround};
+ghost use Rattle.elab_nodes.specs.Bases.{IsBasis};
 
-use crate::ground::Ground;
+use crate::basis::Basis;
 use crate::process::meaning_of;
 use elab_parts::{NodeFunction, ValueIn, WalkedProcess};
 use flat_body::statement_over;
@@ -41,14 +41,14 @@ fn output_places(alloc: Global, outputs: &[NodeOutput]) -> Result<Seq<u32>, NoMe
 /// A continuous assignment.
 fn assign_kind(
     alloc: Global,
-    ground: Ground<'_>,
+    basis: Basis<'_>,
     outputs: &[NodeOutput],
     value: &ValueIn,
 ) -> Result<NodeKind, NoMemory>
-    ensures { IfOk result (λ kind. (parts : List Part) (objects : List HeldObject) → IsGround parts objects ground.entry → node_kind_of kind ≡ plain.node_kind parts objects (map output_of outputs.now) (AssignFunction (walked.value_of value.now))) }
+    ensures { IfOk result (λ kind. (parts : List Part) (objects : List HeldObject) → IsBasis parts objects basis.entry → node_kind_of kind ≡ plain.node_kind parts objects (map output_of outputs.now) (AssignFunction (walked.value_of value.now))) }
 {
     let names = InstanceNames {
-        names: ground.names,
+        names: basis.names,
         path: &value.path,
     };
     let expr = over_objects(alloc, names, &value.value)?;
@@ -59,15 +59,15 @@ fn assign_kind(
 /// A gate.
 fn gate_kind(
     alloc: Global,
-    ground: Ground<'_>,
+    basis: Basis<'_>,
     kind: GateKind,
     path: &Text,
     terminals: &[SizedExpr],
 ) -> Result<NodeKind, NoMemory>
-    ensures { IfOk result (λ made. (parts : List Part) (objects : List HeldObject) (outputs : List plain.NodeOutput) → IsGround parts objects ground.entry → node_kind_of made ≡ plain.node_kind parts objects outputs (GateFunction kind path.now (all_sized_of terminals.now))) }
+    ensures { IfOk result (λ made. (parts : List Part) (objects : List HeldObject) (outputs : List plain.NodeOutput) → IsBasis parts objects basis.entry → node_kind_of made ≡ plain.node_kind parts objects outputs (GateFunction kind path.now (all_sized_of terminals.now))) }
 {
     let names = InstanceNames {
-        names: ground.names,
+        names: basis.names,
         path,
     };
     let terminals = all_over_objects(alloc, names, terminals)?;
@@ -87,12 +87,12 @@ fn block_body(body: &Stmt) -> &Stmt
 /// A block of combinational form.
 fn block_kind(
     alloc: Global,
-    ground: Ground<'_>,
+    basis: Basis<'_>,
     process: &WalkedProcess<'_>,
 ) -> Result<NodeKind, NoMemory>
-    ensures { IfOk result (λ kind. (parts : List Part) (objects : List HeldObject) (outputs : List plain.NodeOutput) → IsGround parts objects ground.entry → node_kind_of kind ≡ plain.node_kind parts objects outputs (BlockFunction (walked.process_of process.now))) }
+    ensures { IfOk result (λ kind. (parts : List Part) (objects : List HeldObject) (outputs : List plain.NodeOutput) → IsBasis parts objects basis.entry → node_kind_of kind ≡ plain.node_kind parts objects outputs (BlockFunction (walked.process_of process.now))) }
 {
-    let meaning = meaning_of(ground, process);
+    let meaning = meaning_of(basis, process);
     let statement = statement_over(alloc, meaning, block_body(process.body))?;
     Ok(NodeKind::Block(statement))
 }
@@ -100,15 +100,15 @@ fn block_kind(
 /// What a node with some outputs does.
 pub fn node_kind(
     alloc: Global,
-    ground: Ground<'_>,
+    basis: Basis<'_>,
     outputs: &[NodeOutput],
     function: &NodeFunction<'_, '_>,
 ) -> Result<NodeKind, NoMemory>
-    ensures { IfOk result (λ kind. (parts : List Part) (objects : List HeldObject) → IsGround parts objects ground.entry → node_kind_of kind ≡ plain.node_kind parts objects (map output_of outputs.now) (function_of function.now)) }
+    ensures { IfOk result (λ kind. (parts : List Part) (objects : List HeldObject) → IsBasis parts objects basis.entry → node_kind_of kind ≡ plain.node_kind parts objects (map output_of outputs.now) (function_of function.now)) }
 {
     match function {
         NodeFunction::Assign(value) => {
-            let kind = assign_kind(alloc, ground, outputs, value)?;
+            let kind = assign_kind(alloc, basis, outputs, value)?;
             Ok(kind)
         }
         NodeFunction::Gate {
@@ -116,11 +116,11 @@ pub fn node_kind(
             path,
             terminals,
         } => {
-            let kind = gate_kind(alloc, ground, *kind, path, terminals)?;
+            let kind = gate_kind(alloc, basis, *kind, path, terminals)?;
             Ok(kind)
         }
         NodeFunction::Block(process) => {
-            let kind = block_kind(alloc, ground, process)?;
+            let kind = block_kind(alloc, basis, process)?;
             Ok(kind)
         }
     }

@@ -5,12 +5,12 @@
 //! `specs/Flat` of `v_elab` defines.
 #![tactic(auto)]
 
-mod ground;
+mod basis;
 mod inputs;
 mod kinds;
 mod node;
 mod process;
 
-pub use ground::Ground;
+pub use basis::Basis;
 pub use node::walked_nodes;
 pub use process::flat_processes;

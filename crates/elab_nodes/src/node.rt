@@ -9,12 +9,12 @@ ghost use Rattle.v_elab.specs.Objects.{HeldObject};
 ghost use Rattle.v_elab.specs.Flat as plain;
 ghost use Rattle.elab_parts.specs.BehaviourViews as walked;
 ghost use Rattle.object_names.specs.OutputViews.{output_of, output_lists};
-ghost use Rattle.elab_nodes.specs.Grounds.{IsGround};
+ghost use Rattle.elab_nodes.specs.Bases.{IsBasis};
 ghost use Rattle.elab_nodes.specs.Nodes.{node_by};
 ghost use Rattle.elab_nodes.specs.Inputs.{objects_written};
 ghost use Rattle.vf_base.specs.Base.{object_number};
 
-use crate::ground::Ground;
+use crate::basis::Basis;
 use crate::inputs::node_inputs;
 use crate::kinds::node_kind;
 use elab_parts::WalkedNode;
@@ -50,15 +50,15 @@ fn name_of(alloc: Global, name: Option<&Text>) -> Result<Text, NoMemory>
 /// A node with its outputs.
 fn flat_node(
     alloc: Global,
-    ground: Ground<'_>,
+    basis: Basis<'_>,
     outputs: &[NodeOutput],
     node: &WalkedNode<'_, '_>,
 ) -> Result<Node, NoMemory>
-    requires { length ground.widths.now ≤ most_parts }
-    ensures { IfOk result (λ flat. (parts : List Part) (objects : List HeldObject) → IsGround parts objects ground.entry → node_of flat ≡ node_by parts objects (map output_of outputs.now) (walked.node_of node.now)) }
+    requires { length basis.widths.now ≤ most_parts }
+    ensures { IfOk result (λ flat. (parts : List Part) (objects : List HeldObject) → IsBasis parts objects basis.entry → node_of flat ≡ node_by parts objects (map output_of outputs.now) (walked.node_of node.now)) }
 {
-    let kind = node_kind(alloc, ground, outputs, &node.function)?;
-    let inputs = node_inputs(alloc, &kind, outputs, ground.widths.len() as u32)?;
+    let kind = node_kind(alloc, basis, outputs, &node.function)?;
+    let inputs = node_inputs(alloc, &kind, outputs, basis.widths.len() as u32)?;
     Ok(Node {
         kind,
         inputs: Seq::from_vec(inputs),
@@ -84,18 +84,18 @@ fn outputs_at(outputs: &[Vec<NodeOutput>], number: usize) -> &[NodeOutput]
 /// Want of memory.
 pub fn walked_nodes(
     alloc: Global,
-    ground: Ground<'_>,
+    basis: Basis<'_>,
     outputs: &[Vec<NodeOutput>],
     nodes: &[WalkedNode<'_, '_>],
 ) -> Result<Vec<Node>, NoMemory>
-    requires { length ground.widths.now ≤ most_parts }
-    ensures { IfOk result (λ flats. (parts : List Part) (objects : List HeldObject) → IsGround parts objects ground.entry →
+    requires { length basis.widths.now ≤ most_parts }
+    ensures { IfOk result (λ flats. (parts : List Part) (objects : List HeldObject) → IsBasis parts objects basis.entry →
         output_lists outputs.now ≡ map (plain.outputs_of objects) (up_from 0 (length nodes.now)) → map node_of flats.items ≡ plain.walked_nodes parts objects (map walked.node_of nodes.now)) }
 {
     let mut flats = Vec::new(alloc);
     'nodes: for (number, node) in nodes.iter().enumerate() {
         let own = outputs_at(outputs, number);
-        flats.push(flat_node(alloc, ground, own, node)?)?;
+        flats.push(flat_node(alloc, basis, own, node)?)?;
     }
     Ok(flats)
 }

@@ -7,10 +7,10 @@ ghost use Rattle.v_elab.specs.Objects.{HeldObject};
 ghost use Rattle.v_elab.specs.Flat as plain;
 ghost use Rattle.elab_parts.specs.PartViews as walked;
 ghost use Rattle.elab_parts.specs.BehaviourViews.{process_in};
-ghost use Rattle.elab_nodes.specs.Grounds.{IsGround};
+ghost use Rattle.elab_nodes.specs.Bases.{IsBasis};
 ghost use Rattle.elab_nodes.specs.Processes.{IsMeantBy};
 
-use crate::ground::Ground;
+use crate::basis::Basis;
 use elab_parts::{ProcessPart, WalkedProcess};
 use flat_body::{Meaning, statement_over};
 use object_names::InstanceNames;
@@ -19,28 +19,28 @@ use v_design::Process;
 use vf_base::NoMemory;
 
 /// What the names of a process mean.
-pub fn meaning_of<'n, 'u>(ground: Ground<'n>, process: &'n WalkedProcess<'u>) -> Meaning<'n, 'u>
-    ensures { IsMeantBy ground.entry (walked.process_of process.now) result }
+pub fn meaning_of<'n, 'u>(basis: Basis<'n>, process: &'n WalkedProcess<'u>) -> Meaning<'n, 'u>
+    ensures { IsMeantBy basis.entry (walked.process_of process.now) result }
 {
     Meaning {
         scope: &process.scope,
         names: InstanceNames {
-            names: ground.names,
+            names: basis.names,
             path: &process.path,
         },
-        widths: ground.widths,
+        widths: basis.widths,
     }
 }
 
 /// A process over objects.
 fn flat_process(
     alloc: Global,
-    ground: Ground<'_>,
+    basis: Basis<'_>,
     process: &WalkedProcess<'_>,
 ) -> Result<Process, NoMemory>
-    ensures { IfOk result (λ flat. (parts : List Part) (objects : List HeldObject) → IsGround parts objects ground.entry → process_of flat ≡ plain.flat_process parts objects (walked.process_of process.now)) }
+    ensures { IfOk result (λ flat. (parts : List Part) (objects : List HeldObject) → IsBasis parts objects basis.entry → process_of flat ≡ plain.flat_process parts objects (walked.process_of process.now)) }
 {
-    let body = statement_over(alloc, meaning_of(ground, process), process.body)?;
+    let body = statement_over(alloc, meaning_of(basis, process), process.body)?;
     Ok(Process {
         always: process.always,
         body,
@@ -55,14 +55,14 @@ fn flat_process(
 /// Want of memory.
 pub fn flat_processes(
     alloc: Global,
-    ground: Ground<'_>,
+    basis: Basis<'_>,
     processes: &[ProcessPart<'_, '_>],
 ) -> Result<Vec<Process>, NoMemory>
-    ensures { IfOk result (λ flats. (parts : List Part) (objects : List HeldObject) → IsGround parts objects ground.entry → map process_of flats.items ≡ map (plain.flat_process parts objects) (map process_in processes.now)) }
+    ensures { IfOk result (λ flats. (parts : List Part) (objects : List HeldObject) → IsBasis parts objects basis.entry → map process_of flats.items ≡ map (plain.flat_process parts objects) (map process_in processes.now)) }
 {
     let mut flats = Vec::new(alloc);
     'processes: for process in processes {
-        flats.push(flat_process(alloc, ground, process.process)?)?;
+        flats.push(flat_process(alloc, basis, process.process)?)?;
     }
     Ok(flats)
 }

@@ -21,7 +21,7 @@ use crate::tables::{objects_alone, widths_of};
 use driver_checks::{list_driving, one_driver};
 use elab_behaviours::{Behaviours, behaviours_of, too_many_behaviours};
 use elab_drivers::list_drives;
-use elab_nodes::{Ground, flat_processes, walked_nodes};
+use elab_nodes::{Basis, flat_processes, walked_nodes};
 use elab_objects::{HeldObject, objects_of_parts};
 use elab_parts::{Part, ProcessPart, WalkedNode};
 use elab_wires::{Signals, Wiring, Written, list_written};
@@ -78,9 +78,9 @@ fn make_behaviours<'n>(
     requires few { length widths.now ≤ most_parts }
     ensures { IfOk result (AreMadeOver names.now widths.now (output_lists outputs.now) (map node_of nodes.now) (map process_in processes.now)) }
 {
-    let ground = Ground { names, widths };
-    let nodes = walked_nodes(alloc, ground, outputs, nodes)?;
-    let processes = flat_processes(alloc, ground, processes)?;
+    let basis = Basis { names, widths };
+    let nodes = walked_nodes(alloc, basis, outputs, nodes)?;
+    let processes = flat_processes(alloc, basis, processes)?;
     Ok(Made { nodes, processes })
 }
 
