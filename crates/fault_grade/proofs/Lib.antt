@@ -1,4 +1,3 @@
 pub mod Slots
 pub mod Strobes
 pub mod Gradings
-pub mod Findings

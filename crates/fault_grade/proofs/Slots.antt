@@ -1,7 +1,7 @@
 -- The slot that is next, and how the time that is left falls.
 use Rattle.std.proofs.Common.{◌≡◌, ℕ, zero, suc, ◌+◌, ◌-◌, ◌<◌, ◌≤◌, refl, sym, ap, subst, ◌∙◌, arith}
 use Rattle.std.specs.Prelude.{Option, Some, None}
-use Rattle.std.specs.Option.{option_map, ForSome}
+use Rattle.std.specs.Option.{option_map}
 use Rattle.v_design.specs.Designs.{Machine}
 use Rattle.v_design.specs.States.{State}
 use Rattle.machine.specs.Standing.{machine_kept, begins_next}
@@ -20,11 +20,6 @@ next-is m time e = go (begins_next m) refl e
     go : (next : Option State) → begins_next m ≡ next → option_map (λ (s : State). s.time) next ≡ Some time → (begins : State) × (begins_next m ≡ Some begins) × (begins.time ≡ time)
     go None n f = cc
     go (Some begins) n f = (begins, n, some-is begins.time time f)
-
--- it is early enough, where its time is
-pub next-early : (m : Simulated) (time limit : ℕ) → next_of m ≡ Some time → time ≤ limit → ForSome (begins_next m) (λ (begins : State). begins.time ≤ limit)
-next-early m time limit e h begins n =
-    subst (λ t. t ≤ limit) (some-is time begins.time (sym e ∙ ap (option_map (λ (s : State). s.time)) n)) h
 
 -- how much time is left up to a time
 abbrev pub time_left : ℕ → Option ℕ → ℕ

@@ -31,6 +31,19 @@ fn append_total(alloc: Global, out: &mut Vec<u8>, findings: &[Finding]) -> Resul
     Ok(())
 }
 
+/// The line of the totals of these findings alone.
+///
+/// # Errors
+///
+/// Want of memory.
+pub fn write_totals(alloc: Global, findings: &[Finding]) -> Result<Vec<u8>, NoMemory>
+    ensures { IfOk result (λ text. text.items ≡ total_line (grades_of findings.now)) }
+{
+    let mut line = Vec::new(alloc);
+    append_total(alloc, &mut line, findings)?;
+    Ok(line)
+}
+
 /// The report on these findings, of which there is one for each listed fault, in list order: a line for each, then the totals.
 pub fn write_report(
     alloc: Global,

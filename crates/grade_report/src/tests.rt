@@ -1,5 +1,7 @@
 // A report on one variable of one bit.
 
+ghost use Rattle.grade_report.specs.Findings.{AreInOrder};
+
 use super::*;
 use four_value::{Bit, Vec4};
 use std::alloc::Global;
@@ -32,18 +34,10 @@ fn one_variable(alloc: Global) -> Result<Design, NoMemory> {
     })
 }
 
-/// The report on a detection and a race.
-fn two_lines(alloc: Global) -> Result<Vec<u8>, NoMemory> {
-    let site = Site::Var(ObjectId(0), 0);
-    let mut faults = Vec::new(alloc);
-    faults.push(Fault { site, value: false })?;
-    faults.push(Fault { site, value: true })?;
-    let plan = Plan {
-        end: 20,
-        strobes: Seq::from_vec(Vec::new(alloc)),
-        watched: Seq::from_vec(Vec::new(alloc)),
-        faults: Seq::from_vec(faults),
-    };
+/// A detection and a race, of the faults 0 and 1.
+fn two_findings() -> [Finding; 2]
+    ensures { AreInOrder 2 result }
+{
     let first = Access {
         kind: AccessKind::Write,
         object: ObjectId(0),
@@ -62,7 +56,7 @@ fn two_lines(alloc: Global) -> Result<Vec<u8>, NoMemory> {
         first,
         second,
     };
-    let findings = [
+    [
         Finding {
             fault: FaultId(0),
             end: End::Detected(15),
@@ -71,9 +65,23 @@ fn two_lines(alloc: Global) -> Result<Vec<u8>, NoMemory> {
             fault: FaultId(1),
             end: End::Race(Side::Good, pair),
         },
-    ];
+    ]
+}
+
+/// The report on a detection and a race.
+fn two_lines(alloc: Global) -> Result<Vec<u8>, NoMemory> {
+    let site = Site::Var(ObjectId(0), 0);
+    let mut faults = Vec::new(alloc);
+    faults.push(Fault { site, value: false })?;
+    faults.push(Fault { site, value: true })?;
+    let plan = Plan {
+        end: 20,
+        strobes: Seq::from_vec(Vec::new(alloc)),
+        watched: Seq::from_vec(Vec::new(alloc)),
+        faults: Seq::from_vec(faults),
+    };
     let design = one_variable(alloc)?;
-    write_report(alloc, &design, &plan, &findings)
+    write_report(alloc, &design, &plan, &two_findings())
 }
 
 #[test]
@@ -82,4 +90,11 @@ fn report(rt: HostRuntime) {
     let wanted =
         b"vfault 1\nq sa0 detected 15\nq sa1 race good 0.2 write q p0 l3 read q p1 l4\ntotal 2 detected 1 possible 0 undetected 0 race 1 hyper 0\n";
     assert_eq!(rt; text.as_slice(), wanted.as_slice());
+}
+
+#[test]
+fn totals(rt: HostRuntime) {
+    let line = write_totals(rt.alloc(), &two_findings()).expect(&rt, "memory");
+    let wanted = b"total 2 detected 1 possible 0 undetected 0 race 1 hyper 0\n";
+    assert_eq!(rt; line.as_slice(), wanted.as_slice());
 }

@@ -1,6 +1,7 @@
 -- Where a machine stands in its first run, and what the run of a slot gives (slots and phases by IEEE 1364-2001, clause 5).
-use Rattle.std.specs.Prelude.{◌≡◌, ℕ, ◌<◌, Bool, true, false, Option, Some, None, IsTrue, nat_le, slice_get, List, length}
-use Rattle.std.proofs.Common.{refl}
+use Rattle.std.specs.Prelude.{◌≡◌, ℕ, ◌<◌, ◌≤◌, Bool, true, false, Option, Some, None, IsTrue, IsSomeAnd, nat_le, slice_get, List, length}
+use Rattle.std.specs.Option.{option_map}
+use Rattle.std.proofs.Common.{refl, subst}
 use Rattle.vf_base.specs.Base.{reported_pair}
 use Rattle.four_value.specs.Values.{LogicValue}
 use Rattle.v_design.specs.PlainDesigns.{design_of}
@@ -66,6 +67,17 @@ begins_at at.Over state = None
 -- the same of a machine
 abbrev pub begins_next : Simulated → Option State
 begins_next m = begins_at m.stage (state_kept m)
+
+-- a slot is left and begins early enough, where its time is known and is early enough
+pub left-at : (m : Simulated) (time limit : ℕ) → Some time ≡ option_map (λ (s : State). s.time) (begins_next m) → time ≤ limit → IsSomeAnd (begins_next m) (λ (begins : State). begins.time ≤ limit)
+left-at m time limit known early = go (begins_next m) known
+  where
+    some-is : (one other : ℕ) → Some one ≡ Some other → one ≡ other
+    some-is one other e = cc
+
+    go : (next : Option State) → Some time ≡ option_map (λ (s : State). s.time) next → IsSomeAnd next (λ (begins : State). begins.time ≤ limit)
+    go None e = cc
+    go (Some begins) e = subst (λ t. t ≤ limit) (some-is time begins.time e) early
 
 -- the turn before the first phase of the next slot
 abbrev pub first_turn : Stage → Turn

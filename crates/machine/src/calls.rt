@@ -1,7 +1,7 @@
 // What a machine can do.
 
 ghost use Rattle.std.specs.Prelude.{◌≡◌, ◌≤◌, ◌^◌, ℕ, Some, IfOk, IsSomeAnd};
-ghost use Rattle.std.specs.Option.{ForSome, option_map};
+ghost use Rattle.std.specs.Option.{option_map};
 ghost use Rattle.v_design.specs.States.{State, start};
 ghost use Rattle.v_design.specs.Views.{machine_with};
 ghost use Rattle.machine.specs.Standing.{IsStanding, RunsSlot, EveryOrderEndsHere, machine_kept, state_kept, begins_next, first_turn};
@@ -67,38 +67,12 @@ impl<'d> Machine<'d> {
     }
 
     /// Runs the next slot in the first order, to its end or through its first process or lane step past 100,000, and answers how it ends. `log` is
-    /// the log of its phases afterwards, whatever it held before. Where no slot is left nothing is run.
+    /// the log of its phases afterwards, whatever it held before.
     ///
     /// # Errors
     ///
     /// Want of memory.
     pub fn slot<L: Ledger>(
-        &mut self,
-        log: &mut SlotLog,
-        steps: &mut Steps<L>,
-    ) -> Result<SlotEnd, NoMemory>
-        requires standing { IsStanding self.old }
-        requires left { ForSome (begins_next self.old) (λ begins. begins.time ≤ 2 ^ 63) }
-        ensures machine { IfOk result (λ _. machine_kept self.new ≡ machine_kept self.old) }
-        ensures slot { IfOk result (λ end. (begins : State) → begins_next self.old ≡ Some begins → RunsSlot (machine_kept self.old) begins (first_turn self.old.stage) end self.new log.new) }
-        ensures every_order { IfOk result (λ _. (begins : State) → begins_next self.old ≡ Some begins → EveryOrderEndsHere (machine_kept self.old) begins self.new) }
-        ensures standing { IfOk result (λ _. IsStanding self.new) }
-    {
-        match self.next_time() {
-            Some(_) => {
-                let end = self.next_slot(log, steps)?;
-                Ok(end)
-            }
-            None => Ok(SlotEnd::Fine),
-        }
-    }
-
-    /// Runs the next slot, which there is.
-    ///
-    /// # Errors
-    ///
-    /// Want of memory.
-    fn next_slot<L: Ledger>(
         &mut self,
         log: &mut SlotLog,
         steps: &mut Steps<L>,

@@ -3,6 +3,7 @@
 use crate::design::worked;
 use crate::gate::{nand, xor};
 use fault_list::{all_sites, append, append_number, classes, count_sites, site_of, write_site};
+use fault_shards::{Shards, cut_faults};
 use grade_report::write_line;
 use plan_read::{PlanFault, read_plan};
 use site_names::SiteNames;
@@ -268,6 +269,38 @@ fn classes_of_gates(rt: HostRuntime) {
     let design = xor(alloc).expect(&rt, "memory");
     let text = sites_text(alloc, &design).expect(&rt, "memory");
     assert_eq!(rt; text.as_slice(), XOR);
+}
+
+/// The numbers of the faults of all shards.
+fn numbers_of(alloc: Global, shards: &Shards) -> Result<Vec<u32>, NoMemory> {
+    let mut numbers = Vec::new(alloc);
+    for shard in 0..shards.count() {
+        for fault in shards.shard(shard) {
+            numbers.push(fault.0)?;
+        }
+    }
+    Ok(numbers)
+}
+
+/// The numbers of the faults that stand for their classes, of all sites of a design.
+fn representatives(alloc: Global, design: &Design) -> Result<Vec<u32>, NoMemory> {
+    let faults = all_sites(alloc, design)?;
+    let shards = cut_faults(alloc, design, &faults)?;
+    numbers_of(alloc, &shards)
+}
+
+#[test]
+fn shards_of_gates(rt: HostRuntime) {
+    let alloc = rt.alloc();
+    let design = nand(alloc).expect(&rt, "memory");
+    let numbers = representatives(alloc, &design).expect(&rt, "memory");
+    assert_eq!(rt; numbers.as_slice(), [0, 1, 2, 3, 4, 5, 7, 9].as_slice());
+    let design = worked(alloc).expect(&rt, "memory");
+    let numbers = representatives(alloc, &design).expect(&rt, "memory");
+    let wanted = [
+        0, 1, 2, 3, 4, 5, 6, 7, 8, 9, 10, 11, 12, 13, 14, 15, 17, 19, 21,
+    ];
+    assert_eq!(rt; numbers.as_slice(), wanted.as_slice());
 }
 
 #[test]

@@ -1,7 +1,7 @@
 -- What the code's forms stand for (nothing of the language).
 use Rattle.vf_words.specs.declared.words.Source.{Source}
 use Rattle.vf_words.specs.declared.words.Form.{Form}
-use Rattle.vf_words.specs.declared.words.Form.TheVariants.{Grade as GradeWords, Check as CheckWords, Faults as FaultsWords}
+use Rattle.vf_words.specs.declared.words.Form.TheVariants.{Grade as GradeWords, Check as CheckWords, Faults as FaultsWords, Soak as SoakWords}
 use Rattle.vf_words.specs.Words as plain
 
 -- a design
@@ -13,3 +13,4 @@ abbrev pub plain_form : Form → plain.Form
 plain_form (GradeWords source design workers) = plain.Grade (plain_source source) design.now workers
 plain_form (CheckWords source) = plain.Check (plain_source source)
 plain_form (FaultsWords source) = plain.Faults (plain_source source)
+plain_form (SoakWords number size workers) = plain.Soak number size workers

@@ -1,3 +1,4 @@
+pub mod Number
+pub mod NumberLaws
 pub mod Words
 pub mod Forms
-pub mod Status

@@ -1,10 +1,11 @@
 -- The words of the command line (the forms are this program's own).
-use Rattle.std.specs.Prelude.{ℕ, ◌+◌, ◌*◌, ◌-◌, List, [], ◌∷◌, Bool, true, false, ◌&&◌, Option, Some, None, codes, nat_le, map, String, if◌then◌else◌}
+use Rattle.std.specs.Prelude.{ℕ, ◌≤◌, List, [], ◌∷◌, Bool, true, false, ◌&&◌, Option, Some, None, codes, map, String, if◌then◌else◌}
 use Rattle.std.specs.Str.{bytes_eq}
 use Rattle.std.specs.String.{string_bytes}
 use Rattle.std.specs.declared.alloc.Global.{Global}
 use Rattle.v_elab.specs.declared.Mode.{Mode}
 use Rattle.v_elab.specs.declared.Mode.TheVariants.{Usual, Strict}
+use Rattle.vf_words.specs.Number.{number_between}
 
 -- a design: its file, the name of its top module, and whether its blocks may be nodes
 pub record Source : Type 0 where
@@ -12,26 +13,25 @@ pub record Source : Type 0 where
   pub top : List ℕ
   pub mode : Mode
 
--- what the program is asked for: the report on the faults of a plan's file, by so many workers; how large a design is; the faults that can be listed
+-- what the program is asked for: the report on the faults of a plan's file, by so many workers; how large a design is; the faults that can be listed;
+-- the totals of a design of this size that is drawn from a number, by so many workers
 pub data Form : Type 0 where
   Grade : (source : Source) (plan : List ℕ) (workers : ℕ) → Form
   Check : (source : Source) → Form
   Faults : (source : Source) → Form
+  Soak : (number size workers : ℕ) → Form
 
--- a decimal digit
-abbrev pub is_digit : ℕ → Bool
-is_digit b = nat_le 48 b && nat_le b 57
-
--- a digit but 0
-abbrev pub is_first_digit : ℕ → Bool
-is_first_digit b = nat_le 49 b && nat_le b 57
-
--- 1 to 64, without leading zeros
+-- so many workers as a word says: 1 to 64
 abbrev pub workers_of : List ℕ → Option ℕ
-workers_of [] = None
-workers_of (a ∷ []) = if is_first_digit a then Some (a - 48) else None
-workers_of (a ∷ b ∷ []) = if is_first_digit a && is_digit b && nat_le ((a - 48) * 10 + (b - 48)) 64 then Some ((a - 48) * 10 + (b - 48)) else None
-workers_of (a ∷ b ∷ c ∷ rest) = None
+workers_of word = number_between 1 64 word
+
+-- the number that a generated design is drawn from: any of 32 bits
+abbrev pub seed_of : List ℕ → Option ℕ
+seed_of word = number_between 0 4294967295 word
+
+-- how many registers a generated design has: 1 to 4000
+abbrev pub size_of : List ℕ → Option ℕ
+size_of word = number_between 1 4000 word
 
 -- a word that has bytes
 abbrev pub is_word : List ℕ → Bool
@@ -67,13 +67,25 @@ three_words form design top mode = design_form_if form (source_of design top mod
 abbrev pub five_words : List ℕ → List ℕ → List ℕ → List ℕ → List ℕ → Mode → Option Form
 five_words form design plan top workers mode = grade_form_if form (source_of design top mode) plan (workers_of workers)
 
--- the form of the words, if they are of one; `strict` may stand behind each
+-- `soak NUMBER SIZE WORKERS`, where each is a number within its limits
+abbrev pub soak_form : Option ℕ → Option ℕ → Option ℕ → Option Form
+soak_form None size workers = None
+soak_form (Some number) None workers = None
+soak_form (Some number) (Some size) None = None
+soak_form (Some number) (Some size) (Some workers) = Some (Soak number size workers)
+
+-- `soak` with its three numbers, or three words of another form and `strict`
+abbrev pub four_words : List ℕ → List ℕ → List ℕ → List ℕ → Option Form
+four_words form first second third = if bytes_eq form (codes "soak") then soak_form (seed_of first) (size_of second) (workers_of third)
+    else if bytes_eq third (codes "strict") then three_words form first second Strict else None
+
+-- the form of the words, if they are of one; `strict` may stand behind each but `soak`
 abbrev pub form_of : List (List ℕ) → Option Form
 form_of [] = None
 form_of (a ∷ []) = None
 form_of (a ∷ b ∷ []) = None
 form_of (form ∷ design ∷ top ∷ []) = three_words form design top Usual
-form_of (form ∷ design ∷ top ∷ mode ∷ []) = if bytes_eq mode (codes "strict") then three_words form design top Strict else None
+form_of (form ∷ first ∷ second ∷ third ∷ []) = four_words form first second third
 form_of (form ∷ design ∷ plan ∷ top ∷ workers ∷ []) = five_words form design plan top workers Usual
 form_of (form ∷ design ∷ plan ∷ top ∷ workers ∷ mode ∷ []) = if bytes_eq mode (codes "strict") then five_words form design plan top workers Strict else None
 form_of (a ∷ b ∷ c ∷ d ∷ e ∷ f ∷ g ∷ rest) = None
@@ -81,3 +93,10 @@ form_of (a ∷ b ∷ c ∷ d ∷ e ∷ f ∷ g ∷ rest) = None
 -- the words as bytes
 abbrev pub bytes_of : List (String Global) → List (List ℕ)
 bytes_of words = map string_bytes words
+
+-- what the numbers of a form keep: 1 to 64 workers, and a generated design of 1 to 4000 registers
+abbrev pub Fits : Form → Type 0
+Fits (Grade source plan workers) = (1 ≤ workers) × (workers ≤ 64)
+Fits (Check source) = Unit {0}
+Fits (Faults source) = Unit {0}
+Fits (Soak number size workers) = ((1 ≤ size) × (size ≤ 4000)) × ((1 ≤ workers) × (workers ≤ 64))

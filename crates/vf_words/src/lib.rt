@@ -1,12 +1,13 @@
-//! The words of the command line, and the statuses with which the program ends, each with its number and its line.
+//! The words of the command line: what the program is asked for.
 //!
-//! `specs/Words` says which words are of a form, `specs/Status` which number and line a status has (both are this program's own).
+//! `specs/Words` says which words are of a form, `specs/Number` what a number on the command line is (both are this program's own). `read_words` answers the
+//! form exactly where the words are of one; its numbers are within their limits.
 #![tactic(auto)]
 
-mod message;
-mod status;
+mod number;
 mod words;
 
-pub use message::line;
-pub use status::{Refusal, Status, Which, code};
 pub use words::{Form, Source, read_words};
+
+#[cfg(test)]
+mod tests;

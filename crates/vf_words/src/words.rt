@@ -1,10 +1,15 @@
 // The words of the command line.
 
-ghost use Rattle.std.specs.Prelude.{◌≡◌, ◌≤◌, option_map};
-ghost use Rattle.vf_words.specs.Words.{is_digit, is_first_digit, workers_of, source_of, design_form, grade_form, three_words, five_words, form_of, bytes_of};
+ghost use Rattle.std.specs.Prelude.{◌≡◌, IfSome, option_map};
+ghost use Rattle.vf_words.specs.Words.{workers_of, seed_of, size_of, source_of, design_form, grade_form, soak_form, three_words, four_words, five_words, form_of, bytes_of, Fits};
 ghost use Rattle.vf_words.specs.Forms.{plain_source, plain_form};
 
+use crate::number::number_between;
 use v_elab::Mode;
+use vf_base::MAX_WORKERS;
+
+/// The most registers of a generated design.
+const MAX_SIZE: u32 = 4_000;
 
 /// A design: its file, the name of its top module, and whether its blocks may be nodes.
 #[derive(Clone, Copy, Debug)]
@@ -27,46 +32,19 @@ pub enum Form<'w> {
     Check(Source<'w>),
     /// The faults that can be listed, with their classes.
     Faults(Source<'w>),
+    /// The totals of a design of so many registers that is drawn from a number, by so many workers.
+    Soak {
+        number: u32,
+        size: u32,
+        workers: u32,
+    },
 }
 
-/// A number of workers from 1 to 64, without leading zeros.
-fn worker_count(word: &[u8]) -> Option<u32>
+/// So many workers as a word says.
+fn workers_of(word: &str) -> Option<u32>
     ensures { result ≡ workers_of word.now }
 {
-    match word {
-        [digit] => {
-            if is_first_digit(*digit) {
-                Some(u32::from(*digit) - 48)
-            } else {
-                None
-            }
-        }
-        [high, low] => {
-            if is_first_digit(*high)
-                && is_digit(*low)
-                && (u32::from(*high) - 48) * 10 + (u32::from(*low) - 48) <= 64
-            {
-                Some((u32::from(*high) - 48) * 10 + (u32::from(*low) - 48))
-            } else {
-                None
-            }
-        }
-        _ => None,
-    }
-}
-
-/// Whether a byte is a digit but 0.
-fn is_first_digit(byte: u8) -> bool
-    ensures { result ≡ is_first_digit byte }
-{
-    49 <= byte && byte <= 57
-}
-
-/// Whether a byte is a decimal digit.
-fn is_digit(byte: u8) -> bool
-    ensures { result ≡ is_digit byte }
-{
-    48 <= byte && byte <= 57
+    number_between(word, 1, MAX_WORKERS)
 }
 
 /// The design of these words, where both have bytes.
@@ -93,20 +71,18 @@ fn design_form<'w>(form: &str, source: Source<'w>) -> Option<Form<'w>>
 }
 
 /// The form over a design and a plan, where the words are of it.
-fn grade_form<'w>(form: &str, source: Source<'w>, plan: &'w str, workers: &[u8]) -> Option<Form<'w>>
+fn grade_form<'w>(form: &str, source: Source<'w>, plan: &'w str, workers: &str) -> Option<Form<'w>>
     ensures { option_map plain_form result ≡ grade_form form.now (plain_source source.entry) plan.now (workers_of workers.now) }
 {
     if form != "grade" || plan.is_empty() {
         return None;
     }
-    match worker_count(workers) {
-        Some(workers) => Some(Form::Grade {
-            source,
-            plan,
-            workers,
-        }),
-        None => None,
-    }
+    let workers = workers_of(workers)?;
+    Some(Form::Grade {
+        source,
+        plan,
+        workers,
+    })
 }
 
 /// Three words of a form, if they are of it, in a mode.
@@ -119,13 +95,40 @@ fn three_words<'w>(form: &str, design: &'w str, top: &'w str, mode: Mode) -> Opt
     }
 }
 
+/// The numbers of a generated design, if each is within its limits.
+fn soak_form<'w>(number: &str, size: &str, workers: &str) -> Option<Form<'w>>
+    ensures { option_map plain_form result ≡ soak_form (seed_of number.now) (size_of size.now) (workers_of workers.now) }
+{
+    let number = number_between(number, 0, u32::MAX)?;
+    let size = number_between(size, 1, MAX_SIZE)?;
+    let workers = workers_of(workers)?;
+    Some(Form::Soak {
+        number,
+        size,
+        workers,
+    })
+}
+
+/// Four words of a form, if they are of it.
+fn four_words<'w>(form: &str, first: &'w str, second: &'w str, third: &str) -> Option<Form<'w>>
+    ensures { option_map plain_form result ≡ four_words form.now first.now second.now third.now }
+{
+    if form == "soak" {
+        return soak_form(first, second, third);
+    }
+    if third != "strict" {
+        return None;
+    }
+    three_words(form, first, second, Mode::Strict)
+}
+
 /// Five words of a form, if they are of it, in a mode.
 fn five_words<'w>(
     form: &str,
     design: &'w str,
     plan: &'w str,
     top: &'w str,
-    workers: &[u8],
+    workers: &str,
     mode: Mode,
 ) -> Option<Form<'w>>
     ensures { option_map plain_form result ≡ five_words form.now design.now plan.now top.now workers.now mode }
@@ -137,25 +140,25 @@ fn five_words<'w>(
 }
 
 /// The form of the words, if they are of one.
-pub fn read_words(words: &[String]) -> Option<Form<'_>>
+fn form_of(words: &[String]) -> Option<Form<'_>>
     ensures { option_map plain_form result ≡ form_of (bytes_of words.now) }
 {
     match words {
         [form, design, top] => {
             three_words(form.as_str(), design.as_str(), top.as_str(), Mode::Usual)
         }
-        [form, design, top, mode] => {
-            if mode.as_str() != "strict" {
-                return None;
-            }
-            three_words(form.as_str(), design.as_str(), top.as_str(), Mode::Strict)
-        }
+        [form, first, second, third] => four_words(
+            form.as_str(),
+            first.as_str(),
+            second.as_str(),
+            third.as_str(),
+        ),
         [form, design, plan, top, workers] => five_words(
             form.as_str(),
             design.as_str(),
             plan.as_str(),
             top.as_str(),
-            workers.as_bytes(),
+            workers.as_str(),
             Mode::Usual,
         ),
         [form, design, plan, top, workers, mode] => {
@@ -167,10 +170,18 @@ pub fn read_words(words: &[String]) -> Option<Form<'_>>
                 design.as_str(),
                 plan.as_str(),
                 top.as_str(),
-                workers.as_bytes(),
+                workers.as_str(),
                 Mode::Strict,
             )
         }
         _ => None,
     }
+}
+
+/// The form of the words, if they are of one; its numbers are within their limits.
+pub fn read_words(words: &[String]) -> Option<Form<'_>>
+    ensures form { option_map plain_form result ≡ form_of (bytes_of words.now) }
+    ensures fits { IfSome result (λ form. Fits (plain_form form)) }
+{
+    form_of(words)
 }

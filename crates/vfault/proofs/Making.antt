@@ -1,5 +1,5 @@
 -- From what each step gives to what the output's making gives.
-use Rattle.std.proofs.Common.{◌≡◌, ℕ, ◌+◌, ◌≤◌, List, length, Option, Some, None, Result, Ok, Err, Vec, refl, sym, ap, subst, ◌∙◌, ◌⊎◌, inl, inr, arith}
+use Rattle.std.proofs.Common.{◌≡◌, ℕ, ◌+◌, ◌≤◌, List, [], length, codes, Option, Some, None, Result, Ok, Err, Vec, refl, sym, ap, subst, ◌∙◌, ◌⊎◌, inl, inr, arith}
 use Rattle.std.specs.Result.{IsErrAnd}
 use Rattle.std.specs.declared.alloc.Global.{Global}
 use Rattle.vf_base.specs.Counts.{raised, Rose}
@@ -12,22 +12,78 @@ use Rattle.design_report.specs.Texts.{check_text, IsFaultsText}
 use Rattle.plan_report.specs.declared.fault.ReportFault.{ReportFault}
 use Rattle.plan_report.specs.declared.fault.ReportFault.TheVariants as reported
 use Rattle.plan_report.specs.Reports as reports
-use Rattle.vf_words.specs.Words.{Source, Form, Grade, Check, Faults}
-use Rattle.vf_words.specs.declared.status.Which.TheVariants as whiches
-use Rattle.vf_words.specs.declared.status.Refusal.{Refusal}
-use Rattle.vf_words.specs.declared.status.Refusal.TheVariants as refusals
-use Rattle.vf_words.specs.declared.status.Status.{Status}
-use Rattle.vf_words.specs.declared.status.Status.TheVariants.{Done, Refused, Usage, ReadFault, WriteFault, NoMemory, GoodLoop, TooLong}
+use Rattle.plan_report.specs.declared.extent.Extent.TheVariants.{Lines, Totals}
+use Rattle.soak_text.specs.Soak as soaks
+use Rattle.v_elab.specs.declared.Mode.TheVariants.{Usual}
+use Rattle.vf_words.specs.Words.{Source, Form, Grade, Check, Faults, Soak}
+use Rattle.vf_status.specs.declared.status.Which.{Which}
+use Rattle.vf_status.specs.declared.status.Which.TheVariants as whiches
+use Rattle.vf_status.specs.declared.status.Refusal.{Refusal}
+use Rattle.vf_status.specs.declared.status.Refusal.TheVariants as refusals
+use Rattle.vf_status.specs.declared.status.Status.{Status}
+use Rattle.vf_status.specs.declared.status.Status.TheVariants.{Done, Refused, Usage, ReadFault, WriteFault, NoMemory, GoodLoop, TooLong}
 use Rattle.vfault.specs.Answers.{Answer, Outputs, Refuses, Lacks, Exceeds, Loops, status_of, AfterSource, refusal_of, IsAnswer, IsTheAnswer, Stands}
-use Rattle.std.specs.Prelude.{IfSome}
-use Rattle.vfault.specs.Outside.{IsOutput, IfTold, ShelfCounts, ReadFailed, ToldLong, PutGives, Keeps, as_answered, no_memory, no_read, no_put}
-use Rattle.vfault.specs.Making.{IsFile, FileGives, HoldDesign, DesignGives, status_if, design_status, report_status, OutputGives}
-use Rattle.vfault.proofs.OneAnswer.{The, source-lacks, source-exceeds, source-refused, plan-lacks, plan-exceeds, plan-tells, check-tells, faults-tell}
+use Rattle.std.specs.Prelude.{IfSome, IfErr}
+use Rattle.vfault.specs.Outside.{IsOutput, IfTold, ShelfCounts, ReadFailed, ToldLong, PutGives, Keeps, Names, CanEnd, files_for, as_answered, no_memory, no_read, no_put}
+use Rattle.vfault.specs.Making.{IsFile, FileGives, HoldDesign, DesignGives, status_if, design_status, report_status, soak_status, OutputGives}
+use Rattle.vfault.proofs.OneAnswer.{The, source-lacks, source-exceeds, source-refused, plan-lacks, plan-exceeds, plan-tells, check-tells, faults-tell, soak-tells}
 
 -- what is handed on
 pub err-gives : (form : Form) (held : Option Files) (old new : ShelfCounts) (r : Result (Vec ℕ Global) Status) (status : Status) → IsErrAnd r (λ e. e ≡ status) → OutputGives form held old new (Err status) → OutputGives form held old new r
 err-gives form held old new (Ok text) status same h = absurd same
 err-gives form held old new (Err found) status same h = subst (λ s. OutputGives form held old new (Err s)) (sym same) h
+
+-- The statuses with which a form can end
+
+pub err-ends : (form : Form) (r : Result (Vec ℕ Global) Status) (status : Status) → IsErrAnd r (λ e. e ≡ status) → CanEnd form status → IfErr r (CanEnd form)
+err-ends form (Ok text) status same h = absurd same
+err-ends form (Err found) status same h = subst (CanEnd form) (sym same) h
+
+pub file-ends : (form : Form) (held : Option Files) (name : List ℕ) (which : Which) (old new : ShelfCounts) (status : Status) → Names form which → FileGives held name which old new (Err status) → CanEnd form status
+file-ends form held name which old new Done names h = absurd h
+file-ends form held name which old new (Refused why) names h = absurd h
+file-ends form held name which old new Usage names h = absurd h
+file-ends form held name which old new (ReadFault file) names h = subst (Names form) (sym h.0) names
+file-ends form held name which old new WriteFault names h = absurd h
+file-ends form held name which old new NoMemory names h = tt
+file-ends form held name which old new (GoodLoop time) names h = absurd h
+file-ends form held name which old new (TooLong file) names h = subst (Names form) (sym h.0) names
+
+pub source-ends : (form : Form) (held : Option Files) (source : Source) (old new : ShelfCounts) (status : Status) → Names form whiches.Design → DesignGives held source old new (Err status) → CanEnd form status
+source-ends form held source old new Done names h = absurd h
+source-ends form held source old new (Refused why) names h = names
+source-ends form held source old new Usage names h = absurd h
+source-ends form held source old new (ReadFault file) names h = subst (Names form) (sym h.0) names
+source-ends form held source old new WriteFault names h = absurd h
+source-ends form held source old new NoMemory names h = tt
+source-ends form held source old new (GoodLoop time) names h = absurd h
+source-ends form held source old new (TooLong file) names h = subst (Names form) (sym h.0) names
+
+pub report-ends : (source : Source) (plan : List ℕ) (workers : ℕ) (fault : ReportFault) (status : Status) → status ≡ report_status fault → CanEnd (Grade source plan workers) status
+report-ends source plan workers fault status e = subst (CanEnd (Grade source plan workers)) (sym e) (by fault)
+  where
+    by : (f : ReportFault) → CanEnd (Grade source plan workers) (report_status f)
+    by (reported.Plan f) = tt
+    by (reported.GoodLoop time) = tt
+    by reported.NoMemory = tt
+
+pub soak-ends : (number size workers : ℕ) (fault : ReportFault) (status : Status) → status ≡ soak_status fault → CanEnd (Soak number size workers) status
+soak-ends number size workers fault status e = subst (CanEnd (Soak number size workers)) (sym e) (by fault)
+  where
+    by : (f : ReportFault) → CanEnd (Soak number size workers) (soak_status f)
+    by (reported.Plan f) = tt
+    by (reported.GoodLoop time) = tt
+    by reported.NoMemory = tt
+
+pub put-ends : (form : Form) (old : Option (List ℕ)) (text : List ℕ) (new : Option (List ℕ)) (before after : ℕ) (status : Status) → PutGives old text new before after status → CanEnd form status
+put-ends form old text new before after Done h = tt
+put-ends form old text new before after (Refused why) h = absurd h
+put-ends form old text new before after Usage h = absurd h
+put-ends form old text new before after (ReadFault which) h = absurd h
+put-ends form old text new before after WriteFault h = tt
+put-ends form old text new before after NoMemory h = tt
+put-ends form old text new before after (GoodLoop time) h = absurd h
+put-ends form old text new before after (TooLong which) h = absurd h
 
 -- Designs
 
@@ -110,7 +166,7 @@ module _ (source : Source) (plan : List ℕ) (workers : ℕ) (design : FlatDesig
   -- Where both are read
 
   faulty-report : (held : Option Files) (old new : ShelfCounts) (bytes : List ℕ) (fault : ReportFault) → IfTold held (λ files. HoldDesign files source design) → IfTold held (λ files. IsFile files plan whiches.Plan bytes) →
-      (fault ≡ reported.NoMemory) ⊎ reports.IsTheMeaning design bytes (Err fault) → OutputGives (Grade source plan workers) held old new (Err (report_status fault))
+      (fault ≡ reported.NoMemory) ⊎ reports.IsTheMeaning Lines design bytes (Err fault) → OutputGives (Grade source plan workers) held old new (Err (report_status fault))
   faulty-report held old new bytes fault d f (inl e) = subst (λ w. OutputGives (Grade source plan workers) held old new (Err (report_status w))) (sym e) tt
   faulty-report None old new bytes (reported.Plan fault) d f (inr is) = tt
   faulty-report None old new bytes (reported.GoodLoop time) d f (inr is) = tt
@@ -120,13 +176,13 @@ module _ (source : Source) (plan : List ℕ) (workers : ℕ) (design : FlatDesig
   faulty-report (Some files) old new bytes (reported.GoodLoop time) d f (inr is) = plan-tells source plan workers files design bytes (Err (reported.GoodLoop time)) (Loops time) d f is refl
 
   pub report-faulty : (held : Option Files) (old new : ShelfCounts) (bytes text : List ℕ) (fault : ReportFault) (status : Status) → IfTold held (λ files. HoldDesign files source design) → IfTold held (λ files. IsFile files plan whiches.Plan bytes) →
-      text ≡ bytes → (fault ≡ reported.NoMemory) ⊎ reports.IsTheMeaning design text (Err fault) → status ≡ report_status fault → OutputGives (Grade source plan workers) held old new (Err status)
+      text ≡ bytes → (fault ≡ reported.NoMemory) ⊎ reports.IsTheMeaning Lines design text (Err fault) → status ≡ report_status fault → OutputGives (Grade source plan workers) held old new (Err status)
   report-faulty held old new bytes text fault status d f same is told =
       subst (λ s. OutputGives (Grade source plan workers) held old new (Err s)) (sym told)
-      (faulty-report held old new bytes fault d f (subst (λ t. (fault ≡ reported.NoMemory) ⊎ reports.IsTheMeaning design t (Err fault)) same is))
+      (faulty-report held old new bytes fault d f (subst (λ t. (fault ≡ reported.NoMemory) ⊎ reports.IsTheMeaning Lines design t (Err fault)) same is))
 
   made-report : (held : Option Files) (old new : ShelfCounts) (bytes report : List ℕ) → IfTold held (λ files. HoldDesign files source design) → IfTold held (λ files. IsFile files plan whiches.Plan bytes) →
-      reports.IsTheMeaning design bytes (Ok report) → reports.HoldsInEveryOrder design bytes report → IfTold held (λ files. IsTheAnswer (Grade source plan workers) files (Outputs report) × Stands (Grade source plan workers) files report)
+      reports.IsTheMeaning Lines design bytes (Ok report) → reports.HoldsInEveryOrder Lines design bytes report → IfTold held (λ files. IsTheAnswer (Grade source plan workers) files (Outputs report) × Stands (Grade source plan workers) files report)
   made-report None old new bytes report d f is holds = tt
   made-report (Some files) old new bytes report d f is holds = (
     plan-tells source plan workers files design bytes (Ok report) (Outputs report) d f is refl,
@@ -134,9 +190,9 @@ module _ (source : Source) (plan : List ℕ) (workers : ℕ) (design : FlatDesig
   )
 
   pub report-made : (held : Option Files) (old new : ShelfCounts) (bytes text report : List ℕ) → IfTold held (λ files. HoldDesign files source design) → IfTold held (λ files. IsFile files plan whiches.Plan bytes) →
-      text ≡ bytes → reports.IsTheMeaning design text (Ok report) → reports.HoldsInEveryOrder design text report → IfTold held (λ files. IsTheAnswer (Grade source plan workers) files (Outputs report) × Stands (Grade source plan workers) files report)
+      text ≡ bytes → reports.IsTheMeaning Lines design text (Ok report) → reports.HoldsInEveryOrder Lines design text report → IfTold held (λ files. IsTheAnswer (Grade source plan workers) files (Outputs report) × Stands (Grade source plan workers) files report)
   report-made held old new bytes text report d f same is holds =
-      made-report held old new bytes report d f (subst (λ t. reports.IsTheMeaning design t (Ok report)) same is) (subst (λ t. reports.HoldsInEveryOrder design t report) same holds)
+      made-report held old new bytes report d f (subst (λ t. reports.IsTheMeaning Lines design t (Ok report)) same is) (subst (λ t. reports.HoldsInEveryOrder Lines design t report) same holds)
 
 pub check-made : (held : Option Files) (source : Source) (design : FlatDesign) (text : List ℕ) → IfTold held (λ files. HoldDesign files source design) → text ≡ check_text design →
     IfTold held (λ files. IsTheAnswer (Check source) files (Outputs text) × Stands (Check source) files text)
@@ -147,6 +203,28 @@ pub faults-made : (held : Option Files) (source : Source) (design : FlatDesign) 
     IfTold held (λ files. IsTheAnswer (Faults source) files (Outputs text) × Stands (Faults source) files text)
 faults-made None source design text d e = tt
 faults-made (Some files) source design text d e = (faults-tell source files design text d e, tt)
+
+-- A generated design
+
+module _ (number size workers : ℕ) (design : FlatDesign) (is : texts.IsTheMeaning (soaks.design_text number size) (codes "top") Usual (Ok design)) (old new : ShelfCounts) where
+  soak-at : (fault : ReportFault) → (fault ≡ reported.NoMemory) ⊎ reports.IsTheMeaning Totals design (soaks.plan_text size) (Err fault) → OutputGives (Soak number size workers) (Some []) old new (Err (soak_status fault))
+  soak-at (reported.Plan fault) h = tt
+  soak-at (reported.GoodLoop time) (inl e) = absurd (cc)
+  soak-at (reported.GoodLoop time) (inr m) = soak-tells number size workers [] design (Err (reported.GoodLoop time)) (Loops time) is m refl
+  soak-at reported.NoMemory h = tt
+
+  pub soak-faulty : (text : List ℕ) (fault : ReportFault) (status : Status) → text ≡ soaks.plan_text size → (fault ≡ reported.NoMemory) ⊎ reports.IsTheMeaning Totals design text (Err fault) → status ≡ soak_status fault →
+      OutputGives (Soak number size workers) (Some []) old new (Err status)
+  soak-faulty text fault status same h told =
+      subst (λ s. OutputGives (Soak number size workers) (Some []) old new (Err s)) (sym told)
+      (soak-at fault (subst (λ t. (fault ≡ reported.NoMemory) ⊎ reports.IsTheMeaning Totals design t (Err fault)) same h))
+
+  pub soak-made : (text totals : List ℕ) → text ≡ soaks.plan_text size → reports.IsTheMeaning Totals design text (Ok totals) → reports.HoldsInEveryOrder Totals design text totals →
+      IsTheAnswer (Soak number size workers) [] (Outputs totals) × Stands (Soak number size workers) [] totals
+  soak-made text totals same m holds = (
+    soak-tells number size workers [] design (Ok totals) (Outputs totals) is (subst (λ t. reports.IsTheMeaning Totals design t (Ok totals)) same m) refl,
+    record { design = design; is_design = is.means; holds = subst (λ t. reports.HoldsInEveryOrder Totals design t totals) same holds },
+  )
 
 -- The status at last
 
@@ -181,19 +259,27 @@ module _ (form : Form) (held : Option Files) (old new : ShelfCounts) (sink_old s
 -- The call at its end
 
 module _ (asked : Option Form) (form : Form) (is_form : Some form ≡ asked) (held : Option Files) (old new : ShelfCounts) where
+  same-form : (other : Form) → asked ≡ Some other → other ≡ form
+  same-form other e = let same : Some other ≡ Some form = sym (is_form ∙ e) in cc
+
   as-asked : (other : Form) (files : Files) (answer : Answer) → asked ≡ Some other → IsAnswer other files answer → IsAnswer form files answer
-  as-asked other files answer e is = let same : Some other ≡ Some form = sym (is_form ∙ e) in subst (λ f. IsAnswer f files answer) (cc) is
+  as-asked other files answer e is = subst (λ f. IsAnswer f files answer) (same-form other e) is
 
-  pub keeps-at-err : (sink_old sink_new : ℕ) (status : Status) → OutputGives form held old new (Err status) → (other : Form) (files : Files) (answer : Answer) → asked ≡ Some other → held ≡ Some files → IsAnswer other files answer →
-      Keeps answer old.faults new.faults sink_old sink_new status
-  keeps-at-err sink_old sink_new status h other files answer e told is = keeps-status form held old new sink_old sink_new files answer told (as-asked other files answer e is) status h
+  as-told-for : (other : Form) (files : Files) → asked ≡ Some other → files_for other held ≡ Some files → files_for form held ≡ Some files
+  as-told-for other files e told = subst (λ f. files_for f held ≡ Some files) (same-form other e) told
 
-  pub keeps-at-end : (text : List ℕ) → IfTold held (λ files. IsTheAnswer form files (Outputs text) × Stands form files text) → (sink_held sink_after : Option (List ℕ)) (before after : ℕ) (status : Status) →
-      PutGives sink_held text sink_after before after status → (other : Form) (files : Files) (answer : Answer) → asked ≡ Some other → held ≡ Some files → IsAnswer other files answer → Keeps answer old.faults new.faults before after status
+  pub keeps-at-err : (sink_old sink_new : ℕ) (status : Status) → OutputGives form (files_for form held) old new (Err status) → (other : Form) (files : Files) (answer : Answer) → asked ≡ Some other → files_for other held ≡ Some files →
+      IsAnswer other files answer → Keeps answer old.faults new.faults sink_old sink_new status
+  keeps-at-err sink_old sink_new status h other files answer e told is =
+      keeps-status form (files_for form held) old new sink_old sink_new files answer (as-told-for other files e told) (as-asked other files answer e is) status h
+
+  pub keeps-at-end : (text : List ℕ) → IfTold (files_for form held) (λ files. IsTheAnswer form files (Outputs text) × Stands form files text) → (sink_held sink_after : Option (List ℕ)) (before after : ℕ) (status : Status) →
+      PutGives sink_held text sink_after before after status → (other : Form) (files : Files) (answer : Answer) → asked ≡ Some other → files_for other held ≡ Some files → IsAnswer other files answer →
+      Keeps answer old.faults new.faults before after status
   keeps-at-end text made sink_held sink_after before after status h other files answer e told is = by status h
     where
       done : status_of answer ≡ Done
-      done = output-status form held old new before after files answer told (as-asked other files answer e is) text made
+      done = output-status form (files_for form held) old new before after files answer (as-told-for other files e told) (as-asked other files answer e is) text made
 
       by : (s : Status) → PutGives sink_held text sink_after before after s → Keeps answer old.faults new.faults before after s
       by Done p = as_answered (sym done)
@@ -205,20 +291,24 @@ module _ (asked : Option Form) (form : Form) (is_form : Some form ≡ asked) (he
       by (GoodLoop time) p = absurd p
       by (TooLong which) p = absurd p
 
+  -- the status is one with which the form can end
+  pub ends-at : (status : Status) → CanEnd form status → IfSome asked (λ (f : Form). CanEnd f status)
+  ends-at status ends = subst (λ o. IfSome o (λ (f : Form). CanEnd f status)) is_form ends
+
   -- How often the sink is put to
 
   abbrev pub FewPuts : Option Form → ℕ → ℕ → Type 0
-  FewPuts found before after = IfSome found (λ (f : Form). IfTold held (λ files. (after ≡ before) ⊎ ((text : List ℕ) × IsOutput f files text × (after ≤ before + length text))))
+  FewPuts found before after = IfSome found (λ (f : Form). IfTold (files_for f held) (λ files. (after ≡ before) ⊎ ((text : List ℕ) × IsOutput f files text × (after ≤ before + length text))))
 
   pub puts-at-err : (before : ℕ) → FewPuts asked before before
-  puts-at-err before = subst (λ o. FewPuts o before before) is_form (by held)
+  puts-at-err before = subst (λ o. FewPuts o before before) is_form (by (files_for form held))
     where
       by : (found : Option Files) → IfTold found (λ files. (before ≡ before) ⊎ ((text : List ℕ) × IsOutput form files text × (before ≤ before + length text)))
       by None = tt
       by (Some files) = inl refl
 
-  pub puts-at-end : (text : List ℕ) → IfTold held (λ files. IsTheAnswer form files (Outputs text) × Stands form files text) → (before after : ℕ) → after ≤ before + length text → FewPuts asked before after
-  puts-at-end text made before after few = subst (λ o. FewPuts o before after) is_form (by held made)
+  pub puts-at-end : (text : List ℕ) → IfTold (files_for form held) (λ files. IsTheAnswer form files (Outputs text) × Stands form files text) → (before after : ℕ) → after ≤ before + length text → FewPuts asked before after
+  puts-at-end text made before after few = subst (λ o. FewPuts o before after) is_form (by (files_for form held) made)
     where
       by : (found : Option Files) → IfTold found (λ files. IsTheAnswer form files (Outputs text) × Stands form files text) →
           IfTold found (λ files. (after ≡ before) ⊎ ((t : List ℕ) × IsOutput form files t × (after ≤ before + length t)))

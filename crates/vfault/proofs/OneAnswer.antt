@@ -1,5 +1,5 @@
 -- What is decided is decided alone.
-use Rattle.std.proofs.Common.{◌≡◌, ℕ, ◌<◌, ◌≤◌, List, length, Option, Some, None, Result, Ok, Err, refl, sym, ap, subst, ◌∙◌, inl, inr, arith}
+use Rattle.std.proofs.Common.{◌≡◌, ℕ, ◌<◌, ◌≤◌, List, length, codes, Option, Some, None, Result, Ok, Err, refl, sym, ap, subst, ◌∙◌, inl, inr, arith}
 use Rattle.vf_base.specs.Shelf.{Files, content_of}
 use Rattle.v_design.specs.Designs.{FlatDesign}
 use Rattle.design_text.specs.declared.fault.DesignFault.{DesignFault}
@@ -8,11 +8,14 @@ use Rattle.design_report.specs.Texts.{check_text, IsFaultsText}
 use Rattle.plan_report.specs.declared.fault.ReportFault.{ReportFault}
 use Rattle.plan_report.specs.declared.fault.ReportFault.TheVariants as reported
 use Rattle.plan_report.specs.Reports as reports
-use Rattle.vf_words.specs.Words.{Source, Grade, Check, Faults}
-use Rattle.vf_words.specs.declared.status.Which.{Which}
-use Rattle.vf_words.specs.declared.status.Which.TheVariants as whiches
-use Rattle.vf_words.specs.declared.status.Refusal.{Refusal}
-use Rattle.vfault.specs.Answers.{Answer, Outputs, Refuses, Lacks, Exceeds, status_of, most_of, AfterFile, refusal_of, IsRefusal, GoesOn, AfterDesign, AfterSource, IsReported, AfterPlan, IsTheAnswer}
+use Rattle.plan_report.specs.declared.extent.Extent.TheVariants.{Lines, Totals}
+use Rattle.soak_text.specs.Soak as soaks
+use Rattle.v_elab.specs.declared.Mode.TheVariants.{Usual}
+use Rattle.vf_words.specs.Words.{Source, Grade, Check, Faults, Soak}
+use Rattle.vf_status.specs.declared.status.Which.{Which}
+use Rattle.vf_status.specs.declared.status.Which.TheVariants as whiches
+use Rattle.vf_status.specs.declared.status.Refusal.{Refusal}
+use Rattle.vfault.specs.Answers.{Answer, Outputs, Refuses, Lacks, Exceeds, status_of, most_of, AfterFile, refusal_of, IsRefusal, GoesOn, AfterDesign, AfterSource, IsReported, AfterPlan, IsCounted, IsSoaked, IsTheAnswer}
 use Rattle.vfault.specs.Making.{IsFile, IsLongFile, HoldDesign, HoldRefused}
 
 -- an answer, and the only status of one
@@ -78,7 +81,7 @@ reported-one (Err (reported.Plan fault)) one other h d = ap status_of (d ∙ sym
 reported-one (Err (reported.GoodLoop time)) one other h d = ap status_of (d ∙ sym h)
 reported-one (Err reported.NoMemory) one other h d = absurd h
 
-pub the-plan : (design : FlatDesign) (bytes : List ℕ) (meaning : Result (List ℕ) ReportFault) (answer : Answer) → reports.IsTheMeaning design bytes meaning → IsReported meaning answer → The (AfterPlan design bytes) answer
+pub the-plan : (design : FlatDesign) (bytes : List ℕ) (meaning : Result (List ℕ) ReportFault) (answer : Answer) → reports.IsTheMeaning Lines design bytes meaning → IsReported meaning answer → The (AfterPlan design bytes) answer
 the-plan design bytes meaning answer is told =
     ((meaning, is.means, told), λ other h. reported-one meaning answer other told (subst (λ m. IsReported m other) (is.only h.0 h.1) h.2))
 
@@ -97,7 +100,7 @@ module _ (source : Source) (plan : List ℕ) (workers : ℕ) (files : Files) whe
       let t = source-design source over_design files design (Exceeds whiches.Plan) h (the-exceeds whiches.Plan (AfterPlan design) (content_of files plan) l.bytes l.held l.long) in record { is = t.0; only = t.1 }
 
   pub plan-tells : (design : FlatDesign) (bytes : List ℕ) (meaning : Result (List ℕ) ReportFault) (answer : Answer) → HoldDesign files source design → IsFile files plan whiches.Plan bytes →
-      reports.IsTheMeaning design bytes meaning → IsReported meaning answer → IsTheAnswer (Grade source plan workers) files answer
+      reports.IsTheMeaning Lines design bytes meaning → IsReported meaning answer → IsTheAnswer (Grade source plan workers) files answer
   plan-tells design bytes meaning answer h f is told =
       let t = source-design source over_design files design answer h (the-file whiches.Plan (AfterPlan design) (content_of files plan) bytes answer f.held f.short (the-plan design bytes meaning answer is told)) in
       record { is = t.0; only = t.1 }
@@ -123,3 +126,29 @@ module _ (source : Source) (files : Files) where
 
   pub faults-tell : (design : FlatDesign) (text : List ℕ) → HoldDesign files source design → IsFaultsText design text → IsTheAnswer (Faults source) files (Outputs text)
   faults-tell design text h is = faults-form (Outputs text) (source-design source faults_next files design (Outputs text) h ((text, is, refl), λ other o. ap status_of o.2))
+
+-- Generated designs
+
+counted-one : (meaning : Result (List ℕ) ReportFault) (one other : Answer) → IsCounted meaning one → IsCounted meaning other → status_of other ≡ status_of one
+counted-one (Ok totals) one other h d = ap status_of (d ∙ sym h)
+counted-one (Err (reported.Plan fault)) one other h d = absurd h
+counted-one (Err (reported.GoodLoop time)) one other h d = ap status_of (d ∙ sym h)
+counted-one (Err reported.NoMemory) one other h d = absurd h
+
+abbrev design_or : FlatDesign → Result FlatDesign DesignFault → FlatDesign
+design_or none (Ok design) = design
+design_or none (Err fault) = none
+
+pub soak-tells : (number size workers : ℕ) (files : Files) (design : FlatDesign) (meaning : Result (List ℕ) ReportFault) (answer : Answer) →
+    texts.IsTheMeaning (soaks.design_text number size) (codes "top") Usual (Ok design) → reports.IsTheMeaning Totals design (soaks.plan_text size) meaning → IsCounted meaning answer →
+    IsTheAnswer (Soak number size workers) files answer
+soak-tells number size workers files design meaning answer d m told =
+    record { is = record { design = design; is_design = d.means; meaning = meaning; means = m.means; counted = told }; only = only }
+  where
+    same-design : (other : FlatDesign) → texts.IsDesignOf (soaks.design_text number size) (codes "top") Usual other → other ≡ design
+    same-design other is = ap (design_or design) (d.only (Ok other) is)
+
+    only : (other : Answer) → IsSoaked number size other → status_of other ≡ status_of answer
+    only other h =
+        let means = subst (λ x. reports.Means Totals x (soaks.plan_text size) h.meaning) (same-design h.design h.is_design) h.means in
+        counted-one meaning answer other told (subst (λ x. IsCounted x other) (m.only h.meaning means) h.counted)

@@ -1,21 +1,24 @@
 -- What the program answers to a form over files, where no outside fails and there is memory (orders by IEEE 1364-2001, clause 5; the rest is this program's own).
-use Rattle.std.specs.Prelude.{◌≡◌, ℕ, ◌<◌, ◌≤◌, ◌⊎◌, List, length, Option, Some, None, Result, Ok, Err}
+use Rattle.std.specs.Prelude.{◌≡◌, ℕ, ◌<◌, ◌≤◌, ◌⊎◌, List, length, codes, Option, Some, None, Result, Ok, Err}
 use Rattle.vf_base.specs.Shelf.{Files, content_of}
 use Rattle.v_design.specs.Designs.{FlatDesign}
 use Rattle.design_text.specs.declared.fault.DesignFault.{DesignFault}
 use Rattle.design_text.specs.declared.fault.DesignFault.TheVariants as designs
 use Rattle.design_text.specs.Meanings as texts
 use Rattle.design_report.specs.Texts.{check_text, IsFaultsText}
+use Rattle.v_elab.specs.declared.Mode.TheVariants.{Usual}
+use Rattle.soak_text.specs.Soak as soaks
+use Rattle.plan_report.specs.declared.extent.Extent.TheVariants.{Lines, Totals}
 use Rattle.plan_report.specs.declared.fault.ReportFault.{ReportFault}
 use Rattle.plan_report.specs.declared.fault.ReportFault.TheVariants as reported
 use Rattle.plan_report.specs.Reports as reports
-use Rattle.vf_words.specs.Words.{Source, Form, Grade, Check, Faults}
-use Rattle.vf_words.specs.declared.status.Which.{Which}
-use Rattle.vf_words.specs.declared.status.Which.TheVariants as whiches
-use Rattle.vf_words.specs.declared.status.Refusal.{Refusal}
-use Rattle.vf_words.specs.declared.status.Refusal.TheVariants as refusals
-use Rattle.vf_words.specs.declared.status.Status.{Status}
-use Rattle.vf_words.specs.declared.status.Status.TheVariants as statuses
+use Rattle.vf_words.specs.Words.{Source, Form, Grade, Check, Faults, Soak}
+use Rattle.vf_status.specs.declared.status.Which.{Which}
+use Rattle.vf_status.specs.declared.status.Which.TheVariants as whiches
+use Rattle.vf_status.specs.declared.status.Refusal.{Refusal}
+use Rattle.vf_status.specs.declared.status.Refusal.TheVariants as refusals
+use Rattle.vf_status.specs.declared.status.Status.{Status}
+use Rattle.vf_status.specs.declared.status.Status.TheVariants as statuses
 
 -- the text of an output; a refusal; a file that isn't there; a file with more bytes than it may have; the time at which the good machine loops
 pub data Answer : Type 0 where
@@ -78,14 +81,30 @@ IsReported (Err reported.NoMemory) answer = ⊥
 
 -- the plan's text is read over the design
 abbrev pub AfterPlan : FlatDesign → List ℕ → Answer → Type 0
-AfterPlan design bytes answer = (meaning : Result (List ℕ) ReportFault) × reports.Means design bytes meaning × IsReported meaning answer
+AfterPlan design bytes answer = (meaning : Result (List ℕ) ReportFault) × reports.Means Lines design bytes meaning × IsReported meaning answer
 
--- The answer to each form. No number of workers is in it
+-- what the text of a generated plan means, as an answer
+abbrev pub IsCounted : Result (List ℕ) ReportFault → Answer → Type 0
+IsCounted (Ok totals) answer = answer ≡ Outputs totals
+IsCounted (Err (reported.Plan fault)) answer = ⊥
+IsCounted (Err (reported.GoodLoop time)) answer = answer ≡ Loops time
+IsCounted (Err reported.NoMemory) answer = ⊥
+
+-- the totals over the generated design and plan of a number and a size
+pub record IsSoaked (number size : ℕ) (answer : Answer) : Type 0 where
+  pub design : FlatDesign
+  pub is_design : texts.IsDesignOf (soaks.design_text number size) (codes "top") Usual design
+  pub meaning : Result (List ℕ) ReportFault
+  pub means : reports.Means Totals design (soaks.plan_text size) meaning
+  pub counted : IsCounted meaning answer
+
+-- The answer to each form. No number of workers is in it, and `soak` reads no file
 
 abbrev pub IsAnswer : Form → Files → Answer → Type 0
 IsAnswer (Grade source plan workers) files answer = AfterSource source files (λ design. AfterFile whiches.Plan (content_of files plan) (AfterPlan design)) answer
 IsAnswer (Check source) files answer = AfterSource source files (λ design answer. answer ≡ Outputs (check_text design)) answer
 IsAnswer (Faults source) files answer = AfterSource source files (λ design answer. (text : List ℕ) × IsFaultsText design text × (answer ≡ Outputs text)) answer
+IsAnswer (Soak number size workers) files answer = IsSoaked number size answer
 
 -- this is the answer, and every other one has its status
 pub record IsTheAnswer (form : Form) (files : Files) (answer : Answer) : Type 0 where
@@ -102,9 +121,16 @@ pub record StandsInEveryOrder (source : Source) (plan : List ℕ) (files : Files
   pub is_design : texts.IsDesignOf design_text source.top source.mode design
   pub plan_text : List ℕ
   pub plan_held : content_of files plan ≡ Some plan_text
-  pub holds : reports.HoldsInEveryOrder design plan_text report
+  pub holds : reports.HoldsInEveryOrder Lines design plan_text report
+
+-- the totals count lines on the generated design and plan, and what these say holds in every pair of legal orders
+pub record CountsInEveryOrder (number size : ℕ) (totals : List ℕ) : Type 0 where
+  pub design : FlatDesign
+  pub is_design : texts.IsDesignOf (soaks.design_text number size) (codes "top") Usual design
+  pub holds : reports.HoldsInEveryOrder Totals design (soaks.plan_text size) totals
 
 abbrev pub Stands : Form → Files → List ℕ → Type 0
 Stands (Grade source plan workers) files text = StandsInEveryOrder source plan files text
 Stands (Check source) files text = Unit {0}
 Stands (Faults source) files text = Unit {0}
+Stands (Soak number size workers) files text = CountsInEveryOrder number size text

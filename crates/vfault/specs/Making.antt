@@ -11,12 +11,12 @@ use Rattle.design_text.specs.Meanings as texts
 use Rattle.plan_report.specs.declared.fault.ReportFault.{ReportFault}
 use Rattle.plan_report.specs.declared.fault.ReportFault.TheVariants as reported
 use Rattle.vf_words.specs.Words.{Source, Form}
-use Rattle.vf_words.specs.declared.status.Which.{Which}
-use Rattle.vf_words.specs.declared.status.Which.TheVariants as whiches
-use Rattle.vf_words.specs.declared.status.Refusal.{Refusal}
-use Rattle.vf_words.specs.declared.status.Refusal.TheVariants as refusals
-use Rattle.vf_words.specs.declared.status.Status.{Status}
-use Rattle.vf_words.specs.declared.status.Status.TheVariants.{Done, Refused, Usage, ReadFault, WriteFault, NoMemory, GoodLoop, TooLong}
+use Rattle.vf_status.specs.declared.status.Which.{Which}
+use Rattle.vf_status.specs.declared.status.Which.TheVariants as whiches
+use Rattle.vf_status.specs.declared.status.Refusal.{Refusal}
+use Rattle.vf_status.specs.declared.status.Refusal.TheVariants as refusals
+use Rattle.vf_status.specs.declared.status.Status.{Status}
+use Rattle.vf_status.specs.declared.status.Status.TheVariants.{Done, Refused, Usage, ReadFault, WriteFault, NoMemory, GoodLoop, TooLong}
 use Rattle.vfault.specs.Answers.{Outputs, Refuses, Lacks, Exceeds, Loops, refusal_of, most_of, IsTheAnswer, Stands}
 use Rattle.vfault.specs.Outside.{IfTold, ShelfCounts, ReadFailed, ToldLong}
 
@@ -96,9 +96,15 @@ report_status (reported.Plan fault) = Refused (refusals.Plan fault)
 report_status (reported.GoodLoop time) = GoodLoop time
 report_status reported.NoMemory = NoMemory
 
+-- the status of a generated plan's text without totals
+abbrev pub soak_status : ReportFault → Status
+soak_status (reported.Plan fault) = NoMemory
+soak_status (reported.GoodLoop time) = GoodLoop time
+soak_status reported.NoMemory = NoMemory
+
 -- Outputs
 
--- what making the output of a form answers, over what the shelf holds and by its counts
+-- what making the output of a form answers, over the files that are told for it and by the shelf's counts
 abbrev pub OutputGives : Form → Option Files → ShelfCounts → ShelfCounts → Result (Vec ℕ Global) Status → Type 0
 OutputGives form held old new (Ok text) = IfTold held (λ files. IsTheAnswer form files (Outputs text.items) × Stands form files text.items)
 OutputGives form held old new (Err Done) = ⊥

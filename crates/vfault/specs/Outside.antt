@@ -1,13 +1,13 @@
 -- What is said of the outside (nothing of the language).
-use Rattle.std.specs.Prelude.{◌≡◌, ℕ, ◌<◌, List, length, take, Option, Some, None}
+use Rattle.std.specs.Prelude.{◌≡◌, ℕ, ◌<◌, List, [], length, take, Option, Some, None}
 use Rattle.vf_base.specs.Counts.{raised, Rose}
 use Rattle.vf_base.specs.Shelf.{Files}
 use Rattle.vf_base.specs.Sink.{Gains}
-use Rattle.vf_words.specs.Words.{Form, Grade, Check, Faults}
-use Rattle.vf_words.specs.declared.status.Which.{Which}
-use Rattle.vf_words.specs.declared.status.Which.TheVariants as whiches
-use Rattle.vf_words.specs.declared.status.Status.{Status}
-use Rattle.vf_words.specs.declared.status.Status.TheVariants.{Done, Refused, Usage, ReadFault, WriteFault, NoMemory, GoodLoop, TooLong}
+use Rattle.vf_words.specs.Words.{Form, Grade, Check, Faults, Soak}
+use Rattle.vf_status.specs.declared.status.Which.{Which}
+use Rattle.vf_status.specs.declared.status.Which.TheVariants as whiches
+use Rattle.vf_status.specs.declared.status.Status.{Status}
+use Rattle.vf_status.specs.declared.status.Status.TheVariants.{Done, Refused, Usage, ReadFault, WriteFault, NoMemory, GoodLoop, TooLong}
 use Rattle.vfault.specs.Answers.{Answer, Outputs, status_of, IsAnswer, Stands}
 
 -- a fact about what is told, where it is told
@@ -31,6 +31,41 @@ abbrev pub files_of : Form → ℕ
 files_of (Grade source plan workers) = 2
 files_of (Check source) = 1
 files_of (Faults source) = 1
+files_of (Soak number size workers) = 0
+
+-- the files over which a form is answered, where they are told: `soak` reads none, so it is answered over none whatever is told
+abbrev pub files_for : Form → Option Files → Option Files
+files_for (Grade source plan workers) held = held
+files_for (Check source) held = held
+files_for (Faults source) held = held
+files_for (Soak number size workers) held = Some []
+
+-- a form names a file of this place
+abbrev pub Names : Form → Which → Type 0
+Names (Grade source plan workers) which = Unit {0}
+Names (Check source) whiches.Design = Unit {0}
+Names (Check source) whiches.Plan = ⊥
+Names (Faults source) whiches.Design = Unit {0}
+Names (Faults source) whiches.Plan = ⊥
+Names (Soak number size workers) which = ⊥
+
+-- a form runs the good machine
+abbrev pub RunsGood : Form → Type 0
+RunsGood (Grade source plan workers) = Unit {0}
+RunsGood (Check source) = ⊥
+RunsGood (Faults source) = ⊥
+RunsGood (Soak number size workers) = Unit {0}
+
+-- the statuses with which a form can end: a file's only where it names that file, a refusal only where it names a design, a loop only where it runs the good machine
+abbrev pub CanEnd : Form → Status → Type 0
+CanEnd form Done = Unit {0}
+CanEnd form (Refused why) = Names form whiches.Design
+CanEnd form Usage = ⊥
+CanEnd form (ReadFault which) = Names form which
+CanEnd form WriteFault = Unit {0}
+CanEnd form NoMemory = Unit {0}
+CanEnd form (GoodLoop time) = RunsGood form
+CanEnd form (TooLong which) = Names form which
 
 -- the shelf's fault count rose, by the file's place in the form
 pub record ReadFailed (which : Which) (old new : ShelfCounts) : Type 0 where
@@ -46,7 +81,7 @@ pub record ToldLong (held : Option Files) (which : Which) (old new : ShelfCounts
 -- the answer is that to the form over the files, where they are told
 abbrev pub Answers : Option Form → Option Files → Answer → Type 0
 Answers None held answer = ⊥
-Answers (Some form) held answer = IfTold held (λ files. IsAnswer form files answer)
+Answers (Some form) held answer = IfTold (files_for form held) (λ files. IsAnswer form files answer)
 
 -- the text is the output of the form over the files, where they are told, and what it says holds in every order
 pub record IsOutput (form : Form) (files : Files) (text : List ℕ) : Type 0 where

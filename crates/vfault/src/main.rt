@@ -10,11 +10,13 @@ ghost use Rattle.std.specs.Prelude.{◌≡◌, length, IfOk};
 
 mod make;
 mod output;
+mod soak;
 mod source;
 mod top;
 
 use std::alloc::Global;
 use std::env;
+use std::io::ErrorKind;
 use std::marker::Brand;
 use std::process::ExitCode;
 use std::rt::{Env, Files};
@@ -23,8 +25,8 @@ use std::thread::Threads;
 use top::vfault;
 use vf_base::{FolderShelf, NoMemory, OpenGate, OutSink, Steps};
 #[cfg(test)]
-use vf_words::Which;
-use vf_words::{Status, code, line};
+use vf_status::Which;
+use vf_status::{Status, code, line};
 
 /// One counter for the calling thread, and one for each worker.
 const COUNTERS: u64 = 65;
@@ -69,11 +71,17 @@ fn run<L: Ledger + Send + Sync, R: Threads + Sync + Files + Print>(
     )
 }
 
-/// The words after the program's name.
+/// The words after the program's name; none where one of them isn't UTF-8, and so no form.
 fn given_words(rt: &(impl Env + AllocGlobal), alloc: Global) -> Result<Vec<String>, NoMemory> {
     let mut words = Vec::new(alloc);
-    let Ok(args) = env::args(rt) else {
-        return Ok(words);
+    let args = match env::args(rt) {
+        Ok(args) => args,
+        Err(error) => {
+            return match error.kind() {
+                ErrorKind::OutOfMemory => Err(NoMemory),
+                _ => Ok(words),
+            };
+        }
     };
     for word in args.skip(1) {
         words.push(word)?;

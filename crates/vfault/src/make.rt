@@ -1,18 +1,21 @@
 // Making the output of a form.
 
-ghost use Rattle.std.specs.Prelude.{◌≡◌, ◌≤◌, ◌+◌, ◌<◌, length};
-ghost use Rattle.vf_words.specs.Words.{Grade, Check, Faults};
+ghost use Rattle.std.specs.Prelude.{◌≡◌, ◌≤◌, ◌+◌, ◌<◌, length, IfErr};
+ghost use Rattle.vf_words.specs.Words.{Grade, Check, Faults, Fits};
 ghost use Rattle.vf_words.specs.Forms.{plain_source, plain_form};
-ghost use Rattle.vfault.specs.Outside.{files_of};
+ghost use Rattle.vfault.specs.Outside.{files_of, files_for, CanEnd};
 ghost use Rattle.vfault.specs.Making as making;
 
+use crate::soak::soaked;
 use crate::source::{read_file, read_source};
 use design_report::{check_text, faults_text};
-use plan_report::{ReportFault, plan_report};
+use plan_report::{Extent, ReportFault, plan_report};
 use std::alloc::Global;
 use std::sync::ledger::Ledger;
-use vf_base::{Shelf, Steps};
-use vf_words::{Form, Refusal, Source, Status, Which};
+use std::thread::Threads;
+use vf_base::{Gate, Shelf, Steps};
+use vf_status::{Refusal, Status, Which};
+use vf_words::{Form, Source};
 
 /// The status of a plan's text without a report.
 fn report_status(fault: ReportFault) -> Status
@@ -26,24 +29,38 @@ fn report_status(fault: ReportFault) -> Status
 }
 
 /// The report on the faults of a plan.
-fn graded<S: Shelf, L: Ledger>(
+fn graded<R: Threads + Sync, S: Shelf, G: Gate + Sync, L: Ledger + Send + Sync>(
+    rt: &R,
     alloc: Global,
     shelf: &mut S,
     source: Source<'_>,
     plan: &str,
     workers: u32,
-    steps: &mut Steps<L>,
+    gate: &G,
+    steps: &mut [Steps<L>],
 ) -> Result<Vec<u8>, Status>
+    requires workers { (1 ≤ workers) × (workers ≤ 64) }
+    requires counters { workers < length steps.old }
     ensures gives { making.OutputGives (Grade (plain_source source.entry) plan.now workers) (S.held shelf.old)
         record { faults = S.faults shelf.old; reads = S.reads shelf.old; long_answers = S.long_answers shelf.old }
         record { faults = S.faults shelf.new; reads = S.reads shelf.new; long_answers = S.long_answers shelf.new } result }
+    ensures ends { IfErr result (CanEnd (Grade (plain_source source.entry) plan.now workers)) }
     ensures kept { S.held shelf.new ≡ S.held shelf.old }
     ensures reads { S.reads shelf.new ≤ S.reads shelf.old + 2 }
     ensures faults { S.faults shelf.old ≤ S.faults shelf.new }
 {
     let design = read_source(alloc, shelf, source)?;
     let text = read_file(alloc, shelf, plan, Which::Plan)?;
-    match plan_report(alloc, &design, text.as_slice(), steps) {
+    match plan_report(
+        rt,
+        alloc,
+        &design,
+        text.as_slice(),
+        Extent::Lines,
+        workers,
+        gate,
+        steps,
+    ) {
         Ok(report) => Ok(report),
         Err(fault) => Err(report_status(fault)),
     }
@@ -54,6 +71,7 @@ fn checked<S: Shelf>(alloc: Global, shelf: &mut S, source: Source<'_>) -> Result
     ensures gives { making.OutputGives (Check (plain_source source.entry)) (S.held shelf.old)
         record { faults = S.faults shelf.old; reads = S.reads shelf.old; long_answers = S.long_answers shelf.old }
         record { faults = S.faults shelf.new; reads = S.reads shelf.new; long_answers = S.long_answers shelf.new } result }
+    ensures ends { IfErr result (CanEnd (Check (plain_source source.entry))) }
     ensures kept { S.held shelf.new ≡ S.held shelf.old }
     ensures reads { S.reads shelf.new ≤ S.reads shelf.old + 1 }
     ensures faults { S.faults shelf.old ≤ S.faults shelf.new }
@@ -70,6 +88,7 @@ fn listed<S: Shelf>(alloc: Global, shelf: &mut S, source: Source<'_>) -> Result<
     ensures gives { making.OutputGives (Faults (plain_source source.entry)) (S.held shelf.old)
         record { faults = S.faults shelf.old; reads = S.reads shelf.old; long_answers = S.long_answers shelf.old }
         record { faults = S.faults shelf.new; reads = S.reads shelf.new; long_answers = S.long_answers shelf.new } result }
+    ensures ends { IfErr result (CanEnd (Faults (plain_source source.entry))) }
     ensures kept { S.held shelf.new ≡ S.held shelf.old }
     ensures reads { S.reads shelf.new ≤ S.reads shelf.old + 1 }
     ensures faults { S.faults shelf.old ≤ S.faults shelf.new }
@@ -82,15 +101,20 @@ fn listed<S: Shelf>(alloc: Global, shelf: &mut S, source: Source<'_>) -> Result<
 }
 
 /// The output of a form over the files of the shelf.
-pub(crate) fn make_output<S: Shelf, L: Ledger>(
+pub(crate) fn make_output<R: Threads + Sync, S: Shelf, G: Gate + Sync, L: Ledger + Send + Sync>(
+    rt: &R,
     alloc: Global,
     shelf: &mut S,
     form: Form<'_>,
-    steps: &mut Steps<L>,
+    gate: &G,
+    steps: &mut [Steps<L>],
 ) -> Result<Vec<u8>, Status>
-    ensures gives { making.OutputGives (plain_form form.entry) (S.held shelf.old)
+    requires fits { Fits (plain_form form) }
+    requires counters { 65 ≤ length steps.old }
+    ensures gives { making.OutputGives (plain_form form.entry) (files_for (plain_form form.entry) (S.held shelf.old))
         record { faults = S.faults shelf.old; reads = S.reads shelf.old; long_answers = S.long_answers shelf.old }
         record { faults = S.faults shelf.new; reads = S.reads shelf.new; long_answers = S.long_answers shelf.new } result }
+    ensures ends { IfErr result (CanEnd (plain_form form.entry)) }
     ensures kept { S.held shelf.new ≡ S.held shelf.old }
     ensures reads { S.reads shelf.new ≤ S.reads shelf.old + files_of (plain_form form.entry) }
     ensures faults { S.faults shelf.old ≤ S.faults shelf.new }
@@ -100,8 +124,13 @@ pub(crate) fn make_output<S: Shelf, L: Ledger>(
             source,
             plan,
             workers,
-        } => graded(alloc, shelf, source, plan, workers, steps),
+        } => graded(rt, alloc, shelf, source, plan, workers, gate, steps),
         Form::Check(source) => checked(alloc, shelf, source),
         Form::Faults(source) => listed(alloc, shelf, source),
+        Form::Soak {
+            number,
+            size,
+            workers,
+        } => soaked(rt, alloc, number, size, workers, gate, steps),
     }
 }

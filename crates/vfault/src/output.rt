@@ -4,7 +4,7 @@ ghost use Rattle.std.specs.Prelude.{◌≡◌, ◌+◌, ◌≤◌, length, drop}
 ghost use Rattle.vfault.specs.Outside.{PutGives};
 
 use vf_base::{Sink, SinkFault};
-use vf_words::Status;
+use vf_status::Status;
 
 /// What of the bytes stands after so many.
 fn rest_after(bytes: &[u8], count: u64) -> &[u8]

@@ -10,7 +10,8 @@ use design_text::{DesignFault, read_design};
 use std::alloc::Global;
 use v_design::Design;
 use vf_base::{MAX_DESIGN_BYTES, MAX_PLAN_BYTES, Shelf, ShelfFault};
-use vf_words::{Refusal, Source, Status, Which};
+use vf_status::{Refusal, Status, Which};
+use vf_words::Source;
 
 /// The most bytes of a file.
 fn most_of(which: Which) -> u64

@@ -3,14 +3,15 @@ ghost use Rattle.std.specs.Prelude.{◌≡◌};
 use super::*;
 use std::alloc::AllocError;
 use std::test::Fail;
-use vf_base::{MemShelf, MemSink};
+use vf_base::{Gate, MemShelf, MemSink};
 
 mod rows;
+mod soak;
 
 use rows::{ROWS, Row};
 
 /// A shelf with the row's files, which fails at this call.
-fn shelf(alloc: Global, row: &Row, failing: u64) -> Result<MemShelf, AllocError> {
+fn shelf(alloc: Global, row: &Row<'_>, failing: u64) -> Result<MemShelf, AllocError> {
     let mut files = Vec::new(alloc);
     files.push((
         String::from_str(alloc, "d")?,
@@ -39,9 +40,26 @@ fn answered<L: Ledger + Send + Sync, R: Threads + Sync>(
     rt: &R,
     alloc: Global,
     blank: Blank,
-    row: &Row,
+    row: &Row<'_>,
     failing: u64,
     most: Option<u64>,
+) -> Result<(Status, Vec<u8>), AllocError>
+    requires name { blank.name ≡ L.name }
+    requires parts { blank.parts ≡ L.parts }
+    requires counters { blank.parts ≡ COUNTERS }
+{
+    answered_through::<L, R, OpenGate>(rt, alloc, blank, row, failing, most, &OpenGate)
+}
+
+/// The same of a run whose workers call this gate.
+fn answered_through<L: Ledger + Send + Sync, R: Threads + Sync, G: Gate + Sync>(
+    rt: &R,
+    alloc: Global,
+    blank: Blank,
+    row: &Row<'_>,
+    failing: u64,
+    most: Option<u64>,
+    gate: &G,
 ) -> Result<(Status, Vec<u8>), AllocError>
     requires name { blank.name ≡ L.name }
     requires parts { blank.parts ≡ L.parts }
@@ -54,9 +72,7 @@ fn answered<L: Ledger + Send + Sync, R: Threads + Sync>(
     let words = words_of(alloc, row.words)?;
     let mut shelf = shelf(alloc, row, failing)?;
     let mut sink = MemSink::new(alloc, most);
-    let status = vfault(
-        rt, alloc, &words, &mut shelf, &mut sink, &OpenGate, &mut steps,
-    );
+    let status = vfault(rt, alloc, &words, &mut shelf, &mut sink, gate, &mut steps);
     Ok((status, Vec::from_slice(alloc, sink.held())?))
 }
 

@@ -1,15 +1,19 @@
 // Designs and plans with what they give (IEEE 1364-2001, clause 5).
 
+pub mod counter;
+mod limits;
+
 /// The words, the files `d` and `p`, the line of the status and the output.
-pub struct Row {
-    pub words: &'static str,
-    pub design: &'static [u8],
-    pub plan: &'static [u8],
-    pub line: &'static [u8],
-    pub output: &'static [u8],
+#[derive(Drop)]
+pub struct Row<'r> {
+    pub words: &'r str,
+    pub design: &'r [u8],
+    pub plan: &'r [u8],
+    pub line: &'r [u8],
+    pub output: &'r [u8],
 }
 
-pub const ROWS: &[Row] = &[
+pub const ROWS: &[Row<'static>] = &[
     // a block
     Row {
         words: "grade d p top 1",

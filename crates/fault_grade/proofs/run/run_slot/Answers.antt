@@ -1,7 +1,12 @@
 -- The next slot was run.
+use Rattle.std.proofs.Common.{◌^◌, sym}
+use Rattle.machine.specs.Standing.{left-at}
 use Rattle.fault_grade.specs.Reached.{runs-on}
 use Rattle.fault_grade.proofs.Slots.{next-is}
 use Rattle.fault_grade.proofs.run.run_slot.Goals as goal
+
+pub slot-requires-clause-left : goal.slot-requires-clause-left
+slot-requires-clause-left g c = left-at c.args.machine.now c.args.time (2 ^ 63) (sym c.requires.next) c.requires.limit
 
 pub returns : goal.returns
 returns g c =

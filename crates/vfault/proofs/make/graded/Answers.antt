@@ -2,7 +2,7 @@ use Rattle.std.proofs.Common.{subst, Err}
 use Rattle.v_design.specs.PlainDesigns.{design_of}
 use Rattle.vf_words.specs.Forms.{plain_source}
 use Rattle.vf_words.specs.Words.{Grade}
-use Rattle.vf_words.specs.declared.status.Which.TheVariants as whiches
+use Rattle.vf_status.specs.declared.status.Which.TheVariants as whiches
 use Rattle.vfault.specs.Outside.{IfTold, ShelfCounts}
 use Rattle.vfault.specs.Making.{IsFile, FileGives}
 use Rattle.vfault.proofs.OneAnswer.{over_design, grade-form}

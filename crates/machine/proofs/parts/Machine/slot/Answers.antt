@@ -1,23 +1,49 @@
--- A slot is run where one is left.
-use Rattle.std.proofs.Common.{◌≡◌, ◌≤◌, ◌^◌, ◌∙◌, ℕ, refl, sym, ap}
-use Rattle.std.specs.Prelude.{Option, Some, None, IsSomeAnd}
-use Rattle.std.specs.Option.{ForSome, option_map}
+-- The slot begins, its moves are made, and it ends.
+use Rattle.std.proofs.Common.{◌≡◌, ◌≤◌, ◌^◌, ◌∙◌, refl, sym, ap, subst}
 use Rattle.v_design.specs.States.{State}
-use Rattle.machine.specs.Standing.{begins_next}
+use Rattle.slot_laws.specs.SlotLoop.{slot_from}
+use Rattle.machine.specs.Standing.{machine_kept, state_kept, begins_next, first_turn}
+use Rattle.machine.specs.Phases.{Runs, EndsSlot}
+use Rattle.machine.proofs.Moved.{rules-of}
+use Rattle.machine.proofs.Beginnings.{found-some}
 use Rattle.machine.proofs.parts.Machine.slot.Goals as goal
 
-left-there : (o : Option State) (time : ℕ) (P : State → Type 0) → Some time ≡ option_map (λ (s : State). s.time) o → ForSome o P → IsSomeAnd o P
-left-there None time P e left = cc
-left-there (Some begins) time P e left = left begins refl
+pub run-requires : goal.run-requires
+run-requires g c =
+    let m = c.args.self.now in
+    let f = found-some (begins_next m) (λ begins. begins.time ≤ 2 ^ 63) c.requires.left in
+    record {
+      first = first_turn m.stage;
+      begins = f.0;
+      runs = subst (λ k. Runs k (first_turn m.stage) f.0 0 c.begin_slot.new.self c.begin_slot.new.log) (sym c.in_ok-begin_slot.ensures.machine_is) (c.in_ok-begin_slot.ensures.runs f.0 f.1);
+    }
 
-none-left : (o : Option State) (begins : State) → None ≡ option_map (λ (s : State). s.time) o → o ≡ Some begins → ⊥
-none-left o begins e next = let no : None ≡ Some begins.time = e ∙ ap (option_map (λ (s : State). s.time)) next in cc
+pub finish-requires : goal.finish-requires
+finish-requires g c =
+    let m = c.args.self.now in
+    let f = found-some (begins_next m) (λ begins. begins.time ≤ 2 ^ 63) c.requires.left in
+    let ends = c.in_ok-hyper.ensures.ends (machine_kept m) (first_turn m.stage) f.0 (c.in_ok-begin_slot.ensures.runs f.0 f.1) in
+    record { first = first_turn m.stage; begins = f.0; ends = subst (λ k. EndsSlot k (first_turn m.stage) f.0 c.in_ok-hyper.hyper c.run.new.self c.run.new.log) (sym ends.is.machine_is) ends }
 
-pub next_slot-requires-clause-left : goal.next_slot-requires-clause-left
-next_slot-requires-clause-left g c = left-there (begins_next c.args.self.now) _ (λ begins. begins.time ≤ 2 ^ 63) c.in-Some.ensures c.requires.left
+pub returns-clause-machine : goal.returns-clause-machine
+returns-clause-machine g c =
+    let m = c.args.self.now in
+    let f = found-some (begins_next m) (λ begins. begins.time ≤ 2 ^ 63) c.requires.left in
+    c.in_ok-end.ensures.machine_is ∙ (c.in_ok-hyper.ensures.ends (machine_kept m) (first_turn m.stage) f.0 (c.in_ok-begin_slot.ensures.runs f.0 f.1)).is.machine_is
 
-pub returns-in-None-clause-slot : goal.returns-in-None-clause-slot
-returns-in-None-clause-slot g c = λ begins next. absurd (none-left (begins_next c.args.self.now) begins c.in-None.ensures next)
+pub returns-clause-slot : goal.returns-clause-slot
+returns-clause-slot g c = λ begins next.
+    let m = c.args.self.now in
+    c.in_ok-end.ensures.runs (machine_kept m) (first_turn m.stage) begins (c.in_ok-hyper.ensures.ends (machine_kept m) (first_turn m.stage) begins (c.in_ok-begin_slot.ensures.runs begins next))
 
-pub returns-in-None-clause-every_order : goal.returns-in-None-clause-every_order
-returns-in-None-clause-every_order g c = λ begins next. absurd (none-left (begins_next c.args.self.now) begins c.in-None.ensures next)
+pub returns-clause-every_order : goal.returns-clause-every_order
+returns-clause-every_order g c = λ begins next fine time number stands moves final leads ends.
+    let m = c.args.self.now in
+    c.fine_slots.ensures (machine_kept m) time number (slot_from (machine_kept m) begins) (rules-of m) stands fine moves final leads ends
+    ∙ sym (c.in_ok-end.ensures.runs (machine_kept m) (first_turn m.stage) begins (c.in_ok-hyper.ensures.ends (machine_kept m) (first_turn m.stage) begins (c.in_ok-begin_slot.ensures.runs begins next))).state
+
+pub returns-clause-standing : goal.returns-clause-standing
+returns-clause-standing g c =
+    let m = c.args.self.now in
+    let f = found-some (begins_next m) (λ begins. begins.time ≤ 2 ^ 63) c.requires.left in
+    c.in_ok-end.ensures.standing (machine_kept m) (first_turn m.stage) f.0 (c.in_ok-hyper.ensures.ends (machine_kept m) (first_turn m.stage) f.0 (c.in_ok-begin_slot.ensures.runs f.0 f.1))

@@ -1,0 +1,4 @@
+pub mod Cutting
+pub mod Representing
+pub mod Covering
+pub mod Listing

@@ -1,0 +1,5 @@
+pub mod Representatives
+pub mod Cuts
+pub mod Shards
+pub mod Found
+pub mod FoundLaws

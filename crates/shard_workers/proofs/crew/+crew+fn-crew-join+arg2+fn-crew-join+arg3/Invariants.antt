@@ -1,0 +1,12 @@
+-- One counter less.
+use Rattle.std.proofs.Common.{◌+◌, ◌*◌, length}
+use Rattle.shard_workers.proofs.crew.+crew+fn-crew-join+arg2+fn-crew-join+arg3.Given as goal
+
+abbrev pub decreases-crew : goal.decreases-crew
+decreases-crew g l = 2 * length l.steps.now
+
+abbrev pub decreases-join+arg3 : goal.decreases-join+arg3
+decreases-join+arg3 g l = 2 * length l.rest.now + 1
+
+abbrev pub decreases-join+arg2 : goal.decreases-join+arg2
+decreases-join+arg2 g l = 2 * length l.mine.now + 1

@@ -1,0 +1,6 @@
+-- The world is that of the call.
+use Rattle.v_design.specs.PlainDesigns.{design_of, plan_of}
+use Rattle.shard_workers.proofs.plan.grade_plan.Given as goal
+
+abbrev pub ghosts-grade_all : goal.ghosts-grade_all
+ghosts-grade_all g a = record { design = design_of a.design.now; plan = plan_of a.plan.now }

@@ -1,0 +1,4 @@
+pub mod Results
+pub mod Closings
+pub mod Jobs
+pub mod Harvests

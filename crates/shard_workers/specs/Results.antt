@@ -1,0 +1,21 @@
+-- What grading a plan answers (grades over first runs, and over all legal orders, by IEEE 1364-2001, clause 5).
+use Rattle.std.specs.Prelude.{ℕ, length}
+use Rattle.std.specs.List.{AllZip}
+use Rattle.v_design.specs.Designs.{FlatDesign, TestPlan}
+use Rattle.v_design.specs.Laws.{ReportHolds}
+use Rattle.order_laws.specs.Reports.{AreGrades}
+use Rattle.grade_report.specs.Findings.{grades_of, AreInOrder}
+use Rattle.fault_grade.specs.Results.{LoopsAt, SpeaksOfOrders}
+use Rattle.shard_workers.specs.declared.plan.PlanGrades.{PlanGrades}
+use Rattle.shard_workers.specs.declared.plan.PlanGrades.TheVariants.{Findings, GoodLoop}
+
+-- the findings are the grades of all listed faults, in list order, where the good machine never loops before a race of its own; else the time of that loop is answered
+abbrev pub IsGraded : FlatDesign → TestPlan → PlanGrades → Type 0
+IsGraded design plan (Findings findings) =
+    AreGrades design plan (grades_of findings.items) × AreInOrder (length plan.faults) findings.items × ((time : ℕ) → LoopsAt design plan time → ⊥)
+IsGraded design plan (GoodLoop time) = LoopsAt design plan time
+
+-- what each finding says holds of every pair of legal orders, and none is empty
+abbrev pub StandsInEveryOrder : FlatDesign → TestPlan → PlanGrades → Type 0
+StandsInEveryOrder design plan (Findings findings) = ReportHolds design plan (grades_of findings.items) × AllZip (SpeaksOfOrders design plan) plan.faults (grades_of findings.items)
+StandsInEveryOrder design plan (GoodLoop time) = Unit {0}

@@ -1,0 +1,65 @@
+// Grading a plan, of which contracts speak without a board.
+
+ghost use Rattle.std.specs.Prelude.{◌<◌, ◌≤◌, length, IfOk};
+ghost use Rattle.v_design.specs.Designs.{FlatDesign, TestPlan};
+ghost use Rattle.v_design.specs.PlainDesigns.{design_of, plan_of};
+ghost use Rattle.v_design.specs.WellFormed.{IsPlanOf};
+ghost use Rattle.shard_workers.specs.Closings.{IsAllGraded};
+ghost use Rattle.shard_workers.specs.Results.{IsGraded, StandsInEveryOrder};
+
+use crate::grade::{Graded, grade_all};
+use std::alloc::Global;
+use std::marker::Brand;
+use std::sync::ledger::Ledger;
+use std::thread::Threads;
+use v_design::{Design, Plan};
+use vf_base::{Finding, Gate, NoMemory, Steps};
+
+/// What grading a plan answers: a finding for each listed fault, in list order, or the time, in steps, at which the good machine's first run is
+/// hyperactive before a race of its own.
+#[derive(Drop)]
+pub enum PlanGrades {
+    Findings(Vec<Finding>),
+    GoodLoop(u64),
+}
+
+/// What was answered, without the board.
+fn without_board<N>(graded: Graded<N>) -> PlanGrades
+    ensures { (design : FlatDesign) (plan : TestPlan) → IsAllGraded design plan graded → IsGraded design plan result }
+{
+    match graded {
+        Graded::GoodLoop(time) => PlanGrades::GoodLoop(time),
+        Graded::Findings(work) => PlanGrades::Findings(work.findings),
+    }
+}
+
+/// The findings on all listed faults of a plan, or the time at which the good machine loops, by so many workers.
+///
+/// The first counter is the calling thread's, and each worker has one of those behind it.
+///
+/// # Errors
+///
+/// Want of memory.
+pub fn grade_plan<R: Threads + Sync, G: Gate + Sync, L: Ledger + Send + Sync>(
+    rt: &R,
+    alloc: Global,
+    design: &Design,
+    plan: &Plan,
+    workers: u32,
+    gate: &G,
+    steps: &mut [Steps<L>],
+) -> Result<PlanGrades, NoMemory>
+    requires plan { IsPlanOf (design_of design.now) (plan_of plan.now) }
+    requires workers { (1 ≤ workers) × (workers ≤ 64) }
+    requires counters { workers < length steps.old }
+    // Exactly the grades, or exactly the good machine's loop.
+    ensures grades { IfOk result (IsGraded (design_of design.now) (plan_of plan.now)) }
+    ensures every_order { IfOk result (StandsInEveryOrder (design_of design.now) (plan_of plan.now)) }
+{
+    order_laws::reports();
+    order_laws::orders_exist();
+    order_laws::nothing_before();
+    let graded = grade_all::<Brand, _, _, _>(rt, alloc, design, plan, workers, gate, steps)?;
+    let grades = without_board(graded);
+    Ok(grades)
+}

@@ -1,0 +1,14 @@
+//! The statuses with which the program ends, each with its number and its line.
+//!
+//! `specs/Status` says which number and line a status has (both are this program's own): the line of a refusal names the place in the design, or the plan's
+//! line, and what is wrong there.
+#![tactic(auto)]
+
+mod message;
+mod status;
+
+pub use message::line;
+pub use status::{Refusal, Status, Which, code};
+
+#[cfg(test)]
+mod tests;

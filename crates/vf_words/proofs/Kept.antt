@@ -1,0 +1,65 @@
+-- The numbers of a form are within their limits.
+use Rattle.std.proofs.Common.{◌≡◌, ℕ, ◌≤◌, ◌&&◌, List, [], ◌∷◌, Bool, true, false, Option, Some, None, refl, sym, subst}
+use Rattle.std.specs.Prelude.{IfSome, option_map, codes, if◌then◌else◌}
+use Rattle.std.specs.Str.{bytes_eq}
+use Rattle.v_elab.specs.declared.Mode.{Mode}
+use Rattle.v_elab.specs.declared.Mode.TheVariants.{Usual, Strict}
+use Rattle.vf_words.specs.NumberLaws.{number-is}
+use Rattle.vf_words.specs.Words.{Source, Form, Grade, Check, Faults, Soak, Fits, is_word, source_of, workers_of, seed_of, size_of, design_form_if, grade_form_if, soak_form, three_words, four_words, five_words, form_of}
+use Rattle.vf_words.specs.declared.words.Form.{Form as FormWords}
+use Rattle.vf_words.specs.Forms.{plain_form}
+
+-- so many workers as a word says
+workers-keep : (word : List ℕ) (workers : ℕ) → workers_of word ≡ Some workers → (1 ≤ workers) × (workers ≤ 64)
+workers-keep word workers e = let is = number-is 1 64 word workers e in (is.low, is.high)
+
+size-keeps : (word : List ℕ) (size : ℕ) → size_of word ≡ Some size → (1 ≤ size) × (size ≤ 4000)
+size-keeps word size e = let is = number-is 1 4000 word size e in (is.low, is.high)
+
+if-keeps : (b : Bool) (some other : Option Form) → IfSome some Fits → IfSome other Fits → IfSome (if b then some else other) Fits
+if-keeps true some other h k = h
+if-keeps false some other h k = k
+
+-- `check` and `faults`
+three-keep : (form : List ℕ) (source : Option Source) → IfSome (design_form_if form source) Fits
+three-keep form None = tt
+three-keep form (Some source) =
+    if-keeps (bytes_eq form (codes "check")) (Some (Check source)) (if bytes_eq form (codes "faults") then Some (Faults source) else None) tt
+    (if-keeps (bytes_eq form (codes "faults")) (Some (Faults source)) None tt tt)
+
+-- `grade`
+five-keep : (form plan : List ℕ) (source : Option Source) (workers : Option ℕ) → ((n : ℕ) → workers ≡ Some n → (1 ≤ n) × (n ≤ 64)) → IfSome (grade_form_if form source plan workers) Fits
+five-keep form plan None workers keep = tt
+five-keep form plan (Some source) None keep = tt
+five-keep form plan (Some source) (Some workers) keep =
+    if-keeps (bytes_eq form (codes "grade") && is_word plan) (Some (Grade source plan workers)) None (keep workers refl) tt
+
+-- `soak`
+soak-keeps : (number size workers : Option ℕ) → ((n : ℕ) → size ≡ Some n → (1 ≤ n) × (n ≤ 4000)) → ((n : ℕ) → workers ≡ Some n → (1 ≤ n) × (n ≤ 64)) → IfSome (soak_form number size workers) Fits
+soak-keeps None size workers keep kept = tt
+soak-keeps (Some number) None workers keep kept = tt
+soak-keeps (Some number) (Some size) None keep kept = tt
+soak-keeps (Some number) (Some size) (Some workers) keep kept = (keep size refl, kept workers refl)
+
+pub form-keeps : (words : List (List ℕ)) → IfSome (form_of words) Fits
+form-keeps [] = tt
+form-keeps (a ∷ []) = tt
+form-keeps (a ∷ b ∷ []) = tt
+form-keeps (form ∷ design ∷ top ∷ []) = three-keep form (source_of design top Usual)
+form-keeps (form ∷ first ∷ second ∷ third ∷ []) =
+    if-keeps (bytes_eq form (codes "soak")) (soak_form (seed_of first) (size_of second) (workers_of third)) (if bytes_eq third (codes "strict") then three_words form first second Strict else None)
+    (soak-keeps (seed_of first) (size_of second) (workers_of third) (size-keeps second) (workers-keep third))
+    (if-keeps (bytes_eq third (codes "strict")) (three_words form first second Strict) None (three-keep form (source_of first second Strict)) tt)
+form-keeps (form ∷ design ∷ plan ∷ top ∷ workers ∷ []) = five-keep form plan (source_of design top Usual) (workers_of workers) (workers-keep workers)
+form-keeps (form ∷ design ∷ plan ∷ top ∷ workers ∷ mode ∷ []) =
+    if-keeps (bytes_eq mode (codes "strict")) (five_words form design plan top workers Strict) None
+    (five-keep form plan (source_of design top Strict) (workers_of workers) (workers-keep workers)) tt
+form-keeps (a ∷ b ∷ c ∷ d ∷ e ∷ f ∷ g ∷ rest) = tt
+
+-- the same of the form that the code has
+pub plain-keeps : (form : Option FormWords) (plain : Option Form) → option_map plain_form form ≡ plain → IfSome plain Fits → IfSome form (λ f. Fits (plain_form f))
+plain-keeps form plain e h = own form (subst (λ o. IfSome o Fits) (sym e) h)
+  where
+    own : (form : Option FormWords) → IfSome (option_map plain_form form) Fits → IfSome form (λ f. Fits (plain_form f))
+    own None h = tt
+    own (Some f) h = h
