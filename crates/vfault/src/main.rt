@@ -1,18 +1,10 @@
 //! Grades a test: which stuck-at faults of a design it finds, and at which strobe.
 //!
-//! `vfault` is the whole program but for the outside. Where it answers `Done`, the sink gained the output of the form that the words ask for, over what the
-//! shelf holds; each line of a report says what holds in every pair of legal orders of events (IEEE 1364-2001, clause 5). Each other status comes exactly
-//! where `specs/Answers` has it, or with its cause outside. `main` makes the outside, calls it, prints the line of the status on standard error, and
-//! ends with its number.
+//! `vfault`, of the library `top_call`, is the whole program but for the outside, and its contract is the main one (orders of events by IEEE 1364-2001,
+//! clause 5). `main` makes the outside, calls it, prints the line of the status on standard error, and ends with its number.
 #![tactic(auto)]
 
-ghost use Rattle.std.specs.Prelude.{◌≡◌, length, IfOk};
-
-mod make;
-mod output;
-mod soak;
-mod source;
-mod top;
+ghost use Rattle.std.specs.Prelude.{◌≡◌};
 
 use std::alloc::Global;
 use std::env;
@@ -20,34 +12,11 @@ use std::io::ErrorKind;
 use std::marker::Brand;
 use std::process::ExitCode;
 use std::rt::{Env, Files};
-use std::sync::ledger::{Blank, Ledger, Share};
+use std::sync::ledger::{Blank, Ledger};
 use std::thread::Threads;
-use top::vfault;
-use vf_base::{FolderShelf, NoMemory, OpenGate, OutSink, Steps};
-#[cfg(test)]
-use vf_status::Which;
+use top_call::{COUNTERS, counters, vfault};
+use vf_base::{FolderShelf, NoMemory, OpenGate, OutSink};
 use vf_status::{Status, code, line};
-
-/// One counter for the calling thread, and one for each worker.
-const COUNTERS: u64 = 65;
-
-/// A counter from each share of a ledger.
-fn counters<L: Ledger + Send + Sync>(
-    alloc: Global,
-    share: Share<L>,
-) -> Result<Vec<Steps<L>>, NoMemory>
-    requires parts { share.parts ≡ COUNTERS }
-    requires amount { share.amount ≡ 0 }
-    ensures { IfOk result (λ steps. length steps.items ≡ COUNTERS) }
-{
-    let mut rest = share;
-    let mut steps = Vec::new(alloc);
-    'shares: for _ in 0..COUNTERS {
-        let part = rest.split_off(1, 0);
-        steps.push(Steps::new(part))?;
-    }
-    Ok(steps)
-}
 
 /// A run of the program over the files of the system and standard output.
 fn run<L: Ledger + Send + Sync, R: Threads + Sync + Files + Print>(
@@ -104,6 +73,3 @@ fn main(rt: HostRuntime) -> ExitCode {
     }
     ExitCode::from(code(&status))
 }
-
-#[cfg(test)]
-mod tests;

@@ -1,0 +1,316 @@
+-- From what each step gives to what the output's making gives.
+use Rattle.std.proofs.Common.{◌≡◌, ℕ, ◌+◌, ◌≤◌, List, [], length, codes, Option, Some, None, Result, Ok, Err, Vec, refl, sym, ap, subst, ◌∙◌, ◌⊎◌, inl, inr, arith}
+use Rattle.std.specs.Result.{IsErrAnd}
+use Rattle.std.specs.declared.alloc.Global.{Global}
+use Rattle.vf_base.specs.Counts.{raised, Rose}
+use Rattle.vf_base.specs.Shelf.{Files}
+use Rattle.v_design.specs.Designs.{FlatDesign}
+use Rattle.design_text.specs.declared.fault.DesignFault.{DesignFault}
+use Rattle.design_text.specs.declared.fault.DesignFault.TheVariants as designs
+use Rattle.design_text.specs.Meanings as texts
+use Rattle.design_report.specs.Texts.{check_text, IsFaultsText}
+use Rattle.plan_report.specs.declared.fault.ReportFault.{ReportFault}
+use Rattle.plan_report.specs.declared.fault.ReportFault.TheVariants as reported
+use Rattle.plan_report.specs.Reports as reports
+use Rattle.plan_report.specs.declared.extent.Extent.TheVariants.{Lines, Totals}
+use Rattle.soak_text.specs.Soak as soaks
+use Rattle.v_elab.specs.declared.Mode.TheVariants.{Usual}
+use Rattle.vf_words.specs.Words.{Source, Form, Grade, Check, Faults, Soak}
+use Rattle.vf_status.specs.declared.status.Which.{Which}
+use Rattle.vf_status.specs.declared.status.Which.TheVariants as whiches
+use Rattle.vf_status.specs.declared.status.Refusal.{Refusal}
+use Rattle.vf_status.specs.declared.status.Refusal.TheVariants as refusals
+use Rattle.vf_status.specs.declared.status.Status.{Status}
+use Rattle.vf_status.specs.declared.status.Status.TheVariants.{Done, Refused, Usage, ReadFault, WriteFault, NoMemory, GoodLoop, TooLong}
+use Rattle.top_call.specs.Answers.{Answer, Outputs, Refuses, Lacks, Exceeds, Loops, status_of, AfterSource, refusal_of, IsAnswer, IsTheAnswer, Stands}
+use Rattle.std.specs.Prelude.{IfSome, IfErr}
+use Rattle.top_call.specs.Outside.{IsOutput, IfTold, ShelfCounts, ReadFailed, ToldLong, PutGives, Keeps, Names, CanEnd, files_for, as_answered, no_memory, no_read, no_put}
+use Rattle.top_call.specs.Making.{IsFile, FileGives, HoldDesign, DesignGives, status_if, design_status, report_status, soak_status, OutputGives}
+use Rattle.top_call.proofs.OneAnswer.{The, source-lacks, source-exceeds, source-refused, plan-lacks, plan-exceeds, plan-tells, check-tells, faults-tell, soak-tells}
+
+-- what is handed on
+pub err-gives : (form : Form) (held : Option Files) (old new : ShelfCounts) (r : Result (Vec ℕ Global) Status) (status : Status) → IsErrAnd r (λ e. e ≡ status) → OutputGives form held old new (Err status) → OutputGives form held old new r
+err-gives form held old new (Ok text) status same h = absurd same
+err-gives form held old new (Err found) status same h = subst (λ s. OutputGives form held old new (Err s)) (sym same) h
+
+-- The statuses with which a form can end
+
+pub err-ends : (form : Form) (r : Result (Vec ℕ Global) Status) (status : Status) → IsErrAnd r (λ e. e ≡ status) → CanEnd form status → IfErr r (CanEnd form)
+err-ends form (Ok text) status same h = absurd same
+err-ends form (Err found) status same h = subst (CanEnd form) (sym same) h
+
+pub file-ends : (form : Form) (held : Option Files) (name : List ℕ) (which : Which) (old new : ShelfCounts) (status : Status) → Names form which → FileGives held name which old new (Err status) → CanEnd form status
+file-ends form held name which old new Done names h = absurd h
+file-ends form held name which old new (Refused why) names h = absurd h
+file-ends form held name which old new Usage names h = absurd h
+file-ends form held name which old new (ReadFault file) names h = subst (Names form) (sym h.0) names
+file-ends form held name which old new WriteFault names h = absurd h
+file-ends form held name which old new NoMemory names h = tt
+file-ends form held name which old new (GoodLoop time) names h = absurd h
+file-ends form held name which old new (TooLong file) names h = subst (Names form) (sym h.0) names
+
+pub source-ends : (form : Form) (held : Option Files) (source : Source) (old new : ShelfCounts) (status : Status) → Names form whiches.Design → DesignGives held source old new (Err status) → CanEnd form status
+source-ends form held source old new Done names h = absurd h
+source-ends form held source old new (Refused why) names h = names
+source-ends form held source old new Usage names h = absurd h
+source-ends form held source old new (ReadFault file) names h = subst (Names form) (sym h.0) names
+source-ends form held source old new WriteFault names h = absurd h
+source-ends form held source old new NoMemory names h = tt
+source-ends form held source old new (GoodLoop time) names h = absurd h
+source-ends form held source old new (TooLong file) names h = subst (Names form) (sym h.0) names
+
+pub report-ends : (source : Source) (plan : List ℕ) (workers : ℕ) (fault : ReportFault) (status : Status) → status ≡ report_status fault → CanEnd (Grade source plan workers) status
+report-ends source plan workers fault status e = subst (CanEnd (Grade source plan workers)) (sym e) (by fault)
+  where
+    by : (f : ReportFault) → CanEnd (Grade source plan workers) (report_status f)
+    by (reported.Plan f) = tt
+    by (reported.GoodLoop time) = tt
+    by reported.NoMemory = tt
+
+pub soak-ends : (number size workers : ℕ) (fault : ReportFault) (status : Status) → status ≡ soak_status fault → CanEnd (Soak number size workers) status
+soak-ends number size workers fault status e = subst (CanEnd (Soak number size workers)) (sym e) (by fault)
+  where
+    by : (f : ReportFault) → CanEnd (Soak number size workers) (soak_status f)
+    by (reported.Plan f) = tt
+    by (reported.GoodLoop time) = tt
+    by reported.NoMemory = tt
+
+pub put-ends : (form : Form) (old : Option (List ℕ)) (text : List ℕ) (new : Option (List ℕ)) (before after : ℕ) (status : Status) → PutGives old text new before after status → CanEnd form status
+put-ends form old text new before after Done h = tt
+put-ends form old text new before after (Refused why) h = absurd h
+put-ends form old text new before after Usage h = absurd h
+put-ends form old text new before after (ReadFault which) h = absurd h
+put-ends form old text new before after WriteFault h = tt
+put-ends form old text new before after NoMemory h = tt
+put-ends form old text new before after (GoodLoop time) h = absurd h
+put-ends form old text new before after (TooLong which) h = absurd h
+
+-- Designs
+
+-- what a text without a design gives
+module _ (held : Option Files) (source : Source) (old new : ShelfCounts) (bytes text top : List ℕ) (file : IfTold held (λ files. IsFile files source.design whiches.Design bytes)) (same_text : text ≡ bytes) (same_top : top ≡ source.top) where
+  means-here : (meaning : Result FlatDesign DesignFault) → texts.IsTheMeaning text top source.mode meaning → texts.IsTheMeaning bytes source.top source.mode meaning
+  means-here meaning is = subst (λ t. texts.IsTheMeaning t source.top source.mode meaning) same_text (subst (λ w. texts.IsTheMeaning text w source.mode meaning) same_top is)
+
+  faulty : (fault : DesignFault) → (fault ≡ designs.NoMemory) ⊎ texts.IsTheMeaning text top source.mode (Err fault) → DesignGives held source old new (Err (design_status fault))
+  faulty fault (inl e) = subst (λ f. DesignGives held source old new (Err (design_status f))) (sym e) tt
+  faulty fault (inr is) = by held file (refusal_of fault) refl
+    where
+      by : (told : Option Files) → IfTold told (λ files. IsFile files source.design whiches.Design bytes) → (reason : Option Refusal) → refusal_of fault ≡ reason → DesignGives told source old new (Err (status_if reason))
+      by None f None e = tt
+      by None f (Some why) e = tt
+      by (Some files) f None e = tt
+      by (Some files) f (Some why) e = record { bytes = bytes; file = f; fault = fault; meaning = means-here (Err fault) is; told = e }
+
+  pub design-faulty : (fault : DesignFault) (status : Status) → (fault ≡ designs.NoMemory) ⊎ texts.IsTheMeaning text top source.mode (Err fault) → status ≡ design_status fault → DesignGives held source old new (Err status)
+  design-faulty fault status is told = subst (λ s. DesignGives held source old new (Err s)) (sym told) (faulty fault is)
+
+  pub design-made : (design : FlatDesign) → texts.IsTheMeaning text top source.mode (Ok design) → IfTold held (λ files. HoldDesign files source design)
+  design-made design is = by held file
+    where
+      by : (told : Option Files) → IfTold told (λ files. IsFile files source.design whiches.Design bytes) → IfTold told (λ files. HoldDesign files source design)
+      by None f = tt
+      by (Some files) f = record { bytes = bytes; file = f; meaning = means-here (Ok design) is }
+
+-- Where the design isn't read
+
+module _ (form : Form) (source : Source) (next : Files → FlatDesign → Answer → Type 0) (as_form : (files : Files) (answer : Answer) → The (AfterSource source files (next files)) answer → IsTheAnswer form files answer) where
+  pub not-read : (held : Option Files) (old new : ShelfCounts) (status : Status) → new.reads ≡ raised old.reads → DesignGives held source old new (Err status) → OutputGives form held old new (Err status)
+  not-read held old new Done reads h = absurd h
+  not-read None old new (Refused why) reads h = tt
+  not-read (Some files) old new (Refused why) reads h = as_form files (Refuses why) (source-refused source (next files) files why h)
+  not-read held old new Usage reads h = absurd h
+  not-read held old new (ReadFault which) reads (same, inl rose) =
+      subst (λ w. ReadFailed w old new ⊎ ((files : Files) × (held ≡ Some files) × IsTheAnswer form files (Lacks w))) (sym same) (inl (record { faults = rose; reads = reads }))
+  not-read None old new (ReadFault which) reads (same, inr none) = absurd none
+  not-read (Some files) old new (ReadFault which) reads (same, inr none) =
+      subst (λ w. ReadFailed w old new ⊎ ((found : Files) × (Some files ≡ Some found) × IsTheAnswer form found (Lacks w))) (sym same)
+      (inr (files, refl, as_form files (Lacks whiches.Design) (source-lacks source (next files) files none)))
+  not-read held old new WriteFault reads h = absurd h
+  not-read held old new NoMemory reads h = tt
+  not-read held old new (GoodLoop time) reads h = absurd h
+  not-read None old new (TooLong which) reads h =
+      subst (λ w. ToldLong None w old new ⊎ ((files : Files) × (None ≡ Some files) × IsTheAnswer form files (Exceeds w))) (sym h.0) (inl (record { untold = refl; long = h.1; reads = reads }))
+  not-read (Some files) old new (TooLong which) reads h =
+      subst (λ w. ToldLong (Some files) w old new ⊎ ((found : Files) × (Some files ≡ Some found) × IsTheAnswer form found (Exceeds w))) (sym h.0)
+      (inr (files, refl, as_form files (Exceeds whiches.Design) (source-exceeds source (next files) files h.1)))
+
+-- Where the plan isn't read
+
+module _ (source : Source) (plan : List ℕ) (workers : ℕ) (design : FlatDesign) where
+  rose-from : (before mid after : ℕ) → before ≤ mid → Rose mid after → Rose before after
+  rose-from before mid after low rose = omega (arith, low, rose)
+
+  pub plan-not-read : (held : Option Files) (old mid new : ShelfCounts) (status : Status) → old.faults ≤ mid.faults → old.long_answers ≤ mid.long_answers → mid.reads ≡ raised old.reads → new.reads ≡ raised mid.reads →
+      IfTold held (λ files. HoldDesign files source design) → FileGives held plan whiches.Plan mid new (Err status) → OutputGives (Grade source plan workers) held old new (Err status)
+  plan-not-read held old mid new Done faults longs one two d h = absurd h
+  plan-not-read held old mid new (Refused why) faults longs one two d h = absurd h
+  plan-not-read held old mid new Usage faults longs one two d h = absurd h
+  plan-not-read held old mid new (ReadFault which) faults longs one two d (same, inl rose) =
+      subst (λ w. ReadFailed w old new ⊎ ((files : Files) × (held ≡ Some files) × IsTheAnswer (Grade source plan workers) files (Lacks w))) (sym same)
+      (inl (record { faults = rose-from old.faults mid.faults new.faults faults rose; reads = two ∙ ap raised one }))
+  plan-not-read None old mid new (ReadFault which) faults longs one two d (same, inr none) = absurd none
+  plan-not-read (Some files) old mid new (ReadFault which) faults longs one two d (same, inr none) =
+      subst (λ w. ReadFailed w old new ⊎ ((found : Files) × (Some files ≡ Some found) × IsTheAnswer (Grade source plan workers) found (Lacks w))) (sym same)
+      (inr (files, refl, plan-lacks source plan workers files design d none))
+  plan-not-read held old mid new WriteFault faults longs one two d h = absurd h
+  plan-not-read held old mid new NoMemory faults longs one two d h = tt
+  plan-not-read held old mid new (GoodLoop time) faults longs one two d h = absurd h
+  plan-not-read None old mid new (TooLong which) faults longs one two d h =
+      subst (λ w. ToldLong None w old new ⊎ ((files : Files) × (None ≡ Some files) × IsTheAnswer (Grade source plan workers) files (Exceeds w))) (sym h.0)
+      (inl (record { untold = refl; long = rose-from old.long_answers mid.long_answers new.long_answers longs h.1; reads = two ∙ ap raised one }))
+  plan-not-read (Some files) old mid new (TooLong which) faults longs one two d h =
+      subst (λ w. ToldLong (Some files) w old new ⊎ ((found : Files) × (Some files ≡ Some found) × IsTheAnswer (Grade source plan workers) found (Exceeds w))) (sym h.0)
+      (inr (files, refl, plan-exceeds source plan workers files design d h.1))
+
+  -- Where both are read
+
+  faulty-report : (held : Option Files) (old new : ShelfCounts) (bytes : List ℕ) (fault : ReportFault) → IfTold held (λ files. HoldDesign files source design) → IfTold held (λ files. IsFile files plan whiches.Plan bytes) →
+      (fault ≡ reported.NoMemory) ⊎ reports.IsTheMeaning Lines design bytes (Err fault) → OutputGives (Grade source plan workers) held old new (Err (report_status fault))
+  faulty-report held old new bytes fault d f (inl e) = subst (λ w. OutputGives (Grade source plan workers) held old new (Err (report_status w))) (sym e) tt
+  faulty-report None old new bytes (reported.Plan fault) d f (inr is) = tt
+  faulty-report None old new bytes (reported.GoodLoop time) d f (inr is) = tt
+  faulty-report held old new bytes reported.NoMemory d f (inr is) = tt
+  faulty-report (Some files) old new bytes (reported.Plan fault) d f (inr is) =
+      plan-tells source plan workers files design bytes (Err (reported.Plan fault)) (Refuses (refusals.Plan fault)) d f is refl
+  faulty-report (Some files) old new bytes (reported.GoodLoop time) d f (inr is) = plan-tells source plan workers files design bytes (Err (reported.GoodLoop time)) (Loops time) d f is refl
+
+  pub report-faulty : (held : Option Files) (old new : ShelfCounts) (bytes text : List ℕ) (fault : ReportFault) (status : Status) → IfTold held (λ files. HoldDesign files source design) → IfTold held (λ files. IsFile files plan whiches.Plan bytes) →
+      text ≡ bytes → (fault ≡ reported.NoMemory) ⊎ reports.IsTheMeaning Lines design text (Err fault) → status ≡ report_status fault → OutputGives (Grade source plan workers) held old new (Err status)
+  report-faulty held old new bytes text fault status d f same is told =
+      subst (λ s. OutputGives (Grade source plan workers) held old new (Err s)) (sym told)
+      (faulty-report held old new bytes fault d f (subst (λ t. (fault ≡ reported.NoMemory) ⊎ reports.IsTheMeaning Lines design t (Err fault)) same is))
+
+  made-report : (held : Option Files) (old new : ShelfCounts) (bytes report : List ℕ) → IfTold held (λ files. HoldDesign files source design) → IfTold held (λ files. IsFile files plan whiches.Plan bytes) →
+      reports.IsTheMeaning Lines design bytes (Ok report) → reports.HoldsInEveryOrder Lines design bytes report → IfTold held (λ files. IsTheAnswer (Grade source plan workers) files (Outputs report) × Stands (Grade source plan workers) files report)
+  made-report None old new bytes report d f is holds = tt
+  made-report (Some files) old new bytes report d f is holds = (
+    plan-tells source plan workers files design bytes (Ok report) (Outputs report) d f is refl,
+    record { design_text = d.bytes; design_held = d.file.held; design = design; is_design = d.meaning.means; plan_text = bytes; plan_held = f.held; holds = holds },
+  )
+
+  pub report-made : (held : Option Files) (old new : ShelfCounts) (bytes text report : List ℕ) → IfTold held (λ files. HoldDesign files source design) → IfTold held (λ files. IsFile files plan whiches.Plan bytes) →
+      text ≡ bytes → reports.IsTheMeaning Lines design text (Ok report) → reports.HoldsInEveryOrder Lines design text report → IfTold held (λ files. IsTheAnswer (Grade source plan workers) files (Outputs report) × Stands (Grade source plan workers) files report)
+  report-made held old new bytes text report d f same is holds =
+      made-report held old new bytes report d f (subst (λ t. reports.IsTheMeaning Lines design t (Ok report)) same is) (subst (λ t. reports.HoldsInEveryOrder Lines design t report) same holds)
+
+pub check-made : (held : Option Files) (source : Source) (design : FlatDesign) (text : List ℕ) → IfTold held (λ files. HoldDesign files source design) → text ≡ check_text design →
+    IfTold held (λ files. IsTheAnswer (Check source) files (Outputs text) × Stands (Check source) files text)
+check-made None source design text d e = tt
+check-made (Some files) source design text d e = (check-tells source files design text d e, tt)
+
+pub faults-made : (held : Option Files) (source : Source) (design : FlatDesign) (text : List ℕ) → IfTold held (λ files. HoldDesign files source design) → IsFaultsText design text →
+    IfTold held (λ files. IsTheAnswer (Faults source) files (Outputs text) × Stands (Faults source) files text)
+faults-made None source design text d e = tt
+faults-made (Some files) source design text d e = (faults-tell source files design text d e, tt)
+
+-- A generated design
+
+module _ (number size workers : ℕ) (design : FlatDesign) (is : texts.IsTheMeaning (soaks.design_text number size) (codes "top") Usual (Ok design)) (old new : ShelfCounts) where
+  soak-at : (fault : ReportFault) → (fault ≡ reported.NoMemory) ⊎ reports.IsTheMeaning Totals design (soaks.plan_text size) (Err fault) → OutputGives (Soak number size workers) (Some []) old new (Err (soak_status fault))
+  soak-at (reported.Plan fault) h = tt
+  soak-at (reported.GoodLoop time) (inl e) = absurd (cc)
+  soak-at (reported.GoodLoop time) (inr m) = soak-tells number size workers [] design (Err (reported.GoodLoop time)) (Loops time) is m refl
+  soak-at reported.NoMemory h = tt
+
+  pub soak-faulty : (text : List ℕ) (fault : ReportFault) (status : Status) → text ≡ soaks.plan_text size → (fault ≡ reported.NoMemory) ⊎ reports.IsTheMeaning Totals design text (Err fault) → status ≡ soak_status fault →
+      OutputGives (Soak number size workers) (Some []) old new (Err status)
+  soak-faulty text fault status same h told =
+      subst (λ s. OutputGives (Soak number size workers) (Some []) old new (Err s)) (sym told)
+      (soak-at fault (subst (λ t. (fault ≡ reported.NoMemory) ⊎ reports.IsTheMeaning Totals design t (Err fault)) same h))
+
+  pub soak-made : (text totals : List ℕ) → text ≡ soaks.plan_text size → reports.IsTheMeaning Totals design text (Ok totals) → reports.HoldsInEveryOrder Totals design text totals →
+      IsTheAnswer (Soak number size workers) [] (Outputs totals) × Stands (Soak number size workers) [] totals
+  soak-made text totals same m holds = (
+    soak-tells number size workers [] design (Ok totals) (Outputs totals) is (subst (λ t. reports.IsTheMeaning Totals design t (Ok totals)) same m) refl,
+    record { design = design; is_design = is.means; holds = subst (λ t. reports.HoldsInEveryOrder Totals design t totals) same holds },
+  )
+
+-- The status at last
+
+module _ (form : Form) (held : Option Files) (old new : ShelfCounts) (sink_old sink_new : ℕ) (files : Files) (answer : Answer) (told : held ≡ Some files) (is : IsAnswer form files answer) where
+  abbrev Kept : Status → Type 0
+  Kept status = Keeps answer old.faults new.faults sink_old sink_new status
+
+  here : (P : Files → Type 0) → IfTold held P → P files
+  here P h = subst (λ t. IfTold t P) told h
+
+  as-told : (found : Answer) → IsTheAnswer form files found → Kept (status_of found)
+  as-told found h = as_answered (sym (h.only answer is))
+
+  found-files : (found : Files) → held ≡ Some found → found ≡ files
+  found-files found e = let same : Some found ≡ Some files = sym e ∙ told in cc
+
+  pub keeps-status : (status : Status) → OutputGives form held old new (Err status) → Kept status
+  keeps-status Done h = absurd h
+  keeps-status (Refused why) h = as-told (Refuses why) (here (λ fs. IsTheAnswer form fs (Refuses why)) h)
+  keeps-status Usage h = absurd h
+  keeps-status (ReadFault which) (inl failed) = no_read which refl failed.faults
+  keeps-status (ReadFault which) (inr lacks) = as-told (Lacks which) (subst (λ fs. IsTheAnswer form fs (Lacks which)) (found-files lacks.0 lacks.1) lacks.2)
+  keeps-status WriteFault h = absurd h
+  keeps-status NoMemory h = no_memory refl
+  keeps-status (GoodLoop time) h = as-told (Loops time) (here (λ fs. IsTheAnswer form fs (Loops time)) h)
+  keeps-status (TooLong which) (inl long) = let none : None ≡ Some files = sym long.untold ∙ told in absurd (cc)
+  keeps-status (TooLong which) (inr long) = as-told (Exceeds which) (subst (λ fs. IsTheAnswer form fs (Exceeds which)) (found-files long.0 long.1) long.2)
+
+  pub output-status : (text : List ℕ) → IfTold held (λ fs. IsTheAnswer form fs (Outputs text) × Stands form fs text) → status_of answer ≡ Done
+  output-status text h = (here (λ fs. IsTheAnswer form fs (Outputs text) × Stands form fs text) h).0.only answer is
+
+-- The call at its end
+
+module _ (asked : Option Form) (form : Form) (is_form : Some form ≡ asked) (held : Option Files) (old new : ShelfCounts) where
+  same-form : (other : Form) → asked ≡ Some other → other ≡ form
+  same-form other e = let same : Some other ≡ Some form = sym (is_form ∙ e) in cc
+
+  as-asked : (other : Form) (files : Files) (answer : Answer) → asked ≡ Some other → IsAnswer other files answer → IsAnswer form files answer
+  as-asked other files answer e is = subst (λ f. IsAnswer f files answer) (same-form other e) is
+
+  as-told-for : (other : Form) (files : Files) → asked ≡ Some other → files_for other held ≡ Some files → files_for form held ≡ Some files
+  as-told-for other files e told = subst (λ f. files_for f held ≡ Some files) (same-form other e) told
+
+  pub keeps-at-err : (sink_old sink_new : ℕ) (status : Status) → OutputGives form (files_for form held) old new (Err status) → (other : Form) (files : Files) (answer : Answer) → asked ≡ Some other → files_for other held ≡ Some files →
+      IsAnswer other files answer → Keeps answer old.faults new.faults sink_old sink_new status
+  keeps-at-err sink_old sink_new status h other files answer e told is =
+      keeps-status form (files_for form held) old new sink_old sink_new files answer (as-told-for other files e told) (as-asked other files answer e is) status h
+
+  pub keeps-at-end : (text : List ℕ) → IfTold (files_for form held) (λ files. IsTheAnswer form files (Outputs text) × Stands form files text) → (sink_held sink_after : Option (List ℕ)) (before after : ℕ) (status : Status) →
+      PutGives sink_held text sink_after before after status → (other : Form) (files : Files) (answer : Answer) → asked ≡ Some other → files_for other held ≡ Some files → IsAnswer other files answer →
+      Keeps answer old.faults new.faults before after status
+  keeps-at-end text made sink_held sink_after before after status h other files answer e told is = by status h
+    where
+      done : status_of answer ≡ Done
+      done = output-status form (files_for form held) old new before after files answer (as-told-for other files e told) (as-asked other files answer e is) text made
+
+      by : (s : Status) → PutGives sink_held text sink_after before after s → Keeps answer old.faults new.faults before after s
+      by Done p = as_answered (sym done)
+      by (Refused why) p = absurd p
+      by Usage p = absurd p
+      by (ReadFault which) p = absurd p
+      by WriteFault p = no_put refl done p.1
+      by NoMemory p = no_memory refl
+      by (GoodLoop time) p = absurd p
+      by (TooLong which) p = absurd p
+
+  -- the status is one with which the form can end
+  pub ends-at : (status : Status) → CanEnd form status → IfSome asked (λ (f : Form). CanEnd f status)
+  ends-at status ends = subst (λ o. IfSome o (λ (f : Form). CanEnd f status)) is_form ends
+
+  -- How often the sink is put to
+
+  abbrev pub FewPuts : Option Form → ℕ → ℕ → Type 0
+  FewPuts found before after = IfSome found (λ (f : Form). IfTold (files_for f held) (λ files. (after ≡ before) ⊎ ((text : List ℕ) × IsOutput f files text × (after ≤ before + length text))))
+
+  pub puts-at-err : (before : ℕ) → FewPuts asked before before
+  puts-at-err before = subst (λ o. FewPuts o before before) is_form (by (files_for form held))
+    where
+      by : (found : Option Files) → IfTold found (λ files. (before ≡ before) ⊎ ((text : List ℕ) × IsOutput form files text × (before ≤ before + length text)))
+      by None = tt
+      by (Some files) = inl refl
+
+  pub puts-at-end : (text : List ℕ) → IfTold (files_for form held) (λ files. IsTheAnswer form files (Outputs text) × Stands form files text) → (before after : ℕ) → after ≤ before + length text → FewPuts asked before after
+  puts-at-end text made before after few = subst (λ o. FewPuts o before after) is_form (by (files_for form held) made)
+    where
+      by : (found : Option Files) → IfTold found (λ files. IsTheAnswer form files (Outputs text) × Stands form files text) →
+          IfTold found (λ files. (after ≡ before) ⊎ ((t : List ℕ) × IsOutput form files t × (after ≤ before + length t)))
+      by None m = tt
+      by (Some files) m = inr (text, record { answers = m.0.is; every_order = m.1 }, few)

@@ -1,0 +1,81 @@
+// The totals over a generated design and plan.
+
+ghost use Rattle.std.specs.Prelude.{◌≡◌, ◌≤◌, ◌<◌, [], length, codes, Some, Ok, IfOk, IfErr};
+ghost use Rattle.v_design.specs.PlainDesigns.{design_of};
+ghost use Rattle.v_elab.specs.declared.Mode.TheVariants.{Usual};
+ghost use Rattle.design_text.specs.Meanings.{IsTheMeaning};
+ghost use Rattle.soak_text.specs.Soak as soaks;
+ghost use Rattle.vf_words.specs.Words.{Soak};
+ghost use Rattle.top_call.specs.Outside.{ShelfCounts, CanEnd};
+ghost use Rattle.top_call.specs.Making as making;
+
+use design_text::read_design;
+use plan_report::{Extent, ReportFault, plan_report};
+use soak_text::{design_text, plan_text};
+use std::alloc::Global;
+use std::sync::ledger::Ledger;
+use std::thread::Threads;
+use v_design::Design;
+use v_elab::Mode;
+use vf_base::{Gate, NoMemory, Steps};
+use vf_status::Status;
+
+/// The generated design of a number and a size. Were its text refused, this would be told as want of memory.
+fn soak_design(alloc: Global, number: u32, size: u32) -> Result<Design, NoMemory>
+    requires { (1 ≤ size) × (size ≤ 4000) }
+    ensures { IfOk result (λ design. IsTheMeaning (soaks.design_text number size) (codes "top") Usual (Ok (design_of design))) }
+{
+    let text = design_text(alloc, number, size)?;
+    match read_design(alloc, text.as_slice(), b"top", Mode::Usual) {
+        Ok(design) => Ok(design),
+        Err(_) => Err(NoMemory),
+    }
+}
+
+/// The status of a generated plan's text without totals. Were the text refused, this would be told as want of memory.
+fn soak_status(fault: ReportFault) -> Status
+    ensures { result ≡ making.soak_status fault }
+{
+    match fault {
+        ReportFault::GoodLoop(time) => Status::GoodLoop(time),
+        ReportFault::Plan(_) => Status::NoMemory,
+        ReportFault::NoMemory => Status::NoMemory,
+    }
+}
+
+/// The totals over the generated design and plan of a number and a size.
+pub(crate) fn soaked<R: Threads + Sync, G: Gate + Sync, L: Ledger + Send + Sync>(
+    rt: &R,
+    alloc: Global,
+    number: u32,
+    size: u32,
+    workers: u32,
+    gate: &G,
+    steps: &mut [Steps<L>],
+) -> Result<Vec<u8>, Status>
+    requires size { (1 ≤ size) × (size ≤ 4000) }
+    requires workers { (1 ≤ workers) × (workers ≤ 64) }
+    requires counters { workers < length steps.old }
+    ensures gives { (old new : ShelfCounts) → making.OutputGives (Soak number size workers) (Some []) old new result }
+    ensures ends { IfErr result (CanEnd (Soak number size workers)) }
+{
+    let Ok(design) = soak_design(alloc, number, size) else {
+        return Err(Status::NoMemory);
+    };
+    let Ok(plan) = plan_text(alloc, size) else {
+        return Err(Status::NoMemory);
+    };
+    match plan_report(
+        rt,
+        alloc,
+        &design,
+        plan.as_slice(),
+        Extent::Totals,
+        workers,
+        gate,
+        steps,
+    ) {
+        Ok(totals) => Ok(totals),
+        Err(fault) => Err(soak_status(fault)),
+    }
+}

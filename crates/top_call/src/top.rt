@@ -1,0 +1,97 @@
+// The top call.
+
+ghost use Rattle.std.specs.Prelude.{◌≡◌, ◌≤◌, ◌+◌, ◌↔◌, ◌⊎◌, ◌++◌, ℕ, List, length, IfSome, Some, None};
+ghost use Rattle.vf_base.specs.Counts.{Rose};
+ghost use Rattle.vf_base.specs.Shelf.{Files};
+ghost use Rattle.vf_status.specs.declared.status.Refusal.{Refusal as Reason};
+ghost use Rattle.vf_status.specs.declared.status.Which.{Which};
+ghost use Rattle.vf_words.specs.Words.{Form as Asked, form_of, bytes_of};
+ghost use Rattle.vf_words.specs.Forms.{plain_form};
+ghost use Rattle.top_call.specs.Answers.{Answer, Outputs, Refuses, Lacks, Exceeds, Loops, IsAnswer};
+ghost use Rattle.top_call.specs.Outside.{IfTold, ReadFailed, ToldLong, Answers, IsOutput, PutsSome, PutsNothing, Keeps, CanEnd, files_of, files_for};
+
+use crate::make::make_output;
+use crate::output::put_all;
+use std::alloc::Global;
+use std::sync::ledger::Ledger;
+use std::thread::Threads;
+use vf_base::{Gate, Shelf, Sink, Steps};
+use vf_status::Status;
+use vf_words::read_words;
+
+/// The whole program, but for the outside: it reads the files that the words name, or makes up a design and a plan, and puts the output of their form.
+///
+/// The first counter is the calling thread's, and each worker has one of the others; the output is the same for every number of workers. Of the statuses
+/// the first of this order comes that is due: the words; reading the design, its length, its text; reading the plan, its length, its text; a loop of the
+/// good machine; writing. Want of memory can come at any point but with the words. Nothing is put before the whole text is made. Before a worker begins
+/// a shard of faults it calls the gate.
+pub fn vfault<R: Threads + Sync, S: Shelf, K: Sink, G: Gate + Sync, L: Ledger + Send + Sync>(
+    rt: &R,
+    alloc: Global,
+    words: &[String],
+    shelf: &mut S,
+    sink: &mut K,
+    gate: &G,
+    steps: &mut [Steps<L>],
+) -> Status
+    requires { 65 ≤ length steps.old }
+
+    // Where it is done, the sink gained the output of the form over what the shelf holds; and what the lines of a report say holds in every pair of legal orders.
+    ensures done { result ≡ Status.Done → IfSome (form_of (bytes_of words.now)) (λ form. IfTold (files_for form (S.held shelf.old)) (λ files. IfTold (K.contents sink.old)
+        (λ held. (text : List ℕ) × IsOutput form files text × (K.contents sink.new ≡ Some (held ++ text))))) }
+
+    // The words are of no form.
+    ensures usage { (result ≡ Status.Usage) ↔ (form_of (bytes_of words.now) ≡ None) }
+
+    // The status is one with which the form can end: `soak` is never refused and reads nothing, and the good machine loops only where it runs.
+    ensures of_the_form { IfSome (form_of (bytes_of words.now)) (λ form. CanEnd form result) }
+
+    // The design or the plan is refused for this reason.
+    ensures refused { (why : Reason) → result ≡ Status.Refused why → Answers (form_of (bytes_of words.now)) (S.held shelf.old) (Refuses why) }
+
+    // The good machine loops.
+    ensures loops { (time : ℕ) → result ≡ Status.GoodLoop time → Answers (form_of (bytes_of words.now)) (S.held shelf.old) (Loops time) }
+
+    // A read failed, or the shelf tells that the file isn't there.
+    ensures read_fault { (which : Which) → result ≡ Status.ReadFault which → ReadFailed which
+        record { faults = S.faults shelf.old; reads = S.reads shelf.old; long_answers = S.long_answers shelf.old }
+        record { faults = S.faults shelf.new; reads = S.reads shelf.new; long_answers = S.long_answers shelf.new }
+        ⊎ IfSome (form_of (bytes_of words.now)) (λ form. (files : Files) × (files_for form (S.held shelf.old) ≡ Some files) × IsAnswer form files (Lacks which)) }
+
+    // The shelf tells that the file is too long, or it tells nothing and answered so.
+    ensures too_long { (which : Which) → result ≡ Status.TooLong which → IfSome (form_of (bytes_of words.now)) (λ form. ToldLong (files_for form (S.held shelf.old)) which
+        record { faults = S.faults shelf.old; reads = S.reads shelf.old; long_answers = S.long_answers shelf.old }
+        record { faults = S.faults shelf.new; reads = S.reads shelf.new; long_answers = S.long_answers shelf.new }
+        ⊎ ((files : Files) × (files_for form (S.held shelf.old) ≡ Some files) × IsAnswer form files (Exceeds which))) }
+
+    // A put failed after a proper part of the output.
+    ensures write_fault { result ≡ Status.WriteFault → Rose (K.faults sink.old) (K.faults sink.new)
+        × IfSome (form_of (bytes_of words.now)) (λ form. IfTold (files_for form (S.held shelf.old)) (λ files. (text : List ℕ) × IsOutput form files text × PutsSome (K.contents sink.old) text (K.contents sink.new))) }
+
+    // Want of memory: nothing was put, or a proper part of the output.
+    ensures no_memory { result ≡ Status.NoMemory → (K.contents sink.new ≡ K.contents sink.old)
+        ⊎ IfSome (form_of (bytes_of words.now)) (λ form. IfTold (files_for form (S.held shelf.old)) (λ files. (text : List ℕ) × IsOutput form files text × PutsSome (K.contents sink.old) text (K.contents sink.new))) }
+
+    // Else nothing was put.
+    ensures nothing_put { PutsNothing result → (K.contents sink.new ≡ K.contents sink.old) × (K.puts sink.new ≡ K.puts sink.old) }
+
+    // The status is that of the answer, unless memory is wanting, a read failed, or a put of the output failed.
+    ensures exactly { (form : Asked) (files : Files) (answer : Answer) → form_of (bytes_of words.now) ≡ Some form → files_for form (S.held shelf.old) ≡ Some files → IsAnswer form files answer →
+        Keeps answer (S.faults shelf.old) (S.faults shelf.new) (K.faults sink.old) (K.faults sink.new) result }
+
+    // The sink is put to at most as often as the output has bytes.
+    ensures few_puts { IfSome (form_of (bytes_of words.now)) (λ form. IfTold (files_for form (S.held shelf.old)) (λ files. (K.puts sink.new ≡ K.puts sink.old)
+        ⊎ ((text : List ℕ) × IsOutput form files text × (K.puts sink.new ≤ K.puts sink.old + length text)))) }
+
+    // Each file of the form is read at most once, and `soak` reads none.
+    ensures few_reads { (form : Asked) → form_of (bytes_of words.now) ≡ Some form → S.reads shelf.new ≤ S.reads shelf.old + files_of form }
+{
+    let Some(form) = read_words(words) else {
+        return Status::Usage;
+    };
+    let output = match make_output(rt, alloc, shelf, form, gate, steps) {
+        Ok(output) => output,
+        Err(status) => return status,
+    };
+    put_all(sink, output.as_slice())
+}
