@@ -18,11 +18,13 @@ mod outside;
 mod refused;
 mod rows;
 mod soak;
+mod verdicts;
 mod worked;
 
 use limits::SLOTS;
-use refused::REFUSED;
-use rows::{ROWS, Row};
+use refused::{REFUSED_DESIGNS, REFUSED_PLANS, REFUSED_WORDS};
+use rows::{Row, SCHEDULES};
+use verdicts::VERDICTS;
 use worked::WORKED;
 
 /// A shelf with the row's files, which fails at this call.
@@ -50,24 +52,8 @@ fn words_of(alloc: Global, text: &str) -> Result<Vec<String>, AllocError> {
     Ok(words)
 }
 
-/// The status and the output of a run whose shelf fails at this call and whose sink takes so many bytes.
-fn answered<L: Ledger + Send + Sync, R: Threads + Sync>(
-    rt: &R,
-    alloc: Global,
-    blank: Blank,
-    row: &Row<'_>,
-    failing: u64,
-    most: Option<u64>,
-) -> Result<(Status, Vec<u8>), AllocError>
-    requires name { blank.name ≡ L.name }
-    requires parts { blank.parts ≡ L.parts }
-    requires counters { blank.parts ≡ COUNTERS }
-{
-    answered_through::<L, R, OpenGate>(rt, alloc, blank, row, failing, most, &OpenGate)
-}
-
-/// The same of a run whose workers call this gate.
-fn answered_through<L: Ledger + Send + Sync, R: Threads + Sync, G: Gate + Sync>(
+/// The status and the output of a run whose shelf fails at this call, whose sink takes so many bytes and whose workers call this gate.
+fn answered<L: Ledger + Send + Sync, R: Threads + Sync, G: Gate + Sync>(
     rt: &R,
     alloc: Global,
     blank: Blank,
@@ -99,37 +85,66 @@ fn line_of(alloc: Global, status: &Status) -> Result<Vec<u8>, AllocError> {
     }
 }
 
+/// Such a run ends with the line and the output of its row.
+fn is_answered<R: Threads + Sync + Abort, G: Gate + Sync>(
+    rt: &R,
+    alloc: Global,
+    row: &Row<'_>,
+    failing: u64,
+    most: Option<u64>,
+    gate: &G,
+) -> Result<(), Fail> {
+    let blank = Blank::new(COUNTERS);
+    let (status, held) = answered::<Brand, R, G>(rt, alloc, blank, row, failing, most, gate)?;
+    let told = line_of(alloc, &status)?;
+    assert_eq!(rt; told.as_slice(), row.line);
+    assert_eq!(rt; held.as_slice(), row.output);
+    Ok(())
+}
+
 /// Each row is answered as it says.
-fn all_answered<R: Threads + Sync + Abort>(
+fn are_answered<R: Threads + Sync + Abort>(
     rt: &R,
     alloc: Global,
     rows: &[Row<'_>],
 ) -> Result<(), Fail> {
-    'rows: for (number, row) in rows.iter().enumerate() {
-        let (status, held) = answered::<Brand, R>(rt, alloc, Blank::new(COUNTERS), row, 0, None)?;
-        let told = line_of(alloc, &status)?;
-        let right = told.as_slice() == row.line && held.as_slice() == row.output;
-        assert!(rt; right, "row {number}");
+    'rows: for row in rows {
+        is_answered(rt, alloc, row, 0, None, &OpenGate)?;
     }
     Ok(())
 }
 
 #[test]
-fn rows_are_answered(rt: HostRuntime) -> Result<(), Fail> {
-    all_answered(&rt, rt.alloc(), ROWS)
+fn schedules_are_answered(rt: HostRuntime) -> Result<(), Fail> {
+    are_answered(&rt, rt.alloc(), SCHEDULES)
+}
+
+#[test]
+fn verdicts_are_answered(rt: HostRuntime) -> Result<(), Fail> {
+    are_answered(&rt, rt.alloc(), VERDICTS)
 }
 
 #[test]
 fn worked_rows_are_answered(rt: HostRuntime) -> Result<(), Fail> {
-    all_answered(&rt, rt.alloc(), WORKED)
+    are_answered(&rt, rt.alloc(), WORKED)
 }
 
 #[test]
-fn refused_rows_are_answered(rt: HostRuntime) -> Result<(), Fail> {
-    all_answered(&rt, rt.alloc(), REFUSED)
+fn refused_designs_are_answered(rt: HostRuntime) -> Result<(), Fail> {
+    are_answered(&rt, rt.alloc(), REFUSED_DESIGNS)
+}
+
+#[test]
+fn refused_plans_are_answered(rt: HostRuntime) -> Result<(), Fail> {
+    are_answered(&rt, rt.alloc(), REFUSED_PLANS)
+}
+
+#[test]
+fn refused_words_are_answered(rt: HostRuntime) -> Result<(), Fail> {
+    are_answered(&rt, rt.alloc(), REFUSED_WORDS)
 }
 
 #[test]
 fn slots_of_the_most_steps(rt: HostRuntime) -> Result<(), Fail> {
-    all_answered(&rt, rt.alloc(), SLOTS)
+    are_answered(&rt, rt.alloc(), SLOTS)
 }

@@ -1,15 +1,12 @@
 // Texts at the limits.
 
+use super::is_answered;
 use super::rows::Row;
-use super::{answered, line_of};
 use std::alloc::{AllocError, Global};
-use std::marker::Brand;
-use std::sync::ledger::Blank;
+use std::process::Abort;
 use std::test::Fail;
 use std::thread::Threads;
-use top_call::COUNTERS;
-use vf_base::{MAX_DESIGN_BYTES, MAX_PLAN_BYTES};
-use vf_status::{Status, Which};
+use vf_base::{MAX_DESIGN_BYTES, MAX_PLAN_BYTES, OpenGate};
 
 /// Slots of as many steps as may be, and of one more.
 pub const SLOTS: &[Row<'static>] = &[
@@ -39,7 +36,15 @@ pub const SLOTS: &[Row<'static>] = &[
     },
 ];
 
-const NO_FAULTS: &[u8] = b"total 0 detected 0 possible 0 undetected 0 race 0 hyper 0\n";
+const NO_FAULTS: &[u8] = b"vfault 1\ntotal 0 detected 0 possible 0 undetected 0 race 0 hyper 0\n";
+
+const ALL_FAULTS: &[u8] = b"faults all\n";
+
+const TWO_BITS: &[u8] = b"module top;\nreg a, b;\nendmodule\n";
+
+const WIDE: &[u8] = b"module top;\nreg [63:0] w;\nendmodule\n";
+
+const EXPRESSION: &[u8] = b"module top; wire y; assign y =";
 
 /// The first text, so many times the second, and the third.
 fn repeated(
@@ -57,121 +62,124 @@ fn repeated(
     Ok(text)
 }
 
-/// The status and the output of a run over the design and the plan.
-fn graded<R: Threads + Sync>(
+/// A run over the design and the plan ends with this line and this output.
+fn is_graded<R: Threads + Sync + Abort>(
     rt: &R,
     alloc: Global,
     design: &[u8],
     plan: &[u8],
-) -> Result<(Status, Vec<u8>), AllocError> {
+    line: &[u8],
+    output: &[u8],
+) -> Result<(), Fail> {
     let row = Row {
         words: "grade d p top 1",
         design,
         plan,
-        line: b"",
-        output: b"",
+        line,
+        output,
     };
-    answered::<Brand, R>(rt, alloc, Blank::new(COUNTERS), &row, 0, None)
+    is_answered(rt, alloc, &row, 0, None, &OpenGate)
+}
+
+/// A run over the design and a plan ends with this line and this output; the plan has so many of these lines behind its end.
+fn is_planned<R: Threads + Sync + Abort>(
+    rt: &R,
+    alloc: Global,
+    design: &[u8],
+    lines: &[u8],
+    count: u64,
+    line: &[u8],
+    output: &[u8],
+) -> Result<(), Fail> {
+    let plan = repeated(alloc, b"end 0\n", lines, count, b"")?;
+    is_graded(rt, alloc, design, plan.as_slice(), line, output)
+}
+
+/// A run over a design that begins like this and ends with so many opening parentheses ends with this line.
+fn is_opened<R: Threads + Sync + Abort>(
+    rt: &R,
+    alloc: Global,
+    start: &[u8],
+    count: u64,
+    line: &[u8],
+) -> Result<(), Fail> {
+    let design = repeated(alloc, start, b"(", count, b"")?;
+    is_graded(rt, alloc, design.as_slice(), b"end 1\n", line, b"")
 }
 
 #[test]
 fn the_longest_design(rt: HostRuntime) -> Result<(), Fail> {
-    let alloc = rt.alloc();
-    let longest = repeated(alloc, b"", b"(", MAX_DESIGN_BYTES, b"")?;
-    let (status, held) = graded(&rt, alloc, longest.as_slice(), b"end 1\n")?;
-    let told = line_of(alloc, &status)?;
-    assert_eq!(rt;
-        told.as_slice(),
-        b"vfault: design 1:1: unexpected".as_slice()
-    );
-    assert_eq!(rt; held.len(), 0);
-    Ok(())
+    let line = b"vfault: design 1:1: unexpected";
+    is_opened(&rt, rt.alloc(), b"", MAX_DESIGN_BYTES, line)
+}
+
+#[test]
+fn a_design_that_is_too_long(rt: HostRuntime) -> Result<(), Fail> {
+    let line = b"vfault: the design is too long";
+    is_opened(&rt, rt.alloc(), b"", MAX_DESIGN_BYTES + 1, line)
 }
 
 #[test]
 fn the_deepest_expression(rt: HostRuntime) -> Result<(), Fail> {
-    let alloc = rt.alloc();
-    let deepest = repeated(alloc, b"module top; wire y; assign y =", b"(", 255, b"")?;
-    let (status, _) = graded(&rt, alloc, deepest.as_slice(), b"end 1\n")?;
-    let told = line_of(alloc, &status)?;
-    assert_eq!(rt;
-        told.as_slice(),
-        b"vfault: design 1:286: unexpected".as_slice()
-    );
-    let deeper = repeated(alloc, b"module top; wire y; assign y =", b"(", 256, b"")?;
-    let (status, _) = graded(&rt, alloc, deeper.as_slice(), b"end 1\n")?;
-    let told = line_of(alloc, &status)?;
-    assert_eq!(rt;
-        told.as_slice(),
-        b"vfault: design 1:286: too deep".as_slice()
-    );
-    Ok(())
+    let line = b"vfault: design 1:286: unexpected";
+    is_opened(&rt, rt.alloc(), EXPRESSION, 255, line)
+}
+
+#[test]
+fn an_expression_that_is_too_deep(rt: HostRuntime) -> Result<(), Fail> {
+    let line = b"vfault: design 1:286: too deep";
+    is_opened(&rt, rt.alloc(), EXPRESSION, 256, line)
+}
+
+#[test]
+fn the_longest_plan(rt: HostRuntime) -> Result<(), Fail> {
+    let most = MAX_PLAN_BYTES - 6;
+    is_planned(&rt, rt.alloc(), TWO_BITS, b"\n", most, b"", NO_FAULTS)
+}
+
+#[test]
+fn a_plan_that_is_too_long(rt: HostRuntime) -> Result<(), Fail> {
+    let line = b"vfault: the plan is too long";
+    let more = MAX_PLAN_BYTES - 5;
+    is_planned(&rt, rt.alloc(), TWO_BITS, b"\n", more, line, b"")
 }
 
 #[test]
 fn the_most_watched_bits(rt: HostRuntime) -> Result<(), Fail> {
-    let alloc = rt.alloc();
-    let design = b"module top;\nreg [63:0] w;\nendmodule\n";
-    let most = repeated(alloc, b"end 0\n", b"watch w\n", 64, b"")?;
-    let wanted = repeated(alloc, b"vfault 1\n", b"", 0, NO_FAULTS)?;
-    let (status, held) = graded(&rt, alloc, design, most.as_slice())?;
-    assert_eq!(rt; status, Status::Done);
-    assert_eq!(rt; held.as_slice(), wanted.as_slice());
-    let more = repeated(alloc, b"end 0\n", b"watch w\n", 65, b"")?;
-    let (status, held) = graded(&rt, alloc, design, more.as_slice())?;
-    let told = line_of(alloc, &status)?;
-    assert_eq!(rt; told.as_slice(), b"vfault: plan 66: too many".as_slice());
-    assert_eq!(rt; held.len(), 0);
-    Ok(())
+    let watched = b"watch w\n";
+    is_planned(&rt, rt.alloc(), WIDE, watched, 64, b"", NO_FAULTS)
+}
+
+#[test]
+fn too_many_watched_bits(rt: HostRuntime) -> Result<(), Fail> {
+    let watched = b"watch w\n";
+    let line = b"vfault: plan 66: too many";
+    is_planned(&rt, rt.alloc(), WIDE, watched, 65, line, b"")
 }
 
 #[test]
 fn the_most_faults(rt: HostRuntime) -> Result<(), Fail> {
     let alloc = rt.alloc();
-    let design = b"module top;\nreg a, b;\nendmodule\n";
-    let most = repeated(alloc, b"end 0\n", b"faults all\n", 16_384, b"")?;
-    let wanted = repeated(
+    let report = repeated(
         alloc,
         b"vfault 1\n",
         b"a sa0 undetected\na sa1 undetected\nb sa0 undetected\nb sa1 undetected\n",
         16_384,
         b"total 65536 detected 0 possible 0 undetected 65536 race 0 hyper 0\n",
     )?;
-    let (status, held) = graded(&rt, alloc, design, most.as_slice())?;
-    assert_eq!(rt; status, Status::Done);
-    assert_eq!(rt; held.as_slice(), wanted.as_slice());
-    let more = repeated(alloc, b"end 0\n", b"faults all\n", 16_385, b"")?;
-    let (status, held) = graded(&rt, alloc, design, more.as_slice())?;
-    let told = line_of(alloc, &status)?;
-    assert_eq!(rt; told.as_slice(), b"vfault: plan 16386: too many".as_slice());
-    assert_eq!(rt; held.len(), 0);
-    Ok(())
+    is_planned(
+        &rt,
+        alloc,
+        TWO_BITS,
+        ALL_FAULTS,
+        16_384,
+        b"",
+        report.as_slice(),
+    )
 }
 
-// One byte more than may be: the file isn't read as a text.
 #[test]
-fn a_design_that_is_too_long(rt: HostRuntime) -> Result<(), Fail> {
-    let alloc = rt.alloc();
-    let design = repeated(alloc, b"", b" ", MAX_DESIGN_BYTES + 1, b"")?;
-    let (status, held) = graded(&rt, alloc, design.as_slice(), b"end 1\n")?;
-    assert_eq!(rt; status, Status::TooLong(Which::Design));
-    assert_eq!(rt; held.len(), 0);
-    Ok(())
-}
-
-// A plan of as many bytes as may be, and one with a byte more.
-#[test]
-fn a_plan_that_is_too_long(rt: HostRuntime) -> Result<(), Fail> {
-    let alloc = rt.alloc();
-    let design = b"module top;\nreg a, b;\nendmodule\n";
-    let most = repeated(alloc, b"end 1\n", b"\n", MAX_PLAN_BYTES - 6, b"")?;
-    let wanted = repeated(alloc, b"vfault 1\n", b"", 0, NO_FAULTS)?;
-    let (status, held) = graded(&rt, alloc, design, most.as_slice())?;
-    assert_eq!(rt; status, Status::Done);
-    assert_eq!(rt; held.as_slice(), wanted.as_slice());
-    let more = repeated(alloc, b"end 1\n", b"\n", MAX_PLAN_BYTES - 5, b"")?;
-    let (status, held) = graded(&rt, alloc, design, more.as_slice())?;
-    assert_eq!(rt; status, Status::TooLong(Which::Plan));
-    assert_eq!(rt; held.len(), 0);
-    Ok(())
+fn too_many_faults(rt: HostRuntime) -> Result<(), Fail> {
+    let line = b"vfault: plan 16386: too many";
+    is_planned(&rt, rt.alloc(), TWO_BITS, ALL_FAULTS, 16_385, line, b"")
 }

@@ -2,7 +2,56 @@
 
 use super::rows::Row;
 
-pub const REFUSED: &[Row<'static>] = &[
+/// Texts without a design.
+pub const REFUSED_DESIGNS: &[Row<'static>] = &[
+    // no module
+    Row {
+        words: "grade d p top 1",
+        design: b"",
+        plan: b"end 1\n",
+        line: b"vfault: design: no module of that name",
+        output: b"",
+    },
+    // a range that isn't closed
+    Row {
+        words: "grade d p top 1",
+        design: b"module top; reg [3",
+        plan: b"end 1\n",
+        line: b"vfault: design 1:19: unexpected",
+        output: b"",
+    },
+    // a number without digits
+    Row {
+        words: "grade d p top 1",
+        design: b"module top; reg q = 4'",
+        plan: b"end 1\n",
+        line: b"vfault: design 1:21: bad number",
+        output: b"",
+    },
+    // a loop of nets
+    Row {
+        words: "grade d p top 1",
+        design: b"module top; wire a, b; assign a = ~b; assign b = ~a; endmodule",
+        plan: b"end 1\n",
+        line: b"vfault: design 1:18: loop",
+        output: b"",
+    },
+    // one object too many
+    Row {
+        words: "grade d p top 1",
+        design: b"module top; reg [7:0] m [0:65536]; endmodule",
+        plan: b"end 1\n",
+        line: b"vfault: design: too many objects (65537)",
+        output: b"",
+    },
+    // a task
+    Row {
+        words: "grade d p top 1",
+        design: b"module top; task t; endtask endmodule",
+        plan: b"end 1\n",
+        line: b"vfault: design 1:13: not in the profile",
+        output: b"",
+    },
     // a comment that isn't closed
     Row {
         words: "grade d p top 1",
@@ -33,6 +82,26 @@ pub const REFUSED: &[Row<'static>] = &[
         design: b"module top;\nwire [1:0] w; wire a;\nassign w[0] = a; assign w = 2'b01;\nendmodule\n",
         plan: b"end 1\n",
         line: b"vfault: design 3:25: two drivers of bit 0",
+        output: b"",
+    },
+];
+
+/// Texts without a plan over the design.
+pub const REFUSED_PLANS: &[Row<'static>] = &[
+    // no site
+    Row {
+        words: "grade d p top 1",
+        design: b"module top;\nreg q;\ninitial begin q = 0; #10 q = 1; end\nendmodule\n",
+        plan: b"end 20\nwatch q\nstrobe 5\nstrobe 15\nfault r 0\n",
+        line: b"vfault: plan 5: unknown name",
+        output: b"",
+    },
+    // too many strobes
+    Row {
+        words: "grade d p top 1",
+        design: b"module top;\nreg q;\ninitial begin q = 0; #10 q = 1; end\nendmodule\n",
+        plan: b"end 70000\nstrobe 0 1 70000\n",
+        line: b"vfault: plan 2: too many",
         output: b"",
     },
     // a plan of no line
@@ -99,12 +168,16 @@ pub const REFUSED: &[Row<'static>] = &[
         line: b"vfault: plan 2: unknown name",
         output: b"",
     },
-    // no design
+];
+
+/// Words of no form, and names of no file.
+pub const REFUSED_WORDS: &[Row<'static>] = &[
+    // too few words
     Row {
-        words: "grade r p top 1",
+        words: "grade d p",
         design: b"module top;\nreg q;\ninitial begin q = 0; #10 q = 1; end\nendmodule\n",
-        plan: b"end 20\n",
-        line: b"vfault: cannot read the design",
+        plan: b"end 1\n",
+        line: b"vfault: usage: grade DESIGN PLAN TOP WORKERS [strict] | check DESIGN TOP [strict] | faults DESIGN TOP [strict] | soak NUMBER SIZE WORKERS",
         output: b"",
     },
     // no worker
@@ -121,6 +194,22 @@ pub const REFUSED: &[Row<'static>] = &[
         design: b"module top;\nreg q;\ninitial begin q = 0; #10 q = 1; end\nendmodule\n",
         plan: b"end 20\n",
         line: b"vfault: usage: grade DESIGN PLAN TOP WORKERS [strict] | check DESIGN TOP [strict] | faults DESIGN TOP [strict] | soak NUMBER SIZE WORKERS",
+        output: b"",
+    },
+    // no plan
+    Row {
+        words: "grade d r top 1",
+        design: b"module top;\nreg q;\ninitial begin q = 0; #10 q = 1; end\nendmodule\n",
+        plan: b"end 1\n",
+        line: b"vfault: cannot read the plan",
+        output: b"",
+    },
+    // no design
+    Row {
+        words: "grade r p top 1",
+        design: b"module top;\nreg q;\ninitial begin q = 0; #10 q = 1; end\nendmodule\n",
+        plan: b"end 20\n",
+        line: b"vfault: cannot read the design",
         output: b"",
     },
 ];

@@ -1,54 +1,57 @@
 // Whole runs by several workers: generated designs, and the counter with its adder.
 
 use super::counter::{COUNTER, COUNTER_PLAN, COUNTER_REPORT};
+use super::is_answered;
 use super::rows::Row;
-use super::{answered, answered_through};
-use std::alloc::{AllocError, Global};
-use std::marker::Brand;
-use std::sync::ledger::Blank;
+use std::alloc::Global;
+use std::process::Abort;
 use std::test::Fail;
 use std::thread::Threads;
-use top_call::COUNTERS;
 use vf_base::{Gate, HeldGate, OpenGate};
-use vf_status::Status;
 
 /// The totals over the generated design of 64 registers that begins with 5, as an independent model counts them.
 const TOTALS: &[u8] = b"total 514 detected 386 possible 0 undetected 128 race 0 hyper 0\n";
 
-/// The status and the output of these words over no file that is read, whose workers call the gate.
-fn soaked<R: Threads + Sync, G: Gate + Sync>(
+/// These words give these totals, over no file that is read, where the workers call the gate.
+fn is_soaked<R: Threads + Sync + Abort, G: Gate + Sync>(
     rt: &R,
     alloc: Global,
     words: &str,
+    totals: &[u8],
     gate: &G,
-) -> Result<(Status, Vec<u8>), AllocError> {
+) -> Result<(), Fail> {
     let row = Row {
         words,
         design: b"",
         plan: b"",
         line: b"",
-        output: b"",
+        output: totals,
     };
-    answered_through::<Brand, R, G>(rt, alloc, Blank::new(COUNTERS), &row, 1, None, gate)
+    is_answered(rt, alloc, &row, 1, None, gate)
+}
+
+/// These words give the report on the counter.
+fn is_counted<R: Threads + Sync + Abort>(rt: &R, alloc: Global, words: &str) -> Result<(), Fail> {
+    let row = Row {
+        words,
+        design: COUNTER,
+        plan: COUNTER_PLAN,
+        line: b"",
+        output: COUNTER_REPORT,
+    };
+    is_answered(rt, alloc, &row, 0, None, &OpenGate)
 }
 
 #[test]
 fn one_register(rt: HostRuntime) -> Result<(), Fail> {
-    let (status, held) = soaked(&rt, rt.alloc(), "soak 7 1 1", &OpenGate)?;
-    assert_eq!(rt; status, Status::Done);
-    assert_eq!(rt;
-        held.as_slice(),
-        b"total 10 detected 2 possible 0 undetected 8 race 0 hyper 0\n".as_slice()
-    );
-    Ok(())
+    let totals = b"total 10 detected 2 possible 0 undetected 8 race 0 hyper 0\n";
+    is_soaked(&rt, rt.alloc(), "soak 7 1 1", totals, &OpenGate)
 }
 
 #[test]
 fn any_number_of_workers(rt: HostRuntime) -> Result<(), Fail> {
     'words: for words in ["soak 5 64 1", "soak 5 64 2", "soak 5 64 8"] {
-        let (status, held) = soaked(&rt, rt.alloc(), words, &OpenGate)?;
-        assert_eq!(rt; status, Status::Done);
-        assert_eq!(rt; held.as_slice(), TOTALS);
+        is_soaked(&rt, rt.alloc(), words, TOTALS, &OpenGate)?;
     }
     Ok(())
 }
@@ -57,9 +60,7 @@ fn any_number_of_workers(rt: HostRuntime) -> Result<(), Fail> {
 #[test]
 fn two_workers_at_once(rt: HostRuntime) -> Result<(), Fail> {
     let gate = HeldGate::new(0, 1, 2_000_000_000);
-    let (status, held) = soaked(&rt, rt.alloc(), "soak 5 64 2", &gate)?;
-    assert_eq!(rt; status, Status::Done);
-    assert_eq!(rt; held.as_slice(), TOTALS);
+    is_soaked(&rt, rt.alloc(), "soak 5 64 2", TOTALS, &gate)?;
     assert!(rt; gate.met());
     Ok(())
 }
@@ -67,23 +68,7 @@ fn two_workers_at_once(rt: HostRuntime) -> Result<(), Fail> {
 #[test]
 fn the_counter_by_any_number_of_workers(rt: HostRuntime) -> Result<(), Fail> {
     'words: for words in ["grade d p tb 1", "grade d p tb 2", "grade d p tb 8"] {
-        let row = Row {
-            words,
-            design: COUNTER,
-            plan: COUNTER_PLAN,
-            line: b"",
-            output: COUNTER_REPORT,
-        };
-        let (status, held) = answered::<Brand, HostRuntime>(
-            &rt,
-            rt.alloc(),
-            Blank::new(COUNTERS),
-            &row,
-            0,
-            None,
-        )?;
-        assert_eq!(rt; status, Status::Done);
-        assert_eq!(rt; held.as_slice(), row.output);
+        is_counted(&rt, rt.alloc(), words)?;
     }
     Ok(())
 }

@@ -1,7 +1,8 @@
-// More designs and plans with what they give: ports, sizes, and plans at the edges of what may be.
+// More designs and plans with what they give.
 
 use super::rows::Row;
 
+/// Ports, sizes, updates past the end, and plans at their limits.
 pub const WORKED: &[Row<'static>] = &[
     // a wait that had begun
     Row {
