@@ -1,69 +1,11 @@
-// Texts of words with a blank between them. A token stands at the column of its word, counted in words.
+// Units, from texts with a blank behind each token.
 
-ghost use Rattle.std.specs.Prelude.{◌<◌, ◌+◌, ◌^◌};
-
-use crate::{ParseFault, parse};
-use four_value::{Bit, Vec4};
+use crate::tests::tokens::{tokens_of_words, zero};
 use std::alloc::Global;
 use std::test::Fail;
-use v_tree::{Mark, NumberForm, Token, TokenKind};
-use vf_base::{NoMemory, Place, Text};
-
-fn mark_of(word: &[u8]) -> Option<Mark> {
-    match word {
-        b"(" => Some(Mark::LeftParen),
-        b")" => Some(Mark::RightParen),
-        b"{" => Some(Mark::LeftBrace),
-        b"}" => Some(Mark::RightBrace),
-        b"[" => Some(Mark::LeftBracket),
-        b"]" => Some(Mark::RightBracket),
-        b"," => Some(Mark::Comma),
-        b";" => Some(Mark::Semicolon),
-        b":" => Some(Mark::Colon),
-        b"." => Some(Mark::Dot),
-        b"#" => Some(Mark::Hash),
-        b"@" => Some(Mark::At),
-        b"*" => Some(Mark::Star),
-        b"!" => Some(Mark::Bang),
-        b"=" => Some(Mark::Assign),
-        _ => None,
-    }
-}
-
-fn kind_of(alloc: Global, word: &[u8], zero: Vec4) -> Result<TokenKind, NoMemory> {
-    if let Some(mark) = mark_of(word) {
-        return Ok(TokenKind::Mark(mark));
-    }
-    match word {
-        [b'0', ..] => Ok(TokenKind::Number(zero, NumberForm::Plain)),
-        [b'$', ..] => Ok(TokenKind::System(Text::from_bytes(alloc, word)?)),
-        _ => Ok(TokenKind::Word(Text::from_bytes(alloc, word)?)),
-    }
-}
-
-fn tokens_of(alloc: Global, text: &[u8], zero: Vec4) -> Result<Vec<Token>, NoMemory> {
-    let mut tokens = Vec::new(alloc);
-    let mut word = Vec::new(alloc);
-    let mut column: u32 = 1;
-    'bytes: for byte in text {
-        if *byte == b' ' {
-            let place = Place {
-                line: 1,
-                column: column.min(1000),
-            };
-            tokens.push(Token::new(kind_of(alloc, &word, zero)?, place))?;
-            word.clear();
-            column = column.saturating_add(1);
-        } else {
-            word.push(*byte)?;
-        }
-    }
-    Ok(tokens)
-}
-
-fn zero() -> Option<Vec4> {
-    Vec4::from_bits(&[Bit::Zero]).ok()
-}
+use v_parse::{ParseFault, parse};
+use v_tree::Token;
+use vf_base::NoMemory;
 
 // the number of modules that are read, or the fault with its column
 #[derive(Clone, Copy, PartialEq, Eq, Debug)]
@@ -200,7 +142,7 @@ fn texts_are_units_or_stop(rt: HostRuntime) -> Result<(), Fail> {
     let alloc = rt.alloc();
     let Some(zero) = zero() else { return Ok(()) };
     'texts: for (text, outcome) in &TEXTS {
-        let tokens = tokens_of(alloc, text, zero)?;
+        let tokens = tokens_of_words(alloc, text, zero)?;
         assert_eq!(rt; outcome_of(alloc, &tokens), *outcome);
     }
     Ok(())
@@ -275,7 +217,7 @@ fn levels_end_at_the_256th(rt: HostRuntime) -> Result<(), Fail> {
     let Some(zero) = zero() else { return Ok(()) };
     'texts: for (before, word, times, after, outcome) in &DEPTHS {
         let text = repeated(alloc, before, word, *times, after)?;
-        let tokens = tokens_of(alloc, &text, zero)?;
+        let tokens = tokens_of_words(alloc, &text, zero)?;
         assert_eq!(rt; outcome_of(alloc, &tokens), *outcome);
     }
     Ok(())
