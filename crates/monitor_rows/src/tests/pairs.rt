@@ -11,10 +11,7 @@ ghost use Rattle.causal_monitor.specs.SmallDesign.{small_design};
 mod design;
 mod rows;
 
-use crate::index::CheckIndex;
-use crate::log::PhaseLog;
-use crate::noted::{Noted, WaitEdge};
-use crate::search::check;
+use causal_monitor::{CheckIndex, Noted, PhaseLog, WaitEdge, check};
 use design::small;
 use four_value::Vec4;
 use net_graph::Graph;

@@ -2,7 +2,7 @@
 
 ghost use Rattle.std.specs.Prelude.{◌≡◌};
 
-use super::*;
+use causal_monitor::{Noted, PhaseLog};
 use std::test::Fail;
 use vf_base::{Access, AccessKind, ObjectId, ProcId};
 

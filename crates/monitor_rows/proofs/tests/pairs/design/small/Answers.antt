@@ -1,7 +1,7 @@
 use Rattle.std.proofs.Common.{◌∷◌, ◌++◌, [], ap, ◌∙◌, map}
 use Rattle.v_design.specs.Plain.{node_of}
 use Rattle.causal_monitor.proofs.SmallRules.{small_parts}
-use Rattle.causal_monitor.proofs.tests.design.small.Goals as goal
+use Rattle.monitor_rows.proofs.tests.pairs.design.small.Goals as goal
 
 pub invariant_of-result : goal.invariant_of-result
 invariant_of-result c = record {
