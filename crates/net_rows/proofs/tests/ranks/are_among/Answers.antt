@@ -6,7 +6,7 @@ use Rattle.v_design.specs.Designs.{FlatNode}
 use Rattle.v_design.specs.Plain.{node_of}
 use Rattle.net_graph.specs.Loops.{AreAmong}
 use Rattle.net_graph.specs.WiringLaws.{AllHold-push}
-use Rattle.net_graph.proofs.tests.are_among.Goals as goal
+use Rattle.net_rows.proofs.tests.ranks.are_among.Goals as goal
 
 pub nodes-preserved : goal.nodes-preserved
 nodes-preserved c =

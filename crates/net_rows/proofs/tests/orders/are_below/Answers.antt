@@ -4,7 +4,7 @@ use Rattle.std.proofs.lemmas.Bool.{or_cases, eqb-true}
 use Rattle.std.proofs.lemmas.List.{take_all}
 use Rattle.v_design.specs.Lists.{has}
 use Rattle.graph_order.specs.ListLaws.{has-take_more}
-use Rattle.graph_order.proofs.tests.are_below.Goals as goal
+use Rattle.net_rows.proofs.tests.orders.are_below.Goals as goal
 
 pub needs-preserved : goal.needs-preserved
 needs-preserved c need h =

@@ -1,8 +1,8 @@
 // Texts with their tokens or their faults, by the rules of IEEE 1364-2001, clause 2.
 
-use crate::{ScanFault, scan};
 use four_value::Bit;
 use std::test::Fail;
+use v_scan::{ScanFault, scan};
 use v_tree::{NumberForm, TokenKind};
 use vf_base::Place;
 

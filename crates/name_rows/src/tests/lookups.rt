@@ -1,8 +1,8 @@
 // Names that are looked up, and the first of several faults.
 
-use crate::{Entry, Found, Reason, Scope, first_with};
 use std::alloc::Global;
 use std::test::Fail;
+use v_names::{Entry, Found, Reason, Scope, first_with};
 use vf_base::{NoMemory, Place, Text};
 
 const NET: Entry = Entry::Net {
@@ -45,7 +45,7 @@ fn shown(entry: Option<Entry>) -> &'static str {
 }
 
 /// Puts a name in, unless it is there.
-pub(crate) fn put<'m>(
+pub fn put<'m>(
     alloc: Global,
     scope: &mut Scope<'m>,
     name: &'m [u8],

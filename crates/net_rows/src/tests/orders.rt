@@ -4,7 +4,7 @@ ghost use Rattle.std.specs.Prelude.{◌≡◌, ℕ, ◌<◌, true, false, length
 ghost use Rattle.v_design.specs.Lists.{has};
 ghost use Rattle.graph_order.specs.Digraphs.{lists_of, NeedVertices};
 
-use crate::{depths, least_on_loop, put_in_order};
+use graph_order::{depths, least_on_loop, put_in_order};
 use std::alloc::Global;
 use vf_base::NoMemory;
 

@@ -1,33 +1,9 @@
 // Plans over a design of one variable, read and refused; the expected answers are those of the plan's format as it is documented.
 
-use super::*;
-use four_value::{Bit, Vec4};
-use std::alloc::Global;
-use v_design::{Design, Fault, Object, ObjectKind, Site};
-use vf_base::{NoMemory, ObjectId, Place, Seq, Text};
-
-/// The design that has the variable `q` of one bit.
-fn one_variable(alloc: Global) -> Result<Design, NoMemory> {
-    let object = Object {
-        name: Text::from_bytes(alloc, b"q")?,
-        kind: ObjectKind::Var,
-        width: 1,
-        ranged: false,
-        high: 0,
-        low: 0,
-        address: 0,
-        first: Vec4::of_bit(Bit::X),
-        place: Place { line: 2, column: 5 },
-    };
-    let mut objects = Vec::new(alloc);
-    objects.push(object)?;
-    Ok(Design {
-        objects: Seq::from_vec(objects),
-        joined: Seq::from_vec(Vec::new(alloc)),
-        nodes: Seq::from_vec(Vec::new(alloc)),
-        processes: Seq::from_vec(Vec::new(alloc)),
-    })
-}
+use crate::tests::variable::one_variable;
+use plan_read::{PlanFault, read_plan};
+use v_design::{Fault, Site};
+use vf_base::ObjectId;
 
 /// Plans that are refused, with the first line at fault and its reason.
 static REFUSED: [(&[u8], PlanFault); 38] = [

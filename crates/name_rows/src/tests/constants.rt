@@ -2,13 +2,13 @@
 
 ghost use Rattle.four_value.specs.Values.{IsWidth};
 
-use crate::tests::put;
-use crate::{
-    Constant, ConstantPlace, Entry, Scope, constant_of, number_of_constant, own_size, value_fault,
-};
+use crate::tests::lookups::put;
 use four_value::{BinaryOperator, Vec4};
 use std::alloc::Global;
 use std::test::Fail;
+use v_names::{
+    Constant, ConstantPlace, Entry, Scope, constant_of, number_of_constant, own_size, value_fault,
+};
 use v_tree::{Expr, NumberForm};
 use vf_base::{NoMemory, Place, Text};
 

@@ -6,8 +6,8 @@ ghost use Rattle.v_design.specs.Lists.{AllHold};
 ghost use Rattle.v_design.specs.Plain.{node_of};
 ghost use Rattle.net_graph.specs.Loops.{AreAmong};
 
-use crate::{RankFault, ranks};
 use four_value::GateKind;
+use net_graph::{RankFault, ranks};
 use std::alloc::Global;
 use v_design::{Node, NodeKind};
 use vf_base::{NoMemory, ObjectId, Seq, Text};

@@ -3,7 +3,7 @@ use Rattle.std.proofs.lemmas.List.{map_more, take_all}
 use Rattle.vf_base.specs.Base.{object_number}
 use Rattle.v_design.specs.Lists.{AllHold}
 use Rattle.net_graph.specs.WiringLaws.{AllHold-push}
-use Rattle.net_graph.proofs.tests.are_below.Goals as goal
+use Rattle.net_rows.proofs.tests.ranks.are_below.Goals as goal
 
 pub objects-preserved : goal.objects-preserved
 objects-preserved c =
