@@ -21,8 +21,6 @@ mod order;
 mod search;
 mod settled;
 mod slot;
-#[cfg(test)]
-mod tests;
 mod totals;
 
 pub use index::CheckIndex;

@@ -12,9 +12,6 @@ use std::alloc::Global;
 use std::marker::Model;
 use vf_base::{NoMemory, Seq};
 
-#[cfg(test)]
-mod tests;
-
 /// An event: the number of the event that caused it, and its accesses in order.
 #[derive(Drop)]
 struct Entry {

@@ -21,6 +21,3 @@ pub use law::{names_read, one_class};
 pub use list::{all_sites, width_of};
 pub use name::{append, append_number, write_site};
 pub use spelled::{bit_spelled, joined_place, node_spelled, piece_bit, site_of};
-
-#[cfg(test)]
-mod tests;

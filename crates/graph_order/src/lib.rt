@@ -8,8 +8,6 @@
 mod depth;
 mod order;
 mod search;
-#[cfg(test)]
-mod tests;
 
 pub use depth::depths;
 pub use order::{Order, empty_lists, put_in_order};

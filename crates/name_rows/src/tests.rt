@@ -1,6 +1,8 @@
 // Texts with what comes of the names of their last modules. The expected outcomes are those of an independent model, and worked by hand.
 
+mod constants;
 mod fault_rows;
+mod lookups;
 mod meaning_rows;
 
 use crate::tests::fault_rows::{

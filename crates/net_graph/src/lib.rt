@@ -13,8 +13,6 @@ mod count;
 mod graph;
 mod rank;
 mod spread;
-#[cfg(test)]
-mod tests;
 
 pub use count::Marks;
 pub use graph::Graph;

@@ -2,6 +2,9 @@
 // and 9.4). a and b are the objects 0 and 1; `nand n1(y, a, b)`, `xor x1(w, a, b)` and the block that gives f the value of b where a is 1, else of ~b,
 // drive the objects 2, 3 and 4.
 
+mod orders;
+mod ranks;
+
 use four_value::{Bit, Vec4};
 use net_graph::Graph;
 use net_state::NetState;

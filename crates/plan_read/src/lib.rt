@@ -16,6 +16,3 @@ mod watch;
 
 pub use fault::PlanFault;
 pub use read::read_plan;
-
-#[cfg(test)]
-mod tests;

@@ -9,8 +9,6 @@ mod room;
 mod same;
 mod state;
 mod stepping;
-#[cfg(test)]
-mod tests;
 mod waits;
 
 pub use code::{Code, compile};

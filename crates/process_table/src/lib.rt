@@ -13,8 +13,6 @@ mod row;
 mod rows;
 mod set;
 mod table;
-#[cfg(test)]
-mod tests;
 mod turns;
 mod waits;
 mod wakes;

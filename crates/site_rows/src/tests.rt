@@ -1,5 +1,9 @@
 // Sites, names, plans and lines of a report over the worked design. The expected texts are those of an independent model.
 
+mod plans;
+mod sites;
+mod variable;
+
 use crate::design::worked;
 use crate::gate::{nand, xor};
 use fault_list::{all_sites, append, append_number, classes, count_sites, site_of, write_site};

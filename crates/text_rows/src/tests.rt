@@ -4,6 +4,7 @@ mod block_rows;
 mod parse_rows;
 mod repeated_rows;
 mod scan_rows;
+mod scans;
 mod token_rows;
 
 use crate::tests::parse_rows::PARSE_ROWS;

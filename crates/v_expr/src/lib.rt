@@ -10,8 +10,6 @@
 mod expressions;
 mod operators;
 mod parts;
-#[cfg(test)]
-mod tests;
 
 pub use expressions::expression;
 pub use parts::{

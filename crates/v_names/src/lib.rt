@@ -10,16 +10,12 @@
 
 mod constant;
 mod constant_place;
-#[cfg(test)]
-mod constant_tests;
 mod entry;
 mod found;
 mod scope;
 mod size;
 mod sizing;
 mod term;
-#[cfg(test)]
-mod tests;
 
 pub use constant::{Constant, constant_of, number_of_constant};
 pub use constant_place::{ConstantPlace, are_parameters, is_waiting, place_of_expr, value_fault};

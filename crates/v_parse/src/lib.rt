@@ -16,8 +16,6 @@ mod fault;
 mod headers;
 mod items;
 mod modules;
-#[cfg(test)]
-mod tests;
 mod text;
 
 pub use fault::ParseFault;

@@ -11,8 +11,6 @@ mod fault;
 mod marks;
 mod number;
 mod pieces;
-#[cfg(test)]
-mod tests;
 mod tokens;
 mod value;
 mod words;

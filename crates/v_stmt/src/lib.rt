@@ -9,7 +9,5 @@ mod build;
 mod parts;
 mod pieces;
 mod statements;
-#[cfg(test)]
-mod tests;
 
 pub use statements::statement;
