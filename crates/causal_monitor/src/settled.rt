@@ -1,6 +1,6 @@
 // The wild net pieces that a change settles.
 
-ghost use Rattle.std.specs.Prelude.{◌≡◌, ℕ, ◌<◌, ◌&&◌, ◌++◌, [], ◌∷◌, false, map, filter, length, vec_len, get_or, IfOk};
+ghost use Rattle.std.specs.Prelude.{◌≡◌, ℕ, ◌<◌, ◌&&◌, ◌++◌, [], ◌∷◌, false, map, filter, length, vec_len, get_or, IfOk, OnOk};
 ghost use Rattle.vf_base.specs.Base.{object_number};
 ghost use Rattle.v_design.specs.Lists.{has};
 ghost use Rattle.v_design.specs.Paths.{paths, net_pieces, is_wild};
@@ -27,23 +27,23 @@ fn push_if(wanted: bool, object: ObjectId, list: &mut Vec<ObjectId>) -> Result<(
 }
 
 /// The net pieces that are wild in a phase, in ascending order.
-fn wild_nets(
-    alloc: Global,
+fn fill_wild(
     design: &Design,
     log: &PhaseLog,
     totals: &Vec<u8>,
-) -> Result<Vec<ObjectId>, NoMemory>
+    nets: &mut Vec<ObjectId>,
+) -> Result<(), NoMemory>
     requires sized { vec_len totals.now ≡ length (design_of design.now).objects }
     requires totals { AreTotals (design_of design.now) (phase_changes (design_of design.now) log.now.log) totals.now.items }
-    ensures { IfOk result (λ nets. map object_number nets.items ≡ filter (is_wild (design_of design.now) (phase_changes (design_of design.now) log.now.log)) (net_pieces (design_of design.now))) }
+    ensures { OnOk result (map object_number nets.new.items ≡ filter (is_wild (design_of design.now) (phase_changes (design_of design.now) log.now.log)) (net_pieces (design_of design.now))) }
 {
-    let mut nets = Vec::new(alloc);
+    nets.clear();
     'objects: for number in 0..totals.len() {
         let object = ObjectId(number as u32);
         let wanted = is_wild_net(design, log, totals, object);
-        push_if(wanted, object, &mut nets)?;
+        push_if(wanted, object, nets)?;
     }
-    Ok(nets)
+    Ok(())
 }
 
 /// The wild net pieces to which a path leads from an object, in ascending order.
@@ -97,39 +97,40 @@ fn nets_settled_if<'d>(
     Ok(nets)
 }
 
-/// For each object that changed the wild net pieces that its change settles.
-pub(crate) fn all_settled<'d>(
+/// For each object that changed the wild net pieces that its change settles. `wild` is room for these net pieces.
+pub(crate) fn fill_settled(
     alloc: Global,
-    graph: &Graph<'d>,
+    graph: &Graph,
     log: &PhaseLog,
     counts: &Vec<u8>,
     totals: &Vec<u8>,
-    marks: &mut Marks<'d>,
-) -> Result<Vec<Vec<ObjectId>>, NoMemory>
+    wild: &mut Vec<ObjectId>,
+    lists: &mut Vec<Vec<ObjectId>>,
+) -> Result<(), NoMemory>
     requires counts { CountChanges (phase_changes (design_of graph.now.design.now) log.now.log) counts.now.items }
     requires counts_sized { vec_len counts.now ≡ length (design_of graph.now.design.now).objects }
     requires sized { vec_len totals.now ≡ length (design_of graph.now.design.now).objects }
     requires totals { AreTotals (design_of graph.now.design.now) (phase_changes (design_of graph.now.design.now) log.now.log) totals.now.items }
-    requires belongs { marks.old.design.now ≡ graph.now.design.now }
-    ensures count { IfOk result (λ lists. vec_len lists ≡ length (design_of graph.now.design.now).objects) }
-    ensures settled { IfOk result (λ lists. AreSettled (design_of graph.now.design.now) (phase_changes (design_of graph.now.design.now) log.now.log) lists.items) }
+    ensures count { OnOk result (vec_len lists.new ≡ length (design_of graph.now.design.now).objects) }
+    ensures settled { OnOk result (AreSettled (design_of graph.now.design.now) (phase_changes (design_of graph.now.design.now) log.now.log) lists.new.items) }
 {
-    let wild = wild_nets(alloc, graph.design, log, totals)?;
-    let reaching = graph.reaching(alloc, &wild)?;
-    let mut lists = Vec::new(alloc);
+    fill_wild(graph.design, log, totals, wild)?;
+    let reaching = graph.reaching(alloc, wild)?;
+    let mut marks = Marks::new(alloc, graph)?;
+    lists.clear();
     'objects: for (number, count) in counts.iter().enumerate() {
         let from = ObjectId(number as u32);
         let nets = nets_settled_if(
             alloc,
             graph,
             log,
-            &wild,
+            wild,
             from,
             *count,
             reaching[number],
-            marks,
+            &mut marks,
         )?;
         lists.push(nets)?;
     }
-    Ok(lists)
+    Ok(())
 }

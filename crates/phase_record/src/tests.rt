@@ -165,7 +165,7 @@ fn reported(process: u32, line: u32) -> Access {
 fn lanes_conflict(rt: HostRuntime) -> Result<(), Fail> {
     let design = design(rt.alloc()).expect(&rt, "memory");
     let graph = Graph::new(rt.alloc(), &design).expect(&rt, "memory");
-    let two = two_lanes(rt.alloc()).expect(&rt, "memory");
+    let mut two = two_lanes(rt.alloc()).expect(&rt, "memory");
     let race = Pair {
         time: 0,
         phase: 2,
@@ -173,7 +173,7 @@ fn lanes_conflict(rt: HostRuntime) -> Result<(), Fail> {
         second: reported(1, 4),
     };
     assert_eq!(rt; two.conflict(&graph).expect(&rt, "memory"), Some(race));
-    let one = one_lane(rt.alloc()).expect(&rt, "memory");
+    let mut one = one_lane(rt.alloc()).expect(&rt, "memory");
     assert_eq!(rt; one.conflict(&graph).expect(&rt, "memory"), None);
     Ok(())
 }

@@ -10,12 +10,12 @@ use Rattle.v_design.specs.PlainDesigns.{design_of}
 use Rattle.net_graph.specs.Tables.{object_lists}
 use Rattle.causal_monitor.proofs.TotalLaws.{SettledBefore, SettledBefore-more, objects_are_few}
 use Rattle.causal_monitor.proofs.AddLaws.{nets_below}
-use Rattle.causal_monitor.proofs.settled.all_settled.Goals as goal
+use Rattle.causal_monitor.proofs.settled.fill_settled.Goals as goal
 
 pub reaching-requires : goal.reaching-requires
 reaching-requires c = λ k d low.
     let design = design_of c.args.graph.now.design.now in
-    nets_below design (is_wild design (phase_changes design c.args.log.now.log)) c.deref.result.now (ap (map object_number) c.deref.ensures.value ∙ c.in_ok-wild.ensures) k d low
+    nets_below design (is_wild design (phase_changes design c.args.log.now.log)) c.deref.result.now (ap (map object_number) c.deref.ensures.value ∙ c.in_ok-fill_wild.ensures) k d low
 
 pub overflow_cast-from : goal.overflow_cast-from
 overflow_cast-from c =

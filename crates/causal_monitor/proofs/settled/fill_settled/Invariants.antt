@@ -3,7 +3,7 @@ use Rattle.v_design.specs.Logs.{phase_changes}
 use Rattle.v_design.specs.PlainDesigns.{design_of}
 use Rattle.net_graph.specs.Tables.{object_lists}
 use Rattle.causal_monitor.proofs.TotalLaws.{SettledBefore}
-use Rattle.causal_monitor.proofs.settled.all_settled.Given as goal
+use Rattle.causal_monitor.proofs.settled.fill_settled.Given as goal
 
 abbrev pub invariant-objects : goal.invariant-objects
 invariant-objects l = record {
