@@ -137,8 +137,20 @@ fn fill_links_of(
     fill_jumps(log, &mut tables.depths, &mut index.jumps)?;
     let latest = &mut tables.latest;
     fill_links(&index.accesses, objects, Group::All, latest, &mut index.all)?;
-    fill_links(&index.accesses, objects, Group::Changes, latest, &mut index.changes)?;
-    fill_links(&index.accesses, objects, Group::Looks, latest, &mut index.looks)?;
+    fill_links(
+        &index.accesses,
+        objects,
+        Group::Changes,
+        latest,
+        &mut index.changes,
+    )?;
+    fill_links(
+        &index.accesses,
+        objects,
+        Group::Looks,
+        latest,
+        &mut index.looks,
+    )?;
     Ok(())
 }
 
@@ -176,7 +188,13 @@ impl CheckIndex {
         ensures { OnOk result (IsIndexFor (design_of graph.now.design.now) log.now.log self.new) }
     {
         let objects = graph.design.objects.as_slice().len();
-        fill_accesses(self.alloc, log, graph, &mut self.tables, &mut self.index.accesses)?;
+        fill_accesses(
+            self.alloc,
+            log,
+            graph,
+            &mut self.tables,
+            &mut self.index.accesses,
+        )?;
         fill_links_of(log, objects, &mut self.tables, &mut self.index)?;
         fill_unmarked(&mut self.chained, self.index.accesses.len())?;
         Ok(())

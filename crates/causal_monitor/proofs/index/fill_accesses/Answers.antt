@@ -1,4 +1,4 @@
-use Rattle.std.proofs.Common.{◌≡◌, [], length, replicate, subst, sym, rules}
+use Rattle.std.proofs.Common.{[], length, subst, sym}
 use Rattle.causal_monitor.specs.Changes.{CountChanges}
 use Rattle.causal_monitor.proofs.ChangeLaws.{CountChanges-none}
 use Rattle.causal_monitor.proofs.index.fill_accesses.Goals as goal

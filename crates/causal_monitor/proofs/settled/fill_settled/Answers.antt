@@ -1,42 +1,26 @@
-use Rattle.std.proofs.Common.{rules, arith, ◌≡◌, ◌+◌, ◌<◌, [], ◌∷◌, ℕ, ap, sym, subst, ◌∙◌, length, get_or, map}
-use Rattle.std.specs.Prelude.{Vec}
-use Rattle.std.specs.declared.alloc.Global.{Global}
-use Rattle.std.proofs.lemmas.List.{length-map, map_push}
-use Rattle.vf_base.specs.declared.ids.ObjectId.{ObjectId}
+-- Without wild net pieces no change settles one.
+use Rattle.std.proofs.Common.{◌≡◌, [], ◌∷◌, List, length, map, refl, sym, ap, ◌∙◌, arith, rules}
 use Rattle.vf_base.specs.Base.{object_number}
 use Rattle.v_design.specs.Paths.{is_wild}
 use Rattle.v_design.specs.Logs.{phase_changes}
 use Rattle.v_design.specs.PlainDesigns.{design_of}
-use Rattle.net_graph.specs.Tables.{object_lists}
-use Rattle.causal_monitor.proofs.TotalLaws.{SettledBefore, SettledBefore-more, objects_are_few}
+use Rattle.causal_monitor.proofs.TotalLaws.{settled-none}
 use Rattle.causal_monitor.proofs.AddLaws.{nets_below}
 use Rattle.causal_monitor.proofs.settled.fill_settled.Goals as goal
+
+no-elements : {A : Type 0} (xs : List A) → length xs ≡ 0 → xs ≡ []
+no-elements [] e = refl
+no-elements (x ∷ xs) e = absurd (omega (arith, e))
+
+pub returns-then-is_empty-clause-settled : goal.returns-then-is_empty-clause-settled
+returns-then-is_empty-clause-settled c = λ object there.
+    let design = design_of c.args.graph.now.design.now in
+    let count : length c.fill_wild.new.nets.items ≡ 0 = search rules in
+    let none : c.fill_wild.new.nets.items ≡ [] = no-elements c.fill_wild.new.nets.items count in
+    c.clear_lists.ensures.empty object
+    ∙ settled-none design (phase_changes design c.args.log.now.log) [] object (ap (map object_number) (sym none) ∙ c.in_ok-fill_wild.ensures) (λ net among path. cc)
 
 pub reaching-requires : goal.reaching-requires
 reaching-requires c = λ k d low.
     let design = design_of c.args.graph.now.design.now in
     nets_below design (is_wild design (phase_changes design c.args.log.now.log)) c.deref.result.now (ap (map object_number) c.deref.ensures.value ∙ c.in_ok-fill_wild.ensures) k d low
-
-pub overflow_cast-from : goal.overflow_cast-from
-overflow_cast-from c =
-    let few = objects_are_few (design_of c.args.graph.now.design.now) c.args.graph.now.design.now.rules in
-    let low : c.objects.number < length (design_of c.args.graph.now.design.now).objects = search rules in
-    omega (arith, few, low)
-
-pub objects-preserved : goal.objects-preserved
-objects-preserved c =
-    let design = design_of c.args.graph.now.design.now in
-    let changes = phase_changes (design_of c.args.graph.now.design.now) c.args.log.now.log in
-    let lists = c.objects.lists.items in
-    let count : length c.objects.lists.items ≡ c.objects.number = search rules in
-    let long : length (object_lists c.objects.lists.items) ≡ c.objects.number = length-map c.objects.lists.items (λ (list : Vec ObjectId Global). map object_number list.items) ∙ count in
-    let same : get_or c.deref-count-items.result.now c.objects.number 0 ≡ get_or c.args.counts.now.items c.objects.number 0 = ap (λ l. get_or l c.objects.number 0) c.deref-count-items.ensures.value in
-    record {
-      belongs = search rules;
-      count = search rules;
-      settled =
-          subst (SettledBefore design changes c.args.counts.now.items (c.objects.number + 1))
-          (sym (ap object_lists c.in_ok-push.ensures.items ∙ map_push (λ (list : Vec ObjectId Global). map object_number list.items) lists c.in_ok-nets.nets))
-          (SettledBefore-more design changes c.args.counts.now.items c.objects.number (object_lists lists) (map object_number c.in_ok-nets.nets.items) long
-          (λ positive. c.in_ok-nets.ensures.nets (subst (λ (n : ℕ). 0 < n) (sym same) positive)) c.objects.invariant.settled);
-    }

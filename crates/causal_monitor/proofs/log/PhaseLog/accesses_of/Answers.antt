@@ -1,5 +1,5 @@
 -- The entry at the number tells where the accesses stand.
-use Rattle.std.proofs.Common.{◌<◌, ◌≤◌, ◌∙◌, length, map, get_or, ap, sym, subst, arith}
+use Rattle.std.proofs.Common.{◌<◌, ◌∙◌, length, map, ap, sym, subst, arith}
 use Rattle.std.specs.Prelude.{slice_range}
 use Rattle.causal_monitor.specs.Notes.{noted_access}
 use Rattle.causal_monitor.specs.Phases.{PhaseOfSlot, accesses_at}

@@ -1,5 +1,5 @@
 -- The accesses come to those of the events before, and the event after these.
-use Rattle.std.proofs.Common.{◌≡◌, ℕ, ◌+◌, ◌<◌, ◌≤◌, ◌∙◌, ◌++◌, ◌∷◌, [], length, List, map, ap, sym, subst, arith, rules, length-append}
+use Rattle.std.proofs.Common.{◌≡◌, ℕ, ◌+◌, ◌<◌, ◌∙◌, ◌++◌, ◌∷◌, [], length, List, map, ap, sym, subst, arith, rules, length-append}
 use Rattle.std.specs.Prelude.{Result, Ok, Err, OnErr}
 use Rattle.std.specs.Option.{ForSome}
 use Rattle.causal_monitor.specs.declared.noted.Noted.{Noted}
