@@ -42,12 +42,7 @@ pub struct PhaseRecord {
 }
 
 /// Makes a log that of a phase without events, with the entries that it holds from its beginning.
-fn begin_log(
-    log: &mut PhaseLog,
-    time: u64,
-    number: u32,
-    held: &[Noted],
-) -> Result<(), NoMemory>
+fn begin_log(log: &mut PhaseLog, time: u64, number: u32, held: &[Noted]) -> Result<(), NoMemory>
     requires { AllHold IsHeld held.now }
     ensures { OnOk result (log.new ≡ held_phase time number (map noted_access held.now)) }
 {
@@ -75,7 +70,7 @@ fn any_actors(alloc: Global, spare: &mut Vec<Seq<Actor>>) -> Vec<Actor> {
 }
 
 /// Moves the elements of a list to the end of others. The list keeps its memory.
-fn move_all<T>(alloc: Global, list: &mut Seq<T>, others: &mut Vec<T>) -> Result<(), NoMemory>
+fn move_all<T: Drop>(alloc: Global, list: &mut Seq<T>, others: &mut Vec<T>) -> Result<(), NoMemory>
     ensures { OnOk result (list.new ≡ []) }
 {
     let mut elements = mem::replace(list, Seq::from_vec(Vec::new(alloc))).into_vec();
