@@ -1,10 +1,10 @@
 -- Laws on the paths that lead from the changes of a phase to an object (nothing of the language).
-use Rattle.std.proofs.Common.{◌≡◌, ℕ, zero, suc, ◌+◌, ◌*◌, ◌<◌, ◌≤◌, Bool, true, false, List, [], ◌∷◌, ◌++◌, length, get_or, set, map, take, filter, cond, Some, None, min, refl, ap, sym, subst, ◌∙◌, arith, inl, inr}
-use Rattle.std.specs.Prelude.{◌⊎◌, nat_eq, nat_lt, ◌&&◌, sum_by, slice_get}
+use Rattle.std.proofs.Common.{◌≡◌, ℕ, zero, suc, ◌+◌, ◌<◌, ◌≤◌, Bool, true, false, List, [], ◌∷◌, ◌++◌, length, get_or, set, map, take, filter, cond, min, refl, ap, sym, subst, ◌∙◌, arith, inl, inr}
+use Rattle.std.specs.Prelude.{◌⊎◌, nat_eq, nat_lt, ◌&&◌, sum_by}
 use Rattle.std.specs.Coded.{le_prop}
 use Rattle.std.proofs.Math.Logic.{∥∥₁_elim}
 use Rattle.std.proofs.lemmas.Bool.{eq-eqb, cases_eq, cases_lt, both_ways, or_left, or_right, lt-ltb, le-ltb}
-use Rattle.std.proofs.lemmas.List.{get_or-set_same, get_or-set_other, length-set, take_more, take_all, length-take-le, map_push, get_or_push, get_or_append_left, get_or_past}
+use Rattle.std.proofs.lemmas.List.{get_or-set_same, get_or-set_other, take_more, take_all, length-take-le, map_push, get_or_past}
 use Rattle.std.proofs.lemmas.List.Elements.{filter-append}
 use Rattle.vf_base.specs.declared.ids.ObjectId.{ObjectId}
 use Rattle.vf_base.specs.Base.{object_number}
@@ -125,15 +125,15 @@ filtered-more test nets i d wanted low is =
 abbrev pub SettledBefore : FlatDesign → List ℕ → List ℕ → ℕ → List (List ℕ) → Type 0
 SettledBefore design changes counts number lists = (object : ℕ) → object < number → 0 < get_or counts object 0 → get_or lists object [] ≡ settled_nets design changes object
 
--- one more list
-pub SettledBefore-more : (design : FlatDesign) (changes counts : List ℕ) (number : ℕ) (lists : List (List ℕ)) (list : List ℕ) → length lists ≡ number →
+-- one more list is made
+pub SettledBefore-set : (design : FlatDesign) (changes counts : List ℕ) (number : ℕ) (lists : List (List ℕ)) (list : List ℕ) → number < length lists →
     (0 < get_or counts number 0 → list ≡ settled_nets design changes number) → SettledBefore design changes counts number lists →
-    SettledBefore design changes counts (number + 1) (lists ++ list ∷ [])
-SettledBefore-more design changes counts number lists list long here had object low counted =
+    SettledBefore design changes counts (number + 1) (set lists number list)
+SettledBefore-set design changes counts number lists list within here had object low counted =
     elim (cases_eq object number) [
       | inl same ↦
-          ap (λ o. get_or (lists ++ list ∷ []) o []) same ∙ get_or_push lists list [] number long ∙ here (subst (λ o. 0 < get_or counts o 0) same counted) ∙ ap (settled_nets design changes) (sym same)
-      | inr other ↦ get_or_append_left lists (list ∷ []) [] object (omega (arith, long)) ∙ had object (omega arith) counted
+          ap (λ o. get_or (set lists number list) o []) same ∙ get_or-set_same lists number list [] within ∙ here (subst (λ o. 0 < get_or counts o 0) same counted) ∙ ap (settled_nets design changes) (sym same)
+      | inr other ↦ get_or-set_other lists number object list [] other ∙ had object (omega arith) counted
     ]
 
 -- the lists of all objects that changed

@@ -1,5 +1,5 @@
 -- The changes of a phase as tables over the objects (net classes as in the definition of a phase's accesses).
-use Rattle.std.specs.Prelude.{◌≡◌, ℕ, ◌+◌, ◌*◌, ◌<◌, true, ◌&&◌, List, [], ◌∷◌, filter, length, get_or, min, sum_by, nat_lt, Vec}
+use Rattle.std.specs.Prelude.{◌≡◌, ℕ, ◌<◌, true, ◌&&◌, List, [], filter, length, get_or, min, sum_by, nat_lt, Vec}
 use Rattle.std.specs.declared.alloc.Global.{Global}
 use Rattle.vf_base.specs.declared.ids.ObjectId.{ObjectId}
 use Rattle.v_design.specs.Lists.{has}

@@ -1,6 +1,6 @@
 // The accesses of a phase in their order: the held entries, then event by event those that count, and the settlings that follow from them.
 
-ghost use Rattle.std.specs.Prelude.{◌≡◌, ℕ, ◌<◌, ◌++◌, [], ◌∷◌, Some, None, true, map, filter, length, vec_len, IfOk, cond};
+ghost use Rattle.std.specs.Prelude.{◌≡◌, ℕ, ◌<◌, ◌++◌, [], ◌∷◌, Some, None, true, map, filter, length, vec_len, IfOk, OnOk, cond};
 ghost use Rattle.std.specs.List.{All};
 ghost use Rattle.vf_base.specs.Base.{object_number};
 ghost use Rattle.v_design.specs.Lists.{AllHold, joined, has};
@@ -16,7 +16,6 @@ use crate::log::PhaseLog;
 use crate::noted::Noted;
 use crate::numbered::Numbered;
 use crate::totals::is_wild_net;
-use std::alloc::Global;
 use v_design::Design;
 use vf_base::{Access, AccessKind, NoMemory, ObjectId};
 
@@ -223,21 +222,21 @@ fn push_event(source: &Source, event: u64, list: &mut Vec<Numbered>) -> Result<(
 }
 
 /// The accesses of a phase in their order.
-pub(crate) fn numbered_accesses(
-    alloc: Global,
+pub(crate) fn fill_numbered(
     design: &Design,
     log: &PhaseLog,
     totals: &Vec<u8>,
     settled: &Vec<Vec<ObjectId>>,
-) -> Result<Vec<Numbered>, NoMemory>
+    list: &mut Vec<Numbered>,
+) -> Result<(), NoMemory>
     requires log { IsLogOf (design_of design.now) log.now.log }
     requires totals_sized { vec_len totals.now ≡ length (design_of design.now).objects }
     requires totals { AreTotals (design_of design.now) (phase_changes (design_of design.now) log.now.log) totals.now.items }
     requires settled_sized { vec_len settled.now ≡ length (design_of design.now).objects }
     requires settled { AreSettled (design_of design.now) (phase_changes (design_of design.now) log.now.log) settled.now.items }
-    ensures accesses { IfOk result (λ list. map phase_access list.items ≡ log_accesses (design_of design.now) log.now.log) }
-    ensures numbered { IfOk result (λ list. All (IsNumbered (length log.now.log.events)) list.items) }
-    ensures objects { IfOk result (λ list. All (λ numbered. numbered_object numbered < length (design_of design.now).objects) list.items) }
+    ensures accesses { OnOk result (map phase_access list.new.items ≡ log_accesses (design_of design.now) log.now.log) }
+    ensures numbered { OnOk result (All (IsNumbered (length log.now.log.events)) list.new.items) }
+    ensures objects { OnOk result (All (λ numbered. numbered_object numbered < length (design_of design.now).objects) list.new.items) }
 {
     let source = Source {
         design,
@@ -245,10 +244,10 @@ pub(crate) fn numbered_accesses(
         totals,
         settled,
     };
-    let mut list = Vec::new(alloc);
-    push_held(design, log.held(), &mut list)?;
+    list.clear();
+    push_held(design, log.held(), list)?;
     'events: for event in 0..log.event_count() {
-        push_event(&source, event, &mut list)?;
+        push_event(&source, event, list)?;
     }
-    Ok(list)
+    Ok(())
 }

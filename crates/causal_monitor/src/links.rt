@@ -1,6 +1,6 @@
 // Links from each access to the latest earlier one of its object, and the search along them.
 
-ghost use Rattle.std.specs.Prelude.{◌≡◌, ◌<◌, map, length, vec_len, IfOk, cond, slice_set};
+ghost use Rattle.std.specs.Prelude.{◌≡◌, ◌<◌, map, length, vec_len, replicate, OnOk, cond, slice_set, None};
 ghost use Rattle.std.specs.List.{All};
 ghost use Rattle.v_design.specs.Logs.{conflict};
 ghost use Rattle.causal_monitor.specs.Orders.{HasJumps};
@@ -11,7 +11,6 @@ use crate::conflict::conflict;
 use crate::group::{Group, is_in_group};
 use crate::log::PhaseLog;
 use crate::numbered::Numbered;
-use std::alloc::Global;
 use vf_base::NoMemory;
 
 /// Keeps an access as the latest of its object, where it is of the group.
@@ -25,26 +24,36 @@ fn keep_latest(of_group: bool, object: usize, place: usize, latest: &mut Vec<Opt
     }
 }
 
-/// From each access the place of the latest earlier one of its object that is of a group.
-pub(crate) fn links_of(
-    alloc: Global,
+/// No object has an access yet.
+fn fill_without(latest: &mut Vec<Option<usize>>, objects: usize) -> Result<(), NoMemory>
+    ensures { OnOk result (latest.new.items ≡ replicate objects None) }
+{
+    latest.clear();
+    latest.resize(objects, None)?;
+    Ok(())
+}
+
+/// From each access the place of the latest earlier one of its object that is of a group. `latest` is room for the latest access of each object.
+pub(crate) fn fill_links(
     accesses: &[Numbered],
     objects: usize,
     group: Group,
-) -> Result<Vec<Option<usize>>, NoMemory>
+    latest: &mut Vec<Option<usize>>,
+    links: &mut Vec<Option<usize>>,
+) -> Result<(), NoMemory>
     requires { All (λ numbered. numbered_object numbered < objects) accesses.now }
-    ensures count { IfOk result (λ links. vec_len links ≡ length accesses.now) }
-    ensures links { IfOk result (λ links. AreLinks group (map phase_access accesses.now) links.items) }
+    ensures count { OnOk result (vec_len links.new ≡ length accesses.now) }
+    ensures links { OnOk result (AreLinks group (map phase_access accesses.now) links.new.items) }
 {
-    let mut latest = vec![in alloc; None; objects]?;
-    let mut links = Vec::new(alloc);
+    fill_without(latest, objects)?;
+    links.clear();
     'accesses: for (place, numbered) in accesses.iter().enumerate() {
         let object = numbered.noted.access.object.0 as usize;
         links.push(latest[object])?;
         let of_group = is_in_group(group, &numbered.noted);
-        keep_latest(of_group, object, place, &mut latest);
+        keep_latest(of_group, object, place, latest);
     }
-    Ok(links)
+    Ok(())
 }
 
 /// A place, where it is wanted, else another.

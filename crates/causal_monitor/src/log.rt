@@ -10,22 +10,23 @@ ghost use Rattle.causal_monitor.specs.Phases.{with_event, with_held, empty_log, 
 use crate::noted::Noted;
 use std::alloc::Global;
 use std::marker::Model;
-use vf_base::{NoMemory, Seq};
+use vf_base::NoMemory;
 
-/// An event: the number of the event that caused it, and its accesses in order.
-#[derive(Drop)]
+/// An event: the number of the event that caused it, and where its accesses stand in order among those of all events, from a place to before another.
+#[derive(Clone, Copy, Debug)]
 struct Entry {
     cause: Option<u64>,
-    accesses: Seq<Noted>,
+    start: usize,
+    end: usize,
 }
 
 /// The log of a phase of a slot, which contracts see as the slot's time, the phase's number from 1, the held entries, and the events in order.
 #[derive(Drop)]
 pub struct PhaseLog {
-    alloc: Global,
     time: u64,
     phase: u32,
     held: Vec<Noted>,
+    accesses: Vec<Noted>,
     events: Vec<Entry>,
 }
 
@@ -36,9 +37,9 @@ impl Model for PhaseLog {
 
     ghost use Rattle.causal_monitor.specs.Entries.{logged_phase, IsKept};
 
-    ghost view = { λ l. record { time = l.time; phase = l.phase; log = logged_phase l.held.items l.events.items } };
+    ghost view = { λ l. record { time = l.time; phase = l.phase; log = logged_phase l.held.items l.accesses.items l.events.items } };
 
-    ghost invariant = { λ l. IsKept l.held.items l.events.items };
+    ghost invariant = { λ l. IsKept l.held.items l.accesses.items l.events.items };
 }
 
 impl PhaseLog {
@@ -47,12 +48,23 @@ impl PhaseLog {
         ensures { result ≡ empty_log time phase }
     {
         PhaseLog {
-            alloc,
             time,
             phase,
             held: Vec::new(alloc),
+            accesses: Vec::new(alloc),
             events: Vec::new(alloc),
         }
+    }
+
+    /// Becomes the log of another phase of which nothing is noted yet. The memory that the log has stays with it.
+    pub fn restart(&mut self, time: u64, phase: u32)
+        ensures { self.new ≡ empty_log time phase }
+    {
+        self.time = time;
+        self.phase = phase;
+        self.held.clear();
+        self.accesses.clear();
+        self.events.clear();
     }
 
     /// Notes an event with its cause and its accesses, and gives its number.
@@ -64,8 +76,10 @@ impl PhaseLog {
         ensures err { OnErr result (self.new ≡ self.old) }
     {
         let number = self.events.len() as u64;
-        let accesses = Seq::from_vec(Vec::from_slice(self.alloc, accesses)?);
-        self.events.push(Entry { cause, accesses })?;
+        let start = self.accesses.len();
+        self.accesses.extend_from_slice(accesses)?;
+        let end = self.accesses.len();
+        self.events.push(Entry { cause, start, end })?;
         Ok(number)
     }
 
@@ -124,6 +138,7 @@ impl PhaseLog {
         ensures accesses { map noted_access result.now ≡ accesses_at self.now.log event }
         ensures noted { AllHold IsNoted result.now }
     {
-        self.events[event as usize].accesses.as_slice()
+        let entry = self.events[event as usize];
+        &self.accesses[entry.start..entry.end]
     }
 }

@@ -1,12 +1,11 @@
 // Which events order which: whether one is reached from the other by causes.
 
-ghost use Rattle.std.specs.Prelude.{◌≡◌, ◌<◌, ◌≤◌, true, length, vec_len, IfOk};
+ghost use Rattle.std.specs.Prelude.{◌≡◌, ◌<◌, ◌≤◌, true, length, vec_len, OnOk};
 ghost use Rattle.v_design.specs.Logs.{orders};
 ghost use Rattle.causal_monitor.specs.Phases.{CausesComeBefore};
 ghost use Rattle.causal_monitor.specs.Orders.{AreJumps, HasJumps};
 
 use crate::log::PhaseLog;
-use std::alloc::Global;
 use vf_base::NoMemory;
 
 /// How many causes lie before an event; only the length of jumps rests on it.
@@ -41,19 +40,23 @@ fn jump_of(log: &PhaseLog, event: u64, depths: &Vec<u64>, jumps: &Vec<u64>) -> u
     if first == second { far } else { cause }
 }
 
-/// For each event one that orders it, from which the next is quickly reached.
-pub(crate) fn jumps_of(alloc: Global, log: &PhaseLog) -> Result<Vec<u64>, NoMemory>
-    ensures { IfOk result (λ jumps. HasJumps log.now.log jumps.items) }
+/// For each event one that orders it, from which the next is quickly reached. `depths` is room for how many causes lie before each event.
+pub(crate) fn fill_jumps(
+    log: &PhaseLog,
+    depths: &mut Vec<u64>,
+    jumps: &mut Vec<u64>,
+) -> Result<(), NoMemory>
+    ensures { OnOk result (HasJumps log.now.log jumps.new.items) }
 {
-    let mut depths = Vec::new(alloc);
-    let mut jumps = Vec::new(alloc);
+    depths.clear();
+    jumps.clear();
     'events: for event in 0..log.event_count() {
-        let depth = depth_of(log, event, &depths);
-        let jump = jump_of(log, event, &depths, &jumps);
+        let depth = depth_of(log, event, depths);
+        let jump = jump_of(log, event, depths, jumps);
         depths.push(depth)?;
         jumps.push(jump)?;
     }
-    Ok(jumps)
+    Ok(())
 }
 
 /// Whether an event orders another: it is that one, or is reached from it by causes. Jumps that end before it are not taken.

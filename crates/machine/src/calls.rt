@@ -43,7 +43,6 @@ impl<'d> Machine<'d> {
         let processes = design.processes.as_slice().len();
         let record = SlotRecord::new(alloc, processes, nets.object_count())?;
         Ok(Machine {
-            alloc,
             graph,
             nets,
             table,
@@ -67,7 +66,7 @@ impl<'d> Machine<'d> {
     }
 
     /// Runs the next slot in the first order, to its end or through its first process or lane step past 100,000, and answers how it ends. `log` is
-    /// the log of its phases afterwards, whatever it held before.
+    /// the log of its phases afterwards, whatever it held before; the memory of what it held is used again.
     ///
     /// # Errors
     ///

@@ -8,7 +8,6 @@ use net_graph::Graph;
 use net_state::NetState;
 use process_table::ProcessTable;
 use slot_record::SlotRecord;
-use std::alloc::Global;
 use v_design::Values;
 use value_change::Change;
 use vf_base::ObjectId;
@@ -26,7 +25,6 @@ pub enum Stage {
 /// Contracts see a machine as a design with a fault, and a state of it. After a call that ran out of memory a machine isn't to be used again.
 #[derive(Drop)]
 pub struct Machine<'d> {
-    pub(crate) alloc: Global,
     pub(crate) graph: &'d Graph<'d>,
     pub(crate) nets: NetState<'d>,
     pub(crate) table: ProcessTable<'d>,

@@ -1,7 +1,6 @@
 // The beginning and the end of a slot.
 
 ghost use Rattle.std.specs.Prelude.{◌≡◌, ◌≤◌, ◌^◌, ℕ, IfOk, OnOk, IsSomeAnd};
-ghost use Rattle.slot_record.specs.SlotRecords.{IsEmptyLog};
 ghost use Rattle.machine.specs.Standing.{IsStanding, begins_next, outcome_of};
 ghost use Rattle.machine.specs.Phases.{IsBegun, BeginsSlotHere, IsEnded, FinishesSlot, outcome_told, stage_after};
 
@@ -9,21 +8,7 @@ use crate::end::SlotEnd;
 use crate::parts::{Machine, Stage};
 use crate::phases::{begin_phase, turn_to_slot};
 use causal_monitor::SlotLog;
-use std::alloc::Global;
-use vf_base::{NoMemory, Pair, Seq};
-
-/// The log of a slot at a time, of which no phase has ended.
-fn empty_log(alloc: Global, time: u64) -> SlotLog
-    ensures empty { IsEmptyLog result }
-    ensures time { result.time ≡ time }
-{
-    SlotLog {
-        time,
-        phases: Seq::from_vec(Vec::new(alloc)),
-        actors: Seq::from_vec(Vec::new(alloc)),
-        turns: Seq::from_vec(Vec::new(alloc)),
-    }
-}
+use vf_base::{NoMemory, Pair};
 
 /// How a slot ends, by whether it is hyperactive and by its first race.
 fn end_of(hyper: bool, race: Option<Pair>) -> SlotEnd
@@ -58,8 +43,7 @@ impl<'d> Machine<'d> {
     {
         slot_laws::slot_goes_on();
         let turn = turn_to_slot(self.stage, &mut self.table)?;
-        *log = empty_log(self.alloc, self.table.time());
-        self.record.begin_slot();
+        self.record.begin_slot(log)?;
         begin_phase(&self.table, &mut self.record, &mut self.told, turn)?;
         Ok(())
     }

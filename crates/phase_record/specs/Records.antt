@@ -1,4 +1,5 @@
 -- What is recorded of a phase: its log with causes and the actor of each event (phases and their events by IEEE 1364-2001, clause 5).
+use Rattle.std.proofs.Common.{◌∙◌, sym, ap, subst}
 use Rattle.std.specs.Prelude.{◌≡◌, ℕ, List, [], ◌∷◌, ◌++◌, map, length, Option, Some, None, slice_get}
 use Rattle.vf_base.specs.Base.{object_number, process_number, node_number}
 use Rattle.v_design.specs.Designs.{FlatNode, Machine}
@@ -35,6 +36,23 @@ pub record IsRecordOf (machine : Machine) (number : ℕ) (begins : State) (noted
   pub actors : map event_of kept.actors.items ≡ map (λ (n : NotedEvent). n.event) noted
   -- the log names objects of the design
   pub names : IsLogOf machine.design kept.log.log
+
+-- the same is kept of a phase
+pub record SameRecord (old new : PhaseRecord) : Type 0 where
+  pub log : new.log ≡ old.log
+  pub causes : new.causes ≡ old.causes
+  pub actors : new.actors ≡ old.actors
+
+-- what is kept stands for the same phase
+pub same-record : (machine : Machine) (number : ℕ) (begins : State) (noted : List NotedEvent) (old new : PhaseRecord) → SameRecord old new → IsRecordOf machine number begins noted old → IsRecordOf machine number begins noted new
+same-record machine number begins noted old new same had = record {
+  time = ap (λ (l : PhaseOfSlot). l.time) same.log ∙ had.time;
+  numbered = ap (λ (l : PhaseOfSlot). l.phase) same.log ∙ had.numbered;
+  log = ap (λ (l : PhaseOfSlot). l.log) same.log ∙ had.log;
+  causes = subst (AreCausesOf machine noted) (sym same.causes) had.causes;
+  actors = (λ i. map event_of ((same.actors i).items)) ∙ had.actors;
+  names = subst (λ (l : PhaseOfSlot). IsLogOf machine.design l.log) (sym same.log) had.names;
+}
 
 -- what is kept stands for a phase of some machine
 pub record IsRecord (kept : PhaseRecord) : Type 0 where

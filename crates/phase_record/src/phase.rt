@@ -14,7 +14,7 @@ ghost use Rattle.v_design.specs.PlainDesigns.{design_of};
 ghost use Rattle.causal_monitor.specs.Notes.{IsNoted, IsHeld, noted_access};
 ghost use Rattle.causal_monitor.specs.Phases.{IsLogOf};
 ghost use Rattle.event_causes.specs.Causes.{AreCausesOf};
-ghost use Rattle.phase_record.specs.Records.{IsRecordOf, IsRecord, IsNodeRecord, Follows, BeginsRecord, RecordsStep, RecordsNode, RecordsEvaluation, RecordsUpdate, held_phase, write_of_change, process_count, object_count};
+ghost use Rattle.phase_record.specs.Records.{IsRecordOf, IsRecord, IsNodeRecord, SameRecord, Follows, BeginsRecord, RecordsStep, RecordsNode, RecordsEvaluation, RecordsUpdate, held_phase, write_of_change, process_count, object_count};
 ghost use Rattle.phase_record.specs.SlotLogs.{Appends};
 
 use causal_monitor::{Actor, CheckIndex, Noted, PhaseLog, SlotLog, Turn, check};
@@ -26,6 +26,8 @@ use value_change::Change;
 use vf_base::{Access, AccessKind, NoMemory, NodeId, ObjectId, Pair, ProcId, Seq};
 
 /// The record of a phase: what tells the causes of its next events, its log, and who acted in each event.
+///
+/// It keeps what it needs memory for: the index of the phase's accesses, and what phases held that were logged and are given back, which later ones take.
 #[derive(Drop)]
 pub struct PhaseRecord {
     alloc: Global,
@@ -34,18 +36,56 @@ pub struct PhaseRecord {
     actors: Vec<Actor>,
     accesses: Vec<Noted>,
     changed: Vec<ObjectId>,
+    index: CheckIndex,
+    spare_logs: Vec<PhaseLog>,
+    spare_actors: Vec<Seq<Actor>>,
 }
 
-/// The log of a phase without events, with the entries that it holds from its beginning.
-fn held_log(alloc: Global, time: u64, number: u32, held: &[Noted]) -> Result<PhaseLog, NoMemory>
+/// Makes a log that of a phase without events, with the entries that it holds from its beginning.
+fn begin_log(log: &mut PhaseLog, time: u64, number: u32, held: &[Noted]) -> Result<(), NoMemory>
     requires { AllHold IsHeld held.now }
-    ensures { IfOk result (λ log. log ≡ held_phase time number (map noted_access held.now)) }
+    ensures { OnOk result (log.new ≡ held_phase time number (map noted_access held.now)) }
 {
-    let mut log = PhaseLog::new(alloc, time, number);
+    log.restart(time, number);
     'entries: for entry in held {
         log.hold(*entry)?;
     }
-    Ok(log)
+    Ok(())
+}
+
+/// A log for a phase to come, whatever it holds: a spare one, else a new one.
+fn any_log(alloc: Global, spare: &mut Vec<PhaseLog>) -> PhaseLog {
+    match spare.pop() {
+        Some(log) => log,
+        None => PhaseLog::new(alloc, 0, 0),
+    }
+}
+
+/// Room for the actors of a phase to come, whatever it holds: that of a spare one, else new room.
+fn any_actors(alloc: Global, spare: &mut Vec<Seq<Actor>>) -> Vec<Actor> {
+    match spare.pop() {
+        Some(actors) => actors.into_vec(),
+        None => Vec::new(alloc),
+    }
+}
+
+/// Moves the elements of a list to the end of others. The list keeps its memory.
+fn move_all<T: Drop>(alloc: Global, list: &mut Seq<T>, others: &mut Vec<T>) -> Result<(), NoMemory>
+    ensures { OnOk result (list.new ≡ []) }
+{
+    let mut elements = mem::replace(list, Seq::from_vec(Vec::new(alloc))).into_vec();
+    others.append(&mut elements)?;
+    *list = Seq::from_vec(elements);
+    Ok(())
+}
+
+/// Removes the elements of a list, which keeps its memory.
+fn remove_all<T: Drop>(alloc: Global, list: &mut Seq<T>)
+    ensures { list.new ≡ [] }
+{
+    let mut elements = mem::replace(list, Seq::from_vec(Vec::new(alloc))).into_vec();
+    elements.clear();
+    *list = Seq::from_vec(elements);
 }
 
 /// The write of a change, with the process and the line of a writer.
@@ -126,7 +166,28 @@ impl PhaseRecord {
             actors: Vec::new(alloc),
             accesses: Vec::new(alloc),
             changed: Vec::new(alloc),
+            index: CheckIndex::new(alloc),
+            spare_logs: Vec::new(alloc),
+            spare_actors: Vec::new(alloc),
         })
+    }
+
+    /// Takes back what the phases of a slot's log hold, so that later phases use its memory again. The log is left without phases.
+    ///
+    /// # Errors
+    ///
+    /// Want of memory.
+    pub fn take_back(&mut self, slot: &mut SlotLog) -> Result<(), NoMemory>
+        ensures phases { OnOk result (slot.new.phases ≡ []) }
+        ensures actors { OnOk result (slot.new.actors ≡ []) }
+        ensures turns { OnOk result (slot.new.turns ≡ []) }
+        ensures time { slot.new.time ≡ slot.old.time }
+        ensures causes { self.new.causes ≡ self.old.causes }
+    {
+        move_all(self.alloc, &mut slot.phases, &mut self.spare_logs)?;
+        move_all(self.alloc, &mut slot.actors, &mut self.spare_actors)?;
+        remove_all(self.alloc, &mut slot.turns);
+        Ok(())
     }
 
     /// A phase of a slot begins, at a time in steps, with its number from 1 and the entries on net pieces of the waits that it begins with.
@@ -139,8 +200,7 @@ impl PhaseRecord {
         requires objects { All (λ noted. object_number noted.access.object < object_count self.old) held.now }
         ensures { OnOk result (BeginsRecord time number (map noted_access held.now) self.old self.new) }
     {
-        let log = held_log(self.alloc, time, number, held)?;
-        self.log = log;
+        begin_log(&mut self.log, time, number, held)?;
         self.causes.begin_phase();
         self.actors.clear();
         Ok(())
@@ -269,17 +329,18 @@ impl PhaseRecord {
         Ok(())
     }
 
-    /// The least pair of conflicting accesses of the phase as it is recorded, `None` exactly where it has no conflict.
+    /// The least pair of conflicting accesses of the phase as it is recorded, `None` exactly where it has no conflict. The record stays.
     ///
     /// # Errors
     ///
     /// Want of memory.
-    pub fn conflict(&self, graph: &Graph) -> Result<Option<Pair>, NoMemory>
-        requires { IsLogOf (design_of graph.now.design.now) self.now.log.log }
-        ensures { IfOk result (λ pair. (machine : Machine) (number : ℕ) (begins : State) (events : List Event) → machine.design ≡ design_of graph.now.design.now → IsRecordOf machine number begins (noted_events machine begins events) self.now → option_map reported_pair pair ≡ option_map (race_of begins.time number) (phase_race machine begins events)) }
+    pub fn conflict(&mut self, graph: &Graph) -> Result<Option<Pair>, NoMemory>
+        requires { IsLogOf (design_of graph.now.design.now) self.old.log.log }
+        ensures pair { IfOk result (λ pair. (machine : Machine) (number : ℕ) (begins : State) (events : List Event) → machine.design ≡ design_of graph.now.design.now → IsRecordOf machine number begins (noted_events machine begins events) self.old → option_map reported_pair pair ≡ option_map (race_of begins.time number) (phase_race machine begins events)) }
+        ensures same { SameRecord self.old self.new }
     {
-        let mut index = CheckIndex::new(self.alloc, &self.log, graph)?;
-        let pair = check(&self.log, graph, &mut index);
+        self.index.fill(&self.log, graph)?;
+        let pair = check(&self.log, graph, &mut self.index);
         Ok(pair)
     }
 
@@ -292,8 +353,10 @@ impl PhaseRecord {
         ensures appends { OnOk result (Appends self.old turn slot.old slot.new) }
         ensures causes { OnOk result (self.new.causes ≡ self.old.causes) }
     {
-        let log = mem::replace(&mut self.log, PhaseLog::new(self.alloc, 0, 0));
-        let actors = mem::replace(&mut self.actors, Vec::new(self.alloc));
+        let next = any_log(self.alloc, &mut self.spare_logs);
+        let log = mem::replace(&mut self.log, next);
+        let room = any_actors(self.alloc, &mut self.spare_actors);
+        let actors = mem::replace(&mut self.actors, room);
         push_onto(self.alloc, &mut slot.phases, log)?;
         push_onto(self.alloc, &mut slot.actors, Seq::from_vec(actors))?;
         push_onto(self.alloc, &mut slot.turns, turn)?;

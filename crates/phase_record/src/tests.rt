@@ -151,6 +151,27 @@ fn logged_events(alloc: Global, mut kept: PhaseRecord) -> Result<usize, NoMemory
     Ok(count)
 }
 
+/// How many events are logged of a phase without events whose memory had one with events.
+fn events_after(alloc: Global, mut kept: PhaseRecord) -> Result<u64, NoMemory> {
+    let mut log = SlotLog {
+        time: 0,
+        phases: Seq::from_vec(Vec::new(alloc)),
+        actors: Seq::from_vec(Vec::new(alloc)),
+        turns: Seq::from_vec(Vec::new(alloc)),
+    };
+    kept.end_phase(Turn::Start, &mut log)?;
+    'slots: for time in 1..3 {
+        kept.take_back(&mut log)?;
+        kept.begin_phase(time, 1, &[])?;
+        kept.end_phase(Turn::Time, &mut log)?;
+    }
+    let mut count = 0u64;
+    'phases: for phase in log.phases.as_slice() {
+        count = phase.event_count();
+    }
+    Ok(count)
+}
+
 /// An access of a report to q.
 fn reported(process: u32, line: u32) -> Access {
     Access {
@@ -165,7 +186,7 @@ fn reported(process: u32, line: u32) -> Access {
 fn lanes_conflict(rt: HostRuntime) -> Result<(), Fail> {
     let design = design(rt.alloc()).expect(&rt, "memory");
     let graph = Graph::new(rt.alloc(), &design).expect(&rt, "memory");
-    let two = two_lanes(rt.alloc()).expect(&rt, "memory");
+    let mut two = two_lanes(rt.alloc()).expect(&rt, "memory");
     let race = Pair {
         time: 0,
         phase: 2,
@@ -173,7 +194,7 @@ fn lanes_conflict(rt: HostRuntime) -> Result<(), Fail> {
         second: reported(1, 4),
     };
     assert_eq!(rt; two.conflict(&graph).expect(&rt, "memory"), Some(race));
-    let one = one_lane(rt.alloc()).expect(&rt, "memory");
+    let mut one = one_lane(rt.alloc()).expect(&rt, "memory");
     assert_eq!(rt; one.conflict(&graph).expect(&rt, "memory"), None);
     Ok(())
 }
@@ -186,5 +207,12 @@ fn events_are_logged(rt: HostRuntime) -> Result<(), Fail> {
     assert_eq!(rt; logged_events(rt.alloc(), node).expect(&rt, "memory"), 2);
     let two = two_lanes(rt.alloc()).expect(&rt, "memory");
     assert_eq!(rt; logged_events(rt.alloc(), two).expect(&rt, "memory"), 2);
+    Ok(())
+}
+
+#[test]
+fn memory_is_used_again(rt: HostRuntime) -> Result<(), Fail> {
+    let two = two_lanes(rt.alloc()).expect(&rt, "memory");
+    assert_eq!(rt; events_after(rt.alloc(), two).expect(&rt, "memory"), 0);
     Ok(())
 }

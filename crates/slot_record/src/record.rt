@@ -14,8 +14,8 @@ ghost use Rattle.causal_monitor.specs.Notes.{IsNoted, IsHeld, noted_access};
 ghost use Rattle.causal_monitor.specs.Phases.{IsLogOf};
 ghost use Rattle.event_causes.specs.Causes.{AreCausesOf};
 ghost use Rattle.slot_laws.specs.SlotLoop.{or_race};
-ghost use Rattle.phase_record.specs.Records.{IsRecordOf, IsRecord, IsNodeRecord, process_count, object_count};
-ghost use Rattle.slot_record.specs.SlotRecords.{BeginsSlot, BeginsPhase, AddsStep, AddsNode, EndsPhase};
+ghost use Rattle.phase_record.specs.Records.{IsRecordOf, IsRecord, IsNodeRecord, SameRecord, process_count, object_count};
+ghost use Rattle.slot_record.specs.SlotRecords.{IsEmptyLog, BeginsSlot, BeginsPhase, AddsStep, AddsNode, EndsPhase};
 
 use causal_monitor::{Noted, SlotLog, Turn};
 use net_graph::Graph;
@@ -44,9 +44,14 @@ fn next_number(number: u32) -> Result<u32, NoMemory>
 }
 
 /// The race that was found before, else that of a phase.
-fn race_or(race: Option<Pair>, phase: &PhaseRecord, graph: &Graph) -> Result<Option<Pair>, NoMemory>
-    requires { IsLogOf (design_of graph.now.design.now) phase.now.log.log }
-    ensures { IfOk result (λ found. (machine : Machine) (number : ℕ) (begins : State) (events : List Event) → machine.design ≡ design_of graph.now.design.now → IsRecordOf machine number begins (noted_events machine begins events) phase.now → option_map reported_pair found ≡ or_race (option_map reported_pair race) (option_map (race_of begins.time number) (phase_race machine begins events))) }
+fn race_or(
+    race: Option<Pair>,
+    phase: &mut PhaseRecord,
+    graph: &Graph,
+) -> Result<Option<Pair>, NoMemory>
+    requires { IsLogOf (design_of graph.now.design.now) phase.old.log.log }
+    ensures race { IfOk result (λ found. (machine : Machine) (number : ℕ) (begins : State) (events : List Event) → machine.design ≡ design_of graph.now.design.now → IsRecordOf machine number begins (noted_events machine begins events) phase.old → option_map reported_pair found ≡ or_race (option_map reported_pair race) (option_map (race_of begins.time number) (phase_race machine begins events))) }
+    ensures same { SameRecord phase.old phase.new }
 {
     match race {
         Some(pair) => Ok(Some(pair)),
@@ -75,12 +80,19 @@ impl SlotRecord {
         })
     }
 
-    /// A slot begins, with no phase yet.
-    pub fn begin_slot(&mut self)
-        ensures { BeginsSlot self.old self.new }
+    /// A slot begins, with no phase yet. `log` is left without phases; what the phases that it had hold is used again.
+    ///
+    /// # Errors
+    ///
+    /// Want of memory.
+    pub fn begin_slot(&mut self, log: &mut SlotLog) -> Result<(), NoMemory>
+        ensures begins { OnOk result (BeginsSlot self.old self.new) }
+        ensures empty { OnOk result (IsEmptyLog log.new) }
     {
+        self.phase.take_back(log)?;
         self.number = 0;
         self.race = None;
+        Ok(())
     }
 
     /// A phase begins after a turn, at a time in steps, with the entries on net pieces of the waits that it begins with.
@@ -195,7 +207,7 @@ impl SlotRecord {
         ensures { OnOk result (EndsPhase (design_of graph.now.design.now) self.old self.new log.old log.new) }
     {
         slot_laws::phases_go_on();
-        let race = race_or(self.race, &self.phase, graph)?;
+        let race = race_or(self.race, &mut self.phase, graph)?;
         self.phase.end_phase(self.turn, log)?;
         self.race = race;
         Ok(())

@@ -40,7 +40,7 @@ fn noted(alloc: Global) -> Result<SlotRecord, NoMemory>
     ensures { IfOk result (λ kept. IsLogOf empty_design kept.phase.log.log) }
 {
     let mut kept = SlotRecord::new(alloc, 1, 0)?;
-    kept.begin_slot();
+    kept.begin_slot(&mut empty_log(alloc))?;
     kept.begin_phase(Turn::Start, 0, &[])?;
     kept.note_node(NodeId(0), &[], &[], &[], &[])?;
     kept.note_lane(ProcId(0), 0, &[], &[], &[])?;

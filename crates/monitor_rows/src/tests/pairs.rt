@@ -152,9 +152,10 @@ fn log_of(alloc: Global, row: &Row) -> Result<PhaseLog, NoMemory>
 fn least_pairs(rt: HostRuntime) -> Result<(), Fail> {
     let design = small(rt.alloc()).expect(&rt, "memory");
     let graph = Graph::new(rt.alloc(), &design).expect(&rt, "memory");
+    let mut index = CheckIndex::new(rt.alloc());
     'rows: for row in &ROWS {
         let log = log_of(rt.alloc(), row).expect(&rt, "memory");
-        let mut index = CheckIndex::new(rt.alloc(), &log, &graph).expect(&rt, "memory");
+        index.fill(&log, &graph).expect(&rt, "memory");
         let found = check(&log, &graph, &mut index);
         assert_eq!(rt; found, row.expected);
     }

@@ -1,4 +1,4 @@
-use Rattle.std.proofs.Common.{sym, subst}
+use Rattle.std.proofs.Common.{subst}
 use Rattle.v_design.specs.Logs.{phase_changes}
 use Rattle.v_design.specs.PlainDesigns.{design_of}
 use Rattle.net_graph.specs.Tables.{AreTotalPaths}

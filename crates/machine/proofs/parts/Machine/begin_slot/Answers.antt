@@ -10,7 +10,7 @@ pub begin_phase-requires-clause-room : goal.begin_phase-requires-clause-room
 begin_phase-requires-clause-room c =
     let m = c.args.self.now in
     let f = found-some (begins_next m) (λ begins. begins.time ≤ 2 ^ 63) c.requires.left in
-    begun-room m c.begin_slot.new.self _ c.requires.standing c.begin_slot.ensures c.empty_log.ensures.empty
+    begun-room m c.begin_slot.new.self c.begin_slot.new.log c.requires.standing c.in_ok-begin_slot.ensures.begins c.in_ok-begin_slot.ensures.empty
     ∙ ap (λ (d : FlatDesign). length d.objects) (sym (c.in_ok-turn.ensures.begins (machine_kept m) (state_kept m) f.0 (begins-table m c.requires.standing) f.1).design)
 
 pub returns : goal.returns
@@ -23,5 +23,5 @@ returns c =
           slot-begun c.slot_goes_on.ensures.begin begins m _ _ c.in_ok-turn.turn c.begin_slot.new.self c.requires.standing next
           (subst (λ (s : State). s.time ≤ 2 ^ 63) (some-state f.0 begins (sym f.1 ∙ next)) f.2) c.in_ok-turn.ensures.turn
           (c.in_ok-turn.ensures.begins (machine_kept m) (state_kept m) begins (begins-table m c.requires.standing) next) c.in_ok-turn.ensures.kept (record { values = refl; nodes = refl }) refl refl
-          c.empty_log.ensures.empty c.begin_slot.ensures c.in_ok-begin_phase.ensures;
+          c.in_ok-begin_slot.ensures.empty c.in_ok-begin_slot.ensures.begins c.in_ok-begin_phase.ensures;
     }

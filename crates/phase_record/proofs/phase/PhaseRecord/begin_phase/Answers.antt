@@ -7,7 +7,7 @@ use Rattle.phase_record.proofs.phase.PhaseRecord.begin_phase.Goals as goal
 
 pub returns : goal.returns
 returns c = λ machine earlier begins causes time held.
-    let log = c.in_ok-log.ensures in
+    let log = c.in_ok-begin_log.ensures in
     record {
       time = ap (λ (l : PhaseOfSlot). l.time) log ∙ sym time;
       numbered = ap (λ (l : PhaseOfSlot). l.phase) log;

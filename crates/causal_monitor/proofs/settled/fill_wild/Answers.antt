@@ -4,7 +4,7 @@ use Rattle.v_design.specs.Logs.{phase_changes}
 use Rattle.v_design.specs.PlainDesigns.{design_of}
 use Rattle.net_graph.specs.Tables.{before_if}
 use Rattle.causal_monitor.proofs.TotalLaws.{nets_before-more}
-use Rattle.causal_monitor.proofs.settled.wild_nets.Goals as goal
+use Rattle.causal_monitor.proofs.settled.fill_wild.Goals as goal
 
 pub objects-preserved : goal.objects-preserved
 objects-preserved c =

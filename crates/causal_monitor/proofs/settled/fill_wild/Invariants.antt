@@ -4,7 +4,7 @@ use Rattle.v_design.specs.Paths.{is_wild}
 use Rattle.v_design.specs.Logs.{phase_changes}
 use Rattle.v_design.specs.PlainDesigns.{design_of}
 use Rattle.causal_monitor.proofs.TotalLaws.{nets_before}
-use Rattle.causal_monitor.proofs.settled.wild_nets.Given as goal
+use Rattle.causal_monitor.proofs.settled.fill_wild.Given as goal
 
 abbrev pub invariant-objects : goal.invariant-objects
 invariant-objects l =

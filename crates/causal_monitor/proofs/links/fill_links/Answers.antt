@@ -4,7 +4,7 @@ use Rattle.causal_monitor.specs.declared.group.Group.{Group}
 use Rattle.causal_monitor.specs.Counted.{phase_access, numbered_object}
 use Rattle.causal_monitor.specs.Links.{AreLinks, AreLatest, is_in_group, access_at, object_at}
 use Rattle.causal_monitor.proofs.LinkLaws.{AreLinks-push, AreLatest-here, AreLatest-more, table_read, read_access}
-use Rattle.causal_monitor.proofs.links.links_of.Goals as goal
+use Rattle.causal_monitor.proofs.links.fill_links.Goals as goal
 
 kept : (group : Group) (accesses : List PhaseAccess) (end object : ℕ) (table later : List (Option ℕ)) (of_group : Bool) → object_at accesses end ≡ object → object < length table →
     of_group ≡ is_in_group group (access_at accesses end).access.act → later ≡ cond of_group (set table object (Some end)) table → AreLatest group accesses end table →

@@ -5,7 +5,7 @@ use Rattle.causal_monitor.specs.Notes.{noted_access}
 use Rattle.causal_monitor.specs.Phases.{with_held}
 use Rattle.phase_record.specs.Records.{held_phase}
 use Rattle.phase_record.proofs.RecordLaws.{map_more}
-use Rattle.phase_record.proofs.phase.held_log.Goals as goal
+use Rattle.phase_record.proofs.phase.begin_log.Goals as goal
 
 pub entries-preserved : goal.entries-preserved
 entries-preserved c =

@@ -8,7 +8,7 @@ use Rattle.v_design.specs.PlainDesigns.{design_of}
 use Rattle.net_graph.specs.Tables.{before_if}
 use Rattle.causal_monitor.proofs.TotalLaws.{filtered-more, filter_filter, capped_positive}
 use Rattle.causal_monitor.proofs.AddLaws.{nets_below}
-use Rattle.causal_monitor.proofs.settled.nets_settled_by.Goals as goal
+use Rattle.causal_monitor.proofs.settled.fill_reached.Goals as goal
 
 pub paths-wanted-requires-clause-is_net : goal.paths-wanted-requires-clause-is_net
 paths-wanted-requires-clause-is_net c =

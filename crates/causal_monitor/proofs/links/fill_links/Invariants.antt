@@ -1,7 +1,7 @@
 use Rattle.std.proofs.Common.{◌≡◌, map, vec_len}
 use Rattle.causal_monitor.specs.Counted.{phase_access}
 use Rattle.causal_monitor.specs.Links.{AreLinks, AreLatest}
-use Rattle.causal_monitor.proofs.links.links_of.Given as goal
+use Rattle.causal_monitor.proofs.links.fill_links.Given as goal
 
 abbrev pub invariant-accesses : goal.invariant-accesses
 invariant-accesses l = record {

@@ -1,6 +1,6 @@
 use Rattle.std.proofs.Common.{◌≡◌, vec_len}
 use Rattle.causal_monitor.specs.Orders.{AreJumps}
-use Rattle.causal_monitor.proofs.order.jumps_of.Given as goal
+use Rattle.causal_monitor.proofs.order.fill_jumps.Given as goal
 
 abbrev pub invariant-events : goal.invariant-events
 invariant-events l = record {

@@ -7,7 +7,7 @@ use Rattle.causal_monitor.specs.Notes.{noted_access}
 use Rattle.causal_monitor.specs.Phases.{NameObjects, accesses_at}
 use Rattle.causal_monitor.specs.Counted.{Adds, IsNumbered, numbered_object, numbered_at, held_at}
 use Rattle.causal_monitor.proofs.AddLaws.{Adds-trans, Adds-same, accesses_before, accesses_before-more, accesses_before-all}
-use Rattle.causal_monitor.proofs.accesses.numbered_accesses.Goals as goal
+use Rattle.causal_monitor.proofs.accesses.fill_numbered.Goals as goal
 
 pub push_held-requires-clause-objects : goal.push_held-requires-clause-objects
 push_held-requires-clause-objects c = subst (NameObjects (design_of c.args.design.now)) (sym c.held.ensures.entries) c.requires.log.held
@@ -16,8 +16,8 @@ pub events-init : goal.events-init
 events-init c =
     let design = design_of c.args.design.now in
     let log = c.args.log.now.log in
-    subst (λ before. Adds (length (design_of c.args.design.now).objects) (length c.args.log.now.log.events) before c.push_held.new.list.items (map held_at c.args.log.now.log.held ++ [])) c.new-list.ensures.items
-    (Adds-same (length design.objects) (length log.events) c.new-list.result.items c.push_held.new.list.items (map held_at (map noted_access c.held.result.now)) (map held_at log.held ++ [])
+    subst (λ before. Adds (length (design_of c.args.design.now).objects) (length c.args.log.now.log.events) before c.push_held.new.list.items (map held_at c.args.log.now.log.held ++ [])) c.clear.ensures.items
+    (Adds-same (length design.objects) (length log.events) c.clear.new.self.items c.push_held.new.list.items (map held_at (map noted_access c.held.result.now)) (map held_at log.held ++ [])
     (ap (map held_at) c.held.ensures.entries ∙ sym (append-nil (map held_at log.held)))
     (c.in_ok-push_held.ensures (length log.events)))
 

@@ -2,7 +2,7 @@ use Rattle.std.proofs.Common.{◌++◌, [], map, length}
 use Rattle.v_design.specs.PlainDesigns.{design_of}
 use Rattle.causal_monitor.specs.Counted.{Adds, held_at}
 use Rattle.causal_monitor.proofs.AddLaws.{accesses_before}
-use Rattle.causal_monitor.proofs.accesses.numbered_accesses.Given as goal
+use Rattle.causal_monitor.proofs.accesses.fill_numbered.Given as goal
 
 abbrev pub invariant-events : goal.invariant-events
 invariant-events l =

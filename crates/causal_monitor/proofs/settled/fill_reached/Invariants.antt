@@ -3,7 +3,7 @@ use Rattle.std.specs.Prelude.{nat_lt}
 use Rattle.vf_base.specs.Base.{object_number}
 use Rattle.v_design.specs.Paths.{paths}
 use Rattle.v_design.specs.PlainDesigns.{design_of}
-use Rattle.causal_monitor.proofs.settled.nets_settled_by.Given as goal
+use Rattle.causal_monitor.proofs.settled.fill_reached.Given as goal
 
 abbrev pub invariant-nets : goal.invariant-nets
 invariant-nets l = record {
