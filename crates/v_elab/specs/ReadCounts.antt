@@ -27,11 +27,15 @@ objects_of_entry _ = 0
 abbrev pub objects_named : Scope → List Identifier → ℕ
 objects_named scope names = sum_by (λ (name : Identifier). objects_of_entry (looked_up scope name)) names
 
--- whether one of some nodes, each by the names that it reads, reads more objects than a node may
-abbrev pub some_reads_over : Scope → List (List Identifier) → Bool
-some_reads_over scope nodes = list_any (λ (names : List Identifier). nat_lt most_inputs (objects_named scope names)) nodes
+-- whether these are more than a node may read
+abbrev pub reads_over : Scope → List Identifier → Bool
+reads_over scope names = nat_lt most_inputs (objects_named scope names)
 
--- a node that reads more objects than a node may is refused
+-- whether one of some nodes, each by the names that it reads, reads too many
+abbrev pub some_reads_over : Scope → List (List Identifier) → Bool
+some_reads_over scope nodes = list_any (reads_over scope) nodes
+
+-- a node that reads too many objects is refused
 abbrev pub reads_refused : Scope → List (List Identifier) → Option Refusal
 reads_refused scope nodes = too_many_if (some_reads_over scope nodes) Inputs most_inputs
 
