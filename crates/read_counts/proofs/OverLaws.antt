@@ -84,8 +84,14 @@ own-if : (scope : Scope) (body : SourceStatement) (assigned waited memory : Bool
     → list_any (λ name. is_memory (looked_up scope name)) (own_targets body) ≡ memory → net_targets scope (form_if (assigned && waited) (own_targets body) reads) ≡ Some targets → AreOwn body targets
 own-if scope body false waited memory reads targets a m e = absurd (cc)
 own-if scope body true false memory reads targets a m e = absurd (cc)
-own-if scope body true true true reads targets a m e = absurd (let other : net_targets scope (NetForm (own_targets body) reads) ≡ None = rw m refl in cc)
-own-if scope body true true false reads targets a m e = let other : net_targets scope (NetForm (own_targets body) reads) ≡ Some (own_targets body) = rw m refl in record { are = cc; whole = a }
+own-if scope body true true true reads targets a m e =
+    let other : net_targets scope (NetForm (own_targets body) reads) ≡ None = rw m refl in
+    let wrong : None ≡ Some targets = sym other ∙ e in
+    absurd (cc)
+own-if scope body true true false reads targets a m e =
+    let other : net_targets scope (NetForm (own_targets body) reads) ≡ Some (own_targets body) = rw m refl in
+    let same : Some (own_targets body) ≡ Some targets = sym other ∙ e in
+    record { are = cc; whole = a }
 
 own-waiting : (scope : Scope) (body : SourceStatement) (waits : BlockWaits) (targets : List Identifier) → net_targets scope (block_form body waits) ≡ Some targets → AreOwn body targets
 own-waiting scope body waits targets e =
@@ -94,8 +100,13 @@ own-waiting scope body waits targets e =
 
 own-by : (scope : Scope) (body : SourceStatement) (place : SourcePlace) (waits : SourceWaits) (names : Option BlockWaits) (targets : List Identifier) → block_waits scope waits ≡ names
     → block_targets scope (EventStatement place waits body) ≡ Some targets → AreOwn body targets
-own-by scope body place waits None targets w e = absurd (let none : block_targets scope (EventStatement place waits body) ≡ None = rw w refl in cc)
-own-by scope body place waits (Some names) targets w e = own-waiting scope body names targets (sym (let some : block_targets scope (EventStatement place waits body) ≡ net_targets scope (block_form body names) = rw w refl in some) ∙ e)
+own-by scope body place waits None targets w e =
+    let none : block_targets scope (EventStatement place waits body) ≡ None = rw w refl in
+    let wrong : None ≡ Some targets = sym none ∙ e in
+    absurd (cc)
+own-by scope body place waits (Some names) targets w e =
+    let some : block_targets scope (EventStatement place waits body) ≡ net_targets scope (block_form body names) = rw w refl in
+    own-waiting scope body names targets (sym some ∙ e)
 
 -- what a block that is a node reads is what its form says
 own-reads : (scope : Scope) (body : SourceStatement) (targets : List Identifier) → AreOwn body targets → some_reads_over scope (each_once targets (names_read body) ∷ []) ≡ form_reads_over scope (block_form body Star)
@@ -110,7 +121,15 @@ block-by scope body place waits None false e f = refl
 block-by scope body place waits (Some targets) true e f = own-reads scope body targets (own-by scope body place waits (block_waits scope waits) targets refl e) ∙ f
 block-by scope body place waits (Some targets) false e f = own-reads scope body targets (own-by scope body place waits (block_waits scope waits) targets refl e) ∙ f
 
--- a block reads too many objects where its form does, and it is a node by itself
-pub block-over : (scope : Scope) (body : SourceStatement) (place : SourcePlace) (waits : SourceWaits) (over : Bool) → form_reads_over scope (block_form body Star) ≡ over
-    → some_reads_over scope (reads_beside (block_targets scope (EventStatement place waits body)) body) ≡ (over && is_some (block_targets scope (EventStatement place waits body)))
-block-over scope body place waits over f = block-by scope body place waits (block_targets scope (EventStatement place waits body)) over refl f
+-- a block whose form reads few objects
+pub block-few : (scope : Scope) (body : SourceStatement) (place : SourcePlace) (waits : SourceWaits) (block : SourceStatement) (over : Bool) → block ≡ EventStatement place waits body → over ≡ form_reads_over scope (block_form body Star) → over ≡ false
+    → false ≡ some_reads_over scope (reads_beside (block_targets scope block) body)
+block-few scope body place waits block over is e few =
+    sym (ap (λ b. some_reads_over scope (reads_beside (block_targets scope b) body)) is ∙ block-by scope body place waits (block_targets scope (EventStatement place waits body)) false refl (sym e ∙ few))
+
+-- a block whose form reads too many is refused where it is a node by itself
+pub block-many : (scope : Scope) (body : SourceStatement) (place : SourcePlace) (waits : SourceWaits) (block : SourceStatement) (over : Bool) → block ≡ EventStatement place waits body → over ≡ form_reads_over scope (block_form body Star) → over ≡ true
+    → (targets : Option (List Identifier)) → targets ≡ block_targets scope block → is_some targets ≡ some_reads_over scope (reads_beside (block_targets scope block) body)
+block-many scope body place waits block over is e many targets same =
+    ap is_some same ∙ ap (λ b. is_some (block_targets scope b)) is
+    ∙ sym (ap (λ b. some_reads_over scope (reads_beside (block_targets scope b) body)) is ∙ block-by scope body place waits (block_targets scope (EventStatement place waits body)) true refl (sym e ∙ many))

@@ -67,7 +67,8 @@ pub fn connection_reads_over<'u>(
 {
     'connections: for (position, connection) in connections.iter().enumerate() {
         let port = child.formals.ports().connected(position, connection);
-        if connected_reads_over(alloc, child, port, connection)? {
+        let over = connected_reads_over(alloc, child, port, connection)?;
+        if over {
             return Ok(true);
         }
     }

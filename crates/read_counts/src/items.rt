@@ -32,7 +32,8 @@ fn wires_read_over(alloc: Global, scope: &Scope<'_>, wires: &[Wire]) -> Result<b
     ensures { IfOk result (λ over. over ≡ some_reads_over scope.now (flat_map wire_reads (map wire_of wires.now))) }
 {
     'wires: for wire in wires {
-        if wire_reads_over(alloc, scope, wire)? {
+        let over = wire_reads_over(alloc, scope, wire)?;
+        if over {
             return Ok(true);
         }
     }
@@ -48,7 +49,8 @@ fn assignments_read_over(
     ensures { IfOk result (λ over. over ≡ some_reads_over scope.now (map (λ (a : SourceAssignment). value_reads a.value) (map assignment_of assignments.now))) }
 {
     'assignments: for assignment in assignments {
-        if value_over(alloc, scope, &assignment.value)? {
+        let over = value_over(alloc, scope, &assignment.value)?;
+        if over {
             return Ok(true);
         }
     }
@@ -68,7 +70,8 @@ fn gates_read_over(alloc: Global, scope: &Scope<'_>, gates: &[Gate]) -> Result<b
     ensures { IfOk result (λ over. over ≡ some_reads_over scope.now (map gate_reads (map gate_of gates.now))) }
 {
     'gates: for gate in gates {
-        if gate_reads_over(alloc, scope, gate)? {
+        let over = gate_reads_over(alloc, scope, gate)?;
+        if over {
             return Ok(true);
         }
     }
