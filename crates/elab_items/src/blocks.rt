@@ -190,8 +190,8 @@ fn waiting_targets(
     }
 }
 
-/// The targets of an `always` block, where by itself it has combinational form.
-fn block_targets(
+/// The targets of an `always` block, where by itself it has combinational form. The scope finds the parameters among its names.
+pub fn block_targets(
     alloc: Global,
     scope: &Scope<'_>,
     body: &Stmt,

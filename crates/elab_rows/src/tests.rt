@@ -1,14 +1,16 @@
-// Texts with the parts of their walks, and with what the waits of their processes wait for. The expected answers were worked out by hand, and those of
-// the waits are also what an independent model gives.
+// Texts with the parts of their walks, with nodes that read many objects, and with what the waits of their processes wait for. The expected answers
+// were worked out by hand, and those of the waits are also what an independent model gives.
 
 mod parts;
+mod reads;
 mod waits;
 
 use crate::tests::parts::{Driven, PARTS, Shown};
+use crate::tests::reads::READS;
 use crate::tests::waits::{WAITS, Waited};
 use design_text::read_design;
 use elab_parts::{Drive, Part, Signal, WalkedProcess};
-use elab_walk::{Modules, walked_from};
+use elab_walk::{Modules, WalkFault, walked_from};
 use std::alloc::Global;
 use std::test::Fail;
 use v_design::{Design, FlatStmt, Process, WaitEntry};
@@ -141,6 +143,20 @@ fn first_other(alloc: Global, unit: &Unit, mode: Mode, shown: &[Shown]) -> Optio
     }
 }
 
+/// Whether the walk from a text's top is refused since a node reads too many objects.
+fn reads_too_many(alloc: Global, unit: &Unit, mode: Mode) -> bool {
+    let Ok(modules) = Modules::new(alloc, unit) else {
+        return false;
+    };
+    let Some(top) = modules.named(b"top") else {
+        return false;
+    };
+    matches!(
+        walked_from(alloc, &modules, mode, top),
+        Err(WalkFault::TooManyInputs)
+    )
+}
+
 /// Whether a process waits at once, for what is shown.
 fn waits_for(process: &Process, shown: &[Waited]) -> bool {
     match &process.body {
@@ -190,6 +206,20 @@ fn parts_of_texts(rt: HostRuntime) -> Result<(), Fail> {
             Some(unit) => first_other(alloc, unit, *mode, shown),
         };
         assert_eq!(rt; other, None, "row {row}");
+    }
+    Ok(())
+}
+
+#[test]
+fn reads_of_texts(rt: HostRuntime) -> Result<(), Fail> {
+    let alloc = rt.alloc();
+    'rows: for (row, (text, mode, many)) in READS.iter().enumerate() {
+        let unit = unit_of(alloc, text);
+        let refused = match &unit {
+            None => !*many,
+            Some(unit) => reads_too_many(alloc, unit, *mode),
+        };
+        assert_eq!(rt; refused, *many, "row {row}");
     }
     Ok(())
 }

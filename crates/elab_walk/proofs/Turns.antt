@@ -28,6 +28,7 @@ pub record GoesOn (before : List Part) (whole : Answer) (rest : List Part → An
 pub fault-goes : (answer : Answer) (next : List Part → Answer) (fault : WalkFault) → IsWalkFault answer fault → IsWalkFault (then_go answer next) fault
 fault-goes answer next (faults.Found found) e = ap (λ (a : Answer). then_go a next) e
 fault-goes answer next (faults.TooMany what) e = ap (λ (a : Answer). then_go a next) e
+fault-goes answer next faults.TooManyInputs e = ap (λ (a : Answer). then_go a next) e
 fault-goes answer next faults.NoMemory e = tt
 
 pub fault-of : (answer whole : Answer) (fault : WalkFault) → answer ≡ whole → IsWalkFault answer fault → IsWalkFault whole fault

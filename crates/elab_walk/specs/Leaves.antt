@@ -1,10 +1,9 @@
 -- What a step of the walk leaves.
 use Rattle.std.specs.Prelude.{◌≡◌, ℕ, List, ◌++◌, Result, Ok, Err}
 use Rattle.v_tree.specs.Trees.{SourceItem}
-use Rattle.v_elab.specs.Refusals.{Refusal, then_go, checked}
+use Rattle.v_elab.specs.Refusals.{Refusal, then_go}
 use Rattle.v_elab.specs.Parts as plain
-use Rattle.v_elab.specs.ItemFaults.{item_faults}
-use Rattle.v_elab.specs.Walk.{Here, item_parts, added}
+use Rattle.v_elab.specs.Walk.{Here, checked_item, added}
 use Rattle.elab_parts.specs.PartViews.{parts_of}
 use Rattle.elab_walk.specs.WalkFaults.{IsWalkFault}
 use Rattle.elab_walk.specs.CountViews.{AreCounts}
@@ -40,4 +39,4 @@ Leaves before wanted (Err fault) old new = IsWalkFault wanted fault
 
 -- what an item that is no instance gives behind some parts
 abbrev pub plain_item : Here → ℕ → SourceItem → List plain.Part → Result (List plain.Part) Refusal
-plain_item here gates item before = then_go (checked (item_faults here.scope item) (item_parts here gates item)) (added before)
+plain_item here gates item before = then_go (checked_item here gates item) (added before)

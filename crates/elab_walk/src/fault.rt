@@ -1,7 +1,7 @@
 // Why a walk has no parts.
 
-ghost use Rattle.std.specs.Prelude.{◌≡◌, Some, None, MatchResult};
-ghost use Rattle.elab_walk.specs.WalkFaults.{refusal_in};
+ghost use Rattle.std.specs.Prelude.{◌≡◌, false, Some, None, MatchResult};
+ghost use Rattle.elab_walk.specs.WalkFaults.{reads_fault, refusal_in};
 
 use module_names::NameFault;
 use std::alloc::{AllocError, AllocFailed};
@@ -19,6 +19,9 @@ pub enum WalkFault {
     /// What there is more of than the limit.
     #[error("the design is too large")]
     TooMany(What),
+    /// A node reads more objects than a node may, by the declarations of the names in its text.
+    #[error("a node reads too many objects")]
+    TooManyInputs,
     #[error("out of memory")]
     NoMemory,
 }
@@ -78,4 +81,14 @@ pub fn refuse(found: Option<Found>) -> Result<(), WalkFault>
         None => Ok(()),
         Some(found) => Err(WalkFault::Found(found)),
     }
+}
+
+/// Refuses a node that reads too many objects, if there is one.
+pub fn refuse_reads(over: bool) -> Result<(), WalkFault>
+    ensures { MatchResult result (λ done. over ≡ false) (λ fault. reads_fault over ≡ Some fault) }
+{
+    if over {
+        return Err(WalkFault::TooManyInputs);
+    }
+    Ok(())
 }

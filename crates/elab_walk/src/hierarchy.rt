@@ -17,7 +17,7 @@ ghost use Rattle.elab_walk.specs.Sites.{IsSite, IsEntrance, IsInner};
 ghost use Rattle.elab_walk.specs.CountViews.{AreCounts};
 ghost use Rattle.elab_walk.specs.Leaves.{Leaves};
 
-use crate::fault::{WalkFault, refuse};
+use crate::fault::{WalkFault, refuse, refuse_reads};
 use crate::items::{walk_heads, walk_param_groups, walk_plain_item};
 use crate::modules::Modules;
 use crate::site::{Entrance, Inner, Site};
@@ -29,6 +29,7 @@ use elab_items::{Here, gates_in, hierarchical};
 use elab_parts::Part;
 use instance_faults::{Child, Formals, given_parameters, instance_fault, not_port_fault};
 use module_names::{names, scope_of_module};
+use read_counts::connection_reads_over;
 use std::alloc::Global;
 use std::rc::Rc;
 use v_elab::Mode;
@@ -106,8 +107,9 @@ fn walk_instance<'u>(
     requires { site.here.now.depth + levels ≤ 64 }
     ensures { (h : plain.Here) (m : SourceModule) (given : List GivenParameter) → IsSite h site.entry → IsInner h m given inner.entry → (before : List parts.Part) → AreCounts before walked.old.counts → Leaves before (walked_instance (plain.walked h.modules h.mode levels) h m given (instance_of instance.now) before) result walked.old walked.new }
 {
-    let paths = instance_paths(alloc, &site.here.path, instance)?;
     let connections = instance.connections.as_slice();
+    refuse_reads(connection_reads_over(alloc, inner.child, connections)?)?;
+    let paths = instance_paths(alloc, &site.here.path, instance)?;
     if connects_wide_port(inner.child, connections) {
         walked.count_instance(connection_nodes(alloc, inner.child, connections)?)?;
         walk_inside(alloc, site, levels, inner, &paths, instance, walked)?;

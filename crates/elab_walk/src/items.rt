@@ -1,20 +1,22 @@
 // Items that are no instances.
 
-ghost use Rattle.std.specs.Prelude.{◌≡◌, List, map};
+ghost use Rattle.std.specs.Prelude.{◌≡◌, ℕ, List, Ok, MatchResult, map};
 ghost use Rattle.v_tree.specs.Trees.{ParameterItem, PortItem};
 ghost use Rattle.v_tree.specs.Views.{parameters_of, ports_of, heads_of, item_of};
 ghost use Rattle.v_elab.specs.Parts as parts;
 ghost use Rattle.v_elab.specs.Walk as plain;
-ghost use Rattle.v_elab.specs.Walk.{Walker, walked_item, walked_items, head_items};
+ghost use Rattle.v_elab.specs.Walk.{Walker, walked_item, walked_items, head_items, item_parts, checked_item};
+ghost use Rattle.elab_walk.specs.WalkFaults.{IsWalkFault};
 ghost use Rattle.elab_walk.specs.Sites.{IsSite};
 ghost use Rattle.elab_walk.specs.CountViews.{AreCounts};
 ghost use Rattle.elab_walk.specs.Leaves.{plain_item, Leaves};
 
-use crate::fault::{WalkFault, refuse};
+use crate::fault::{WalkFault, refuse, refuse_reads};
 use crate::site::Site;
 use crate::walked::Walked;
 use elab_items::{push_item_parts, push_port_parts};
 use item_faults::{item_fault, params_fault, ports_fault};
+use read_counts::item_reads_over;
 use std::alloc::Global;
 use v_tree::{Heads, Item, Params, Ports};
 
@@ -97,6 +99,16 @@ pub fn walk_heads<'u>(
     }
 }
 
+/// Refuses what is wrong with an item that is no instance, and then a node of it that reads too many objects.
+fn refuse_item(alloc: Global, site: Site<'_, '_, '_, '_>, item: &Item) -> Result<(), WalkFault>
+    ensures { (h : plain.Here) → IsSite h site.entry → (gates : ℕ) → MatchResult result (λ done. checked_item h gates (item_of item.now) ≡ Ok (item_parts h gates (item_of item.now))) (λ fault. IsWalkFault (checked_item h gates (item_of item.now)) fault) }
+{
+    let here = site.here;
+    refuse(item_fault(alloc, &here.scope, item)?)?;
+    refuse_reads(item_reads_over(alloc, here.mode, &here.scope, item)?)?;
+    Ok(())
+}
+
 /// Walks an item that is no instance; the gates of the module before it are counted.
 pub fn walk_plain_item<'u>(
     alloc: Global,
@@ -107,7 +119,7 @@ pub fn walk_plain_item<'u>(
 ) -> Result<(), WalkFault>
     ensures { (h : plain.Here) → IsSite h site.entry → (before : List parts.Part) → AreCounts before walked.old.counts → Leaves before (plain_item h gates (item_of item.now) before) result walked.old walked.new }
 {
-    refuse(item_fault(alloc, &site.here.scope, item)?)?;
+    refuse_item(alloc, site, item)?;
     let start = walked.parts.len();
     push_item_parts(alloc, site.here, gates, item, &mut walked.parts)?;
     walked.count_from(start)?;

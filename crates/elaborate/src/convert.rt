@@ -17,6 +17,9 @@ use v_names::{Found, Reason};
 /// The number just above the most nodes, processes, instances and objects.
 pub const PARTS_OVER: u64 = 65_537;
 
+/// The number just above the most inputs of a node.
+pub const INPUTS_OVER: u64 = 4097;
+
 /// What is wrong at a place.
 pub fn found_fault(found: Found) -> ElabFault
     ensures { refusal_of result ≡ Some (Faulty (fault_of found)) }
@@ -39,6 +42,7 @@ pub fn walk_fault(fault: WalkFault) -> ElabFault
     match fault {
         WalkFault::Found(found) => found_fault(found),
         WalkFault::TooMany(what) => ElabFault::TooMany(what, PARTS_OVER),
+        WalkFault::TooManyInputs => ElabFault::TooMany(What::Inputs, INPUTS_OVER),
         WalkFault::NoMemory => ElabFault::NoMemory,
     }
 }

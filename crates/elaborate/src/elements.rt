@@ -15,7 +15,7 @@ ghost use Rattle.elab_objects.specs.ObjectViews.{held_objects};
 ghost use Rattle.flat_nodes.specs.NodeOrder.{ordered_nodes};
 ghost use Rattle.elaborate.specs.Elements.{AreMade, AreMadeOver, Orders, Gives, Holds};
 
-use crate::convert::{PARTS_OVER, driver_fault};
+use crate::convert::{INPUTS_OVER, PARTS_OVER, driver_fault};
 use crate::fault::ElabFault;
 use crate::tables::{objects_alone, widths_of};
 use driver_checks::{list_driving, one_driver};
@@ -60,7 +60,7 @@ fn order_nodes(alloc: Global, nodes: Vec<Node>, objects: &[Object]) -> Result<Ve
 {
     match nodes_by_rank(alloc, nodes, objects) {
         Ok(sorted) => Ok(sorted),
-        Err(NodesFault::TooManyInputs) => Err(ElabFault::TooMany(What::Inputs, 4097)),
+        Err(NodesFault::TooManyInputs) => Err(ElabFault::TooMany(What::Inputs, INPUTS_OVER)),
         Err(NodesFault::Loop(place)) => Err(ElabFault::Loop(place)),
         Err(NodesFault::NoMemory) => Err(ElabFault::NoMemory),
     }

@@ -10,14 +10,14 @@ use Rattle.v_names.specs.Readings.{is_empty}
 use Rattle.v_names.specs.Names.{Declaration, parameter_declarations, item_declarations, head_declarations, declarations_of, of_name, joined_declaration, first_of_name, first_declarations, names_declared, GivenParameter, meaning_of, meanings, scope_after, parameter_count, scope_of, names}
 use Rattle.v_elab.specs.declared.Mode.{Mode}
 use Rattle.v_elab.specs.ItemFaults.{item_faults}
-use Rattle.v_elab.specs.Refusals.{as_refusal, checked, then_go}
+use Rattle.v_elab.specs.Refusals.{as_refusal, then_go}
 use Rattle.v_elab.specs.Parts.{Part}
-use Rattle.v_elab.specs.Walk.{Entered, Here, item_parts, added, head_items, walked_item, walked_module, walked, walked_from}
+use Rattle.v_elab.specs.Walk.{Entered, Here, item_parts, checked_item, added, head_items, walked_item, walked_module, walked, walked_from}
 use Rattle.flat_laws.specs.Lists.{same_some}
 use Rattle.flat_laws.specs.Made.{then_go-ok}
 use Rattle.flat_laws.specs.Hierarchy.{equal-name}
 use Rattle.flat_laws.specs.Named.{at-flat_map}
-use Rattle.flat_laws.specs.Walks.{items_of, IsOf, checked-ok, as_refusal-ok, added-ok}
+use Rattle.flat_laws.specs.Walks.{items_of, IsOf, checked_item-ok, as_refusal-ok, added-ok}
 use Rattle.flat_laws.specs.Visits.{IsVisited}
 use Rattle.flat_laws.specs.Visited.{Grows, grows-then, walked-grows, module-at, visited-walked}
 
@@ -113,10 +113,10 @@ abbrev pub IsNoInstance : SourceItem → Type 0
 IsNoInstance (InstanceItem place module_name parameters instances) = ⊥
 IsNoInstance _ = Unit {0}
 
-plain-there : (here : Here) (gates : ℕ) (item : SourceItem) (before after parts : List Part) → then_go (checked (item_faults here.scope item) (item_parts here gates item)) (added before) ≡ Ok after → Grows after parts → ItemThere here item parts
+plain-there : (here : Here) (gates : ℕ) (item : SourceItem) (before after parts : List Part) → then_go (checked_item here gates item) (added before) ≡ Ok after → Grows after parts → ItemThere here item parts
 plain-there here gates item before after parts e g =
-    let step = then_go-ok (checked (item_faults here.scope item) (item_parts here gates item)) (added before) after e in
-    let none = checked-ok (item_faults here.scope item) (item_parts here gates item) step.0 step.1 in
+    let step = then_go-ok (checked_item here gates item) (added before) after e in
+    let none = checked_item-ok here gates item step.0 step.1 in
     record {
       gates = gates;
       faultless = none.0;

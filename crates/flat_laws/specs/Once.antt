@@ -18,17 +18,16 @@ use Rattle.v_names.specs.Names.{DeclaredGate, DeclaredInstance, Declaration, gat
 use Rattle.v_width.specs.Targets.{target_of}
 use Rattle.v_elab.specs.declared.Mode.{Mode}
 use Rattle.v_elab.specs.declared.What.TheVariants.{Objects, Nodes}
-use Rattle.v_elab.specs.ItemFaults.{item_faults}
 use Rattle.v_elab.specs.Refusals.{as_refusal, checked, then_go}
 use Rattle.v_elab.specs.Parts.{Part, SignalPart, MemoryPart, AssignPart, GatePart, ProcessPart, InstancePart, objects_of_part, nodes_of_part, over_limit, too_many_parts}
 use Rattle.v_elab.specs.Connections.{most_depth, open_parameters, given_parameters, Child, Paths, joined_name, port_direction, actual_parts, output_parts, connection_parts, connections_parts, connected_name, head_names, drives_of}
-use Rattle.v_elab.specs.Walk.{Entered, Here, part_by_entry, parts_of_own, declared_parts, assign_part, wire_parts, terminals_of, gate_name, gate_parts, item_parts, gates_in, added, Walker, child_of, paths_of, entered, walked_instance, walked_instances, module_named, instance_item_faults, walked_instance_item, walked_item, walked_items, head_items, walked_module, walked, walked_from}
+use Rattle.v_elab.specs.Walk.{Entered, Here, part_by_entry, parts_of_own, declared_parts, assign_part, wire_parts, terminals_of, gate_name, gate_parts, item_parts, gates_in, checked_item, added, Walker, child_of, paths_of, entered, instance_parts, walked_instance, walked_instances, module_named, instance_item_faults, walked_instance_item, walked_item, walked_items, head_items, walked_module, walked, walked_from}
 use Rattle.graph_order.specs.ListLaws.{AllHold-slice_get}
 use Rattle.flat_laws.specs.Lists.{AllHold-from, at-filter, two-counted}
 use Rattle.flat_laws.specs.Numbered.{AllHold-append, AllHold-filter}
 use Rattle.flat_laws.specs.Made.{then_go-ok, unless_refused-ok, refusal_or-none, over_limit-none}
 use Rattle.flat_laws.specs.Hierarchy.{equal-name, name-same, part_name}
-use Rattle.flat_laws.specs.Walks.{same_parts, as_refusal-ok, checked-ok, items_of, IsOf, top_entered}
+use Rattle.flat_laws.specs.Walks.{same_parts, as_refusal-ok, checked_item-ok, instance-steps, items_of, IsOf, top_entered}
 use Rattle.flat_laws.specs.Levelled.{named-module, IsModule}
 use Rattle.flat_laws.specs.Visited.{module-steps}
 use Rattle.flat_laws.specs.Declared.{items-declare}
@@ -299,11 +298,11 @@ item-nodes here gates (InstanceItem place module_name parameters instances) = om
 item-nodes here gates (InitialItem place body) = omega arith
 item-nodes here gates (AlwaysItem place body) = omega arith
 
-plain-adds : (here : Here) (gates : ℕ) (item : SourceItem) → AllHold (IsKnownIn here.instance.inner) (item_declarations item) → (parts result : List Part) → then_go (checked (item_faults here.scope item) (item_parts here gates item)) (added parts) ≡ Ok result →
+plain-adds : (here : Here) (gates : ℕ) (item : SourceItem) → AllHold (IsKnownIn here.instance.inner) (item_declarations item) → (parts result : List Part) → then_go (checked_item here gates item) (added parts) ≡ Ok result →
     Adds parts result (gates_in item) (named_by_item here gates item)
 plain-adds here gates item known parts result e =
-    let step = then_go-ok (checked (item_faults here.scope item) (item_parts here gates item)) (added parts) result e in
-    let none = checked-ok (item_faults here.scope item) (item_parts here gates item) step.0 step.1 in
+    let step = then_go-ok (checked_item here gates item) (added parts) result e in
+    let none = checked_item-ok here gates item step.0 step.1 in
     let whole : added parts (item_parts here gates item) ≡ Ok result = ap (added parts) none.1 ∙ step.2 in
     adds-added parts (item_parts here gates item) result (gates_in item) (named_by_item here gates item) whole (item-nodes here gates item) (item-named here gates item known)
 
@@ -349,8 +348,8 @@ instances-add modules walker adds here inner k at given [] known parts result e 
 instances-add modules walker adds here inner k at given (i ∷ rest) known parts result e few =
     let m = here.instance.inner in
     let step = then_go-ok (walked_instance walker here inner given i parts) (walked_instances walker here inner given rest) result e in
-    let more = InstancePart ∷ connections_parts (child_of here inner given) (paths_of here i) 0 i.connections in
-    let own = then_go-ok (added parts more) (walker (entered here inner given i)) step.0 step.1 in
+    let more = instance_parts here inner given i in
+    let own = instance-steps walker here inner given i parts step.0 step.1 in
     let d = declaration_of_instance i in
     let own_few = adds-added parts more own.0 0 (λ name. 0) own.1 (omega arith)
     (λ name. omega (arith, nameless-none name more (refl, connections-nameless (child_of here inner given) (paths_of here i) 0 i.connections))) in

@@ -10,13 +10,12 @@ use Rattle.v_names.specs.Faults.{Fault, TooDeep, fault_at}
 use Rattle.v_names.specs.Names.{GivenParameter, names}
 use Rattle.v_names.specs.Scopes.{Scope}
 use Rattle.v_elab.specs.Refusals.{as_refusal, checked, then_go}
-use Rattle.v_elab.specs.ItemFaults.{item_faults}
-use Rattle.v_elab.specs.Connections.{most_depth, open_parameters, given_parameters, Child, instance_faults, connections_parts}
-use Rattle.v_elab.specs.Parts.{Part, InstancePart}
-use Rattle.v_elab.specs.Walk.{Entered, Here, item_parts, gates_in, added, Walker, child_of, paths_of, entered, walked_instance, walked_instances, module_named, instance_item_faults, walked_instance_item, walked_item, walked_items, head_items, not_port_faults, walked_module, walked, walked_from}
+use Rattle.v_elab.specs.Connections.{most_depth, open_parameters, given_parameters, Child, instance_faults}
+use Rattle.v_elab.specs.Parts.{Part}
+use Rattle.v_elab.specs.Walk.{Entered, Here, gates_in, checked_item, added, Walker, child_of, entered, instance_parts, walked_instance, walked_instances, module_named, instance_item_faults, walked_instance_item, walked_item, walked_items, head_items, not_port_faults, walked_module, walked, walked_from}
 use Rattle.flat_laws.specs.Lists.{same_some, at-append}
 use Rattle.flat_laws.specs.Made.{then_go-ok}
-use Rattle.flat_laws.specs.Walks.{same_parts, checked-ok, as_refusal-ok, added-ok, IsOf, IsInstance}
+use Rattle.flat_laws.specs.Walks.{same_parts, checked-ok, as_refusal-ok, added-ok, instance-steps, IsOf, IsInstance}
 use Rattle.flat_laws.specs.Visits.{IsVisited, at_top, below}
 
 -- Parts are added behind those before
@@ -36,8 +35,8 @@ WalkerGrows walker = (instance : Entered) (parts result : List Part) → walker 
 
 instance-grows : (walker : Walker) → WalkerGrows walker → (here : Here) (inner : SourceModule) (given : List GivenParameter) (i : SourceInstance) (parts result : List Part) → walked_instance walker here inner given i parts ≡ Ok result → Grows parts result
 instance-grows walker grows here inner given i parts result e =
-    let more = InstancePart ∷ connections_parts (child_of here inner given) (paths_of here i) 0 i.connections in
-    let step = then_go-ok (added parts more) (walker (entered here inner given i)) result e in
+    let more = instance_parts here inner given i in
+    let step = instance-steps walker here inner given i parts result e in
     grows-then parts step.0 result (more, added-ok parts more step.0 step.1) (grows (entered here inner given i) step.0 result step.2)
 
 instances-grow : (walker : Walker) → WalkerGrows walker → (here : Here) (inner : SourceModule) (given : List GivenParameter) (instances : List SourceInstance) (parts result : List Part) → walked_instances walker here inner given instances parts ≡ Ok result →
@@ -54,8 +53,8 @@ instance_item-grows walker grows here (Some inner) place parameters instances pa
     let step = then_go-ok (checked (instance_item_faults here inner parameters instances) (given_parameters here.scope (open_parameters inner) 0 parameters)) (λ given. walked_instances walker here inner given instances parts) result e in
     instances-grow walker grows here inner step.0 instances parts result step.2
 
-plain-grows : (here : Here) (gates : ℕ) (item : SourceItem) (parts result : List Part) → then_go (checked (item_faults here.scope item) (item_parts here gates item)) (added parts) ≡ Ok result → Grows parts result
-plain-grows here gates item parts result e = let step = then_go-ok (checked (item_faults here.scope item) (item_parts here gates item)) (added parts) result e in (step.0, added-ok parts step.0 result step.2)
+plain-grows : (here : Here) (gates : ℕ) (item : SourceItem) (parts result : List Part) → then_go (checked_item here gates item) (added parts) ≡ Ok result → Grows parts result
+plain-grows here gates item parts result e = let step = then_go-ok (checked_item here gates item) (added parts) result e in (step.0, added-ok parts step.0 result step.2)
 
 item-grows : (walker : Walker) → WalkerGrows walker → (here : Here) (gates : ℕ) (item : SourceItem) (parts result : List Part) → walked_item walker here gates item parts ≡ Ok result → Grows parts result
 item-grows walker grows here gates (InstanceItem place module_name parameters instances) parts result e = instance_item-grows walker grows here (module_named here.modules module_name) place parameters instances parts result e
@@ -203,8 +202,7 @@ below-walked modules mode parts here scope same_modules same_mode w inner given 
     ap (λ h. walked_module walker h instance.inner w.before) (sym is_here) ∙ ap (λ s. walked_module walker (record { modules = modules; mode = mode; instance = instance; scope = s }) instance.inner w.before) (sym own) ∙ step.2 in
     let item = module-at walker grows here instance.inner w.before w.after whole (InstanceItem of.place of.module_name of.parameters of.instances) of.is in
     let at = found-at walker grows here (module_named here.modules of.module_name) inner of.place of.parameters of.instances given of.named of.given_is item.before item.after item.is of.number i of.at in
-    let more = InstancePart ∷ connections_parts (child_of here inner given) (paths_of here i) 0 i.connections in
-    let first = then_go-ok (added at.before more) (walker (entered here inner given i)) at.after at.is in
+    let first = instance-steps walker here inner given i at.before at.after at.is in
     let depth = instance-depth (child_of here inner given) (instance.depth + 1) i of.faultless in
     let enough = w.enough in
     child-walked modules mode w.levels (entered here inner given i) first.0 at.after parts (omega (arith, enough)) depth first.2 (grows-then at.after item.after parts at.grows (grows-then item.after w.after parts item.grows w.grows))

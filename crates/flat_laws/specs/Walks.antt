@@ -7,11 +7,12 @@ use Rattle.v_tree.specs.Trees.{Identifier, SourceConnection, SourceInstance, Sou
 use Rattle.v_elab.specs.declared.Mode.{Mode}
 use Rattle.v_names.specs.Faults.{Fault}
 use Rattle.v_names.specs.Names.{GivenParameter, names}
-use Rattle.v_elab.specs.Refusals.{Refusal, as_refusal, checked, then_go}
+use Rattle.v_elab.specs.Refusals.{Refusal, as_refusal, checked, then_go, unless_refused}
 use Rattle.v_elab.specs.ItemFaults.{item_faults}
 use Rattle.v_elab.specs.Connections.{most_depth, open_parameters, given_faults, given_parameters, instance_faults, connections_parts}
 use Rattle.v_elab.specs.Parts.{Part, InstancePart, too_many_parts}
-use Rattle.v_elab.specs.Walk.{Entered, Here, item_parts, gates_in, added, Walker, child_of, paths_of, entered, walked_instance, walked_instances, module_named, instance_item_faults, walked_instance_item, walked_item, walked_items, head_items, not_port_faults, walked_module, walked, walked_from}
+use Rattle.v_elab.specs.ReadCounts.{reads_refused, item_reads, connections_reads}
+use Rattle.v_elab.specs.Walk.{Entered, Here, item_parts, gates_in, checked_item, added, Walker, child_of, paths_of, entered, instance_parts, checked_instance, walked_instance, walked_instances, module_named, instance_item_faults, walked_instance_item, walked_item, walked_items, head_items, not_port_faults, walked_module, walked, walked_from}
 use Rattle.flat_laws.specs.Lists.{AllHold-from}
 use Rattle.flat_laws.specs.Numbered.{AllHold-append}
 use Rattle.flat_laws.specs.Made.{then_go-ok, unless_refused-ok}
@@ -33,6 +34,23 @@ checked-ok (fault ∷ faults) given answer e = absurd (cc)
 
 pub added-ok : (parts more result : List Part) → added parts more ≡ Ok result → parts ++ more ≡ result
 added-ok parts more result e = (unless_refused-ok (too_many_parts (parts ++ more)) (parts ++ more) result e).1
+
+-- an item that isn't refused has no faults
+pub checked_item-ok : (here : Here) (gates : ℕ) (item : SourceItem) (answer : List Part) → checked_item here gates item ≡ Ok answer → (item_faults here.scope item ≡ []) × (item_parts here gates item ≡ answer)
+checked_item-ok here gates item answer e =
+    let refused = reads_refused here.scope (item_reads here.mode here.scope item) in
+    let step = then_go-ok (checked (item_faults here.scope item) (item_parts here gates item)) (unless_refused refused) answer e in
+    let none = checked-ok (item_faults here.scope item) (item_parts here gates item) step.0 step.1 in
+    (none.0, none.1 ∙ (unless_refused-ok refused step.0 answer step.2).1)
+
+-- an instance that isn't refused is added, then what stands in it
+pub instance-steps : (walker : Walker) (here : Here) (inner : SourceModule) (given : List GivenParameter) (i : SourceInstance) (parts result : List Part) → walked_instance walker here inner given i parts ≡ Ok result →
+    (middle : List Part) × (added parts (instance_parts here inner given i) ≡ Ok middle) × (walker (entered here inner given i) middle ≡ Ok result)
+instance-steps walker here inner given i parts result e =
+    let refused = reads_refused here.scope (connections_reads (child_of here inner given) 0 i.connections) in
+    let outer = then_go-ok (then_go (checked_instance here inner given i) (added parts)) (walker (entered here inner given i)) result e in
+    let step = then_go-ok (checked_instance here inner given i) (added parts) outer.0 outer.1 in
+    (outer.0, ap (added parts) (unless_refused-ok refused (instance_parts here inner given i) step.0 step.1).1 ∙ step.2, outer.2)
 
 -- The items of a module
 
@@ -98,8 +116,8 @@ Keeps P Q walker = (instance : Entered) → Q instance → (parts result : List 
 instance-keeps : (P : Part → Type 0) (Q : Entered → Type 0) (modules : List SourceModule) (mode : Mode) → HoldsOfEach P Q modules mode → (walker : Walker) → Keeps P Q walker → (here : Here) → IsHere Q modules mode here →
     (inner : SourceModule) (given : List GivenParameter) (i : SourceInstance) → IsInstance here inner given i → (parts result : List Part) → walked_instance walker here inner given i parts ≡ Ok result → AllHold P parts → AllHold P result
 instance-keeps P Q modules mode each walker keeps here is inner given i of parts result e h =
-    let more = InstancePart ∷ connections_parts (child_of here inner given) (paths_of here i) 0 i.connections in
-    let step = then_go-ok (added parts more) (walker (entered here inner given i)) result e in
+    let more = instance_parts here inner given i in
+    let step = instance-steps walker here inner given i parts result e in
     let first : AllHold P step.0 = subst (AllHold P) (added-ok parts more step.0 step.1) (AllHold-append P parts more h (each.of_instance, each.of_connections here is inner given i of)) in
     keeps (entered here inner given i) (each.enters here is inner given i of) step.0 result step.2 first
 
@@ -145,10 +163,10 @@ instance_item-keeps P Q modules mode each walker keeps here is (Some inner) plac
     instances-keep P Q modules mode each walker keeps here is inner wanted instances all parts result (ap (λ given. walked_instances walker here inner given instances parts) none.1 ∙ step.2) h
 
 plain-keeps : (P : Part → Type 0) (Q : Entered → Type 0) (modules : List SourceModule) (mode : Mode) → HoldsOfEach P Q modules mode → (here : Here) → IsHere Q modules mode here → (gates : ℕ) (item : SourceItem) → IsOf here.instance.inner item →
-    (parts result : List Part) → then_go (checked (item_faults here.scope item) (item_parts here gates item)) (added parts) ≡ Ok result → AllHold P parts → AllHold P result
+    (parts result : List Part) → then_go (checked_item here gates item) (added parts) ≡ Ok result → AllHold P parts → AllHold P result
 plain-keeps P Q modules mode each here is gates item of parts result e h =
-    let step = then_go-ok (checked (item_faults here.scope item) (item_parts here gates item)) (added parts) result e in
-    let none = checked-ok (item_faults here.scope item) (item_parts here gates item) step.0 step.1 in
+    let step = then_go-ok (checked_item here gates item) (added parts) result e in
+    let none = checked_item-ok here gates item step.0 step.1 in
     subst (AllHold P) (added-ok parts step.0 result step.2) (AllHold-append P parts step.0 h (subst (AllHold P) none.1 (each.of_item here is gates item of none.0)))
 
 item-keeps : (P : Part → Type 0) (Q : Entered → Type 0) (modules : List SourceModule) (mode : Mode) → HoldsOfEach P Q modules mode → (walker : Walker) → Keeps P Q walker → (here : Here) → IsHere Q modules mode here → (gates : ℕ) (item : SourceItem) →

@@ -12,6 +12,7 @@ use Rattle.flat_refusals.specs.Texts9 as texts9_texts
 use Rattle.flat_refusals.specs.Texts10 as texts10_texts
 use Rattle.flat_refusals.specs.Texts11 as texts11_texts
 use Rattle.flat_refusals.specs.Texts12 as texts12_texts
+use Rattle.flat_refusals.specs.Texts13 as texts13_texts
 
 -- each text has the answer that stands beside it
 pub record WorkedTexts : Type 0 where
@@ -28,6 +29,7 @@ pub record WorkedTexts : Type 0 where
   pub texts10 : texts10_texts.Holds
   pub texts11 : texts11_texts.Holds
   pub texts12 : texts12_texts.Holds
+  pub texts13 : texts13_texts.Holds
 
 pub worked_texts : WorkedTexts
 worked_texts = record {
@@ -44,4 +46,5 @@ worked_texts = record {
   texts10 = texts10_texts.holds;
   texts11 = texts11_texts.holds;
   texts12 = texts12_texts.holds;
+  texts13 = texts13_texts.holds;
 }

@@ -11,4 +11,5 @@ pub mod Texts9
 pub mod Texts10
 pub mod Texts11
 pub mod Texts12
+pub mod Texts13
 pub mod Examples

@@ -1,18 +1,18 @@
 // The form of a block.
 
-ghost use Rattle.std.specs.Prelude.{◌≡◌, [], IfOk, OnOk};
+ghost use Rattle.std.specs.Prelude.{◌≡◌, [], IfOk, OnOk, flat_map};
 ghost use Rattle.v_tree.specs.Trees.{has_name};
 ghost use Rattle.v_tree.specs.Views.{statement_of};
 ghost use Rattle.v_comb.specs.CombinationalForm.{block_form, waits_for, each_once};
 ghost use Rattle.v_comb.specs.NameTables.{with_other};
 ghost use Rattle.v_comb.specs.Forms.{waits_of, form_of};
-ghost use Rattle.v_comb.specs.Occurrences.{listed, assigned_names_of, names_read_of};
+ghost use Rattle.v_comb.specs.Occurrences.{listed, assigned_names_of, names_of_expr, names_read_of};
 
 use crate::assigned::all_are_assigned;
 use crate::name_table::NameTable;
-use crate::occurrences::{push_assigned, push_reads};
+use crate::occurrences::{push_assigned, push_part_names, push_reads};
 use std::alloc::Global;
-use v_tree::Stmt;
+use v_tree::{Expr, Stmt};
 use vf_base::{NoMemory, Seq, Text};
 
 /// What a block waits for.
@@ -113,6 +113,18 @@ fn are_waited_for(alloc: Global, waits: &Waits, reads: &NameTable<'_>) -> Result
             Ok(reads.are_among(&table))
         }
     }
+}
+
+/// The names in some expressions, each once, in the order of their first occurrences.
+pub fn names_in_exprs(alloc: Global, exprs: &[Expr]) -> Result<Seq<Text>, NoMemory>
+    ensures { IfOk result (λ names. names ≡ each_once [] (flat_map names_of_expr exprs.now)) }
+{
+    let mut names = Vec::new(alloc);
+    push_part_names(exprs, &mut names)?;
+    let none = NameTable::new(alloc);
+    let table = gather(alloc, &none, &names)?;
+    let texts = table.texts(alloc)?;
+    Ok(texts)
 }
 
 /// The form of a block with this statement that waits for this.

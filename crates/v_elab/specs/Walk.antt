@@ -16,6 +16,7 @@ use Rattle.v_width.specs.Targets.{ByNode, target_width_in}
 use Rattle.v_elab.specs.Blocks.{block_targets}
 use Rattle.v_elab.specs.ItemFaults.{item_faults, wire_select}
 use Rattle.v_elab.specs.Parts.{Joining, Part, SignalPart, MemoryPart, AssignPart, GatePart, ProcessPart, InstancePart, too_many_parts}
+use Rattle.v_elab.specs.ReadCounts.{reads_refused, item_reads, connections_reads}
 use Rattle.v_elab.specs.Connections.{most_depth, open_parameters, given_faults, given_parameters, Child, instance_faults, PortJoined, Paths, drives_of, connections_parts, connections_joins}
 
 -- an instance that is walked: its module with the parameters that are given, its path, its depth, and its ports that are joined
@@ -145,7 +146,11 @@ abbrev pub gates_in : SourceItem → ℕ
 gates_in (GateItem place kind all) = length all
 gates_in _ = 0
 
--- The walk: each item gives its first fault, or its parts; then each count is held against its limit
+-- The walk: each item gives its first fault, or a node that reads too many objects, or its parts; then each count is held against its limit
+
+-- the parts of an item of which nothing is wrong and whose nodes read few objects
+abbrev pub checked_item : Here → ℕ → SourceItem → Result (List Part) Refusal
+checked_item here gates item = then_go (checked (item_faults here.scope item) (item_parts here gates item)) (unless_refused (reads_refused here.scope (item_reads here.mode here.scope item)))
 
 -- the parts so far and those of an item
 abbrev pub added : List Part → List Part → Result (List Part) Refusal
@@ -170,10 +175,17 @@ entered here inner given i = record {
   joins = connections_joins (child_of here inner given) (paths_of here i) 0 i.connections;
 }
 
--- an instance, the assignments of its connections, and then what stands in it
+-- an instance and the assignments of its connections
+abbrev pub instance_parts : Here → SourceModule → List GivenParameter → SourceInstance → List Part
+instance_parts here inner given i = InstancePart ∷ connections_parts (child_of here inner given) (paths_of here i) 0 i.connections
+
+-- the same, where these read few objects
+abbrev pub checked_instance : Here → SourceModule → List GivenParameter → SourceInstance → Result (List Part) Refusal
+checked_instance here inner given i = unless_refused (reads_refused here.scope (connections_reads (child_of here inner given) 0 i.connections)) (instance_parts here inner given i)
+
+-- an instance and the assignments of its connections, and then what stands in it
 abbrev pub walked_instance : Walker → Here → SourceModule → List GivenParameter → SourceInstance → List Part → Result (List Part) Refusal
-walked_instance walker here inner given i parts =
-    then_go (added parts (InstancePart ∷ connections_parts (child_of here inner given) (paths_of here i) 0 i.connections)) (walker (entered here inner given i))
+walked_instance walker here inner given i parts = then_go (then_go (checked_instance here inner given i) (added parts)) (walker (entered here inner given i))
 
 abbrev pub walked_instances : Walker → Here → SourceModule → List GivenParameter → List SourceInstance → List Part → Result (List Part) Refusal
 walked_instances walker here inner given [] parts = Ok parts
@@ -203,7 +215,7 @@ walked_instance_item walker here (Some inner) place parameters instances parts =
 abbrev pub walked_item : Walker → Here → ℕ → SourceItem → List Part → Result (List Part) Refusal
 walked_item walker here gates (InstanceItem place module_name parameters instances) parts =
     walked_instance_item walker here (module_named here.modules module_name) place parameters instances parts
-walked_item walker here gates item parts = then_go (checked (item_faults here.scope item) (item_parts here gates item)) (added parts)
+walked_item walker here gates item parts = then_go (checked_item here gates item) (added parts)
 
 abbrev pub walked_items : Walker → Here → ℕ → List SourceItem → List Part → Result (List Part) Refusal
 walked_items walker here gates [] parts = Ok parts

@@ -1,4 +1,4 @@
-use Rattle.std.proofs.Common.{◌≡◌, ◌<◌, ◌+◌, ℕ, ◌-◌, List, [], ◌∷◌, ◌++◌, Some, Ok, length, map, flat_map, drop, refl, sym, ap, subst, ◌∙◌, arith}
+use Rattle.std.proofs.Common.{◌≡◌, ◌<◌, ◌+◌, ℕ, false, ◌-◌, List, [], ◌∷◌, ◌++◌, Some, Ok, length, map, flat_map, drop, refl, sym, ap, subst, ◌∙◌, arith}
 use Rattle.std.proofs.lemmas.List.{length-map}
 use Rattle.std.proofs.lemmas.Result.{err_from_is_err_and}
 use Rattle.vf_base.specs.Base.{source_place}
@@ -13,6 +13,7 @@ use Rattle.v_names.specs.Scopes.{Scope}
 use Rattle.v_names.specs.Names.{GivenParameter, names, scope_of}
 use Rattle.v_elab.specs.Parts.{Part, InstancePart}
 use Rattle.v_elab.specs.Connections as plain
+use Rattle.v_elab.specs.ReadCounts.{some_reads_over, connections_reads}
 use Rattle.v_elab.specs.Connections.{open_parameters, given_faults, given_parameters, instance_faults, connections_parts}
 use Rattle.v_elab.specs.Walk.{Here, Walker, walked, walked_module, walked_items, walked_instance, walked_instances, walked_instance_item, not_port_faults, head_items, module_named, child_of, paths_of, entered, added}
 use Rattle.module_names.specs.Givens.{given_parameter}
@@ -24,6 +25,7 @@ use Rattle.elab_connections.specs.PathViews.{ArePaths}
 use Rattle.elab_walk.specs.WalkFaults.{IsWalkFault}
 use Rattle.elab_walk.specs.Leaves.{parts_in, Grows}
 use Rattle.elab_walk.proofs.Turns.{goes-first, goes-turn, goes-wrong, turn-of, then-clean, clean-of, wrong-of, grows-counted, leaves-last, leaves-same, leaves-memory}
+use Rattle.elab_walk.proofs.Reads.{instance-few, instance-over, reads-wrong}
 use Rattle.elab_walk.proofs.Steps.{enter-is, enter-wrong, heads-split, item-plain, item-known, pushed-instance, behind_parameters}
 use Rattle.elab_walk.proofs.hierarchy.+walk.Goals as goal
 
@@ -48,6 +50,16 @@ enter-returns t c all e modules is before counted =
     ∙ sym (enter-is all c.args.mode c.args.levels e m given c.in_ok-scope.scope before some is.inner_is is.given_are c.in_ok-scope.ensures))
     (c.walk_module.ensures h (record { modules_are = modules; here_is = here }) formals before counted)
 
+pub walk_instance-returns-in_err-refuse_reads : goal.walk_instance-returns-in_err-refuse_reads
+walk_instance-returns-in_err-refuse_reads t c h m given is inner before counted =
+    let p = err_from_is_err_and c.from_residual-in_err-refuse_reads.result c.from_residual-in_err-refuse_reads.ensures.1 in
+    let walker : Walker = walked h.modules h.mode c.args.levels in
+    let i : SourceInstance = instance_of c.args.instance.now in
+    let reads : c.in_ok-connection_reads_over.field-0 ≡ some_reads_over h.scope (connections_reads (child_of h m given) 0 i.connections) =
+    c.in_ok-connection_reads_over.ensures (child_of h m given) inner.child_is ∙ ap (λ (cs : List Connection). some_reads_over h.scope (connections_reads (child_of h m given) 0 (map connection_of cs))) c.as_slice-connections.ensures in
+    rw (p.1, p.2)
+    (reads-wrong (walked_instance walker h m given i before) c.in_ok-connection_reads_over.field-0 _ c.in_err-refuse_reads.ensures (λ e. instance-over walker h m given i before (sym reads ∙ e)))
+
 pub walk_instance-returns : goal.walk_instance-returns
 walk_instance-returns t c h m given is inner before counted =
     let walker : Walker = walked h.modules h.mode c.args.levels in
@@ -59,9 +71,11 @@ walk_instance-returns t c h m given is inner before counted =
     (c.in_ok-push_connection_parts.ensures (child_of h m given) inner.child_is (paths_of h i) paths
     ∙ ap (λ (cs : List Connection). parts_in (record c.args.walked.now { parts = c.push.new.self }) ++ connections_parts (child_of h m given) (paths_of h i) 0 (map connection_of cs)) c.as_slice-connections.ensures) in
     let at : c.len-start.result ≡ length (parts_in c.args.walked.now) = omega (arith, length-map c.args.walked.now.parts.items part_of) in
+    let few : some_reads_over h.scope (connections_reads (child_of h m given) 0 i.connections) ≡ false =
+    ap (λ (cs : List Connection). some_reads_over h.scope (connections_reads (child_of h m given) 0 (map connection_of cs))) (sym c.as_slice-connections.ensures) ∙ sym (c.in_ok-connection_reads_over.ensures (child_of h m given) inner.child_is) ∙ c.in_ok-refuse_reads.ensures in
     leaves-last before _ (walker (entered h m given i)) c.args.walked.now c.count_from.new.self c.walk_inside-2.new.walked c.walk_inside-2.result
     (λ all k. c.walk_inside-2.ensures h m given is inner paths all k)
-    (goes-turn before _ (walked_instance walker h m given i) (walker (entered h m given i)) (λ all. added all more) c.args.walked.now c.args.walked.now c.count_from.new.self (λ all. refl)
+    (goes-turn before _ (walked_instance walker h m given i) (walker (entered h m given i)) (λ all. added all more) c.args.walked.now c.args.walked.now c.count_from.new.self (λ all. instance-few walker h m given i all few)
     (λ all k. grows-counted all more c.args.walked.now (record c.args.walked.now { parts = c.push_connection_parts.new.parts }) c.count_from.new.self pushed (c.in_ok-count_from.ensures all (parts_in c.args.walked.now) more k pushed at))
     (goes-first before (walked_instance walker h m given i) c.args.walked.now counted))
 

@@ -1,4 +1,4 @@
-use Rattle.std.proofs.Common.{◌≡◌, List, length, None, sym, subst, ◌∙◌, arith}
+use Rattle.std.proofs.Common.{◌≡◌, List, length, None, refl, sym, subst, ◌∙◌, arith}
 use Rattle.std.proofs.lemmas.List.{length-map}
 use Rattle.std.proofs.lemmas.Result.{err_from_is_err_and}
 use Rattle.v_tree.specs.Trees.{PortItem}
@@ -10,7 +10,8 @@ use Rattle.v_elab.specs.Parts.{Part}
 use Rattle.v_elab.specs.Walk.{added, declared_parts}
 use Rattle.elab_parts.specs.PartViews.{part_of}
 use Rattle.elab_walk.specs.Leaves.{parts_in, Grows}
-use Rattle.elab_walk.proofs.Turns.{Answer, fault-of, clean-of, then-clean, grows-counted}
+use Rattle.elab_walk.proofs.Turns.{Answer, fault-of, clean-of, grows-counted}
+use Rattle.elab_walk.proofs.Reads.{item-few, item-added}
 use Rattle.elab_walk.proofs.items.walk_ports.Goals as goal
 
 pub returns-in_err-count_from : goal.returns-in_err-count_from
@@ -21,7 +22,7 @@ returns-in_err-count_from c h walker is before counted =
     let clean : first_fault wrong ≡ None = clean-of _ (λ (s : Scope). item_faults s (PortItem (ports_of c.args.group.now))) c.deref.result.now h.scope (c.deref.ensures ∙ is.here_is.scope_is) c.in_ok-ports_fault.ensures c.in_ok-refuse.ensures in
     let at : c.len-start.result ≡ length (parts_in c.args.walked.now) = omega (arith, length-map c.args.walked.now.parts.items part_of) in
     rw (p.1, p.2)
-    (fault-of (added before more) _ _ (sym (then-clean wrong more (added before) clean))
+    (fault-of (added before more) _ _ (sym (item-added h 0 (PortItem (ports_of c.args.group.now)) before (item-few h 0 (PortItem (ports_of c.args.group.now)) clean refl)))
     (c.in_err-count_from.ensures before (parts_in c.args.walked.now) more counted (c.in_ok-push_port_parts.ensures h is.here_is) at))
 
 pub returns : goal.returns
@@ -30,5 +31,5 @@ returns c h walker is before counted =
     let more : List Part = declared_parts h (PortItem (ports_of c.args.group.now)) in
     let clean : first_fault wrong ≡ None = clean-of _ (λ (s : Scope). item_faults s (PortItem (ports_of c.args.group.now))) c.deref.result.now h.scope (c.deref.ensures ∙ is.here_is.scope_is) c.in_ok-ports_fault.ensures c.in_ok-refuse.ensures in
     let at : c.len-start.result ≡ length (parts_in c.args.walked.now) = omega (arith, length-map c.args.walked.now.parts.items part_of) in
-    subst (λ (a : Answer). Grows before a c.args.walked.now c.count_from.new.self) (sym (then-clean wrong more (added before) clean))
+    subst (λ (a : Answer). Grows before a c.args.walked.now c.count_from.new.self) (sym (item-added h 0 (PortItem (ports_of c.args.group.now)) before (item-few h 0 (PortItem (ports_of c.args.group.now)) clean refl)))
     (grows-counted before more c.args.walked.now _ c.count_from.new.self (c.in_ok-push_port_parts.ensures h is.here_is) (c.in_ok-count_from.ensures before (parts_in c.args.walked.now) more counted (c.in_ok-push_port_parts.ensures h is.here_is) at))
