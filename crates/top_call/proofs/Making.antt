@@ -75,16 +75,6 @@ soak-ends number size workers fault status e = subst (CanEnd (Soak number size w
     by (reported.GoodLoop time) = tt
     by reported.NoMemory = tt
 
-pub put-ends : (form : Form) (old : Option (List ℕ)) (text : List ℕ) (new : Option (List ℕ)) (before after : ℕ) (status : Status) → PutGives old text new before after status → CanEnd form status
-put-ends form old text new before after Done h = tt
-put-ends form old text new before after (Refused why) h = absurd h
-put-ends form old text new before after Usage h = absurd h
-put-ends form old text new before after (ReadFault which) h = absurd h
-put-ends form old text new before after WriteFault h = tt
-put-ends form old text new before after NoMemory h = tt
-put-ends form old text new before after (GoodLoop time) h = absurd h
-put-ends form old text new before after (TooLong which) h = absurd h
-
 -- Designs
 
 -- what a text without a design gives
@@ -290,10 +280,6 @@ module _ (asked : Option Form) (form : Form) (is_form : Some form ≡ asked) (he
       by NoMemory p = no_memory refl
       by (GoodLoop time) p = absurd p
       by (TooLong which) p = absurd p
-
-  -- the status is one with which the form can end
-  pub ends-at : (status : Status) → CanEnd form status → IfSome asked (λ (f : Form). CanEnd f status)
-  ends-at status ends = subst (λ o. IfSome o (λ (f : Form). CanEnd f status)) is_form ends
 
   -- How often the sink is put to
 

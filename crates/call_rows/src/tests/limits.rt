@@ -107,6 +107,39 @@ fn is_opened<R: Threads + Sync + Abort>(
     is_graded(rt, alloc, design.as_slice(), b"end 1\n", line, b"")
 }
 
+/// A run over a block of so many statements ends with this line and this output.
+fn is_run<R: Threads + Sync + Abort>(
+    rt: &R,
+    alloc: Global,
+    count: u64,
+    line: &[u8],
+    output: &[u8],
+) -> Result<(), Fail> {
+    let end = b"end\nendmodule\n";
+    let design = repeated(
+        alloc,
+        b"module top;\nreg q;\ninitial begin ",
+        b"q=0;",
+        count,
+        end,
+    )?;
+    let plan = b"end 20\nwatch q\nstrobe 5\nfault q 0\nfault q 1\n";
+    is_graded(rt, alloc, design.as_slice(), plan, line, output)
+}
+
+#[test]
+fn the_longest_block(rt: HostRuntime) -> Result<(), Fail> {
+    let report =
+        b"vfault 1\nq sa0 undetected\nq sa1 detected 5\ntotal 2 detected 1 possible 0 undetected 1 race 0 hyper 0\n";
+    is_run(&rt, rt.alloc(), 99_999, b"", report)
+}
+
+#[test]
+fn a_block_that_is_too_long(rt: HostRuntime) -> Result<(), Fail> {
+    let line = b"vfault: the good machine loops at time 0";
+    is_run(&rt, rt.alloc(), 100_001, line, b"")
+}
+
 #[test]
 fn the_longest_design(rt: HostRuntime) -> Result<(), Fail> {
     let line = b"vfault: design 1:1: unexpected";

@@ -12,8 +12,6 @@ use vf_base::OpenGate;
 const REPORT: &[u8] =
     b"vfault 1\nq sa0 detected 15\nq sa1 detected 5\ntotal 2 detected 2 possible 0 undetected 0 race 0 hyper 0\n";
 
-const CANNOT_WRITE: &[u8] = b"vfault: cannot write";
-
 /// A run over a block whose shelf fails at this call and whose sink takes so many bytes ends with this line and this output.
 fn ends<R: Threads + Sync + Abort>(
     rt: &R,
@@ -45,18 +43,27 @@ fn the_second_read_fails(rt: HostRuntime) -> Result<(), Fail> {
     ends(&rt, rt.alloc(), 2, None, line, b"")
 }
 
-#[test]
-fn a_sink_that_takes_nothing(rt: HostRuntime) -> Result<(), Fail> {
-    ends(&rt, rt.alloc(), 0, Some(0), CANNOT_WRITE, b"")
+/// Runs into sinks that take fewer bytes than this report has, and so many, put as many of its bytes as the sink takes.
+fn ends_at_each<R: Threads + Sync + Abort>(
+    rt: &R,
+    alloc: Global,
+    report: &[u8],
+) -> Result<(), Fail> {
+    'sizes: for most in 0..report.len() {
+        let put = &report[..most];
+        ends(
+            rt,
+            alloc,
+            0,
+            Some(most as u64),
+            b"vfault: cannot write",
+            put,
+        )?;
+    }
+    ends(rt, alloc, 0, Some(report.len() as u64), b"", report)
 }
 
 #[test]
-fn a_sink_that_takes_a_part(rt: HostRuntime) -> Result<(), Fail> {
-    ends(&rt, rt.alloc(), 0, Some(10), CANNOT_WRITE, b"vfault 1\nq")
-}
-
-#[test]
-fn a_sink_that_takes_just_enough(rt: HostRuntime) -> Result<(), Fail> {
-    let most = REPORT.len() as u64;
-    ends(&rt, rt.alloc(), 0, Some(most), b"", REPORT)
+fn sinks_that_take_a_part(rt: HostRuntime) -> Result<(), Fail> {
+    ends_at_each(&rt, rt.alloc(), REPORT)
 }
