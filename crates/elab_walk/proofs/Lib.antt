@@ -1,5 +1,5 @@
 pub mod Turns
-pub mod Reads
+pub mod ReadLaws
 pub mod Counting
 pub mod Steps
 pub mod Named

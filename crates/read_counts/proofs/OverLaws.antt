@@ -1,14 +1,16 @@
 -- Loops that look for a node that reads too many objects.
-use Rattle.std.proofs.Common.{◌≡◌, ℕ, ◌+◌, ◌-◌, ◌<◌, ◌≤◌, Bool, true, false, ◌&&◌, ◌||◌, List, [], ◌∷◌, ◌++◌, Option, Some, None, is_some, drop, get_or, length, flat_map, map, refl, sym, ap, ◌∙◌, append-nil, arith}
-use Rattle.std.proofs.lemmas.List.Sums.{sum_by-cons}
+use Rattle.std.proofs.Common.{◌≡◌, ℕ, ◌+◌, ◌-◌, ◌<◌, ◌≤◌, Bool, true, false, ◌&&◌, ◌||◌, List, [], ◌∷◌, ◌++◌, Option, Some, None, is_some, drop, get_or, length, flat_map, map, refl, sym, ap, ◌∙◌}
 use Rattle.std.specs.List.{list_any}
 use Rattle.vf_base.specs.Base.{SourcePlace}
-use Rattle.v_tree.specs.Trees.{Identifier, SourceWaits, SourceStatement, EventStatement, NamedPlace}
-use Rattle.v_comb.specs.CombinationalForm.{BlockWaits, Star, NetForm, ProcessForm, BlockForm, block_form, form_if, each_once, names_read, assigned_names, all_assigned, assigned_after, waits_for}
+use Rattle.v_tree.specs.Trees.{Identifier, SourceWaits, SourceStatement, EventStatement, NamedPlace, names_in}
+use Rattle.v_tree.specs.Views.{expression_of}
+use Rattle.v_tree.specs.declared.expression.Expr.{Expr}
+use Rattle.v_comb.specs.CombinationalForm.{BlockWaits, Star, NetForm, block_form, form_if, each_once, names_read, assigned_names, all_assigned, assigned_after, waits_for}
+use Rattle.v_comb.specs.Occurrences.{names_of_expr}
 use Rattle.v_names.specs.Scopes.{Scope, looked_up, is_memory}
 use Rattle.name_faults.specs.Rows.{drop-step, drop-past}
 use Rattle.v_elab.specs.Blocks.{block_waits, net_targets, block_targets}
-use Rattle.v_elab.specs.ReadCounts.{objects_of_entry, objects_named, reads_over, some_reads_over, reads_beside}
+use Rattle.v_elab.specs.ReadCounts.{reads_over, some_reads_over, reads_beside}
 use Rattle.read_counts.specs.FormReads.{form_reads_over}
 
 or-false : (b : Bool) → (b || false) ≡ b
@@ -48,26 +50,10 @@ over-stop {A} scope g h xs i x whole over c below at e many k =
 pub over-done : {A : Type 0} (scope : Scope) (h : ℕ → List A → List (List Identifier)) (xs : List A) (i : ℕ) (whole : Bool) → h i [] ≡ [] → length xs ≤ i → some_reads_over scope (h i (drop i xs)) ≡ whole → false ≡ whole
 over-done scope h xs i whole none past k = sym (ap (λ ys. some_reads_over scope (h i ys)) (drop-past xs i past) ∙ ap (some_reads_over scope) none) ∙ k
 
--- Names that are counted down from the limit
-
-pub left-turn : (scope : Scope) (names : List Identifier) (i : ℕ) (name : Identifier) (whole objects left : ℕ) → i < length names → name ≡ get_or names i name → objects ≡ objects_of_entry (looked_up scope name) → objects ≤ left
-    → whole + left ≡ 4096 + objects_named scope (drop i names) → whole + (left - objects) ≡ 4096 + objects_named scope (drop (i + 1) names)
-left-turn scope names i name whole objects left below at is fits k =
-    let front : objects_named scope (drop i names) ≡ objects_of_entry (looked_up scope name) + objects_named scope (drop (i + 1) names) =
-    ap (objects_named scope) (drop-step names i name below at) ∙ sum_by-cons (λ (n : Identifier). objects_of_entry (looked_up scope n)) name (drop (i + 1) names) in
-    omega (arith, front, is, fits, k)
-
-pub left-many : (scope : Scope) (names : List Identifier) (i : ℕ) (name : Identifier) (whole objects left : ℕ) → i < length names → name ≡ get_or names i name → objects ≡ objects_of_entry (looked_up scope name) → left < objects
-    → whole + left ≡ 4096 + objects_named scope (drop i names) → 4096 < whole
-left-many scope names i name whole objects left below at is many k =
-    let front : objects_named scope (drop i names) ≡ objects_of_entry (looked_up scope name) + objects_named scope (drop (i + 1) names) =
-    ap (objects_named scope) (drop-step names i name below at) ∙ sum_by-cons (λ (n : Identifier). objects_of_entry (looked_up scope n)) name (drop (i + 1) names) in
-    omega (arith, front, is, many, k)
-
-pub left-few : (scope : Scope) (names : List Identifier) (i whole left : ℕ) → length names ≤ i → whole + left ≡ 4096 + objects_named scope (drop i names) → whole ≤ 4096
-left-few scope names i whole left past k =
-    let none : objects_named scope (drop i names) ≡ 0 = ap (objects_named scope) (drop-past names i past) in
-    omega (arith, none, k)
+-- the names in the inputs of a gate
+pub inputs-named : (inputs : List Expr) → flat_map names_of_expr inputs ≡ flat_map names_in (map expression_of inputs)
+inputs-named [] = refl
+inputs-named (e ∷ inputs) = ap (λ (ns : List Identifier). names_of_expr e ++ ns) (inputs-named inputs)
 
 -- Blocks
 

@@ -25,7 +25,7 @@ use Rattle.elab_connections.specs.PathViews.{ArePaths}
 use Rattle.elab_walk.specs.WalkFaults.{IsWalkFault}
 use Rattle.elab_walk.specs.Leaves.{parts_in, Grows}
 use Rattle.elab_walk.proofs.Turns.{goes-first, goes-turn, goes-wrong, turn-of, then-clean, clean-of, wrong-of, grows-counted, leaves-last, leaves-same, leaves-memory}
-use Rattle.elab_walk.proofs.Reads.{instance-few, instance-over, reads-wrong}
+use Rattle.elab_walk.proofs.ReadLaws.{instance-few, instance-over, reads-wrong}
 use Rattle.elab_walk.proofs.Steps.{enter-is, enter-wrong, heads-split, item-plain, item-known, pushed-instance, behind_parameters}
 use Rattle.elab_walk.proofs.hierarchy.+walk.Goals as goal
 

@@ -10,7 +10,7 @@ use Rattle.v_elab.specs.Refusals.{unless_refused}
 use Rattle.v_elab.specs.Walk.{item_parts, checked_item}
 use Rattle.elab_items.specs.Heres.{FindsParameters}
 use Rattle.elab_walk.proofs.Turns.{clean-of, wrong-of, err-is}
-use Rattle.elab_walk.proofs.Reads.{item-few, item-over, reads-wrong}
+use Rattle.elab_walk.proofs.ReadLaws.{item-few, item-over, reads-wrong}
 use Rattle.elab_walk.proofs.items.refuse_item.Goals as goal
 
 pub returns-in_err-refuse : goal.returns-in_err-refuse

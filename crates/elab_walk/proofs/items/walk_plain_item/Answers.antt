@@ -8,7 +8,7 @@ use Rattle.v_elab.specs.Walk.{item_parts, checked_item, added}
 use Rattle.elab_parts.specs.PartViews.{part_of}
 use Rattle.elab_walk.specs.Leaves.{parts_in, Grows}
 use Rattle.elab_walk.proofs.Turns.{Answer, fault-of, fault-goes, grows-counted}
-use Rattle.elab_walk.proofs.Reads.{item-added}
+use Rattle.elab_walk.proofs.ReadLaws.{item-added}
 use Rattle.elab_walk.proofs.items.walk_plain_item.Goals as goal
 
 pub returns-in_err-refuse_item : goal.returns-in_err-refuse_item

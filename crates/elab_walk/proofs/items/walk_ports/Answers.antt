@@ -11,7 +11,7 @@ use Rattle.v_elab.specs.Walk.{added, declared_parts}
 use Rattle.elab_parts.specs.PartViews.{part_of}
 use Rattle.elab_walk.specs.Leaves.{parts_in, Grows}
 use Rattle.elab_walk.proofs.Turns.{Answer, fault-of, clean-of, grows-counted}
-use Rattle.elab_walk.proofs.Reads.{item-few, item-added}
+use Rattle.elab_walk.proofs.ReadLaws.{item-few, item-added}
 use Rattle.elab_walk.proofs.items.walk_ports.Goals as goal
 
 pub returns-in_err-count_from : goal.returns-in_err-count_from
