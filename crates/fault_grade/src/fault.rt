@@ -16,8 +16,9 @@ ghost use Rattle.fault_grade.specs.Gradings.{IsGradingAt, Passes, AdvancesTo, la
 
 use crate::bench::Bench;
 use crate::good::{GoodSamples, Sample};
-use crate::run::advance;
+use crate::run::{advance, empty_log};
 use crate::stop::{Stop, end_by_faulty};
+use causal_monitor::SlotLog;
 use machine::Machine;
 use std::alloc::Global;
 use std::sync::ledger::Ledger;
@@ -38,7 +39,7 @@ fn end_by_strobes(verdict: Grade) -> End
 
 /// Runs the faulty machine to a strobe and compares. The answer is the grading's end, where it comes here.
 fn pass_strobe<L: Ledger>(
-    alloc: Global,
+    log: &mut SlotLog,
     machine: &mut Machine<'_>,
     grader: &mut Grader<'_>,
     sample: &Sample,
@@ -50,7 +51,7 @@ fn pass_strobe<L: Ledger>(
     requires watched { AllHold (IsObjectOf (machine_kept machine.old).design) grader.old.watched }
     ensures { IfOk result (λ end. Passes (sample_of sample.now) machine.old grader.old end machine.new grader.new) }
 {
-    if let Some(stop) = advance(alloc, machine, sample.time, steps)? {
+    if let Some(stop) = advance(log, machine, sample.time, steps)? {
         return Ok(Some(end_by_faulty(stop)));
     }
     let hard = grader.strobe_kept(sample.time, &sample.bits, machine);
@@ -72,7 +73,7 @@ fn last_time(race: Option<Pair>, end: u64) -> Option<u64>
 
 /// Runs a machine to a time, if there is one.
 fn advance_to<L: Ledger>(
-    alloc: Global,
+    log: &mut SlotLog,
     machine: &mut Machine<'_>,
     until: Option<u64>,
     steps: &mut Steps<L>,
@@ -84,7 +85,7 @@ fn advance_to<L: Ledger>(
     match until {
         None => Ok(None),
         Some(time) => {
-            let stop = advance(alloc, machine, time, steps)?;
+            let stop = advance(log, machine, time, steps)?;
             Ok(stop)
         }
     }
@@ -92,7 +93,7 @@ fn advance_to<L: Ledger>(
 
 /// Ends a grading after the last strobe that comes before a race of the good machine.
 fn finish<L: Ledger>(
-    alloc: Global,
+    log: &mut SlotLog,
     machine: &mut Machine<'_>,
     grader: &Grader<'_>,
     race: Option<Pair>,
@@ -103,7 +104,7 @@ fn finish<L: Ledger>(
     requires limit { (time : ℕ) → last_before race end ≡ Some time → time ≤ 2 ^ 63 }
     ensures { IfOk result (λ ended. (design : FlatDesign) (plan : TestPlan) (fault : StuckAt) → plan.end ≡ end → IsGradingAt design plan fault machine.old [] grader.now → good_stop design plan ≡ race_if race → StopsWithin plan.end (race_if race) → grade design plan fault ≡ Some (grade_of ended)) }
 {
-    if let Some(stop) = advance_to(alloc, machine, last_time(race, end), steps)? {
+    if let Some(stop) = advance_to(log, machine, last_time(race, end), steps)? {
         return Ok(end_by_faulty(stop));
     }
     match race {
@@ -130,14 +131,15 @@ pub fn grade_fault<L: Ledger>(
 {
     order_laws::first_run_goes_on();
     let mut machine = Machine::new(alloc, bench.design, bench.graph, Some(fault))?;
+    let mut log = empty_log(alloc);
     let mut grader = Grader::new(bench.plan.watched.as_slice());
     'strobes: for sample in &good.samples {
-        if let Some(end) = pass_strobe(alloc, &mut machine, &mut grader, sample, steps)? {
+        if let Some(end) = pass_strobe(&mut log, &mut machine, &mut grader, sample, steps)? {
             return Ok(end);
         }
     }
     let end = finish(
-        alloc,
+        &mut log,
         &mut machine,
         &grader,
         good.race,

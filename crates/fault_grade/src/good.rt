@@ -7,7 +7,7 @@ ghost use Rattle.fault_grade.specs.Benches.{IsBench, bench_design, bench_plan};
 ghost use Rattle.fault_grade.specs.Samples.{sample_of, stop_if, IsGood};
 
 use crate::bench::Bench;
-use crate::run::advance;
+use crate::run::{advance, empty_log};
 use crate::stop::Stop;
 use four_value::Bit;
 use machine::Machine;
@@ -69,9 +69,10 @@ pub fn run_good<L: Ledger>(
 {
     order_laws::first_run_goes_on();
     let mut machine = Machine::new(alloc, bench.design, bench.graph, None)?;
+    let mut log = empty_log(alloc);
     let mut samples = Vec::new(alloc);
     'strobes: for strobe in bench.plan.strobes.as_slice() {
-        if let Some(stop) = advance(alloc, &mut machine, *strobe, steps)? {
+        if let Some(stop) = advance(&mut log, &mut machine, *strobe, steps)? {
             return Ok(shown_by(samples, Some(stop)));
         }
         let bits = watched_bits(alloc, bench.plan.watched.as_slice(), &machine)?;
@@ -80,6 +81,6 @@ pub fn run_good<L: Ledger>(
             bits,
         })?;
     }
-    let stop = advance(alloc, &mut machine, bench.plan.end, steps)?;
+    let stop = advance(&mut log, &mut machine, bench.plan.end, steps)?;
     Ok(shown_by(samples, stop))
 }

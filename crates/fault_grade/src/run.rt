@@ -11,8 +11,8 @@ use std::alloc::Global;
 use std::sync::ledger::Ledger;
 use vf_base::{NoMemory, Seq, Steps};
 
-/// A log of no phases, which takes no memory.
-fn empty_log(alloc: Global) -> SlotLog {
+/// A log of no phases, which takes no memory. It is kept for all slots of a machine's run, whose phases then use its memory again.
+pub(crate) fn empty_log(alloc: Global) -> SlotLog {
     SlotLog {
         time: 0,
         phases: Seq::from_vec(Vec::new(alloc)),
@@ -38,13 +38,13 @@ fn run_slot<L: Ledger>(
     Ok(stop_at(time, end))
 }
 
-/// Runs all slots of a machine up to a time, in steps, or through the first that isn't fine. The answer is that slot.
+/// Runs all slots of a machine up to a time, in steps, or through the first that isn't fine. The answer is that slot. `log` is room for the log of a slot.
 ///
 /// # Errors
 ///
 /// Want of memory.
 pub fn advance<L: Ledger>(
-    alloc: Global,
+    log: &mut SlotLog,
     machine: &mut Machine<'_>,
     until: u64,
     steps: &mut Steps<L>,
@@ -53,13 +53,12 @@ pub fn advance<L: Ledger>(
     requires limit { until ≤ 2 ^ 63 }
     ensures { IfOk result (λ stop. Advanced until machine.old stop machine.new) }
 {
-    let mut log = empty_log(alloc);
     let mut next = machine.next_time();
     'slots: while let Some(time) = next {
         if until < time {
             return Ok(None);
         }
-        if let Some(stop) = run_slot(machine, time, &mut log, steps)? {
+        if let Some(stop) = run_slot(machine, time, log, steps)? {
             return Ok(Some(stop));
         }
         next = machine.next_time();
