@@ -4,7 +4,9 @@
 //! clause 5). `main` makes the outside, calls it, prints the line of the status on standard error, and ends with its number.
 #![tactic(auto)]
 
-ghost use Rattle.std.specs.Prelude.{◌≡◌};
+ghost use Rattle.std.specs.Prelude.{◌≡◌, ◌⊎◌, IfSome, None};
+ghost use Rattle.vf_words.specs.Words.{form_of, bytes_of};
+ghost use Rattle.top_call.specs.Outside.{CanEnd};
 
 use std::alloc::Global;
 use std::env;
@@ -28,6 +30,15 @@ fn run<L: Ledger + Send + Sync, R: Threads + Sync + Files + Print>(
     requires name { blank.name ≡ L.name }
     requires parts { blank.parts ≡ L.parts }
     requires counters { blank.parts ≡ COUNTERS }
+
+    // The words are of no form.
+    ensures usage { result ≡ Status.Usage → form_of (bytes_of words.now) ≡ None }
+
+    // Where they are of none nothing else is answered, unless memory is wanting.
+    ensures of_no_form { form_of (bytes_of words.now) ≡ None → (result ≡ Status.Usage) ⊎ (result ≡ Status.NoMemory) }
+
+    // The status is one with which the form can end.
+    ensures of_the_form { IfSome (form_of (bytes_of words.now)) (λ form. CanEnd form result) }
 {
     let (_book, share) = blank.open::<L>();
     let Ok(mut steps) = counters(alloc, share) else {
