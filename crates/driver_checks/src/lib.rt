@@ -10,8 +10,6 @@ mod driving;
 mod fault;
 mod overlap;
 mod second;
-#[cfg(test)]
-mod tests;
 
 pub use check::one_driver;
 pub use driving::list_driving;

@@ -8,7 +8,5 @@
 mod assigned;
 mod behaviours;
 mod block_drives;
-#[cfg(test)]
-mod tests;
 
 pub use behaviours::{Behaviours, behaviours_of, too_many_behaviours};

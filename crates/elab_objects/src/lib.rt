@@ -10,8 +10,6 @@
 mod object;
 mod parts;
 mod pieces;
-#[cfg(test)]
-mod tests;
 mod words;
 
 pub use object::{HeldObject, PieceDriver};

@@ -7,8 +7,6 @@
 
 mod blocks;
 mod signals;
-#[cfg(test)]
-mod tests;
 mod wiring;
 mod writers;
 mod written;

@@ -7,8 +7,6 @@
 
 mod expression;
 mod target;
-#[cfg(test)]
-mod tests;
 mod value;
 mod variable;
 

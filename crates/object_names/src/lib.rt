@@ -11,8 +11,6 @@ mod joined;
 mod names;
 mod outputs;
 mod tables;
-#[cfg(test)]
-mod tests;
 
 pub use instance::InstanceNames;
 pub use joined::names_joined;
