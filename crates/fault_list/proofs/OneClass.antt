@@ -18,10 +18,11 @@ use Rattle.v_design.specs.Accesses.{accesses_of}
 use Rattle.v_design.specs.WellFormed.{TerminalsFit, IsSizedNode, KeepsRules, IsNodeOf}
 use Rattle.v_design.specs.CombinationalForm.{WritesOutputs}
 use Rattle.v_design.specs.Laws.{ClassesAgree}
+use Rattle.fault_list.specs.FullGrades.{FullGradesAgree}
 use Rattle.v_design.specs.Sites.{expressions_count, terminal_count, kind_forces, forces, node_forces, gate_forces, is_gate_pair, same_fault, joined_by}
-use Rattle.v_design.specs.Grades.{grade}
+use Rattle.v_design.specs.Grades.{grade, full_grade}
 use Rattle.fault_list.proofs.Outputs.{AllHold-slice_get}
-use Rattle.fault_list.proofs.SameEvents.{grade-same}
+use Rattle.fault_list.proofs.SameEvents.{grade-same, full-same}
 
 -- A gate with a terminal that is held
 
@@ -264,6 +265,9 @@ module _ (design : FlatDesign) (rules : KeepsRules design) (gate t object bit : 
   pair-same : (plan : TestPlan) → grade design plan (terminal_fault gate t input) ≡ grade design plan (output_fault gate object bit output)
   pair-same plan = grade-same design (terminal_fault gate t input) (output_fault gate object bit output) start-same after-same accesses-same plan
 
+  pair-full : (plan : TestPlan) → full_grade design plan (terminal_fault gate t input) ≡ full_grade design plan (output_fault gate object bit output)
+  pair-full plan = full-same design (terminal_fault gate t input) (output_fault gate object bit output) start-same after-same accesses-same plan
+
 -- Classes
 
 sites-same : (design : FlatDesign) (plan : TestPlan) → KeepsRules design → (one : FaultSite) (input : Bool) (other : FaultSite) (output : Bool) → is_gate_pair design one input other output ≡ true →
@@ -284,4 +288,24 @@ classes_agree design plan one other rules (joined_by first next last pair chain)
     elim (or_cases (is_gate_pair design first.site first.value next.site next.value) (is_gate_pair design next.site next.value first.site first.value) pair) [
       | inl to ↦ sites-same design plan rules first.site first.value next.site next.value to ∙ classes_agree design plan next last rules chain
       | inr from ↦ sym (sites-same design plan rules next.site next.value first.site first.value from) ∙ classes_agree design plan next last rules chain
+    ]
+
+sites-full : (design : FlatDesign) (plan : TestPlan) → KeepsRules design → (one : FaultSite) (input : Bool) (other : FaultSite) (output : Bool) → is_gate_pair design one input other output ≡ true →
+    full_grade design plan (record { site = one; value = input }) ≡ full_grade design plan (record { site = other; value = output })
+sites-full design plan rules (GateTerminal node t) input (OutputBit driver object bit) output e =
+    let parts = and_parts (nat_eq node driver) (node_forces (slice_get design.nodes node) t input object bit output) e in
+    pair-full design rules node t object bit input output parts.1 plan
+    ∙ ap (λ n. full_grade design plan (output_fault n object bit output)) (eqb-true node driver parts.0)
+sites-full design plan rules (GateTerminal node t) input (VariableBit object bit) output e = absurd (false≢true e)
+sites-full design plan rules (GateTerminal node t) input (GateTerminal other number) output e = absurd (false≢true e)
+sites-full design plan rules (VariableBit object bit) input other output e = absurd (false≢true e)
+sites-full design plan rules (OutputBit node object bit) input other output e = absurd (false≢true e)
+
+-- two faults of one class have one full grade
+pub full_grades_agree : FullGradesAgree
+full_grades_agree design plan one other rules (same_fault fault) = refl
+full_grades_agree design plan one other rules (joined_by first next last pair chain) =
+    elim (or_cases (is_gate_pair design first.site first.value next.site next.value) (is_gate_pair design next.site next.value first.site first.value) pair) [
+      | inl to ↦ sites-full design plan rules first.site first.value next.site next.value to ∙ full_grades_agree design plan next last rules chain
+      | inr from ↦ sym (sites-full design plan rules next.site next.value first.site first.value from) ∙ full_grades_agree design plan next last rules chain
     ]

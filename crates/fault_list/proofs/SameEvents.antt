@@ -11,7 +11,7 @@ use Rattle.v_design.specs.Runs.{Move, Happens, Turns, FirstSlot, slot_move, less
 use Rattle.v_design.specs.Accesses.{ObjectAccess, accesses_of, held_accesses, is_waiting}
 use Rattle.v_design.specs.Logs.{LoggedEvent, LoggedPhase, PhaseAccess, least_pair}
 use Rattle.v_design.specs.PhaseLogs.{NotedEvent, changes_one, changes_input, may_cause, cause_of, noted_at, writer_process, writer_line, note_of, noted_from, noted_events, logged, log_of, phase_race, is_step_of}
-use Rattle.v_design.specs.Grades.{Phase, cut, phases, race_of, first_race, SlotOutcome, Fine, Race, Hyper, race_or_fine, slot_outcome, Stop, first_stop, samples, some_sample, values_after, first_samples, first_strobe, is_hard, is_possible, verdict, verdict_by, graded, grade_of_runs, grade}
+use Rattle.v_design.specs.Grades.{Phase, cut, phases, race_of, first_race, SlotOutcome, Fine, Race, Hyper, race_or_fine, slot_outcome, Stop, first_stop, samples, some_sample, values_after, first_samples, first_strobe, is_hard, is_possible, verdict, verdict_by, graded, grade_of_runs, grade, full_grade_of_runs, full_of, full_grade}
 
 find-same : (p q : ℕ → Bool) (xs : List ℕ) → ((x : ℕ) → p x ≡ q x) → find p xs ≡ find q xs
 find-same p q [] same = refl
@@ -187,3 +187,10 @@ module _ (design : FlatDesign) (f g : StuckAt) (same_start : start (faulty_machi
       (first_strobe-same is_hard plan.watched slots good plan.strobes)
       ∙ ap (λ v. graded stop (first_stop (faulty_machine design g) slots) (first_strobe is_hard good (first_samples (faulty_machine design g) plan.watched slots) plan.strobes) v)
       (verdict-same plan.watched slots good plan.strobes)
+
+  pub full-same : (plan : TestPlan) → full_grade design plan f ≡ full_grade design plan g
+  full-same plan =
+      let stop : Option Stop = first_stop (good_machine design) (first_run (good_machine design) plan.end) in
+      let slots : List FirstSlot = first_run (faulty_machine design g) plan.end in
+      ap (λ (s : List FirstSlot). full_grade_of_runs (good_machine design) (faulty_machine design f) plan (first_run (good_machine design) plan.end) s) (first_run-same plan.end)
+      ∙ (λ i. full_of stop (first_stop-same slots i) (λ time. samples plan.watched (values_after-same [] slots time i)) plan.strobes)

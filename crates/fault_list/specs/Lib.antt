@@ -6,3 +6,4 @@ pub mod Spelled
 pub mod RoundTrip
 pub mod Members
 pub mod ListedSites
+pub mod FullGrades

@@ -17,7 +17,7 @@ mod spelled;
 
 pub use class::{classes, representative};
 pub use count::count_sites;
-pub use law::{names_read, one_class};
+pub use law::{names_read, one_class, one_full_class};
 pub use list::{all_sites, width_of};
 pub use name::{append, append_number, write_site};
 pub use spelled::{bit_spelled, joined_place, node_spelled, piece_bit, site_of};

@@ -51,7 +51,7 @@ in_events design changes start (event ∷ events) (suc n) x i =
     (In-right (tagged (start + 1 + n) x) (event_accesses design changes start event) (joined (map_numbered (event_accesses design changes) (start + 1) events))
     (in_events design changes (start + 1) events n x i))
 
-in_log : (design : FlatDesign) (log : LoggedPhase) (n : ℕ) (x : ObjectAccess) → In x (counted_at design log n) → In (tagged n x) (log_accesses design log)
+pub in_log : (design : FlatDesign) (log : LoggedPhase) (n : ℕ) (x : ObjectAccess) → In x (counted_at design log n) → In (tagged n x) (log_accesses design log)
 in_log design log n x i =
     In-right (tagged n x) (map carried log.held) (joined (map_numbered (event_accesses design (phase_changes design log)) 0 log.events))
     (subst (λ k. In (tagged k x) (joined (map_numbered (event_accesses design (phase_changes design log)) 0 log.events))) (let e : 0 + n ≡ n = omega arith in e)

@@ -39,7 +39,7 @@ counted_by design reach accesses =
     filter (λ (access : ObjectAccess). not (is_write access.act && (has (net_pieces design) access.object && is_wild_class (class_of_paths (reach access.object))))) accesses
     ++ joined (map (settling_of design reach) accesses)
 
-counted-same : (design : FlatDesign) (one other : List ℕ) (accesses : List ObjectAccess) → ((net : ℕ) → reached design one net ≡ reached design other net) → counted_accesses design one accesses ≡ counted_accesses design other accesses
+pub counted-same : (design : FlatDesign) (one other : List ℕ) (accesses : List ObjectAccess) → ((net : ℕ) → reached design one net ≡ reached design other net) → counted_accesses design one accesses ≡ counted_accesses design other accesses
 counted-same design one other accesses h = λ i. counted_by design (λ net. h net i) accesses
 
 -- Steps by their places
@@ -119,7 +119,7 @@ module _ (machine : Machine) (state : State) (first events : List Event) (beside
     ends = beside.first_legal.ends;
   }
 
-  whole : (matched : ℕ → Option ℕ) × (done : List ℕ) × Compared machine state first events (length events) matched done
+  pub whole : (matched : ℕ → Option ℕ) × (done : List ℕ) × Compared machine state first events (length events) matched done
   whole = whole_compared machine state first events free run
 
   matched : ℕ → Option ℕ
@@ -225,7 +225,7 @@ module _ (machine : Machine) (state : State) (first events : List Event) (beside
   log-length : (es : List Event) → length (log_of machine state es).events ≡ length es
   log-length es = length-map (logged machine) (noted_events machine state es) ∙ ap (λ ns. length ns) (noted_events-new machine state es) ∙ length-new_notes machine [] state es
 
-  orders-alike : (j i l k : ℕ) → whole.0 j ≡ Some i → whole.0 l ≡ Some k → orders (log_of machine state events) j l ≡ orders (log_of machine state first) i k
+  pub orders-alike : (j i l k : ℕ) → whole.0 j ≡ Some i → whole.0 l ≡ Some k → orders (log_of machine state events) j l ≡ orders (log_of machine state first) i k
   orders-alike j i l k e f =
       let p = whole.2.pairs l k f in
       let a : l < length events = found_below events l p.event p.stands in

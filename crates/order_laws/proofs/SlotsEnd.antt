@@ -8,9 +8,10 @@ use Rattle.v_design.specs.Designs.{FlatNode, Machine}
 use Rattle.v_design.specs.Assignments.{ValueUpdate, node_outputs}
 use Rattle.v_design.specs.Processes.{Activity, Ready, Waiting, Asleep, Postponed, Done}
 use Rattle.v_design.specs.States.{State, ProcessState, NodeState, LaterUpdate, Event, Step, LaneStep, Evaluation, NetUpdate, TurnKind, PostponedTurn, UpdatesTurn, TimeTurn, is_process_event, after, found_or, idle_node, node_at, is_ready, is_any, is_quiescent, is_postponed, resumed, is_due, has_event, has_work, some_in, turn_by, with_node, with_values, evaluated, nets_updated, turn_of, turned}
-use Rattle.v_design.specs.Runs.{Move, Happens, Turns, named_event, or_event, least_work, work_of, first_event, turn_in_slot, event_or_turn, made, turned_by, all_made, is_counted, counted_steps, less_one_if, slot_moves, most_steps, most_moves}
+use Rattle.v_design.specs.Runs.{Move, Happens, Turns, happened, named_event, or_event, least_work, work_of, first_event, turn_in_slot, event_or_turn, made, turned_by, all_made, is_counted, counted_steps, less_one_if, slot_moves, most_steps, most_moves}
 use Rattle.v_design.specs.WellFormed.{KeepsRules}
 use Rattle.v_design.specs.Laws.{IsStateOf, SlotsEnd}
+use Rattle.order_laws.specs.Settling.{node_events, SettlingEnds}
 use Rattle.order_laws.proofs.PathLaws.{true-false, or-neither}
 use Rattle.order_laws.proofs.NetStates.{node-other, node-values-untouched}
 use Rattle.order_laws.proofs.SettledNets.{node-here, not-both}
@@ -493,3 +494,56 @@ slots_end machine begins rules b few = elim (slot_ends machine (most_moves machi
         let w : work begins.nodes ≤ 2 * length begins.nodes = work-most begins.nodes in
         let l : length begins.nodes ≡ length machine.design.nodes = b.fits.nodes in
         omega (arith, w, l)
+
+-- The node events that a state leads to
+
+has-some-work : (state : State) (event : Event) → work_of 0 state.nodes ≡ Some event → 0 < work state.nodes
+has-some-work state event e = go (least 0 state.nodes event e)
+  where
+    go : LeastWork 0 state.nodes event → 0 < work state.nodes
+    go r = let t : r.number < length state.nodes = r.there in elim r.which [
+      | inl q ↦ (let m : 2 * length state.nodes ≤ work state.nodes + 2 * r.number = q.2 in omega (arith, t, m))
+      | inr q ↦ (let m : 2 * length state.nodes ≤ work state.nodes + 2 * r.number + 1 = q.3 in omega (arith, t, m))
+    ]
+
+worked_off : (machine : Machine) (more : ℕ) (state : State) → KeepsRules machine.design → IsStateOf machine state → work state.nodes ≤ more → work_of 0 (happened machine state (node_events more machine state)).nodes ≡ None
+worked_off machine zero state rules fits h = go (work_of 0 state.nodes) refl
+  where
+    go : (found : Option Event) → work_of 0 state.nodes ≡ found → work_of 0 state.nodes ≡ None
+    go None e = e
+    go (Some event) e = let l : 0 < work state.nodes = has-some-work state event e in absurd (omega (arith, l, h))
+worked_off machine (suc more) state rules fits h = go (work_of 0 state.nodes) refl (λ event l. worked_off machine more (after machine state event) rules (state-after machine state event fits) l)
+  where
+    go : (found : Option Event) → work_of 0 state.nodes ≡ found →
+        ((event : Event) → work (after machine state event).nodes ≤ more → work_of 0 (happened machine (after machine state event) (node_events more machine (after machine state event))).nodes ≡ None) →
+        work_of 0 (happened machine state (elim found [ None ↦ [] | Some event ↦ event ∷ node_events more machine (after machine state event) ])).nodes ≡ None
+    go None e rest = e
+    go (Some event) e rest = rest event (let d : work (after machine state event).nodes < work state.nodes = node_less machine state event rules fits e in omega (arith, d, h))
+
+state-happened : (machine : Machine) (state : State) (events : List Event) → IsStateOf machine state → IsStateOf machine (happened machine state events)
+state-happened machine state [] fits = fits
+state-happened machine state (event ∷ events) fits = state-happened machine (after machine state event) events (state-after machine state event fits)
+
+pub settling_ends : SettlingEnds
+settling_ends machine begins events rules b =
+    let state = happened machine begins events in
+    let fits : IsStateOf machine (happened machine begins events) = state-happened machine begins events b.fits in
+    worked_off machine (2 * length machine.design.nodes) (happened machine begins events) rules fits
+    (let w : work (happened machine begins events).nodes ≤ 2 * length (happened machine begins events).nodes = work-most (happened machine begins events).nodes in
+    let l : length (happened machine begins events).nodes ≡ length machine.design.nodes = fits.nodes in
+    omega (arith, w, l))
+
+pub idle_nodes : (state : State) → is_quiescent state ≡ true → work_of 0 state.nodes ≡ None
+idle_nodes state q = idle-none 0 state.nodes (not-both (some_in has_event state.processes) (some_in has_work state.nodes) q).1
+
+pub node_work : (state : State) (event : Event) → work_of 0 state.nodes ≡ Some event → is_process_event event ≡ false
+node_work state event e = go (least 0 state.nodes event e)
+  where
+    go : LeastWork 0 state.nodes event → is_process_event event ≡ false
+    go r = elim r.which [ inl q ↦ ap is_process_event q.0 | inr q ↦ ap is_process_event q.0 ]
+
+pub process_next : (state : State) (event : Event) → work_of 0 state.nodes ≡ None → first_event state ≡ Some event → is_process_event event ≡ true
+process_next state event n e = elim (node_or_process state event e) [ inl node ↦ none-some (sym n ∙ node) | inr p ↦ p ]
+  where
+    none-some : {A : Type 0} → None ≡ Some event → A
+    none-some f = cc

@@ -32,7 +32,7 @@ use Rattle.process_code.proofs.Marked.{spots-apart}
 
 -- Positions
 
-record SpotAt (spots : List Spot) (i : ℕ) (rest : List Part) : Type 0 where
+pub record SpotAt (spots : List Spot) (i : ℕ) (rest : List Part) : Type 0 where
   pub spot : Spot
   pub there : slice_get spots i ≡ Some spot
   pub after : List Part
@@ -44,7 +44,7 @@ some-there (x ∷ xs) zero low = (x, refl)
 some-there (x ∷ xs) (suc i) low = some-there xs i (omega (arith, low))
 
 -- a rest at another position than the first is that of a spot
-spot-at : (code : Code) (i : ℕ) (rest : List Part) → IsCodeOf code.process.now code → StandsAt (rests_in_code code) (suc i) rest → SpotAt code.spots.items i rest
+pub spot-at : (code : Code) (i : ℕ) (rest : List Part) → IsCodeOf code.process.now code → StandsAt (rests_in_code code) (suc i) rest → SpotAt code.spots.items i rest
 spot-at code i rest is stands =
     let spots = code.spots.items in
     let low = slice_get_within (rests_of spots) (suc i) rest stands in

@@ -9,8 +9,9 @@ use Rattle.process_code.specs.Rests.{Part, Runs, TurnsLeft, opened_parts, Number
 use Rattle.process_code.specs.RestsLaws.{numbers_fall-opened, numbers_fall-more}
 use Rattle.process_code.specs.Positions.{part_of_head, rests_of, StandsAt, ItemsLead, PartLeads}
 use Rattle.process_code.specs.Marks.{Mark, mark_of, mark_of_spot, mark_of_statement, marks_at, marks_of, marks_of_items, assignment_mark, turns_mark}
-use Rattle.process_code.specs.Compiling.{Leads, rests_in, marks_in, IsInStep, Grows, Places, Turned, IsBelow, MayCompile, Compiles, CompilesItems}
-use Rattle.process_code.proofs.Growing.{Keeps, slice_get-last, keeps-spots, rest_at, rest-last, some-same, grows-keeps, turned-keeps, grows-refl, grows-trans, grows-own, items_lead-more}
+use Rattle.process_code.specs.Layouts.{Layout, with_rest, with_repeat, laid_out, laid_out_items}
+use Rattle.process_code.specs.Compiling.{Leads, rests_in, marks_in, layout_in, IsInStep, Grows, Places, Turned, IsBelow, MayCompile, Compiles, CompilesItems}
+use Rattle.process_code.proofs.Growing.{Keeps, slice_get-last, keeps-spots, rest_at, rest-last, rests-last, some-same, grows-keeps, turned-keeps, grows-refl, grows-trans, grows-own, items_lead-more}
 use Rattle.std.proofs.lemmas.Option.{slice_get_within}
 use Rattle.std.proofs.lemmas.List.{map-append}
 use Rattle.v_design.specs.Plain.{statement_of}
@@ -21,6 +22,11 @@ use Rattle.v_design.specs.Sized.{IsSizedStatement, AreSizedStatements, AreSizedI
 use Rattle.process_code.specs.declared.code.Head.{Head}
 use Rattle.process_code.specs.declared.code.Ways.{Ways}
 use Rattle.process_code.specs.declared.builder.Builder.{Builder}
+
+-- layouts with the same rests and as many repeats are one
+layout-same : (rests more : List (List Part)) (repeats number : ℕ) → rests ≡ more → repeats ≡ number →
+    let one : Layout = record { rests = rests; repeats = repeats } in one ≡ record { rests = more; repeats = number }
+layout-same rests more repeats number e f = ap (λ (xs : List (List Part)). let l : Layout = record { rests = xs; repeats = repeats } in l) e ∙ ap (λ n. let l : Layout = record { rests = more; repeats = n } in l) f
 
 -- The rests stay
 
@@ -39,6 +45,15 @@ placed-stands old placed head next own rest p h =
     ∙ ap (λ spots. slice_get (rests_of spots) (length old.spots.items + 1)) p.spots
     ∙ rest-last old.spots.items p.spot rest stands
     ∙ ap (λ h. Some (part_of_head h ∷ rest)) p.head_is
+
+-- what stands at the positions then
+pub placed-layout : (old placed : Builder) (head : Head) (part : Part) (next own : ℕ) (rest : List Part) → Places old placed head next own → part_of_head head ≡ part → StandsAt (rests_in old) next rest →
+    layout_in placed ≡ with_rest (part ∷ rest) (layout_in old)
+placed-layout old placed head part next own rest p part_is h =
+    let stands : StandsAt (rests_in old) p.spot.next rest = ap (slice_get (rests_in old)) p.next_is ∙ h in
+    let rests : rests_in placed ≡ rests_in old ++ ((part ∷ rest) ∷ []) =
+    ap rests_of p.spots ∙ rests-last old.spots.items p.spot rest stands ∙ ap (λ x. rests_in old ++ ((part_of_head x ∷ rest) ∷ [])) p.head_is ∙ ap (λ x. rests_in old ++ ((x ∷ rest) ∷ [])) part_is in
+    layout-same (rests_in placed) _ placed.repeats old.repeats rests p.repeats
 
 -- What may be compiled
 
@@ -129,13 +144,18 @@ marks-own old placed grown new head next own mark inner p mark_is behind same =
 pub marks-both : (placed one grown : Builder) (first second : List Mark) → marks_in one ≡ marks_in placed ++ first → marks_in grown ≡ marks_in one ++ second → marks_in grown ≡ marks_in placed ++ (first ++ second)
 marks-both placed one grown first second h k = k ∙ ap (λ ms. ms ++ second) h ∙ append_assoc (marks_in placed) first second
 
+-- what stands at the positions stays where the ways of a spot are set
+turned-layout : (grown new : Builder) (own : ℕ) (ways : Ways) → Turned grown new own ways → layout_in new ≡ layout_in grown
+turned-layout grown new own ways t = layout-same (rests_in new) (rests_in grown) new.repeats grown.repeats (ap rests_of t.spots) t.repeats
+
 -- a statement with its own spot
 pub compiled-own : (old placed grown new : Builder) (head : Head) (s : Statement) (next own : ℕ) (ways : Ways) (inner : List Mark) →
     MayCompile old next → Places old placed head next own × IsInStep placed → Grows placed grown → IsInStep grown → Turned grown new (own - 1) ways →
     part_of_head head ≡ Runs s → ((rest : List Part) → opened_parts s rest ≡ Runs s ∷ rest) → marks_of s ≡ mark_of_statement s ∷ inner → marks_in grown ≡ marks_in placed ++ inner →
+    ((rest : List Part) → StandsAt (rests_in old) next rest → layout_in grown ≡ laid_out s rest (layout_in old)) →
     ((rest : List Part) → StandsAt (rests_in old) next rest → PartLeads new.repeats (rests_in new) ways (Runs s) rest) →
     Compiles old new s next own
-compiled-own old placed grown new head s next own ways inner m p g in_step t head_is opened own_marks behind leads =
+compiled-own old placed grown new head s next own ways inner m p g in_step t head_is opened own_marks behind layout leads =
     let known = rest_at old.spots.items next m.there in
     let turned = turned-own old placed grown new head next own ways p.0 t in
     let longer : length grown.spots.items ≡ length placed.spots.items + length g.added = ap length g.spots ∙ length-append placed.spots.items g.added in
@@ -149,6 +169,7 @@ compiled-own old placed grown new head s next own ways inner m p g in_step t hea
           turned-keeps grown new _ ways t own _ (grows-keeps placed grown g own _ (placed-stands old placed head next own rest p.0 h))
           ∙ ap (λ part. Some (part ∷ rest)) head_is ∙ ap Some (sym (opened rest));
       marks = marks-own old placed grown new head next own (mark_of_statement s) inner p.0 (ap mark_of head_is) behind t.spots ∙ ap (λ ms. marks_in old ++ ms) (sym own_marks);
+      layout = λ rest h. turned-layout grown new (own - 1) ways t ∙ layout rest h;
     }
 
 at-way : (rests : List (List Part)) (one other : ℕ) (rest : List Part) → one ≡ other → StandsAt rests other rest → StandsAt rests one rest
@@ -157,34 +178,45 @@ at-way rests one other rest e h = ap (slice_get rests) e ∙ h
 -- a statement whose body stands before the same rest
 pub compiled-body : (old placed grown new : Builder) (head : Head) (s body : Statement) (next own inner : ℕ) (ways : Ways) →
     MayCompile old next → Places old placed head next own × IsInStep placed → Compiles placed grown body next inner → Turned grown new (own - 1) ways →
-    part_of_head head ≡ Runs s → ((rest : List Part) → opened_parts s rest ≡ Runs s ∷ rest) → marks_of s ≡ mark_of_statement s ∷ marks_of body → ways.inner ≡ inner →
+    part_of_head head ≡ Runs s → ((rest : List Part) → opened_parts s rest ≡ Runs s ∷ rest) → marks_of s ≡ mark_of_statement s ∷ marks_of body →
+    ((rest : List Part) (layout : Layout) → laid_out s rest layout ≡ laid_out body rest (with_rest (Runs s ∷ rest) layout)) → ways.inner ≡ inner →
     ((rest : List Part) → StandsAt (rests_in new) ways.inner (opened_parts body rest) → PartLeads new.repeats (rests_in new) ways (Runs s) rest) →
     Compiles old new s next own
-compiled-body old placed grown new head s body next own inner ways m p k t head_is opened own_marks inner_is leads =
+compiled-body old placed grown new head s body next own inner ways m p k t head_is opened own_marks own_layout inner_is leads =
     compiled-own old placed grown new head s next own ways (marks_of body) m p k.grows k.in_step t head_is opened own_marks k.marks
+    (λ rest h. k.layout rest (placed-keeps old placed head next own p.0 next rest h)
+    ∙ ap (laid_out body rest) (placed-layout old placed head (Runs s) next own rest p.0 head_is h) ∙ sym (own_layout rest (layout_in old)))
     (λ rest h. leads rest (at-way (rests_in new) ways.inner inner _ inner_is
     (turned-keeps grown new _ ways t inner _ (k.opens rest (placed-keeps old placed head next own p.0 next rest h)))))
 
 -- a statement whose body stands before the statement itself
 pub compiled-loop : (old placed grown new : Builder) (head : Head) (s body : Statement) (next own inner : ℕ) (ways : Ways) →
     MayCompile old next → Places old placed head next own × IsInStep placed → Compiles placed grown body own inner → Turned grown new (own - 1) ways →
-    part_of_head head ≡ Runs s → ((rest : List Part) → opened_parts s rest ≡ Runs s ∷ rest) → marks_of s ≡ mark_of_statement s ∷ marks_of body → ways.inner ≡ inner →
+    part_of_head head ≡ Runs s → ((rest : List Part) → opened_parts s rest ≡ Runs s ∷ rest) → marks_of s ≡ mark_of_statement s ∷ marks_of body →
+    ((rest : List Part) (layout : Layout) → laid_out s rest layout ≡ laid_out body (Runs s ∷ rest) (with_rest (Runs s ∷ rest) layout)) → ways.inner ≡ inner →
     ((rest : List Part) → StandsAt (rests_in new) ways.inner (opened_parts body (Runs s ∷ rest)) → PartLeads new.repeats (rests_in new) ways (Runs s) rest) →
     Compiles old new s next own
-compiled-loop old placed grown new head s body next own inner ways m p k t head_is opened own_marks inner_is leads =
+compiled-loop old placed grown new head s body next own inner ways m p k t head_is opened own_marks own_layout inner_is leads =
     compiled-own old placed grown new head s next own ways (marks_of body) m p k.grows k.in_step t head_is opened own_marks k.marks
+    (λ rest h. k.layout (Runs s ∷ rest) (placed-stands old placed head next own rest p.0 h ∙ ap (λ part. Some (part ∷ rest)) head_is)
+    ∙ ap (laid_out body (Runs s ∷ rest)) (placed-layout old placed head (Runs s) next own rest p.0 head_is h) ∙ sym (own_layout rest (layout_in old)))
     (λ rest h. leads rest (at-way (rests_in new) ways.inner inner _ inner_is
     (turned-keeps grown new _ ways t inner _ (k.opens _ (placed-stands old placed head next own rest p.0 h ∙ ap (λ part. Some (part ∷ rest)) head_is)))))
 
 -- a statement with two branches
 pub compiled-branches : (old placed one grown new : Builder) (head : Head) (s first second : Statement) (next own inner other : ℕ) (ways : Ways) →
     MayCompile old next → Places old placed head next own × IsInStep placed → Compiles placed one first next inner → Compiles one grown second next other → Turned grown new (own - 1) ways →
-    part_of_head head ≡ Runs s → ((rest : List Part) → opened_parts s rest ≡ Runs s ∷ rest) → marks_of s ≡ mark_of_statement s ∷ (marks_of first ++ marks_of second) → ways.inner ≡ inner → ways.other ≡ other →
+    part_of_head head ≡ Runs s → ((rest : List Part) → opened_parts s rest ≡ Runs s ∷ rest) → marks_of s ≡ mark_of_statement s ∷ (marks_of first ++ marks_of second) →
+    ((rest : List Part) (layout : Layout) → laid_out s rest layout ≡ laid_out second rest (laid_out first rest (with_rest (Runs s ∷ rest) layout))) → ways.inner ≡ inner → ways.other ≡ other →
     ((rest : List Part) → StandsAt (rests_in new) ways.inner (opened_parts first rest) → StandsAt (rests_in new) ways.other (opened_parts second rest) → PartLeads new.repeats (rests_in new) ways (Runs s) rest) →
     Compiles old new s next own
-compiled-branches old placed one grown new head s first second next own inner other ways m p j k t head_is opened own_marks inner_is other_is leads =
+compiled-branches old placed one grown new head s first second next own inner other ways m p j k t head_is opened own_marks own_layout inner_is other_is leads =
     compiled-own old placed grown new head s next own ways (marks_of first ++ marks_of second) m p (grows-trans placed one grown p.1.ways j.grows k.grows) k.in_step t head_is opened
     own_marks (marks-both placed one grown (marks_of first) (marks_of second) j.marks k.marks)
+    (λ rest h.
+    let here = placed-keeps old placed head next own p.0 next rest h in
+    k.layout rest (grows-keeps placed one j.grows next rest here)
+    ∙ ap (laid_out second rest) (j.layout rest here ∙ ap (laid_out first rest) (placed-layout old placed head (Runs s) next own rest p.0 head_is h)) ∙ sym (own_layout rest (layout_in old)))
     (λ rest h.
     let here = placed-keeps old placed head next own p.0 next rest h in
     leads rest
@@ -208,22 +240,25 @@ turned-self old placed grown head next own p in_step g =
 -- a statement without parts
 pub compiled-leaf : (old placed : Builder) (head : Head) (s : Statement) (next own : ℕ) →
     MayCompile old next → Places old placed head next own × IsInStep placed → part_of_head head ≡ Runs s → ((rest : List Part) → opened_parts s rest ≡ Runs s ∷ rest) → marks_of s ≡ mark_of_statement s ∷ [] →
+    ((rest : List Part) (layout : Layout) → laid_out s rest layout ≡ with_rest (Runs s ∷ rest) layout) →
     ((ways : Ways) (rest : List Part) → PartLeads placed.repeats (rests_in placed) ways (Runs s) rest) → Compiles old placed s next own
-compiled-leaf old placed head s next own m p head_is opened own_marks leads =
+compiled-leaf old placed head s next own m p head_is opened own_marks own_layout leads =
     let t = turned-self old placed placed head next own p.0 m.in_step.ways (grows-refl placed) in
     let e : length old.spots.items ≡ own - 1 = omega (arith, p.0.own_is) in
     let P : ℕ → Type 0 = λ n. Turned placed placed n p.0.way in
-    compiled-own old placed placed placed head s next own p.0.way [] m p (grows-refl placed) p.1 (subst P e t) head_is opened own_marks (sym (append-nil (marks_in placed))) (λ rest h. leads p.0.way rest)
+    compiled-own old placed placed placed head s next own p.0.way [] m p (grows-refl placed) p.1 (subst P e t) head_is opened own_marks (sym (append-nil (marks_in placed)))
+    (λ rest h. placed-layout old placed head (Runs s) next own rest p.0 head_is h ∙ sym (own_layout rest (layout_in old))) (λ rest h. leads p.0.way rest)
 
 -- a null statement
-pub compiled-null : (old : Builder) (next : ℕ) (s : Statement) → MayCompile old next → ((rest : List Part) → opened_parts s rest ≡ rest) → marks_of s ≡ [] → Compiles old old s next next
-compiled-null old next s m opened no_marks =
+pub compiled-null : (old : Builder) (next : ℕ) (s : Statement) → MayCompile old next → ((rest : List Part) → opened_parts s rest ≡ rest) → marks_of s ≡ [] → ((rest : List Part) (layout : Layout) → laid_out s rest layout ≡ layout) → Compiles old old s next next
+compiled-null old next s m opened no_marks no_layout =
     record {
       in_step = m.in_step;
       grows = grows-refl old;
       there = m.there;
       opens = λ rest h. h ∙ ap Some (sym (opened rest));
       marks = sym (append-nil (marks_in old)) ∙ ap (λ ms. marks_in old ++ ms) (sym no_marks);
+      layout = λ rest h. sym (no_layout rest (layout_in old));
     }
 
 -- one more item of a case
@@ -241,6 +276,12 @@ marks-push [] item = append-nil (marks_of (statement_of item.statement))
 marks-push (x ∷ items) item =
     ap (λ ms. marks_of (statement_of x.statement) ++ ms) (marks-push items item) ∙ sym (append_assoc (marks_of (statement_of x.statement)) (marks_of_items (items_of items)) (marks_of (statement_of item.statement)))
 
+-- the positions of one more item
+pub layout-push : (items : List CaseItem) (item : CaseItem) (rest : List Part) (layout : Layout) →
+    laid_out_items (items_of (items ++ (item ∷ []))) rest layout ≡ laid_out (statement_of item.statement) rest (laid_out_items (items_of items) rest layout)
+layout-push [] item rest layout = refl
+layout-push (x ∷ items) item rest layout = layout-push items item rest (laid_out (statement_of x.statement) rest layout)
+
 -- a case
 pub compiled-case : (old placed one grown new : Builder) (head : Head) (place : SourcePlace) (kind : CaseKind) (value : Expression) (items : CaseItems) (default : Statement)
     (next own other : ℕ) (positions : List ℕ) (ways : Ways) →
@@ -250,6 +291,10 @@ pub compiled-case : (old placed one grown new : Builder) (head : Head) (place : 
 compiled-case old placed one grown new head place kind value items default next own other positions ways m p j k t head_is items_are other_is =
     compiled-own old placed grown new head (Case place kind value items default) next own ways (marks_of_items items ++ marks_of default) m p (grows-trans placed one grown p.1.ways j.grows k.grows) k.in_step t head_is
     (λ rest. refl) refl (marks-both placed one grown (marks_of_items items) (marks_of default) j.marks k.marks)
+    (λ rest h.
+    let here = placed-keeps old placed head next own p.0 next rest h in
+    k.layout rest (grows-keeps placed one j.grows next rest here)
+    ∙ ap (laid_out default rest) (j.layout rest here ∙ ap (laid_out_items items rest) (placed-layout old placed head (Runs (Case place kind value items default)) next own rest p.0 head_is h)))
     (λ rest h.
     let here = placed-keeps old placed head next own p.0 next rest h in
     let P : List ℕ → Type 0 = λ list. ItemsLead (rests_in new) list items rest in (
@@ -294,13 +339,14 @@ may-turns old placed counted turned head turns_head place body next own turns m 
 -- a repeat: its own spot, and that of its turns
 pub compiled-repeat : (old placed counted turned grown led new : Builder) (head turns_head : Head) (place : SourcePlace) (count : Expression) (body : Statement)
     (next own turns inner : ℕ) (turns_ways ways : Ways) →
-    MayCompile old next → Places old placed head next own × IsInStep placed → Grows placed counted → counted.spots.items ≡ placed.spots.items → IsInStep counted → old.repeats < counted.repeats →
+    MayCompile old next → Places old placed head next own × IsInStep placed → Grows placed counted → counted.spots.items ≡ placed.spots.items → IsInStep counted → counted.repeats ≡ old.repeats + 1 →
     Places counted turned turns_head next turns × IsInStep turned → Compiles turned grown body turns inner →
     Turned grown led (turns - 1) turns_ways → Turned led new (own - 1) ways →
     part_of_head head ≡ Runs (Repeat place count body) → part_of_head turns_head ≡ TurnsLeft old.repeats place body →
     turns_ways.inner ≡ inner → ways.inner ≡ turns → ways.other ≡ old.repeats →
     Compiles old new (Repeat place count body) next own
-compiled-repeat old placed counted turned grown led new head turns_head place count body next own turns inner turns_ways ways m p gc same_spots counted_in more q k t u head_is turns_is inner_is turns_at number_is =
+compiled-repeat old placed counted turned grown led new head turns_head place count body next own turns inner turns_ways ways m p gc same_spots counted_in one_more q k t u head_is turns_is inner_is turns_at number_is =
+    let more : old.repeats < counted.repeats = omega (arith, one_more) in
     let may_counted = may-grown placed counted next (may-placed old placed head next own m p) gc counted_in in
     let known = rest_at counted.spots.items next may_counted.there in
     let led_own = turned-own counted turned grown led turns_head next turns turns_ways q.0 t in
@@ -317,6 +363,13 @@ compiled-repeat old placed counted turned grown led new head turns_head place co
     marks-own counted turned grown led turns_head next turns (turns_mark place) (marks_of body) q.0 (ap mark_of turns_is) k.marks t.spots in
     compiled-own old placed led new head (Repeat place count body) next own ways (turns_mark place ∷ marks_of body) m p (grows-trans placed counted led p.1.ways gc g) led_in u head_is (λ rest. refl)
     refl (behind ∙ ap (λ spots. marks_at spots ++ (turns_mark place ∷ marks_of body)) same_spots)
+    (λ rest h.
+    let here = grows-keeps placed counted gc next rest (placed-keeps old placed head next own p.0 next rest h) in
+    let stands : StandsAt (rests_in turned) turns (TurnsLeft old.repeats place body ∷ rest) = placed-stands counted turned turns_head next turns rest q.0 here ∙ ap (λ part. Some (part ∷ rest)) turns_is in
+    let one_repeat : layout_in counted ≡ with_repeat (layout_in placed) = layout-same (rests_in counted) (rests_in placed) counted.repeats (placed.repeats + 1) (ap rests_of same_spots) (omega (arith, one_more, p.0.repeats)) in
+    turned-layout grown led (turns - 1) turns_ways t ∙ k.layout (TurnsLeft old.repeats place body ∷ rest) stands
+    ∙ ap (laid_out body (TurnsLeft old.repeats place body ∷ rest)) (placed-layout counted turned turns_head (TurnsLeft old.repeats place body) next turns rest q.0 turns_is here
+    ∙ ap (with_rest (TurnsLeft old.repeats place body ∷ rest)) (one_repeat ∙ ap with_repeat (placed-layout old placed head (Runs (Repeat place count body)) next own rest p.0 head_is h))))
     (λ rest h.
     let here = grows-keeps placed counted gc next rest (placed-keeps old placed head next own p.0 next rest h) in
     let stands : StandsAt (rests_in turned) turns (TurnsLeft old.repeats place body ∷ rest) = placed-stands counted turned turns_head next turns rest q.0 here ∙ ap (λ part. Some (part ∷ rest)) turns_is in
@@ -347,10 +400,17 @@ compiled-for old placed tested advanced grown led new head test_head advance_hea
     let loop : Compiles placed led (loop_of place condition next_targets next_value body) next test =
     compiled-own placed tested grown led test_head (loop_of place condition next_targets next_value body) next test test_ways (assignment_mark place ∷ marks_of body) may_placed q g k.in_step t test_is (λ rest. refl)
     refl (marks-own tested advanced grown grown advance_head test advance (assignment_mark place) (marks_of body) r.0 (ap mark_of advance_is) k.marks refl)
+    (λ rest h.
+    let again : List Part = Runs (loop_of place condition next_targets next_value body) ∷ rest in
+    let last : List Part = Runs (Blocking place next_targets None next_value) ∷ again in
+    let tested_at : StandsAt (rests_in tested) test again = placed-stands placed tested test_head next test rest q.0 h ∙ ap (λ part. Some (part ∷ rest)) test_is in
+    k.layout last (placed-stands tested advanced advance_head test advance again r.0 tested_at ∙ ap (λ part. Some (part ∷ again)) advance_is)
+    ∙ ap (laid_out body last) (placed-layout tested advanced advance_head (Runs (Blocking place next_targets None next_value)) test advance again r.0 advance_is tested_at
+    ∙ ap (with_rest last) (placed-layout placed tested test_head (Runs (loop_of place condition next_targets next_value body)) next test rest q.0 test_is h)))
     (λ rest h. at-way (rests_in led) test_ways.inner inner _ inner_is (turned-keeps grown led _ test_ways t inner _
     (k.opens _ (placed-stands tested advanced advance_head test advance _ r.0
     (placed-stands placed tested test_head next test rest q.0 h ∙ ap (λ part. Some (part ∷ rest)) test_is) ∙ ap (λ part. Some (part ∷ (Runs (loop_of place condition next_targets next_value body) ∷ rest))) advance_is)))) in
-    compiled-body old placed led new head _ (loop_of place condition next_targets next_value body) next own test ways m p loop u head_is (λ rest. refl) refl test_at (λ rest h. h)
+    compiled-body old placed led new head _ (loop_of place condition next_targets next_value body) next own test ways m p loop u head_is (λ rest. refl) refl (λ rest layout. refl) test_at (λ rest h. h)
 
 -- Parts
 

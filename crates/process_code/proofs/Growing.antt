@@ -89,13 +89,17 @@ rest_at spots position h =
     let n : length (rests_of spots) ≡ length spots + 1 = rests_of-length spots in
     slice_get-get_or (rests_of spots) position [] (omega (arith, n, h))
 
+-- the rests where a spot is put last
+pub rests-last : (spots : List Spot) (spot : Spot) (after : List Part) → StandsAt (rests_of spots) spot.next after → rests_of (spots ++ (spot ∷ [])) ≡ rests_of spots ++ ((part_of_head spot.head ∷ after) ∷ [])
+rests-last spots spot after h =
+    let same : get_or (rests_of spots) spot.next [] ≡ after = get_or_from_slice_get (rests_of spots) spot.next after [] h in
+    rests_from-append ([] ∷ []) spots (spot ∷ []) ∙ ap (λ rest. rests_of spots ++ ((part_of_head spot.head ∷ rest) ∷ [])) same
+
 -- the rest of a spot that is put last
 pub rest-last : (spots : List Spot) (spot : Spot) (after : List Part) → StandsAt (rests_of spots) spot.next after →
     StandsAt (rests_of (spots ++ (spot ∷ []))) (length spots + 1) (part_of_head spot.head ∷ after)
 rest-last spots spot after h =
-    let same : get_or (rests_of spots) spot.next [] ≡ after = get_or_from_slice_get (rests_of spots) spot.next after [] h in
-    let e : rests_of (spots ++ (spot ∷ [])) ≡ rests_of spots ++ ((part_of_head spot.head ∷ after) ∷ []) =
-    rests_from-append ([] ∷ []) spots (spot ∷ []) ∙ ap (λ rest. rests_of spots ++ ((part_of_head spot.head ∷ rest) ∷ [])) same in
+    let e = rests-last spots spot after h in
     ap (λ rests. slice_get rests (length spots + 1)) e
     ∙ ap (slice_get (rests_of spots ++ ((part_of_head spot.head ∷ after) ∷ []))) (sym (rests_of-length spots))
     ∙ slice_get-last (rests_of spots) (part_of_head spot.head ∷ after)

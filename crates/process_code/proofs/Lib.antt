@@ -6,4 +6,5 @@ pub mod WaitEntries
 pub mod Marked
 pub mod Reaching
 pub mod Apart
+pub mod CodesAlike
 pub mod FirstLines

@@ -8,6 +8,7 @@ use Rattle.v_design.specs.declared.plan.Process.{Process}
 use Rattle.process_code.specs.Rests.{Part, opened_parts}
 use Rattle.process_code.specs.Positions.{rests_of, StandsAt}
 use Rattle.process_code.specs.Marks.{marks_at, marks_of}
+use Rattle.process_code.specs.Layouts.{Layout, layout_of_body}
 use Rattle.process_code.specs.Compiling.{Leads}
 use Rattle.process_code.specs.Waits.{AreWaits}
 use Rattle.process_code.specs.declared.code.Spot.{Spot}
@@ -18,9 +19,13 @@ use Rattle.process_code.specs.declared.code.Code.{Code}
 abbrev pub rests_in_code : Code → List (List Part)
 rests_in_code code = rests_of code.spots.items
 
+-- what stands at the positions of code
+abbrev pub layout_in_code : Code → Layout
+layout_in_code code = record { rests = rests_in_code code; repeats = code.repeats }
+
 -- code stands for a process: it begins with the opened body, and the ways of each spot lead where its steps go;
 -- each spot stands before an earlier position, the process is sized, the entries of each wait are those of its statement, and the
--- spots have the marks of the body
+-- spots have the marks of the body; what stands at each position, and the numbers of the repeats, are those of the body and of nothing else
 pub record IsCodeOf (process : Process) (code : Code) : Type 0 where
   pub process_is : code.process.now ≡ process
   pub starts : StandsAt (rests_in_code code) code.start (opened_parts (statement_of process.body) [])
@@ -31,3 +36,4 @@ pub record IsCodeOf (process : Process) (code : Code) : Type 0 where
   pub sized : IsSizedStatement (statement_of process.body)
   pub waits : AreWaits code.spots.items (map (λ (entries : Vec WaitEntry Global). entries.items) code.waits.items)
   pub marks : marks_at code.spots.items ≡ marks_of (statement_of process.body)
+  pub layout : layout_in_code code ≡ layout_of_body (statement_of process.body)

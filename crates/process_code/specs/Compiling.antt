@@ -6,6 +6,7 @@ use Rattle.v_design.specs.Sized.{IsSizedStatement}
 use Rattle.process_code.specs.Rests.{Part, opened_parts, NumbersFall}
 use Rattle.process_code.specs.Positions.{part_of_head, rests_of, StandsAt, ItemsLead, PartLeads}
 use Rattle.process_code.specs.Marks.{Mark, marks_at, marks_of, marks_of_items}
+use Rattle.process_code.specs.Layouts.{Layout, laid_out, laid_out_items}
 use Rattle.process_code.specs.declared.code.Head.{Head}
 use Rattle.process_code.specs.declared.code.Head.TheVariants.{Statement as Begins, Test, Advance, Turns}
 use Rattle.process_code.specs.declared.code.Spot.{Spot}
@@ -25,6 +26,10 @@ rests_in b = rests_of b.spots.items
 -- the marks of a builder's spots
 abbrev pub marks_in : Builder → List Mark
 marks_in b = marks_at b.spots.items
+
+-- what stands at a builder's positions
+abbrev pub layout_in : Builder → Layout
+layout_in b = record { rests = rests_in b; repeats = b.repeats }
 
 -- the statement of what is first in a rest is sized
 abbrev pub IsSizedHead : Head → Type 0
@@ -89,6 +94,7 @@ pub record Compiles (old new : Builder) (statement : Statement) (next entry : �
   pub there : entry ≤ length new.spots.items
   pub opens : (rest : List Part) → StandsAt (rests_in old) next rest → StandsAt (rests_in new) entry (opened_parts statement rest)
   pub marks : marks_in new ≡ marks_in old ++ marks_of statement
+  pub layout : (rest : List Part) → StandsAt (rests_in old) next rest → layout_in new ≡ laid_out statement rest (layout_in old)
 
 -- the items of a case are compiled before the rest of a position
 pub record CompilesItems (old new : Builder) (items : CaseItems) (next : ℕ) (positions : List ℕ) : Type 0 where
@@ -96,3 +102,4 @@ pub record CompilesItems (old new : Builder) (items : CaseItems) (next : ℕ) (p
   pub grows : Grows old new
   pub lead : (rest : List Part) → StandsAt (rests_in old) next rest → ItemsLead (rests_in new) positions items rest
   pub marks : marks_in new ≡ marks_in old ++ marks_of_items items
+  pub layout : (rest : List Part) → StandsAt (rests_in old) next rest → layout_in new ≡ laid_out_items items rest (layout_in old)

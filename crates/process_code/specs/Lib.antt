@@ -3,6 +3,7 @@ pub mod RestsLaws
 pub mod Positions
 pub mod Places
 pub mod Marks
+pub mod Layouts
 pub mod Compiling
 pub mod Codes
 pub mod Points
@@ -13,6 +14,8 @@ pub mod SamenessLaws
 pub mod Acts
 pub mod ActsLaws
 pub mod StatesOf
+pub mod RunEnds
+pub mod OneCode
 pub mod UpdateLaws
 pub mod WithinLaws
 pub mod Waits

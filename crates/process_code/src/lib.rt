@@ -5,12 +5,15 @@ mod builder;
 mod code;
 mod lines;
 mod moves;
+mod one_code;
 mod room;
+mod runs;
 mod same;
 mod state;
 mod stepping;
 mod waits;
 
 pub use code::{Code, compile};
+pub use one_code::codes_are_one;
 pub use state::{Did, ProcState, RunEnd, Stage};
 pub use stepping::step;

@@ -50,11 +50,12 @@ pub enum Did {
     Inner,
 }
 
-/// A process run at its end: its phase, its process, where the process stands then, and the updates that the run appended, in order.
+/// A process run at its end: its phase, its process, where the process stands then, the updates that the run appended, and those that it wrote, in order.
 #[derive(Drop)]
 pub struct RunEnd {
     pub phase: u32,
     pub process: ProcId,
     pub state: ProcState,
     pub later: Seq<Due>,
+    pub writes: Seq<Update>,
 }

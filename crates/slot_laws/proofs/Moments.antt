@@ -137,7 +137,7 @@ step-count (LaneStep process) = refl
 step-count (Evaluation node) = refl
 step-count (NetUpdate node) = refl
 
-event-on : (machine : Machine) (at : Moment) (event : Event) → SlotsEnd → KeepsRules machine.design → ComesTo machine at → at.steps ≤ most_steps → first_event at.state ≡ Some event →
+pub event-on : (machine : Machine) (at : Moment) (event : Event) → SlotsEnd → KeepsRules machine.design → ComesTo machine at → at.steps ≤ most_steps → first_event at.state ≡ Some event →
     possible at.state event ≡ true → (is_quiescent at.state ≡ true → ⊥) → ComesTo machine (after_event machine event at)
 event-on machine at event ends rules r few first may busy =
     let m = moves-on machine at r ends rules few (λ q t. busy q) in

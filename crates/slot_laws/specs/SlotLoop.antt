@@ -1,12 +1,13 @@
 -- A slot of the first order, move by move: what stands at each moment, and where the next event, a turn and the end lead (IEEE 1364-2001, clause 5).
-use Rattle.std.specs.Prelude.{◌≡◌, ℕ, ◌+◌, ◌≤◌, Bool, true, false, List, [], ◌∷◌, ◌++◌, length, Option, Some, None, IsTrue, slice_get}
+use Rattle.std.specs.Prelude.{◌≡◌, ℕ, ◌+◌, ◌≤◌, Bool, true, false, List, [], ◌∷◌, ◌++◌, length, Option, Some, None, IsTrue, slice_get, sum_by}
 use Rattle.std.specs.Option.{option_map}
 use Rattle.vf_base.specs.Base.{ReportedPair}
 use Rattle.v_design.specs.Lists.{first_place}
 use Rattle.v_design.specs.Designs.{FlatNode, Machine}
 use Rattle.v_design.specs.States.{State, ProcessState, Event, Step, LaneStep, Evaluation, NetUpdate, TurnKind, TimeTurn, after, is_ready, is_any, turn_of, turned, time_turn}
-use Rattle.v_design.specs.Runs.{Move, Turns, FirstSlot, work_of, turn_in_slot, all_made, counted_steps, slot_moves, most_steps, first_moves, slot_end, is_hyper, happened, all_possible}
+use Rattle.v_design.specs.Runs.{Move, Turns, FirstSlot, work_of, first_event, turn_in_slot, all_made, counted_steps, slot_moves, most_steps, first_moves, slot_end, is_hyper, happened, all_possible}
 use Rattle.v_design.specs.WellFormed.{KeepsRules}
+use Rattle.copy_laws.specs.Beside.{AreFirst}
 use Rattle.v_design.specs.Laws.{BeginsPhase}
 use Rattle.v_design.specs.PhaseLogs.{note_of, noted_events, phase_race}
 use Rattle.v_design.specs.Grades.{Phase, Hyper, cut, phases, race_of, first_race, race_or_fine, slot_outcome}
@@ -90,6 +91,23 @@ pub record EndsAt (machine : Machine) (hyper : Bool) (at : Moment) : Type 0 wher
 -- a slot that begins as the laws ask comes to its first moment
 abbrev pub SlotsBegin : Type 0
 SlotsBegin = (machine : Machine) (begins : State) → BeginsPhase machine begins → ComesTo machine (first_moment begins)
+
+-- the event that the first order takes goes on, whichever it is
+abbrev pub EventsGoOn : Type 0
+EventsGoOn =
+    (machine : Machine) (at : Moment) (event : Event) → KeepsRules machine.design → ComesTo machine at → at.steps ≤ most_steps → first_event at.state ≡ Some event →
+    ComesTo machine (after_event machine event at)
+
+-- the moment after several events
+abbrev pub after_events : Machine → List Event → Moment → Moment
+after_events machine [] at = at
+after_events machine (event ∷ events) at = after_events machine events (after_event machine event at)
+
+-- a stretch of events that the first order takes goes on at once, where it stays within the steps of a slot
+abbrev pub StretchesGoOn : Type 0
+StretchesGoOn =
+    (machine : Machine) (at : Moment) (events : List Event) → KeepsRules machine.design → ComesTo machine at → AreFirst machine at.state events → at.steps + sum_by steps_of events ≤ most_steps →
+    ComesTo machine (after_events machine events at)
 
 -- where the least node with work is to be evaluated, it is evaluated and its nets are updated
 abbrev pub NodesGoOn : Type 0

@@ -7,7 +7,7 @@
 //! when it runs; its contract is the law.
 #![tactic(auto)]
 
-ghost use Rattle.slot_laws.specs.SlotLoop.{SlotsBegin, NodesGoOn, LanesGoOn, StepsGoOn, TurnsGoOn, QuietSlotsEnd, HyperSlotsEnd, NextSlotsBegin, RacesGoOn, NotesGoOn};
+ghost use Rattle.slot_laws.specs.SlotLoop.{SlotsBegin, EventsGoOn, StretchesGoOn, NodesGoOn, LanesGoOn, StepsGoOn, TurnsGoOn, QuietSlotsEnd, HyperSlotsEnd, NextSlotsBegin, RacesGoOn, NotesGoOn};
 
 /// The slot begins, and each event, each turn within the slot leads from one moment of the first order to the next.
 pub fn slot_goes_on()
@@ -19,6 +19,14 @@ pub fn slot_goes_on()
 {
     order_laws::slots();
     order_laws::nets();
+}
+
+/// Whatever event the first order takes leads to the next moment, and so does a stretch of them.
+pub fn stretches_go_on()
+    ensures event { EventsGoOn }
+    ensures stretch { StretchesGoOn }
+{
+    order_laws::slots();
 }
 
 /// The slot ends, and what its loop has then is its outcome; the slot after it begins as the laws ask.

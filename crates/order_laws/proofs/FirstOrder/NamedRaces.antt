@@ -11,7 +11,8 @@ use Rattle.v_design.specs.Logs.{LoggedPhase, PhaseAccess, log_accesses, conflict
 use Rattle.v_design.specs.PhaseLogs.{log_of, phase_race}
 use Rattle.v_design.specs.Grades.{Phase, cut, phases, race_of, first_race, SlotOutcome, Fine, Race, Hyper, race_or_fine, slot_outcome, Stop, first_stop}
 use Rattle.v_design.specs.WellFormed.{KeepsRules}
-use Rattle.v_design.specs.Laws.{NamesConflict, IsHyperAt}
+use Rattle.v_design.specs.Laws.{NamesConflict, IsHyperAt, run_moves}
+use Rattle.order_laws.specs.EveryRun.{slots_by, ShowsRace, FirstRunsShowRaces}
 use Rattle.order_laws.proofs.RunStates.{found_below}
 use Rattle.order_laws.proofs.RunsEndAlike.{some_eq}
 use Rattle.order_laws.proofs.FirstOrder.SlotChain.{Begins, slot_from, end_from, closes, slot_moves_may, ends_own}
@@ -227,3 +228,37 @@ names_conflict machine end stop pair rules e h =
     let s = stopped_slot machine (first_run machine end) stop e in
     let f = found_slot machine end rules (end + 1) (start machine) (first_begins machine rules) s.number s.slot s.stands in
     names-at machine f.begin pair rules f.begins f.reach (ap (slot_outcome machine) (sym f.from) ∙ s.same_outcome ∙ h)
+
+-- the first run shows its race
+
+shows-at : (machine : Machine) (begin : State) (pair : ReportedPair) → KeepsRules machine.design → Begins machine begin → (r : Reaches machine (start machine) begin) → slot_outcome machine (slot_from machine begin) ≡ Race pair →
+    (pair.time ≡ begin.time) × ShowsRace machine r.moves pair
+shows-at machine begin pair rules b r e =
+    let o = race-is machine (slot_from machine begin) pair e in
+    let k = r.cuts None in
+    let own : AllHold (λ (phase : Phase). phase.begins.time ≡ begin.time) (cut machine k.1 begin [] begin (first_moves machine begin)) = (slot_moves_may machine begin.time begin).phases k.1 begin [] refl in
+    let f = raced-phase machine 1 (cut machine k.1 begin [] begin (first_moves machine begin)) pair (race_turn machine k.1 None 1 (first_moves machine begin) begin [] begin ∙ o.1) in
+    let same : f.phase.begins.time ≡ begin.time = all-at _ (cut machine k.1 begin [] begin (first_moves machine begin)) f.place f.phase own f.stands in
+    let is : pair ≡ race_of begin.time (1 + f.place) f.accesses = f.is_pair ∙ ap (λ t. race_of t (1 + f.place) f.accesses) same in (
+      ap (λ (q : ReportedPair). q.time) is,
+      subst (λ q. ShowsRace machine r.moves q) (sym is)
+          (record {
+            number = f.place;
+            phase = f.phase;
+            accesses = f.accesses;
+            phase_number = (let n : ℕ = f.place in let z : 1 + n ≡ n + 1 = omega arith in z);
+            stands =
+                ap (λ ps. slice_get ps f.place)
+                (ap (at_time begin.time) k.3 ∙ drop-earlier begin.time k.0 (cut machine k.1 begin [] begin (first_moves machine begin)) k.2 ∙ keep-own begin.time (cut machine k.1 begin [] begin (first_moves machine begin)) own)
+                ∙ f.stands;
+            races = f.races;
+            named = refl;
+          }),
+    )
+
+pub first_runs_show_races : FirstRunsShowRaces
+first_runs_show_races machine end stop pair rules e h =
+    let s = stopped_slot machine (first_run machine end) stop e in
+    let f = found_slot machine end rules (end + 1) (start machine) (first_begins machine rules) s.number s.slot s.stands in
+    let r = shows-at machine f.begin pair rules f.begins f.reach (ap (slot_outcome machine) (sym f.from) ∙ s.same_outcome ∙ h) in
+    subst (λ ms. ShowsRace machine ms pair) (f.reach.moves_are ∙ ap run_moves (sym f.front_is) ∙ ap (λ t. run_moves (slots_by t (first_run machine end))) (sym r.0)) r.1

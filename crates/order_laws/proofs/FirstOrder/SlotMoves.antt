@@ -7,7 +7,8 @@ use Rattle.v_design.specs.States.{State, ProcessState, NodeState, Event, Step, L
 use Rattle.v_design.specs.Runs.{Move, Happens, Turns, then_state, only_if, turn_within, moved, replayed, named_event, or_event, least_work, work_of, first_event, turn_in_slot, event_or_turn, slot_move, turned_by, made, all_made, is_counted, less_one_if, slot_moves}
 use Rattle.v_design.specs.Grades.{Phase, cut}
 use Rattle.order_laws.proofs.Runs.{time-after}
-use Rattle.order_laws.proofs.SlotsEnd.{none_possible, on_move}
+use Rattle.order_laws.specs.Settling.{FirstEvents}
+use Rattle.order_laws.proofs.SlotsEnd.{none_possible, on_move, idle_nodes, node_work, process_next}
 use Rattle.order_laws.proofs.RunsEndAlike.{some_eq}
 use Rattle.order_laws.proofs.FirstOrder.Awake.{AwakeLater, later-after, later-turned}
 
@@ -162,3 +163,6 @@ slot_may machine time (suc fuel) steps state = go (slot_move steps state) refl (
     go (Some move) e rest =
         one-more machine time state move (slot_moves fuel (less_one_if (is_counted move) steps) machine (made machine state move)) (may machine time steps state move e)
         (rest (less_one_if (is_counted move) steps) (made machine state move))
+
+pub first_events : FirstEvents
+first_events = record { may = first_possible; none = none_possible; idle = idle_nodes; node = node_work; process = process_next }

@@ -14,9 +14,10 @@ use Rattle.v_design.specs.PlainLemmas.{statements_of, items_of, statement_of-Blo
 use Rattle.process_code.specs.Rests.{Part, Runs, opened_parts, opened_all_parts}
 use Rattle.process_code.specs.Positions.{StandsAt, ItemsLead, loop_part, advance_part, turns_part}
 use Rattle.process_code.specs.Marks.{marks_of, marks_of_all, marks_of_items}
-use Rattle.process_code.specs.Compiling.{rests_in, marks_in, IsInStep, Grows, MayCompile, Places, Turned, Compiles, CompilesItems}
+use Rattle.process_code.specs.Layouts.{laid_out, laid_out_all, laid_out_items}
+use Rattle.process_code.specs.Compiling.{rests_in, marks_in, layout_in, IsInStep, Grows, MayCompile, Places, Turned, Compiles, CompilesItems}
 use Rattle.process_code.proofs.Growing.{grows-refl, grows-trans, grows-keeps, items_lead-more}
-use Rattle.process_code.proofs.Compiled.{may-placed, may-own, may-runs, may-grown, may-entry, may-turns, compiled-own, compiled-body, compiled-loop, compiled-branches, compiled-case, compiled-repeat, compiled-for, counts-more, compiled-leaf, compiled-null, items_lead-push, marks-both, marks-push, levels-statement, levels-item, sized-statement, sized-item, placed-length, grows-longer}
+use Rattle.process_code.proofs.Compiled.{may-placed, may-own, may-runs, may-grown, may-entry, may-turns, compiled-own, compiled-body, compiled-loop, compiled-branches, compiled-case, compiled-repeat, compiled-for, counts-more, compiled-leaf, compiled-null, items_lead-push, marks-both, marks-push, layout-push, levels-statement, levels-item, sized-statement, sized-item, placed-length, grows-longer}
 use Rattle.process_code.specs.declared.code.Head.TheVariants.{Statement, Test, Advance, Turns}
 use Rattle.process_code.specs.declared.builder.Builder.{Builder}
 use Rattle.process_code.proofs.builder.Builder.+compile.Goals as goal
@@ -33,6 +34,7 @@ block-statements-init t c =
       marks =
           let P : List _ → Type 0 = λ xs. marks_in c.args.self.now ≡ marks_in c.args.self.now ++ marks_of_all (statements_of xs) in
           subst P (sym none) (sym (append-nil (marks_in c.args.self.now)));
+      layout = λ rest h. let P : List _ → Type 0 = λ xs. layout_in c.args.self.now ≡ laid_out_all (statements_of xs) rest (layout_in c.args.self.now) in subst P (sym none) refl;
     }
 
 pub block-statement-requires : goal.block-statement-requires
@@ -43,7 +45,7 @@ block-statement-requires t c =
       (
         sized-statement c.args.statements.now (c.statements.left - 1) c.index-statements-left.result (omega (arith, c.statements-test.true, inv.in_range)) c.index-statements-left.is c.requires.sized,
         may-entry c.args.self.now c.statements.self (plain.Block (statements_of (drop c.statements.left c.args.statements.now))) c.args.next c.statements.entry c.requires.may
-            (record { in_step = inv.in_step; grows = inv.grows; there = inv.there; opens = inv.opens; marks = inv.marks }),
+            (record { in_step = inv.in_step; grows = inv.grows; there = inv.there; opens = inv.opens; marks = inv.marks; layout = inv.layout }),
       ),
     )
 
@@ -68,12 +70,16 @@ block-statements-preserved t c =
       marks =
           let P : List _ → Type 0 = λ xs. marks_in c.statement.new.self ≡ marks_in c.args.self.now ++ marks_of_all (statements_of xs) in
           subst P (sym here) (marks-both c.args.self.now c.statements.self c.statement.new.self (marks_of_all (statements_of (drop left items))) (marks_of (statement_of x)) inv.marks k.marks);
+      layout = λ rest h.
+          let P : List _ → Type 0 = λ xs. layout_in c.statement.new.self ≡ laid_out_all (statements_of xs) rest (layout_in c.args.self.now) in
+          let after = opened_all_parts (statements_of (drop left items)) rest in
+          subst P (sym here) (k.layout after (inv.opens rest h) ∙ ap (laid_out (statement_of x) after) (inv.layout rest h));
     }
 
 pub items-loop-item-init : goal.items-loop-item-init
 items-loop-item-init t c =
     let L : List _ → Type 0 = λ positions. (rest : List Part) → StandsAt (rests_in c.args.self.now) c.args.next rest → ItemsLead (rests_in c.args.self.now) positions (items_of (take 0 c.args.items.now)) rest in
-    record { in_step = c.requires.may.in_step; grows = grows-refl c.args.self.now; lead = subst L (sym c.new-positions.ensures.items) (λ rest h. tt); marks = sym (append-nil (marks_in c.args.self.now)) }
+    record { in_step = c.requires.may.in_step; grows = grows-refl c.args.self.now; lead = subst L (sym c.new-positions.ensures.items) (λ rest h. tt); marks = sym (append-nil (marks_in c.args.self.now)); layout = λ rest h. refl }
 
 pub items-statement-requires : goal.items-statement-requires
 items-statement-requires t c =
@@ -105,6 +111,10 @@ items-loop-item-preserved t c =
           subst P (sym more)
           (marks-both c.args.self.now c.loop-item.self c.statement.new.self (marks_of_items (items_of (take i items))) (marks_of (statement_of x.statement)) inv.marks k.marks
           ∙ ap (λ ms. marks_in c.args.self.now ++ ms) (sym (marks-push (take i items) x)));
+      layout = λ rest h.
+          let P : List _ → Type 0 = λ xs. layout_in c.statement.new.self ≡ laid_out_items (items_of xs) rest (layout_in c.args.self.now) in
+          let here = grows-keeps c.args.self.now c.loop-item.self inv.grows c.args.next rest h in
+          subst P (sym more) (k.layout rest here ∙ ap (laid_out (statement_of x.statement) rest) (inv.layout rest h) ∙ sym (layout-push (take i items) x rest (layout_in c.args.self.now)));
     }
 
 pub statement-statement-requires : goal.statement-statement-requires
@@ -222,7 +232,7 @@ statement-block-requires t c =
 pub statement-returns-in-Null : goal.statement-returns-in-Null
 statement-returns-in-Null t c =
     let P : plain.Statement → Type 0 = λ s. Compiles c.args.self.now c.args.self.now s c.args.next c.args.next in
-    subst P (sym (ap statement_of c.in-Null.is)) (compiled-null c.args.self.now c.args.next plain.Null c.requires.may (λ rest. refl) refl)
+    subst P (sym (ap statement_of c.in-Null.is)) (compiled-null c.args.self.now c.args.next plain.Null c.requires.may (λ rest. refl) refl (λ rest layout. refl))
 
 pub statement-returns-in_ok-entry-in-Block : goal.statement-returns-in_ok-entry-in-Block
 statement-returns-in_ok-entry-in-Block t c =
@@ -235,61 +245,61 @@ pub statement-returns-in_ok-own-in-Blocking : goal.statement-returns-in_ok-own-i
 statement-returns-in_ok-own-in-Blocking t c =
     let s : statement_of c.args.statement.now ≡ plain.Blocking (source_place c.in-Blocking.place) (map target_of c.in-Blocking.targets.items) c.in-Blocking.delay (expression_of c.in-Blocking.value) = ap statement_of c.in-Blocking.is in
     let P : plain.Statement → Type 0 = λ x. Compiles c.args.self.now c.place-in-Blocking.new.self x c.args.next c.in_ok-own-in-Blocking.own in
-    subst P (sym s) (compiled-leaf c.args.self.now c.place-in-Blocking.new.self (Statement c.args.statement) _ _ _ c.requires.may c.in_ok-own-in-Blocking.ensures (ap Runs s) (λ rest. refl) refl (λ ways rest. tt))
+    subst P (sym s) (compiled-leaf c.args.self.now c.place-in-Blocking.new.self (Statement c.args.statement) _ _ _ c.requires.may c.in_ok-own-in-Blocking.ensures (ap Runs s) (λ rest. refl) refl (λ rest layout. refl) (λ ways rest. tt))
 
 pub statement-returns-in_ok-own-in-Nonblocking : goal.statement-returns-in_ok-own-in-Nonblocking
 statement-returns-in_ok-own-in-Nonblocking t c =
     let s : statement_of c.args.statement.now ≡ plain.Nonblocking (source_place c.in-Nonblocking.place) (map target_of c.in-Nonblocking.targets.items) c.in-Nonblocking.delay (expression_of c.in-Nonblocking.value) = ap statement_of c.in-Nonblocking.is in
     let P : plain.Statement → Type 0 = λ x. Compiles c.args.self.now c.place-in-Nonblocking.new.self x c.args.next c.in_ok-own-in-Nonblocking.own in
-    subst P (sym s) (compiled-leaf c.args.self.now c.place-in-Nonblocking.new.self (Statement c.args.statement) _ _ _ c.requires.may c.in_ok-own-in-Nonblocking.ensures (ap Runs s) (λ rest. refl) refl (λ ways rest. tt))
+    subst P (sym s) (compiled-leaf c.args.self.now c.place-in-Nonblocking.new.self (Statement c.args.statement) _ _ _ c.requires.may c.in_ok-own-in-Nonblocking.ensures (ap Runs s) (λ rest. refl) refl (λ rest layout. refl) (λ ways rest. tt))
 
 pub statement-returns-in_ok-own-in-Finish : goal.statement-returns-in_ok-own-in-Finish
 statement-returns-in_ok-own-in-Finish t c =
     let s : statement_of c.args.statement.now ≡ plain.Finish (source_place c.in-Finish.place) = ap statement_of c.in-Finish.is in
     let P : plain.Statement → Type 0 = λ x. Compiles c.args.self.now c.place-in-Finish.new.self x c.args.next c.in_ok-own-in-Finish.own in
-    subst P (sym s) (compiled-leaf c.args.self.now c.place-in-Finish.new.self (Statement c.args.statement) _ _ _ c.requires.may c.in_ok-own-in-Finish.ensures (ap Runs s) (λ rest. refl) refl (λ ways rest. tt))
+    subst P (sym s) (compiled-leaf c.args.self.now c.place-in-Finish.new.self (Statement c.args.statement) _ _ _ c.requires.may c.in_ok-own-in-Finish.ensures (ap Runs s) (λ rest. refl) refl (λ rest layout. refl) (λ ways rest. tt))
 
 pub statement-returns-in_ok-other-in-If : goal.statement-returns-in_ok-other-in-If
 statement-returns-in_ok-other-in-If t c =
     let s : statement_of c.args.statement.now ≡ plain.If (source_place c.in-If.place) (expression_of c.in-If.condition) (statement_of c.deref-in-If.result.now) (statement_of c.deref-in-If-2.result.now) = ap statement_of c.in-If.is ∙ ap (λ x. plain.If (source_place c.in-If.place) (expression_of c.in-If.condition) (statement_of x) (statement_of c.in-If.second.value)) (sym c.deref-in-If.ensures) ∙ ap (λ x. plain.If (source_place c.in-If.place) (expression_of c.in-If.condition) (statement_of c.deref-in-If.result.now) (statement_of x)) (sym c.deref-in-If-2.ensures) in
     let P : plain.Statement → Type 0 = λ x. Compiles c.args.self.now c.lead.new.self x c.args.next c.in_ok-own-in-If.own in
     subst P (sym s) (compiled-branches c.args.self.now c.place.new.self c.statement.new.self c.statement-in-If.new.self c.lead.new.self (Statement c.args.statement) _ _ _ _ _ _ _ c.new.result c.requires.may
-    c.in_ok-own-in-If.ensures c.in_ok-inner-in-If.ensures c.in_ok-other-in-If.ensures c.lead.ensures (ap Runs s) (λ rest. refl) refl c.new.ensures.inner c.new.ensures.other (λ rest h k. (h, k)))
+    c.in_ok-own-in-If.ensures c.in_ok-inner-in-If.ensures c.in_ok-other-in-If.ensures c.lead.ensures (ap Runs s) (λ rest. refl) refl (λ rest layout. refl) c.new.ensures.inner c.new.ensures.other (λ rest h k. (h, k)))
 
 pub statement-returns-in_ok-inner-in-While : goal.statement-returns-in_ok-inner-in-While
 statement-returns-in_ok-inner-in-While t c =
     let s : statement_of c.args.statement.now ≡ plain.While (source_place c.in-While.place) (expression_of c.in-While.condition) (statement_of c.deref-in-While.result.now) = ap statement_of c.in-While.is ∙ ap (λ x. plain.While (source_place c.in-While.place) (expression_of c.in-While.condition) (statement_of x)) (sym c.deref-in-While.ensures) in
     let P : plain.Statement → Type 0 = λ x. Compiles c.args.self.now c.lead-in-While.new.self x c.args.next c.in_ok-own-in-While.own in
     subst P (sym s) (compiled-loop c.args.self.now c.place-in-While.new.self c.statement-in-While.new.self c.lead-in-While.new.self (Statement c.args.statement) _ _ _ _ _ c.new-in-While.result c.requires.may
-    c.in_ok-own-in-While.ensures c.in_ok-inner-in-While.ensures c.lead-in-While.ensures (ap Runs s) (λ rest. refl) refl c.new-in-While.ensures.inner (λ rest h. h))
+    c.in_ok-own-in-While.ensures c.in_ok-inner-in-While.ensures c.lead-in-While.ensures (ap Runs s) (λ rest. refl) refl (λ rest layout. refl) c.new-in-While.ensures.inner (λ rest h. h))
 
 pub statement-returns-in_ok-inner-in-Forever : goal.statement-returns-in_ok-inner-in-Forever
 statement-returns-in_ok-inner-in-Forever t c =
     let s : statement_of c.args.statement.now ≡ plain.Forever (source_place c.in-Forever.place) (statement_of c.deref-in-Forever.result.now) = ap statement_of c.in-Forever.is ∙ ap (λ x. plain.Forever (source_place c.in-Forever.place) (statement_of x)) (sym c.deref-in-Forever.ensures) in
     let P : plain.Statement → Type 0 = λ x. Compiles c.args.self.now c.lead-in-Forever.new.self x c.args.next c.in_ok-own-in-Forever.own in
     subst P (sym s) (compiled-loop c.args.self.now c.place-in-Forever.new.self c.statement-in-Forever.new.self c.lead-in-Forever.new.self (Statement c.args.statement) _ _ _ _ _ c.new-in-Forever.result c.requires.may
-    c.in_ok-own-in-Forever.ensures c.in_ok-inner-in-Forever.ensures c.lead-in-Forever.ensures (ap Runs s) (λ rest. refl) refl c.new-in-Forever.ensures.inner (λ rest h. h))
+    c.in_ok-own-in-Forever.ensures c.in_ok-inner-in-Forever.ensures c.lead-in-Forever.ensures (ap Runs s) (λ rest. refl) refl (λ rest layout. refl) c.new-in-Forever.ensures.inner (λ rest h. h))
 
 pub statement-returns-in_ok-inner-in-Delay : goal.statement-returns-in_ok-inner-in-Delay
 statement-returns-in_ok-inner-in-Delay t c =
     let s : statement_of c.args.statement.now ≡ plain.Delay (source_place c.in-Delay.place) c.in-Delay.delay (statement_of c.deref-in-Delay.result.now) = ap statement_of c.in-Delay.is ∙ ap (λ x. plain.Delay (source_place c.in-Delay.place) c.in-Delay.delay (statement_of x)) (sym c.deref-in-Delay.ensures) in
     let P : plain.Statement → Type 0 = λ x. Compiles c.args.self.now c.lead-in-Delay.new.self x c.args.next c.in_ok-own-in-Delay.own in
     subst P (sym s) (compiled-body c.args.self.now c.place-in-Delay.new.self c.statement-in-Delay.new.self c.lead-in-Delay.new.self (Statement c.args.statement) _ _ _ _ _ c.new-in-Delay.result c.requires.may
-    c.in_ok-own-in-Delay.ensures c.in_ok-inner-in-Delay.ensures c.lead-in-Delay.ensures (ap Runs s) (λ rest. refl) refl c.new-in-Delay.ensures.inner (λ rest h. h))
+    c.in_ok-own-in-Delay.ensures c.in_ok-inner-in-Delay.ensures c.lead-in-Delay.ensures (ap Runs s) (λ rest. refl) refl (λ rest layout. refl) c.new-in-Delay.ensures.inner (λ rest h. h))
 
 pub statement-returns-in_ok-inner-in-EventControl : goal.statement-returns-in_ok-inner-in-EventControl
 statement-returns-in_ok-inner-in-EventControl t c =
     let s : statement_of c.args.statement.now ≡ plain.EventControl (source_place c.in-EventControl.place) (map entry_of c.in-EventControl.entries) (statement_of c.deref-in-EventControl.result.now) = ap statement_of c.in-EventControl.is ∙ ap (λ x. plain.EventControl (source_place c.in-EventControl.place) (map entry_of c.in-EventControl.entries) (statement_of x)) (sym c.deref-in-EventControl.ensures) in
     let P : plain.Statement → Type 0 = λ x. Compiles c.args.self.now c.lead-in-EventControl.new.self x c.args.next c.in_ok-own-in-EventControl.own in
     subst P (sym s) (compiled-body c.args.self.now c.place-in-EventControl.new.self c.statement-in-EventControl.new.self c.lead-in-EventControl.new.self (Statement c.args.statement) _ _ _ _ _ c.new-in-EventControl.result c.requires.may
-    c.in_ok-own-in-EventControl.ensures c.in_ok-inner-in-EventControl.ensures c.lead-in-EventControl.ensures (ap Runs s) (λ rest. refl) refl c.new-in-EventControl.ensures.inner (λ rest h. h))
+    c.in_ok-own-in-EventControl.ensures c.in_ok-inner-in-EventControl.ensures c.lead-in-EventControl.ensures (ap Runs s) (λ rest. refl) refl (λ rest layout. refl) c.new-in-EventControl.ensures.inner (λ rest h. h))
 
 pub statement-returns-in_ok-inner-in-Wait : goal.statement-returns-in_ok-inner-in-Wait
 statement-returns-in_ok-inner-in-Wait t c =
     let s : statement_of c.args.statement.now ≡ plain.Wait (source_place c.in-Wait.place) (expression_of c.in-Wait.condition) (statement_of c.deref-in-Wait.result.now) = ap statement_of c.in-Wait.is ∙ ap (λ x. plain.Wait (source_place c.in-Wait.place) (expression_of c.in-Wait.condition) (statement_of x)) (sym c.deref-in-Wait.ensures) in
     let P : plain.Statement → Type 0 = λ x. Compiles c.args.self.now c.lead-in-Wait.new.self x c.args.next c.in_ok-own-in-Wait.own in
     subst P (sym s) (compiled-body c.args.self.now c.place-in-Wait.new.self c.statement-in-Wait.new.self c.lead-in-Wait.new.self (Statement c.args.statement) _ _ _ _ _ c.new-in-Wait.result c.requires.may
-    c.in_ok-own-in-Wait.ensures c.in_ok-inner-in-Wait.ensures c.lead-in-Wait.ensures (ap Runs s) (λ rest. refl) refl c.new-in-Wait.ensures.inner (λ rest h. h))
+    c.in_ok-own-in-Wait.ensures c.in_ok-inner-in-Wait.ensures c.lead-in-Wait.ensures (ap Runs s) (λ rest. refl) refl (λ rest layout. refl) c.new-in-Wait.ensures.inner (λ rest h. h))
 
 pub statement-returns-in_ok-other-in-Case : goal.statement-returns-in_ok-other-in-Case
 statement-returns-in_ok-other-in-Case t c =
@@ -313,7 +323,7 @@ statement-returns-in_ok-inner-in-Repeat t c =
     let s : statement_of c.args.statement.now ≡ plain.Repeat (source_place c.in-Repeat.place) (expression_of c.in-Repeat.count) (statement_of c.deref-in-Repeat.result.now) = ap statement_of c.in-Repeat.is ∙ ap (λ x. plain.Repeat (source_place c.in-Repeat.place) (expression_of c.in-Repeat.count) (statement_of x)) (sym c.deref-in-Repeat.ensures) in
     let counted : Builder = record { spots = c.place-in-Repeat.new.self.spots; ways = c.place-in-Repeat.new.self.ways; repeats = c.place-in-Repeat.new.self.repeats + 1 } in
     let p = c.in_ok-own-in-Repeat.ensures in
-    let more : c.args.self.now.repeats < counted.repeats = omega (arith, p.0.repeats) in
+    let more : counted.repeats ≡ c.args.self.now.repeats + 1 = omega (arith, p.0.repeats) in
     let gc : Grows c.place-in-Repeat.new.self counted = counts-more c.place-in-Repeat.new.self counted refl refl (omega arith) p.1.ways in
     let longer = placed-length c.args.self.now c.place-in-Repeat.new.self _ _ _ p.0 in
     let counted_in : IsInStep counted = record { sized = p.1.sized; ways = p.1.ways; repeats = omega (arith, longer, p.0.repeats, c.requires.may.in_step.repeats) } in

@@ -5,7 +5,8 @@ use Rattle.process_code.specs.Rests.{Part, opened_all_parts}
 use Rattle.process_code.specs.Positions.{StandsAt, ItemsLead}
 use Rattle.v_design.specs.PlainLemmas.{statements_of, items_of}
 use Rattle.process_code.specs.Marks.{marks_of_all, marks_of_items}
-use Rattle.process_code.specs.Compiling.{rests_in, marks_in, IsInStep, Grows}
+use Rattle.process_code.specs.Layouts.{laid_out_all, laid_out_items}
+use Rattle.process_code.specs.Compiling.{rests_in, marks_in, layout_in, IsInStep, Grows}
 use Rattle.process_code.proofs.builder.Builder.+compile.Given as goal
 
 -- the statements from `left` on are compiled, and begin at `entry`
@@ -18,6 +19,7 @@ invariant-block-statements l =
       in_range : l.left ≤ length l.statements;
       opens : (rest : List Part) → StandsAt (rests_in l.fn.self) l.next rest → StandsAt (rests_in l.self) l.entry (opened_all_parts (statements_of (drop l.left l.statements)) rest);
       marks : marks_in l.self ≡ marks_in l.fn.self ++ marks_of_all (statements_of (drop l.left l.statements));
+      layout : (rest : List Part) → StandsAt (rests_in l.fn.self) l.next rest → layout_in l.self ≡ laid_out_all (statements_of (drop l.left l.statements)) rest (layout_in l.fn.self);
     }
 
 abbrev pub decreases-block-statements : goal.decreases-block-statements
@@ -31,6 +33,7 @@ invariant-items-loop-item l =
       grows : Grows l.fn.self l.self;
       lead : (rest : List Part) → StandsAt (rests_in l.fn.self) l.next rest → ItemsLead (rests_in l.self) l.positions.items (items_of (take l.item-index l.items)) rest;
       marks : marks_in l.self ≡ marks_in l.fn.self ++ marks_of_items (items_of (take l.item-index l.items));
+      layout : (rest : List Part) → StandsAt (rests_in l.fn.self) l.next rest → layout_in l.self ≡ laid_out_items (items_of (take l.item-index l.items)) rest (layout_in l.fn.self);
     }
 
 -- what is compiled within stands one level below

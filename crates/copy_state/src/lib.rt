@@ -1,0 +1,13 @@
+//! What a faulty machine has otherwise than the good one (nothing of the language).
+//!
+//! A `FaultCopy` keeps the own values of a faulty machine by their objects, in ascending order: those that aren't the good machine's. `value` is the
+//! value of an object whose good value is given, and `set` gives an object a value: one that is the good value isn't kept.
+#![tactic(auto)]
+
+mod copy;
+mod find;
+mod own;
+#[cfg(test)]
+mod tests;
+
+pub use copy::FaultCopy;

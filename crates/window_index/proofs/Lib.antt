@@ -1,0 +1,4 @@
+mod Finished
+mod MomentLaws
+mod Placing
+mod Starting
