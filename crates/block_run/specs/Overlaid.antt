@@ -6,7 +6,7 @@ use Rattle.std.proofs.lemmas.List.{length-map, length-take-le, get_or-take, get_
 use Rattle.vf_base.specs.declared.ids.ObjectId.{ObjectId}
 use Rattle.vf_base.specs.Base.{object_number}
 use Rattle.four_value.specs.Values.{LogicValue}
-use Rattle.v_design.specs.Lists.{has, change_at, without_repeats, fresh_only}
+use Rattle.vf_base.specs.Lists.{has, change_at, without_repeats, fresh_only}
 use Rattle.v_design.specs.Assignments.{value_at, with_outputs}
 
 -- the values with those of some objects in front

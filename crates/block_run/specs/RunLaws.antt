@@ -7,7 +7,7 @@ use Rattle.vf_base.specs.Base.{SourcePlace}
 use Rattle.vf_base.specs.declared.ids.ObjectId.{ObjectId}
 use Rattle.four_value.specs.Values.{LogicValue}
 use Rattle.four_value.specs.declared.operator.CaseKind.{CaseKind}
-use Rattle.v_design.specs.Lists.{has}
+use Rattle.vf_base.specs.Lists.{has}
 use Rattle.v_design.specs.Trees.{Expression, Statement, Block, If, Case, CaseItems}
 use Rattle.v_design.specs.Plain.{expression_of, expressions_of, statement_of}
 use Rattle.v_design.specs.declared.tree.FlatExpr.{FlatExpr}

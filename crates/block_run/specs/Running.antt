@@ -6,7 +6,7 @@ use Rattle.vf_base.specs.Base.{object_number}
 use Rattle.four_value.specs.Values.{LogicValue, is_true, with_part}
 use Rattle.four_value.specs.ValueLaws.{length-with_part}
 use Rattle.four_value.specs.declared.operator.CaseKind.{CaseKind}
-use Rattle.v_design.specs.Lists.{has, change_at}
+use Rattle.vf_base.specs.Lists.{has, change_at}
 use Rattle.v_design.specs.Trees.{Piece, Statement, Null, Block, If, Case, For, While, Repeat, Forever, Delay, EventControl, Wait, Blocking, Nonblocking, Finish, Statements, no_statements, more_statements, CaseItems, no_items, more_items}
 use Rattle.v_design.specs.Expressions.{value_of}
 use Rattle.v_design.specs.Assignments.{ValueUpdate, value_at, updated, either_values, some_label_matches, label_values, run_statement, run_statements, run_items, target_updates, index_value}

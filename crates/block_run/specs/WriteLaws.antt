@@ -5,7 +5,7 @@ use Rattle.std.proofs.lemmas.Bool.{or_left, or_right, or_cases, eq-eqb, eqb-true
 use Rattle.std.proofs.lemmas.List.{drop_more}
 use Rattle.std.proofs.lemmas.List.Sums.{sum_by-cons}
 use Rattle.four_value.specs.Values.{LogicValue, part_of}
-use Rattle.v_design.specs.Lists.{has, AllHold}
+use Rattle.vf_base.specs.Lists.{has, AllHold}
 use Rattle.v_design.specs.Trees.{Memory, Target, WholeTarget, BitTarget, PartTarget, WordTarget}
 use Rattle.v_design.specs.Plain.{target_of}
 use Rattle.v_design.specs.declared.tree.FlatTarget.{FlatTarget}

@@ -2,7 +2,7 @@
 
 ghost use Rattle.std.specs.Prelude.{◌≡◌, ◌≤◌, ◌<◌, ◌++◌, ◌∷◌, [], ℕ, List, map, length, fold, option_map, vec_capacity, get_or};
 ghost use Rattle.four_value.specs.Values.{LogicValue};
-ghost use Rattle.v_design.specs.Lists.{AllHold};
+ghost use Rattle.vf_base.specs.Lists.{AllHold};
 ghost use Rattle.v_design.specs.Plain.{target_of, update_of};
 ghost use Rattle.v_design.specs.Assignments.{index_value, target_updates, targets_width, updated};
 ghost use Rattle.v_design.specs.Reads.{named_in_target, named_in_targets};

@@ -8,7 +8,7 @@ ghost use Rattle.v_design.specs.Trees.{Statement, Block, Case};
 ghost use Rattle.v_design.specs.Assignments.{value_at, assigned, index_value, target_updates, targets_width, some_label_matches, label_values, run_statement, run_statements, run_items};
 ghost use Rattle.v_design.specs.Expressions.{value_of};
 ghost use Rattle.v_design.specs.Reads.{named_in, named_in_parts, named_in_targets, named_by_items, targets_objects};
-ghost use Rattle.v_design.specs.Lists.{has, AllHold};
+ghost use Rattle.vf_base.specs.Lists.{has, AllHold};
 ghost use Rattle.v_design.specs.Sized.{IsSized, IsSizedAssignment, AreLabels, AreSizedItems, levels_of, levels_of_parts, levels_of_items, levels_of_targets, levels_of_assignment, IsSizedTarget};
 ghost use Rattle.vf_base.specs.Base.{object_number, SourcePlace};
 ghost use Rattle.expr_eval.specs.Operands.{AreThere};

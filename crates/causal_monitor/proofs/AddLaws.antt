@@ -8,7 +8,7 @@ use Rattle.std.proofs.lemmas.List.{map_push, take_more, take_all, length-take-le
 use Rattle.std.proofs.lemmas.List.Elements.{All-push, filter-append}
 use Rattle.vf_base.specs.declared.ids.ObjectId.{ObjectId}
 use Rattle.vf_base.specs.Base.{object_number}
-use Rattle.v_design.specs.Lists.{joined, has, map_numbered}
+use Rattle.vf_base.specs.Lists.{joined, has, map_numbered}
 use Rattle.v_design.specs.Designs.{FlatDesign}
 use Rattle.v_design.specs.Paths.{net_pieces, is_wild, paths}
 use Rattle.v_design.specs.Accesses.{ObjectAccess}

@@ -4,7 +4,7 @@ use Rattle.std.specs.Prelude.{nat_eq, ◌||◌, sum_by, slice_get}
 use Rattle.std.proofs.lemmas.Bool.{ne_eqb, eq-eqb, cases_eq}
 use Rattle.std.proofs.lemmas.List.{get_or-set_same, get_or-set_other, take_more, map_push, take_all, get_or-map, length-map}
 use Rattle.std.proofs.lemmas.List.Sums.{sum_by-append}
-use Rattle.v_design.specs.Lists.{joined, has, AllHold}
+use Rattle.vf_base.specs.Lists.{joined, has, AllHold}
 use Rattle.v_design.specs.States.{found_or}
 use Rattle.v_design.specs.Designs.{FlatObject, FlatDesign}
 use Rattle.v_design.specs.Paths.{numbers_of, net_pieces, is_net}

@@ -4,7 +4,7 @@ use Rattle.std.specs.Prelude.{nat_eq, ◌||◌}
 use Rattle.std.specs.Option.{ForSome}
 use Rattle.std.proofs.lemmas.Bool.{ne_eqb, eq-eqb, cases_eq}
 use Rattle.std.proofs.lemmas.List.{get_or_read}
-use Rattle.v_design.specs.Lists.{has}
+use Rattle.vf_base.specs.Lists.{has}
 use Rattle.v_design.specs.Logs.{LoggedPhase, cause_at, causes_from, orders}
 use Rattle.causal_monitor.specs.Phases.{CausesComeBefore}
 use Rattle.causal_monitor.specs.Orders.{AreJumps}

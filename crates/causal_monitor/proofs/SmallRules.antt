@@ -2,7 +2,7 @@
 use Rattle.std.proofs.Common.{◌≡◌, ℕ, zero, suc, ◌≤◌, List, [], ◌∷◌, false, map, refl, sym, ap, subst, inl, inr, arith}
 use Rattle.std.specs.Prelude.{Some, get_or, slice_get, IsTrue, nat_eq}
 use Rattle.std.proofs.lemmas.Bool.{eqb-true, or_cases}
-use Rattle.v_design.specs.Lists.{has, AllHold}
+use Rattle.vf_base.specs.Lists.{has, AllHold}
 use Rattle.v_design.specs.Designs.{FlatObject, FlatNode}
 use Rattle.v_design.specs.declared.plan.Object.{Object}
 use Rattle.v_design.specs.declared.plan.JoinedName.{JoinedName}

@@ -9,7 +9,7 @@ use Rattle.std.proofs.lemmas.List.Elements.{filter-append}
 use Rattle.vf_base.specs.declared.ids.ObjectId.{ObjectId}
 use Rattle.vf_base.specs.Base.{object_number}
 use Rattle.v_design.specs.declared.logic.ObjectKind.TheVariants.{Var}
-use Rattle.v_design.specs.Lists.{has}
+use Rattle.vf_base.specs.Lists.{has}
 use Rattle.v_design.specs.Designs.{FlatObject, FlatDesign}
 use Rattle.v_design.specs.Paths.{net_pieces, numbers_of, is_net, paths, is_wild, is_wild_class, class_of_paths}
 use Rattle.v_design.specs.WellFormed.{KeepsRules}

@@ -1,7 +1,7 @@
 -- What the fields of a log stand for (nothing of the language).
 use Rattle.std.specs.Prelude.{ℕ, ◌+◌, ◌<◌, ◌≤◌, List, [], ◌∷◌, map, length, slice_range}
 use Rattle.std.specs.Option.{ForSome}
-use Rattle.v_design.specs.Lists.{AllHold}
+use Rattle.vf_base.specs.Lists.{AllHold}
 use Rattle.v_design.specs.Logs.{LoggedEvent, LoggedPhase}
 use Rattle.causal_monitor.specs.declared.noted.Noted.{Noted}
 use Rattle.causal_monitor.specs.declared.log.Entry.{Entry}

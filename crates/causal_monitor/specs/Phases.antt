@@ -1,6 +1,6 @@
 -- A phase of a slot as plain data (IEEE 1364-2001, clause 5.3).
 use Rattle.std.specs.Prelude.{◌≡◌, ℕ, ◌<◌, List, [], ◌∷◌, ◌++◌, map, length, Some, slice_get}
-use Rattle.v_design.specs.Lists.{AllHold}
+use Rattle.vf_base.specs.Lists.{AllHold}
 use Rattle.v_design.specs.States.{found_or}
 use Rattle.v_design.specs.Designs.{FlatDesign}
 use Rattle.v_design.specs.Accesses.{ObjectAccess}

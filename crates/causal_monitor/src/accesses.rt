@@ -3,7 +3,7 @@
 ghost use Rattle.std.specs.Prelude.{◌≡◌, ℕ, ◌<◌, ◌++◌, [], ◌∷◌, Some, None, true, map, filter, length, vec_len, IfOk, OnOk, cond};
 ghost use Rattle.std.specs.List.{All};
 ghost use Rattle.vf_base.specs.Base.{object_number};
-ghost use Rattle.v_design.specs.Lists.{AllHold, joined, has};
+ghost use Rattle.vf_base.specs.Lists.{AllHold, joined, has};
 ghost use Rattle.v_design.specs.Logs.{counts, settles_of, change_of, changes_of, phase_changes, log_accesses, counted_accesses};
 ghost use Rattle.v_design.specs.PlainDesigns.{design_of};
 ghost use Rattle.causal_monitor.specs.Notes.{IsNoted, IsHeld, noted_access};

@@ -4,7 +4,7 @@ ghost use Rattle.std.specs.Prelude.{◌≡◌, ℕ, ◌+◌, ◌<◌, ◌++◌, 
 ghost use Rattle.std.specs.Option.{option_map, option_to_list};
 ghost use Rattle.std.specs.List.{All};
 ghost use Rattle.vf_base.specs.Base.{object_number};
-ghost use Rattle.v_design.specs.Lists.{AllHold, has};
+ghost use Rattle.vf_base.specs.Lists.{AllHold, has};
 ghost use Rattle.four_value.specs.Values.{same_value};
 ghost use Rattle.v_design.specs.Accesses.{Writing};
 ghost use Rattle.v_design.specs.Paths.{net_pieces, is_net};

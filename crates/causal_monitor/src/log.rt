@@ -2,7 +2,7 @@
 
 ghost use Rattle.std.specs.Prelude.{◌≡◌, ℕ, ◌+◌, ◌<◌, List, [], ◌∷◌, ◌++◌, map, length, OnOk, OnErr, IfOk};
 ghost use Rattle.std.specs.Option.{ForSome};
-ghost use Rattle.v_design.specs.Lists.{AllHold};
+ghost use Rattle.vf_base.specs.Lists.{AllHold};
 ghost use Rattle.v_design.specs.Logs.{cause_at};
 ghost use Rattle.causal_monitor.specs.Notes.{IsNoted, IsHeld, noted_access};
 ghost use Rattle.causal_monitor.specs.Phases.{with_event, with_held, empty_log, accesses_at, CausesComeBefore};

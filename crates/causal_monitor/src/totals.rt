@@ -2,7 +2,7 @@
 
 ghost use Rattle.std.specs.Prelude.{◌≡◌, ◌<◌, ◌&&◌, length, vec_len};
 ghost use Rattle.vf_base.specs.Base.{object_number};
-ghost use Rattle.v_design.specs.Lists.{has};
+ghost use Rattle.vf_base.specs.Lists.{has};
 ghost use Rattle.v_design.specs.Paths.{net_pieces, is_wild};
 ghost use Rattle.v_design.specs.Logs.{phase_changes};
 ghost use Rattle.v_design.specs.PlainDesigns.{design_of};

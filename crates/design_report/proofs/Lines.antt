@@ -3,7 +3,7 @@ use Rattle.std.proofs.Common.{◌≡◌, ℕ, zero, suc, ◌+◌, ◌<◌, ◌�
 use Rattle.std.specs.Option.{option_map}
 use Rattle.std.proofs.lemmas.List.{take_more, map_push, length-map, length-take-le}
 use Rattle.std.proofs.lemmas.Option.{slice_get_cases, slice_get_within, slice_get-map}
-use Rattle.v_design.specs.Lists.{joined, zip_with}
+use Rattle.vf_base.specs.Lists.{joined, zip_with}
 use Rattle.v_design.specs.Designs.{FlatDesign}
 use Rattle.v_design.specs.Sites.{faults_of}
 use Rattle.v_design.specs.Plain.{fault_of}

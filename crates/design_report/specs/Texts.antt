@@ -1,7 +1,7 @@
 -- The texts on a design (the format is this program's own).
 use Rattle.std.specs.Prelude.{◌≡◌, ℕ, Bool, true, false, List, [], ◌∷◌, ◌++◌, codes, length}
 use Rattle.std.specs.Fmt.{decimal}
-use Rattle.v_design.specs.Lists.{joined, zip_with}
+use Rattle.vf_base.specs.Lists.{joined, zip_with}
 use Rattle.v_design.specs.Designs.{FlatDesign, StuckAt}
 use Rattle.v_design.specs.Sites.{site_name, faults_of}
 use Rattle.fault_list.specs.Classes.{AreClasses}

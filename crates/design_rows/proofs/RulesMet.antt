@@ -2,7 +2,7 @@
 use Rattle.std.proofs.Common.{◌≡◌, ℕ, zero, suc, ◌≤◌, List, [], ◌∷◌, Bool, true, false, ◌||◌, refl, sym, ap, subst, ◌⊎◌, inl, inr, arith}
 use Rattle.std.specs.Prelude.{Some, get_or, slice_get, IsTrue, nat_eq, map}
 use Rattle.std.proofs.lemmas.Bool.{eqb-true}
-use Rattle.v_design.specs.Lists.{has, AllHold}
+use Rattle.vf_base.specs.Lists.{has, AllHold}
 use Rattle.v_design.specs.Assignments.{AreSettled, value_at, node_outputs}
 use Rattle.v_design.specs.Trees.{Null, Delay}
 use Rattle.v_design.specs.Designs.{BlockNode, FlatObject, FlatNode, FlatProcess, FlatDesign, good_machine}

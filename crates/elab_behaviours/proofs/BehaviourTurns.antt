@@ -1,7 +1,7 @@
 -- What parts do, one part more at a time.
 use Rattle.std.proofs.Common.{◌≡◌, ℕ, suc, ◌+◌, ◌<◌, ◌≤◌, List, [], ◌∷◌, ◌++◌, length, get_or, take, map, refl, sym, ap, ◌∙◌, append_assoc, append-nil, arith}
 use Rattle.std.proofs.lemmas.List.{length-map, length-take-le}
-use Rattle.v_design.specs.Lists.{map_numbered, joined}
+use Rattle.vf_base.specs.Lists.{map_numbered, joined}
 use Rattle.v_elab.specs.Parts as plain
 use Rattle.v_elab.specs.Drivers.{Behaviour, IsNode, IsProcess, part_behaviour, nodes_of, processes_of}
 use Rattle.elab_parts.specs.PartViews.{part_of}

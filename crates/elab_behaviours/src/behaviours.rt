@@ -14,10 +14,7 @@ use elab_parts::{NodeDrives, NodeFunction, Part, ProcessPart, WalkedNode, Walked
 use elab_wires::{Wiring, is_block_node};
 use std::alloc::Global;
 use v_elab::What;
-use vf_base::{NoMemory, Text};
-
-/// The most nodes of a design, and the most processes.
-const MOST_PARTS: usize = 65_536;
+use vf_base::{MAX_OBJECTS, NoMemory, Text};
 
 /// What parts do: the nodes and the processes, each in the order of the walk.
 #[derive(Drop)]
@@ -154,10 +151,10 @@ pub fn behaviours_of<'p, 'u>(
 pub fn too_many_behaviours(behaviours: &Behaviours<'_, '_>) -> Option<What>
     ensures { (all : List plain.Behaviour) → plain.nodes_of all ≡ all_nodes_of behaviours.now → plain.processes_of all ≡ all_processes_of behaviours.now → too_many_behaviours all ≡ option_map (λ what. TooMany what (most_parts + 1)) result }
 {
-    if behaviours.nodes.len() > MOST_PARTS {
+    if behaviours.nodes.len() as u64 > MAX_OBJECTS {
         return Some(What::Nodes);
     }
-    if behaviours.processes.len() > MOST_PARTS {
+    if behaviours.processes.len() as u64 > MAX_OBJECTS {
         return Some(What::Processes);
     }
     None

@@ -14,7 +14,6 @@ ghost use Rattle.instance_faults.specs.Children.{IsChild};
 ghost use Rattle.elab_connections.specs.PathViews.{ArePaths};
 
 use crate::paths::Paths;
-use crate::wide::MOST_BITS;
 use elab_items::{drives_of, hierarchical};
 use elab_parts::{Drive, DrivenBits, Part, ValueIn};
 use expr_reading::read_expr;
@@ -25,13 +24,13 @@ use std::rc::Rc;
 use target_reading::{Writer, target_width_in};
 use v_names::{Scope, place_of_expr};
 use v_tree::{Expr, Target};
-use vf_base::{NoMemory, Place, Seq, Text};
+use vf_base::{MAX_BITS, NoMemory, Place, Seq, Text};
 
 /// The width of a port, which no value can have where it is wider than a vector may be.
 fn sizing_width(width: u64) -> Result<u8, NoMemory>
     ensures { IfOk result (λ same. same ≡ width) }
 {
-    if width > MOST_BITS {
+    if width > u64::from(MAX_BITS) {
         return Err(NoMemory);
     }
     Ok(width as u8)

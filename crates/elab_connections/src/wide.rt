@@ -9,10 +9,7 @@ ghost use Rattle.elab_connections.specs.WidePorts.{connects_wide_port, is_wide};
 
 use instance_faults::Child;
 use v_tree::Connection;
-use vf_base::Text;
-
-/// The most bits of a vector.
-pub(crate) const MOST_BITS: u64 = 128;
+use vf_base::{MAX_BITS, Text};
 
 /// Whether a port is wider than a vector may be.
 fn is_wide(child: Child<'_, '_>, port: Option<&Text>) -> bool
@@ -20,7 +17,7 @@ fn is_wide(child: Child<'_, '_>, port: Option<&Text>) -> bool
 {
     match port {
         None => false,
-        Some(port) => child.port_width(port) > MOST_BITS,
+        Some(port) => child.port_width(port) > u64::from(MAX_BITS),
     }
 }
 

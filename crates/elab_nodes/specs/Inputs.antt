@@ -1,7 +1,7 @@
 -- The objects that a node reads, from those that are named where it reads (IEEE 1364-2001, clause 9.7.5: what a block reads but doesn't write).
 use Rattle.std.proofs.Common.{◌≡◌, ℕ, Bool, true, false, not, List, [], ◌∷◌, map, refl, ap, ◌∙◌}
 use Rattle.std.specs.Prelude.{filter, cond}
-use Rattle.v_design.specs.Lists.{has}
+use Rattle.vf_base.specs.Lists.{has}
 use Rattle.v_design.specs.Expressions.{objects_of, parts_objects}
 use Rattle.v_design.specs.Reads.{read_objects, node_reads}
 use Rattle.v_design.specs.Designs.{FlatNodeKind, AssignNode, GateNode, BlockNode}

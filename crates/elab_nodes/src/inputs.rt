@@ -2,7 +2,7 @@
 
 ghost use Rattle.std.specs.Prelude.{◌≡◌, ℕ, IfOk, map, filter};
 ghost use Rattle.vf_base.specs.Base.{object_number};
-ghost use Rattle.v_design.specs.Lists.{has};
+ghost use Rattle.vf_base.specs.Lists.{has};
 ghost use Rattle.v_design.specs.Expressions.{up_from};
 ghost use Rattle.v_design.specs.Plain.{node_kind_of};
 ghost use Rattle.v_design.specs.Reads.{node_reads};

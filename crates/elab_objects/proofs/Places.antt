@@ -4,7 +4,7 @@ use Rattle.std.specs.Prelude.{option_and_then, option_map}
 use Rattle.std.specs.declared.alloc.Global.{Global}
 use Rattle.std.specs.declared.vec.Vec.{Vec}
 use Rattle.std.proofs.lemmas.Option.{slice_get-map, slice_get-get_or}
-use Rattle.v_design.specs.Lists.{AllHold}
+use Rattle.vf_base.specs.Lists.{AllHold}
 use Rattle.graph_order.specs.ListLaws.{AllHold-slice_get}
 use Rattle.v_ports.specs.Pieces.{CutPiece, DrivenRun, second_driver, pieces_of, DriveOfRun, cut_pieces}
 use Rattle.v_ports.specs.Cuts.{piece_of, PiecesGive}

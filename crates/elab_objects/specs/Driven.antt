@@ -2,7 +2,7 @@
 use Rattle.std.proofs.Common.{◌≡◌, ℕ, ◌+◌, Bool, true, false, List, [], ◌∷◌, ◌++◌, map, Option, Some, None, refl, sym, ap, ap₂, ◌∙◌}
 use Rattle.std.specs.Prelude.{nat_lt, flat_map, filter, cond}
 use Rattle.std.specs.Borrow.{Bor}
-use Rattle.v_design.specs.Lists.{AllHold}
+use Rattle.vf_base.specs.Lists.{AllHold}
 use Rattle.v_names.specs.Scopes.{range_width}
 use Rattle.v_elab.specs.Refusals.{Refusal}
 use Rattle.v_tree.specs.Trees.{Identifier}

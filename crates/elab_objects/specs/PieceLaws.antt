@@ -3,7 +3,7 @@ use Rattle.std.proofs.Common.{◌≡◌, ℕ, zero, suc, ◌+◌, ◌<◌, ◌�
 use Rattle.std.specs.Prelude.{slice_get, option_map, option_and_then}
 use Rattle.std.proofs.lemmas.Option.{slice_get-map, slice_get-get_or, slice_get_past}
 use Rattle.vf_base.specs.Base.{source_place}
-use Rattle.v_design.specs.Lists.{AllHold}
+use Rattle.vf_base.specs.Lists.{AllHold}
 use Rattle.v_ports.specs.Pieces.{CutPiece, second_driver, pieces_of, run_of_drive, cut_pieces}
 use Rattle.v_elab.specs.Drivers as drivers
 use Rattle.v_elab.specs.Drivers.{run_of}

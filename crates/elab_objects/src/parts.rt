@@ -1,7 +1,7 @@
 // The objects of the parts of a walk.
 
 ghost use Rattle.std.specs.Prelude.{◌≡◌, ◌++◌, IfOk, OnOk, map, flat_map, option_map};
-ghost use Rattle.v_design.specs.Lists.{AllHold};
+ghost use Rattle.vf_base.specs.Lists.{AllHold};
 ghost use Rattle.elab_parts.specs.PartViews.{part_of, parts_of, signal_of};
 ghost use Rattle.elab_wires.specs.SignalTables.{signal_borrowed};
 ghost use Rattle.elab_drivers.specs.DriveViews.{drive_keyed};

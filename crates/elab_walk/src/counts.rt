@@ -11,9 +11,7 @@ ghost use Rattle.elab_walk.specs.CountViews.{AreCounts};
 use elab_parts::Part;
 use v_elab::What;
 use v_names::span;
-
-/// The most objects, nodes, processes and instances that a design may have.
-const MOST_PARTS: u64 = 65_536;
+use vf_base::MAX_OBJECTS;
 
 /// How many objects, nodes, processes and instances some parts make. A count stays at the greatest number that it can hold.
 #[derive(Clone, Copy)]
@@ -109,13 +107,13 @@ impl Counts {
     pub fn too_many(&self) -> Option<What>
         ensures { (parts : List plain.Part) → AreCounts parts self.now → too_many_parts parts ≡ option_map over_most result }
     {
-        if self.objects > MOST_PARTS {
+        if self.objects > MAX_OBJECTS {
             Some(What::Objects)
-        } else if self.nodes > MOST_PARTS {
+        } else if self.nodes > MAX_OBJECTS {
             Some(What::Nodes)
-        } else if self.processes > MOST_PARTS {
+        } else if self.processes > MAX_OBJECTS {
             Some(What::Processes)
-        } else if self.instances > MOST_PARTS {
+        } else if self.instances > MAX_OBJECTS {
             Some(What::Instances)
         } else {
             None

@@ -35,10 +35,7 @@ use std::rc::Rc;
 use v_elab::Mode;
 use v_names::{Found, Reason};
 use v_tree::{Connection, Instance, Item, Module};
-use vf_base::{NoMemory, Text};
-
-/// How many levels of a hierarchy are walked: the top and each depth at which an instance may stand.
-const MOST_LEVELS: u8 = 65;
+use vf_base::{MAX_NESTED_MODULES, NoMemory, Text};
 
 /// The number of gates up to the end of an item.
 fn gates_behind(gates: u64, item: &Item) -> Result<u64, NoMemory>
@@ -306,6 +303,6 @@ pub fn walked_from<'u>(
         joins: &[],
     };
     let mut walked = Walked::new(alloc);
-    enter(alloc, modules, mode, MOST_LEVELS, entrance, &mut walked)?;
+    enter(alloc, modules, mode, MAX_NESTED_MODULES, entrance, &mut walked)?;
     Ok(walked.parts)
 }

@@ -3,7 +3,7 @@ use Rattle.std.proofs.Common.{◌≡◌, ℕ, zero, suc, ◌+◌, ◌<◌, ◌�
 use Rattle.std.specs.Borrow.{Bor}
 use Rattle.std.specs.Str.{bytes_eq}
 use Rattle.std.proofs.lemmas.List.{map_push}
-use Rattle.v_design.specs.Lists.{AllHold}
+use Rattle.vf_base.specs.Lists.{AllHold}
 use Rattle.key_index.specs.Groups.{keyed_of, item_if, items_under, first_of, first_under}
 use Rattle.key_index.specs.declared.grouped.Keyed.{Keyed}
 use Rattle.v_tree.specs.Trees.{Identifier, same_name}

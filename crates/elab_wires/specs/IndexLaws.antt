@@ -1,7 +1,7 @@
 -- A name is in an index where it has a place.
 use Rattle.std.proofs.Common.{◌≡◌, ℕ, Bool, true, false, ◌||◌, List, [], ◌∷◌, Option, Some, None, is_some, refl, ap, ◌∙◌}
 use Rattle.std.specs.Str.{bytes_eq}
-use Rattle.v_design.specs.Lists.{first_place, earlier_place}
+use Rattle.vf_base.specs.Lists.{first_place, earlier_place}
 use Rattle.key_index.specs.Places.{later, key_from}
 use Rattle.v_tree.specs.Trees.{Identifier, has_name}
 use Rattle.wire_laws.specs.Keyed.{key-name}

@@ -1,7 +1,7 @@
 // Nets and variables by their names.
 
 ghost use Rattle.std.specs.Prelude.{◌≡◌, ◌++◌, ◌∷◌, [], IfOk, OnOk, map, option_map};
-ghost use Rattle.v_design.specs.Lists.{AllHold};
+ghost use Rattle.vf_base.specs.Lists.{AllHold};
 ghost use Rattle.key_index.specs.Groups.{keyed_of};
 ghost use Rattle.elab_parts.specs.PartViews.{part_of, parts_of, signal_of};
 ghost use Rattle.v_elab.specs.Drivers.{signals_of, signal_named, joined_into, outermost};
@@ -11,10 +11,7 @@ use elab_parts::{Joining, Part, Signal};
 use key_index::{Grouped, Keyed};
 use std::alloc::Global;
 use std::marker::Model;
-use vf_base::NoMemory;
-
-/// How many joins lead up at most: an instance stands at a depth of 64 at most, and each join leads one level up.
-const MOST_JOINS: u32 = 64;
+use vf_base::{MAX_DEPTH, NoMemory};
 
 /// The nets and variables of a walk, found by their names. Contracts see the list of them in the order of the walk.
 #[derive(Drop)]
@@ -24,7 +21,7 @@ pub struct Signals<'p> {
 
 impl<'p> Model for Signals<'p> {
     ghost use Rattle.std.specs.Prelude.{List, map};
-    ghost use Rattle.v_design.specs.Lists.{AllHold};
+    ghost use Rattle.vf_base.specs.Lists.{AllHold};
     ghost use Rattle.v_elab.specs.Parts.{Signal};
 
     ghost Value = { List Signal };
@@ -114,7 +111,7 @@ impl<'p> Signals<'p> {
         ensures { result.now ≡ outermost self.now name.now }
     {
         let mut now = name;
-        'joins: for _ in 0..MOST_JOINS {
+        'joins: for _ in 0..MAX_DEPTH {
             match self.joining(now) {
                 None => return now,
                 Some(joining) => now = joining.into.as_bytes(),

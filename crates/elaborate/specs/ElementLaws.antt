@@ -3,7 +3,7 @@ use Rattle.std.proofs.Common.{◌≡◌, ℕ, zero, suc, ◌+◌, ◌<◌, ◌�
 use Rattle.std.specs.Prelude.{slice_get, nat_lt, nat_eq}
 use Rattle.std.proofs.lemmas.Bool.{ltb-true, lt-ltb}
 use Rattle.std.proofs.lemmas.List.{map-append, length-map}
-use Rattle.v_design.specs.Lists.{AllHold, has, map_numbered, joined}
+use Rattle.vf_base.specs.Lists.{AllHold, has, map_numbered, joined}
 use Rattle.v_design.specs.Expressions.{up_from}
 use Rattle.v_design.specs.Designs.{FlatObject, FlatNode, FlatNodeKind, FlatProcess, NameJoined, FlatDesign}
 use Rattle.v_design.specs.Reads.{node_reads}

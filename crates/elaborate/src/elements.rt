@@ -31,10 +31,7 @@ use object_names::{NodeOutput, ObjectNames, names_joined, node_outputs};
 use std::alloc::Global;
 use v_design::{JoinedName, Node, Object, Process};
 use v_elab::What;
-use vf_base::NoMemory;
-
-/// The most objects of a design.
-const MOST_PARTS: usize = 65_536;
+use vf_base::{MAX_OBJECTS, NoMemory};
 
 /// The elements of a design: its objects, the names that are joined into them, its nodes by rank and its processes.
 #[derive(Drop)]
@@ -117,7 +114,7 @@ fn over_objects(
     requires signals { signals.now ≡ signals_of (parts_of parts.now) }
     ensures { Gives (over_parts (parts_of parts.now) (map node_of nodes.now) (map process_in processes.now) (held_objects held.items)) result }
 {
-    if held.len() > MOST_PARTS {
+    if held.len() as u64 > MAX_OBJECTS {
         return Err(ElabFault::TooMany(What::Objects, PARTS_OVER));
     }
     let (joined, made) = make_elements(alloc, parts, signals, nodes, processes, &held)?;

@@ -5,7 +5,7 @@ use Rattle.std.proofs.lemmas.List.{length-append, map_push, length_push, get_or-
 use Rattle.std.proofs.lemmas.Bool.{ne_eqb, eq-eqb, cases_eq, cases_lt, lt-ltb, le-ltb}
 use Rattle.four_value.specs.Values.{LogicValue, same_value}
 use Rattle.four_value.specs.ValueLaws.{same_value-refl}
-use Rattle.v_design.specs.Lists.{has, last_place, later_place, AllHold}
+use Rattle.vf_base.specs.Lists.{has, last_place, later_place, AllHold}
 use Rattle.v_design.specs.Designs.{FlatNode, Machine}
 use Rattle.v_design.specs.Assignments.{value_at}
 use Rattle.v_design.specs.Processes.{Activity, Ready, Waiting, Asleep, Postponed, Done}

@@ -2,7 +2,7 @@
 use Rattle.std.specs.Prelude.{◌≡◌, ℕ, ◌+◌, ◌-◌, ◌<◌, ◌≤◌, Bool, not, ◌&&◌, cond, max, List, [], ◌∷◌, ◌++◌, map, length, get_or, Option, Some, None, nat_lt}
 use Rattle.vf_base.specs.Base.{process_number}
 use Rattle.four_value.specs.Values.{same_value}
-use Rattle.v_design.specs.Lists.{has, last_place}
+use Rattle.vf_base.specs.Lists.{has, last_place}
 use Rattle.v_design.specs.Designs.{Machine}
 use Rattle.v_design.specs.Assignments.{value_at}
 use Rattle.v_design.specs.States.{State, Event, Step, LaneStep, Evaluation, NetUpdate, after, process_at, is_ready}

@@ -1,6 +1,6 @@
 -- Laws on the numbers and the lanes of a list.
 use Rattle.std.proofs.Common.{◌≡◌, ℕ, zero, suc, ◌+◌, ◌<◌, ◌≤◌, Bool, true, false, ◌||◌, List, [], ◌∷◌, ◌++◌, length, map, refl, sym, ◌∙◌, ap, arith, append_assoc, length-append}
-use Rattle.v_design.specs.Lists.{AllHold, change_at}
+use Rattle.vf_base.specs.Lists.{AllHold, change_at}
 use Rattle.v_design.specs.Assignments.{ValueUpdate}
 use Rattle.v_design.specs.States.{some_in, is_any}
 use Rattle.event_queue.specs.Queues.{HeldProcess, number_if, numbers_where, lane_if, lanes_from}

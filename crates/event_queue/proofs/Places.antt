@@ -3,7 +3,7 @@ use Rattle.std.proofs.Common.{◌≡◌, ◌≢◌, ℕ, zero, suc, ◌<◌, ◌
 use Rattle.std.specs.List.{insert, slice_set}
 use Rattle.std.specs.List.Sorted.{IsPartitionedBy, IsPartitionPoint}
 use Rattle.std.proofs.lemmas.Bool.{ltb-true, lt-ltb, ne_eqb, eq-eqb}
-use Rattle.v_design.specs.Lists.{AllHold}
+use Rattle.vf_base.specs.Lists.{AllHold}
 use Rattle.vf_base.specs.declared.ids.ProcId.{ProcId}
 use Rattle.v_design.specs.declared.plan.Update.{Update}
 use Rattle.event_queue.specs.Arranged.{Ascends, with_process, with_update, update_before, update_at}

@@ -1,7 +1,7 @@
 -- The next turn of what is held, by the tests of one time.
 use Rattle.std.proofs.Common.{◌≡◌, ℕ, ◌<◌, ◌≤◌, Bool, true, false, not, ◌||◌, List, [], ◌∷◌, map, filter, Option, Some, None, refl, sym, ◌∙◌, ap, arith, cond, subst, ⊎_elim}
 use Rattle.std.proofs.lemmas.Bool.{eq-eqb, ne_eqb, or_parts, or_left, or_right, le-leb, lt-leb, cases_eq}
-use Rattle.v_design.specs.Lists.{AllHold}
+use Rattle.vf_base.specs.Lists.{AllHold}
 use Rattle.v_design.specs.Assignments.{ValueUpdate}
 use Rattle.v_design.specs.States.{LaterUpdate, some_in, is_due, turn_by, TurnKind, PostponedTurn, UpdatesTurn, TimeTurn, due_time, least_of}
 use Rattle.event_queue.specs.declared.held.Holding.{Holding}

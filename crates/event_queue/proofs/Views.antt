@@ -3,7 +3,7 @@ use Rattle.std.proofs.Common.{◌≡◌, ℕ, zero, suc, ◌<◌, Bool, true, fa
 use Rattle.std.specs.List.{slice_set}
 use Rattle.std.proofs.lemmas.Bool.Decides.{nat_tests}
 use Rattle.std.specs.BTreeMap.{is_at as is_at_key}
-use Rattle.v_design.specs.Lists.{change_at}
+use Rattle.vf_base.specs.Lists.{change_at}
 use Rattle.event_queue.specs.Queues.{HeldProcess}
 use Rattle.event_queue.specs.declared.held.Held.{Held}
 use Rattle.event_queue.specs.Arranged.{held_by_process, changed_each}

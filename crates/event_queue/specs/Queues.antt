@@ -1,6 +1,6 @@
 -- What a queue of turns holds of each process, and the next turn (IEEE 1364-2001, clauses 5.3 and 5.4: inactive, nonblocking and future events).
 use Rattle.std.specs.Prelude.{◌≡◌, ℕ, zero, suc, ◌+◌, ◌<◌, ◌≤◌, Bool, true, false, not, List, [], ◌∷◌, ◌++◌, map, filter, Option, Some, None, nat_le, slice_get}
-use Rattle.v_design.specs.Lists.{AllHold}
+use Rattle.vf_base.specs.Lists.{AllHold}
 use Rattle.v_design.specs.Assignments.{ValueUpdate}
 use Rattle.v_design.specs.Processes as process
 use Rattle.v_design.specs.Processes.{Activity}

@@ -1,7 +1,7 @@
 -- What a queue holds of a state's processes has the state's next turn (IEEE 1364-2001, clauses 5.3 and 5.4).
 use Rattle.std.specs.Prelude.{◌≡◌, ℕ, zero, suc, ◌+◌, Bool, true, false, not, ◌||◌, List, [], ◌∷◌, ◌++◌, map, filter, Option, Some, None, refl, slice_get, nat_le, if◌then◌else◌}
 use Rattle.std.proofs.Common.{ap, sym, ◌∙◌}
-use Rattle.v_design.specs.Lists.{change_at}
+use Rattle.vf_base.specs.Lists.{change_at}
 use Rattle.v_design.specs.Assignments.{ValueUpdate}
 use Rattle.v_design.specs.Processes as process
 use Rattle.v_design.specs.Processes.{Activity}

@@ -1,7 +1,7 @@
 // Changes of what is held by process.
 
 ghost use Rattle.std.specs.Prelude.{◌≡◌, ◌<◌, length, map, List, OnOk};
-ghost use Rattle.v_design.specs.Lists.{AllHold, change_at};
+ghost use Rattle.vf_base.specs.Lists.{AllHold, change_at};
 ghost use Rattle.vf_base.specs.Base.{process_number};
 ghost use Rattle.vf_base.specs.declared.ids.ProcId.{ProcId};
 ghost use Rattle.v_design.specs.declared.plan.Update.{Update};

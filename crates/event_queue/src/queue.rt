@@ -3,7 +3,7 @@
 ghost use Rattle.std.specs.Prelude.{◌≡◌, ◌<◌, ◌↔◌, length, map, OnOk, OnErr, IfOk, IsNone, Some};
 ghost use Rattle.std.specs.Option.{option_map};
 ghost use Rattle.vf_base.specs.Base.{process_number};
-ghost use Rattle.v_design.specs.Lists.{AllHold, change_at};
+ghost use Rattle.vf_base.specs.Lists.{AllHold, change_at};
 ghost use Rattle.v_design.specs.Plain.{update_of};
 ghost use Rattle.v_design.specs.States.{some_in, is_due};
 ghost use Rattle.event_queue.specs.Queues.{HeldProcess, is_postponed, repeated, nothing_held, held_at, with_holding, with_later, ComesAfter, HoldsNothing, next_time, next_region, released, held_after};

@@ -1,7 +1,7 @@
 -- What an expression needs of the values that it is evaluated over (IEEE 1364-2001, clause 4.2).
 use Rattle.std.specs.Prelude.{◌≡◌, ◌<◌, List, [], length, Option, Some, None}
 use Rattle.four_value.specs.Values.{LogicValue}
-use Rattle.v_design.specs.Lists.{AllHold}
+use Rattle.vf_base.specs.Lists.{AllHold}
 use Rattle.v_design.specs.Trees.{Piece}
 use Rattle.v_design.specs.Assignments.{value_at}
 

@@ -6,7 +6,7 @@ use Rattle.four_value.specs.Values.{LogicValue}
 use Rattle.four_value.specs.Operators.{NeedsEqualWidths}
 use Rattle.four_value.specs.declared.operator.BinaryOperator.{BinaryOperator}
 use Rattle.four_value.specs.declared.operator.BinaryOperator.TheVariants.{Multiply, Divide, Remainder, Add, Subtract, ShiftLeft, ShiftRight, ArithmeticShiftLeft, ArithmeticShiftRight, Less, LessEqual, Greater, GreaterEqual, Equal, NotEqual, CaseEqual, CaseNotEqual, BitwiseAnd, BitwiseXor, BitwiseXnor, BitwiseOr, LogicalAnd, LogicalOr}
-use Rattle.v_design.specs.Lists.{AllHold}
+use Rattle.vf_base.specs.Lists.{AllHold}
 use Rattle.v_design.specs.Trees.{Memory, Expression}
 use Rattle.v_design.specs.declared.tree.FlatExpr.{FlatExpr}
 use Rattle.v_design.specs.Plain.{expression_of, expressions_of}

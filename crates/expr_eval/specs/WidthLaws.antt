@@ -8,7 +8,7 @@ use Rattle.std.proofs.lemmas.List.Sums.{sum_by-take-le}
 use Rattle.std.proofs.lemmas.List.Sums.{sum_by-cons}
 use Rattle.four_value.specs.Values.{LogicValue, resized, fill_bit, bit_at, natural_number, truth_of, chosen_value}
 use Rattle.four_value.specs.Operators.{unary_value, binary_value}
-use Rattle.v_design.specs.Lists.{AllHold}
+use Rattle.vf_base.specs.Lists.{AllHold}
 use Rattle.v_design.specs.Trees.{Piece, Expression, Constant, Name, BitSelect, PartSelect, WordSelect, Unary, Binary, Conditional, Concatenation, Replication, Expressions, no_expressions, more_expressions}
 use Rattle.v_design.specs.Expressions.{width_of, sign_of, value_of, parts_value, vector_value, repeated, bit_at_place, place_of_number, part_places, object_value, word_at}
 use Rattle.v_design.specs.Sized.{AreSizedAlone, own_width, own_width_of_parts, pieces_width}

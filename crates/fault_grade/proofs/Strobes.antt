@@ -4,7 +4,7 @@ use Rattle.std.specs.Prelude.{Option, Some, None, length, map}
 use Rattle.four_value.specs.declared.logic.Bit.{Bit}
 use Rattle.four_value.specs.Values.{LogicValue}
 use Rattle.vf_base.specs.Base.{WatchedBit}
-use Rattle.v_design.specs.Lists.{AllHold}
+use Rattle.vf_base.specs.Lists.{AllHold}
 use Rattle.v_design.specs.Designs.{FlatDesign, FlatObject, Machine, TestPlan, width_in, good_machine}
 use Rattle.v_design.specs.States.{start}
 use Rattle.v_design.specs.Runs.{first_run}

@@ -3,7 +3,7 @@
 ghost use Rattle.std.specs.Prelude.{◌≡◌, ◌≤◌, ◌^◌, ℕ, List, [], length, Some, IfOk};
 ghost use Rattle.v_design.specs.Designs.{FlatDesign, TestPlan, StuckAt};
 ghost use Rattle.v_design.specs.Grades.{Judged, grade};
-ghost use Rattle.v_design.specs.Lists.{AllHold};
+ghost use Rattle.vf_base.specs.Lists.{AllHold};
 ghost use Rattle.v_design.specs.Plain.{fault_of, grade_of};
 ghost use Rattle.strobe_detect.specs.Verdicts.{verdict_view};
 ghost use Rattle.grade_laws.specs.Grading.{IsGoodRun, StopsWithin, good_stop};

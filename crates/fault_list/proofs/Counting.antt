@@ -4,7 +4,7 @@ use Rattle.std.specs.Prelude.{nat_eq, slice_get, sum_by}
 use Rattle.std.proofs.lemmas.Bool.{or_cases, or_left, or_right, eqb-true, eq-eqb, false≢true}
 use Rattle.std.proofs.lemmas.List.{length-map, take_more, map_push}
 use Rattle.std.proofs.lemmas.List.Sums.{sum_by-cons, sum_by-append}
-use Rattle.v_design.specs.Lists.{joined, map_numbered, has, without_repeats, fresh_only, AllHold}
+use Rattle.vf_base.specs.Lists.{joined, map_numbered, has, without_repeats, fresh_only, AllHold}
 use Rattle.v_design.specs.Expressions.{up_from}
 use Rattle.v_design.specs.Paths.{net_pieces}
 use Rattle.v_design.specs.Designs.{FlatNode, FlatDesign, FaultSite, OutputBit, StuckAt, width_in}

@@ -1,7 +1,7 @@
 -- The first node that drives an object.
 use Rattle.std.proofs.Common.{◌≡◌, ℕ, ◌+◌, ◌<◌, ◌≤◌, Bool, true, false, ◌||◌, List, length, Option, Some, None, refl, ap, sym, ◌∙◌, arith, get_or, drop, map}
 use Rattle.std.specs.Prelude.{nat_eq}
-use Rattle.v_design.specs.Lists.{has, first_place, earlier_place}
+use Rattle.vf_base.specs.Lists.{has, first_place, earlier_place}
 use Rattle.vf_base.specs.Base.{object_number}
 use Rattle.vf_base.specs.declared.ids.ObjectId.{ObjectId}
 use Rattle.fault_list.proofs.Finding.{drop-here, drop-all}

@@ -1,7 +1,7 @@
 -- Lists that grow at their end, as a loop makes them.
 use Rattle.std.proofs.Common.{subst, take_all, ◌≡◌, ℕ, zero, suc, ◌+◌, ◌<◌, ◌≤◌, false, true, List, [], ◌∷◌, ◌++◌, length, get_or, take, map, refl, ap, sym, ◌∙◌, arith, append_assoc, append-nil}
 use Rattle.std.proofs.lemmas.List.{take_more, map_push, length-map, length-take-le, get_or-map}
-use Rattle.v_design.specs.Lists.{joined, map_numbered}
+use Rattle.vf_base.specs.Lists.{joined, map_numbered}
 use Rattle.v_design.specs.Expressions.{up_from}
 use Rattle.v_design.specs.Designs.{FaultSite, StuckAt, FlatObject}
 use Rattle.v_design.specs.Sites.{expressions_count}

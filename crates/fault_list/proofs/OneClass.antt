@@ -8,7 +8,7 @@ use Rattle.four_value.specs.declared.logic.Bit.{Bit}
 use Rattle.four_value.specs.declared.logic.Bit.TheVariants.{Zero, One, X, Z}
 use Rattle.four_value.specs.declared.operator.GateKind.{GateKind}
 use Rattle.four_value.specs.declared.operator.GateKind.TheVariants.{And, Nand, Or, Nor, Xor, Xnor, Buf, Not}
-use Rattle.v_design.specs.Lists.{has, map_numbered, zip_with}
+use Rattle.vf_base.specs.Lists.{has, map_numbered, zip_with}
 use Rattle.v_design.specs.Trees.{Expressions, no_expressions, more_expressions}
 use Rattle.v_design.specs.Expressions.{value_of}
 use Rattle.v_design.specs.Designs.{width_in, forced_output, FlatNode, FlatNodeKind, AssignNode, GateNode, BlockNode, FlatDesign, StuckAt, FaultSite, VariableBit, OutputBit, GateTerminal, TestPlan, faulty_machine, stuck_if, forced_if}

@@ -6,7 +6,7 @@ use Rattle.std.proofs.lemmas.Option.{slice_get_read, slice_get-map}
 use Rattle.v_design.specs.declared.plan.Node.{Node}
 use Rattle.v_design.specs.Plain.{node_of}
 use Rattle.std.proofs.lemmas.Bool.{or_cases, or_left, or_right, eqb-true, eq-eqb, false≢true}
-use Rattle.v_design.specs.Lists.{has, AllHold}
+use Rattle.vf_base.specs.Lists.{has, AllHold}
 use Rattle.v_design.specs.Designs.{FlatObject, FlatNode, FlatDesign}
 use Rattle.v_design.specs.Paths.{numbers_of, net_pieces}
 use Rattle.v_design.specs.WellFormed.{IsAscending, IsNodeOf, KeepsRules}

@@ -4,7 +4,7 @@ use Rattle.std.specs.Prelude.{slice_get, nat_le}
 use Rattle.four_value.specs.Values.{LogicValue}
 use Rattle.four_value.specs.declared.logic.Bit.{Bit}
 use Rattle.vf_base.specs.Base.{WatchedBit, ReportedPair}
-use Rattle.v_design.specs.Lists.{last_place, later_place}
+use Rattle.vf_base.specs.Lists.{last_place, later_place}
 use Rattle.v_design.specs.Designs.{FlatNode, FlatDesign, StuckAt, TestPlan, Machine, good_machine, faulty_machine}
 use Rattle.v_design.specs.States.{State, Event, Step, LaneStep, Evaluation, NetUpdate, TurnKind, start, after, turn_of, process_at, is_ready}
 use Rattle.v_design.specs.Runs.{Move, Happens, Turns, FirstSlot, slot_move, less_one_if, is_counted, made, all_made, slot_moves, first_moves, slot_end, is_hyper, next_slot, next_slot_at, first_slots, first_run, most_moves, most_steps}

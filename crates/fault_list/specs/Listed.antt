@@ -1,6 +1,6 @@
 -- Faults that the code lists, and those of some sites, each at 0 and then at 1 (nothing of the language).
 use Rattle.std.specs.Prelude.{ℕ, ◌<◌, false, true, List, [], ◌∷◌, map, Option, Some, None}
-use Rattle.v_design.specs.Lists.{joined}
+use Rattle.vf_base.specs.Lists.{joined}
 use Rattle.v_design.specs.Designs.{FlatDesign, FaultSite, OutputBit, StuckAt, width_in}
 use Rattle.v_design.specs.Expressions.{up_from}
 use Rattle.v_design.specs.Plain.{fault_of}

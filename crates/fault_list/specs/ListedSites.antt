@@ -6,7 +6,7 @@ use Rattle.std.specs.Option.{option_and_then, option_map}
 use Rattle.std.specs.Str.{bytes_eq}
 use Rattle.std.proofs.lemmas.Bool.{or_cases, or_left, or_right, eqb-true, eq-eqb, false≢true}
 use borrow.Author.Tests.{ltb-true}
-use Rattle.v_design.specs.Lists.{joined, map_numbered, has}
+use Rattle.vf_base.specs.Lists.{joined, map_numbered, has}
 use Rattle.v_design.specs.Expressions.{up_from}
 use Rattle.v_design.specs.Paths.{is_net, net_pieces}
 use Rattle.v_design.specs.Designs.{FlatObject, NameJoined, FlatNode, FlatDesign, FaultSite, VariableBit, OutputBit, GateTerminal, width_in}

@@ -3,7 +3,7 @@ use Rattle.std.proofs.Common.{◌≡◌, ℕ, zero, suc, ◌+◌, ◌<◌, ◌�
 use Rattle.std.specs.Prelude.{slice_get, nat_eq}
 use Rattle.std.specs.List.{Contains}
 use Rattle.std.proofs.lemmas.Bool.{or_cases, or_left, or_right, eqb-true, eq-eqb, false≢true}
-use Rattle.v_design.specs.Lists.{joined, map_numbered, has, first_place, earlier_place, AllHold}
+use Rattle.vf_base.specs.Lists.{joined, map_numbered, has, first_place, earlier_place, AllHold}
 use Rattle.v_design.specs.Expressions.{up_from}
 use Rattle.v_design.specs.Paths.{numbers_of}
 use Rattle.v_design.specs.Designs.{FlatObject, FlatNode}

@@ -4,7 +4,7 @@ use Rattle.std.specs.Option.{option_and_then}
 use Rattle.std.specs.Str.{bytes_eq}
 use Rattle.vf_base.specs.Base.{object_number}
 use Rattle.vf_base.specs.declared.ids.ObjectId.{ObjectId}
-use Rattle.v_design.specs.Lists.{has, first_place}
+use Rattle.vf_base.specs.Lists.{has, first_place}
 use Rattle.v_design.specs.Trees.{Piece}
 use Rattle.v_design.specs.Expressions.{up_from}
 use Rattle.v_design.specs.Sized.{span}

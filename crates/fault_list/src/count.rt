@@ -2,7 +2,7 @@
 
 ghost use Rattle.std.specs.Prelude.{◌≡◌, ◌<◌, ◌-◌, ◌^◌, ℕ, length, map, min, sum_by};
 ghost use Rattle.vf_base.specs.Base.{object_number};
-ghost use Rattle.v_design.specs.Lists.{joined, map_numbered};
+ghost use Rattle.vf_base.specs.Lists.{joined, map_numbered};
 ghost use Rattle.v_design.specs.Designs.{width_in};
 ghost use Rattle.v_design.specs.Plain.{object_of, node_of, node_kind_of};
 ghost use Rattle.v_design.specs.PlainDesigns.{design_of};

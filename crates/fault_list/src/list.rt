@@ -2,7 +2,7 @@
 
 ghost use Rattle.std.specs.Prelude.{◌≡◌, ℕ, ◌+◌, ◌<◌, ◌≤◌, ◌^◌, ◌++◌, ◌∷◌, [], map, filter, length, IsTrue, OnOk, IfOk};
 ghost use Rattle.vf_base.specs.Base.{object_number, node_number};
-ghost use Rattle.v_design.specs.Lists.{joined, map_numbered, has, AllHold};
+ghost use Rattle.vf_base.specs.Lists.{joined, map_numbered, has, AllHold};
 ghost use Rattle.v_design.specs.Designs.{FlatDesign, VariableBit, OutputBit, GateTerminal, width_in};
 ghost use Rattle.v_design.specs.Plain.{site_of, object_of, node_of, node_kind_of};
 ghost use Rattle.v_design.specs.PlainDesigns.{design_of};

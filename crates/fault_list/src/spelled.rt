@@ -5,7 +5,7 @@ ghost use Rattle.std.specs.Str.{bytes_eq};
 ghost use Rattle.vf_base.specs.Base.{object_number, node_number};
 ghost use Rattle.v_design.specs.Expressions.{up_from};
 ghost use Rattle.v_design.specs.Sized.{span};
-ghost use Rattle.v_design.specs.Lists.{has, first_place};
+ghost use Rattle.vf_base.specs.Lists.{has, first_place};
 ghost use Rattle.v_design.specs.Plain.{site_of, object_of, node_of, node_kind_of, name_joined, piece_of};
 ghost use Rattle.v_design.specs.PlainDesigns.{design_of};
 ghost use Rattle.v_design.specs.Sites.{index_of_bit, index_text, terminal_count, sites_of};

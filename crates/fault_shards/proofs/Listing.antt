@@ -16,7 +16,7 @@ use Rattle.v_design.specs.Laws.{ClassesAgree}
 use Rattle.v_design.specs.Plain.{grade_of}
 use Rattle.v_design.specs.WellFormed.{KeepsRules}
 use Rattle.order_laws.specs.Reports.{AreGrades}
-use Rattle.grade_report.specs.Findings.{grades_of, AreInOrder}
+use Rattle.v_design.specs.Findings.{grades_of, AreInOrder}
 use Rattle.fault_list.specs.Classes.{AreClasses}
 use Rattle.fault_shards.specs.Found.{IsFinding, AreFound, found_faults, IsFoundEnd, HasEnds}
 use Rattle.fault_shards.proofs.Representing.{place-represents}

@@ -24,7 +24,7 @@ impl Shards {
     ghost use Rattle.v_design.specs.Designs.{FlatDesign, TestPlan};
     ghost use Rattle.v_design.specs.WellFormed.{KeepsRules};
     ghost use Rattle.order_laws.specs.Reports.{AreGrades};
-    ghost use Rattle.grade_report.specs.Findings.{grades_of, AreInOrder};
+    ghost use Rattle.v_design.specs.Findings.{grades_of, AreInOrder};
     ghost use Rattle.fault_shards.specs.Cuts.{shard, shard_count};
     ghost use Rattle.fault_shards.specs.Shards.{representatives_of, fault_count, AreShardsOf};
     ghost use Rattle.fault_shards.specs.Found.{AreFound, HasEnds};

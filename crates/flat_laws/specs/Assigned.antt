@@ -3,7 +3,7 @@ use Rattle.std.proofs.Common.{◌≡◌, ℕ, zero, suc, ◌+◌, ◌≤◌, max
 use Rattle.std.specs.Prelude.{flat_map}
 use Rattle.std.proofs.lemmas.List.{length-map}
 use Rattle.vf_base.specs.Base.{SourcePlace}
-use Rattle.v_design.specs.Lists.{AllHold}
+use Rattle.vf_base.specs.Lists.{AllHold}
 use Rattle.v_design.specs.Sized.{span, most_bits}
 use Rattle.v_design.specs.Expressions.{up_from, place_of, place_of_number, part_indexes}
 use Rattle.v_tree.specs.Trees.{Identifier, SourceIndex, NoIndex, IndexAt, IndexRange, SourceSelect, SourceTarget, OneSelect, JoinedSelects, selects_of}

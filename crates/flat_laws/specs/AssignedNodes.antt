@@ -4,7 +4,7 @@ use Rattle.std.specs.Prelude.{nat_eq, slice_get}
 use Rattle.std.specs.List.{AllZip}
 use Rattle.std.proofs.lemmas.Bool.{cases_Bool, eqb-true}
 use Rattle.vf_base.specs.Base.{SourcePlace}
-use Rattle.v_design.specs.Lists.{AllHold, map_numbered, joined}
+use Rattle.vf_base.specs.Lists.{AllHold, map_numbered, joined}
 use Rattle.v_design.specs.Expressions.{width_of}
 use Rattle.v_design.specs.Sized.{IsSized}
 use Rattle.v_design.specs.Designs.{FlatObject, FlatNodeKind, AssignNode, GateNode, BlockNode, FlatNode, FlatDesign, width_in}

@@ -3,7 +3,7 @@ use Rattle.std.proofs.Common.{◌≡◌, ℕ, zero, suc, ◌+◌, Bool, true, fa
 use Rattle.std.specs.Prelude.{◌||◌, not, nat_eq, slice_get, filter, flat_map}
 use Rattle.std.specs.List.{list_all, list_any}
 use Rattle.std.proofs.lemmas.Bool.{cases_Bool, or_cases, or_left, or_right, eqb-true, cond-true, cond-false}
-use Rattle.v_design.specs.Lists.{map_numbered, joined}
+use Rattle.vf_base.specs.Lists.{map_numbered, joined}
 use Rattle.v_tree.specs.Trees.{Identifier, NamedPlace, same_name, has_name}
 use Rattle.v_names.specs.Scopes.{looked_up, is_reg}
 use Rattle.v_names.specs.SizedLaws.{and-left, and-right}

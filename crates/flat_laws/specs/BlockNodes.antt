@@ -1,7 +1,7 @@
 -- Each node of a flat design names what is there, and its inputs are what it reads (IEEE 1364-2001, clause 6.1, clause 7 and clause 9.7.5).
 use Rattle.std.proofs.Common.{◌≡◌, ℕ, ◌+◌, List, [], ◌∷◌, Some, Ok, refl, sym, ap, ◌∙◌, subst, inl, inr, ◌⊎◌, arith}
 use Rattle.std.specs.Prelude.{IsTrue, slice_get}
-use Rattle.v_design.specs.Lists.{has, AllHold}
+use Rattle.vf_base.specs.Lists.{has, AllHold}
 use Rattle.v_design.specs.Designs.{FlatNodeKind, AssignNode, GateNode, BlockNode, FlatNode, FlatDesign}
 use Rattle.v_design.specs.Reads.{node_reads, named_by_node}
 use Rattle.v_design.specs.WellFormed.{have_widths}

@@ -3,7 +3,7 @@ use Rattle.std.proofs.Common.{◌≡◌, ℕ, zero, suc, ◌+◌, ◌-◌, ◌<�
 use Rattle.std.specs.Prelude.{◌||◌, nat_eq, slice_get, filter, option_and_then}
 use Rattle.std.proofs.lemmas.Bool.{or_cases, or_left, or_right, eq-eqb, eqb-true}
 use Rattle.std.proofs.lemmas.List.{map-append}
-use Rattle.v_design.specs.Lists.{has, map_numbered, joined}
+use Rattle.vf_base.specs.Lists.{has, map_numbered, joined}
 use Rattle.v_design.specs.Trees.{Piece}
 use Rattle.v_design.specs.Sized.{span}
 use Rattle.v_design.specs.Expressions.{up_from, piece_objects}

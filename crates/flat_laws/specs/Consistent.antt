@@ -2,7 +2,7 @@
 -- of its design are sized and write what they may (IEEE 1364-2001, clause 7.1; clause 12.5 for names).
 use Rattle.std.proofs.Common.{◌≡◌, ℕ, ◌≤◌, List, length, Some, Ok}
 use Rattle.std.specs.Prelude.{slice_get}
-use Rattle.v_design.specs.Lists.{AllHold}
+use Rattle.vf_base.specs.Lists.{AllHold}
 use Rattle.v_design.specs.CombinationalForm.{WritesOutputs}
 use Rattle.v_design.specs.Designs.{FlatNodeKind, AssignNode, GateNode, BlockNode, FlatNode, FlatDesign, width_in}
 use Rattle.v_design.specs.Sized.{most_bits}

@@ -5,7 +5,7 @@ use Rattle.std.specs.List.Sorted.{IsPermutation}
 use Rattle.std.proofs.lemmas.Bool.{cases_Bool, or_cases, or_left, or_right, eq-eqb, eqb-true}
 use Rattle.std.proofs.lemmas.List.{map-append}
 use Rattle.std.proofs.lemmas.List.Sorted.{sum_by-IsPermutation}
-use Rattle.v_design.specs.Lists.{has, map_numbered, joined, without_repeats, AllHold}
+use Rattle.vf_base.specs.Lists.{has, map_numbered, joined, without_repeats, AllHold}
 use Rattle.v_design.specs.Designs.{FlatObject, FlatNode, FlatDesign}
 use Rattle.v_design.specs.Paths.{is_net, numbers_of, net_pieces, one_if}
 use Rattle.v_design.specs.WellFormed.{IsAscending}

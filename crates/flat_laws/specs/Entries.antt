@@ -7,7 +7,7 @@ use Rattle.std.proofs.lemmas.Bool.Decides.{leb_tells}
 use Rattle.vf_base.specs.Base.{SourcePlace}
 use Rattle.four_value.specs.declared.logic.Edge.{Edge}
 use Rattle.four_value.specs.declared.logic.Edge.TheVariants.{Any, Pos, Neg}
-use Rattle.v_design.specs.Lists.{AllHold}
+use Rattle.vf_base.specs.Lists.{AllHold}
 use Rattle.v_design.specs.Trees.{Piece, Entry}
 use Rattle.v_design.specs.Expressions.{up_from, down_from, place_of, part_indexes, part_places}
 use Rattle.v_design.specs.Sized.{most_bits, IsSizedEntry}

@@ -5,7 +5,7 @@ use Rattle.std.specs.List.{list_all}
 use Rattle.std.proofs.lemmas.Bool.{cases_Bool, or_cases, or_left, or_right, eq-eqb, cond-true, cond-false}
 use Rattle.std.proofs.lemmas.List.{map-append, append_assoc}
 use Rattle.vf_base.specs.Base.{SourcePlace}
-use Rattle.v_design.specs.Lists.{has, AllHold}
+use Rattle.vf_base.specs.Lists.{has, AllHold}
 use Rattle.v_design.specs.Trees.{Piece, Target, WholeTarget, BitTarget, PartTarget, WordTarget}
 use Rattle.v_design.specs.Expressions.{memory_pieces, pieces_read, parts_read, piece_objects, objects_of, parts_objects}
 use Rattle.v_design.specs.Reads.{targets_objects, index_objects, indexes_objects, written_objects, all_written, items_written, labels_read, named_in, named_in_parts}

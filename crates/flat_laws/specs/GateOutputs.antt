@@ -5,7 +5,7 @@ use Rattle.std.proofs.lemmas.List.{length-map}
 use Rattle.std.proofs.lemmas.List.Sums.{sum_by-cons}
 use Rattle.std.proofs.lemmas.Option.{get_or_from_slice_get}
 use Rattle.four_value.specs.declared.operator.GateKind.{GateKind}
-use Rattle.v_design.specs.Lists.{AllHold, map_numbered, joined}
+use Rattle.vf_base.specs.Lists.{AllHold, map_numbered, joined}
 use Rattle.v_design.specs.Designs.{FlatObject, FlatNodeKind, AssignNode, GateNode, BlockNode, FlatNode, FlatDesign, width_in}
 use Rattle.v_design.specs.WellFormed.{IsSizedObject}
 use Rattle.v_tree.specs.declared.item.Direction.{Direction}

@@ -4,7 +4,7 @@ use Rattle.std.specs.Prelude.{slice_get, flat_map, sum_by}
 use Rattle.std.proofs.lemmas.Bool.{cases_Bool}
 use Rattle.std.proofs.lemmas.List.{length-map}
 use Rattle.std.proofs.lemmas.List.Sums.{sum_by-cons, sum_by-append}
-use Rattle.v_design.specs.Lists.{map_numbered, joined, AllHold}
+use Rattle.vf_base.specs.Lists.{map_numbered, joined, AllHold}
 use Rattle.v_design.specs.Trees.{Piece, Memory}
 use Rattle.v_design.specs.Expressions.{up_from}
 use Rattle.v_design.specs.Sized.{span, pieces_width, HasItsBits, HasItsWords}

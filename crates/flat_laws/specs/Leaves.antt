@@ -2,7 +2,7 @@
 use Rattle.std.proofs.Common.{◌≡◌, ℕ, ◌*◌, Bool, true, false, ◌&&◌, List, [], ◌++◌, length, Option, Some, None, nat_le, refl}
 use Rattle.std.specs.List.{list_all}
 use Rattle.vf_base.specs.Base.{SourcePlace}
-use Rattle.v_design.specs.Lists.{AllHold}
+use Rattle.vf_base.specs.Lists.{AllHold}
 use Rattle.v_design.specs.Trees.{Piece}
 use Rattle.v_design.specs.Sized.{span, most_bits, UnarySizing, OperandWithWhole, OperandAlone, unary_sizing, BinarySizing, BothWithWhole, LeftWithWhole, BothTogether, EachAlone, binary_sizing}
 use Rattle.v_design.specs.Expressions.{memory_pieces}

@@ -2,7 +2,7 @@
 use Rattle.std.proofs.Common.{◌≡◌, ℕ, suc, ◌+◌, ◌≤◌, max, Bool, true, false, List, [], ◌∷◌, Option, Some, None, Ok, refl, sym, ap, ◌∙◌, subst, arith}
 use Rattle.std.specs.Prelude.{slice_get, filter, flat_map}
 use Rattle.four_value.specs.declared.operator.GateKind.{GateKind}
-use Rattle.v_design.specs.Lists.{AllHold, map_numbered, joined}
+use Rattle.vf_base.specs.Lists.{AllHold, map_numbered, joined}
 use Rattle.v_design.specs.Sized.{levels_of, levels_of_parts, levels_of_statement}
 use Rattle.v_design.specs.Designs.{FlatNode, FlatProcess, FlatDesign}
 use Rattle.v_design.specs.WellFormed.{most_levels, levels_of_node}

@@ -1,6 +1,6 @@
 -- In a hierarchy whose scopes are declared among its parts the processes are sized, and wait for bits that are there (IEEE 1364-2001, clause 9; clause 12.5 for scopes).
 use Rattle.std.proofs.Common.{◌≡◌, ◌≤◌, List, [], ◌∷◌, ◌++◌, map, Option, Some, None, refl, sym, ap, ◌∙◌, subst}
-use Rattle.v_design.specs.Lists.{AllHold}
+use Rattle.vf_base.specs.Lists.{AllHold}
 use Rattle.v_design.specs.Sized.{most_bits, IsSizedEntry, IsSizedStatement}
 use Rattle.v_design.specs.Designs.{FlatObject, FlatProcess, FlatDesign}
 use Rattle.v_design.specs.Reads.{entries_in, entries_in_all, entries_in_items}

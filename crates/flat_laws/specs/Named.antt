@@ -4,7 +4,7 @@ use Rattle.std.specs.Prelude.{◌||◌, IsTrue, nat_eq, slice_get, flat_map, fil
 use Rattle.std.specs.List.{list_all}
 use Rattle.std.proofs.lemmas.Bool.{or_cases, or_left, or_right, eq-eqb, eqb-true, cond-true, cond-false}
 use Rattle.std.proofs.lemmas.Option.{slice_get_within}
-use Rattle.v_design.specs.Lists.{has, map_numbered, joined}
+use Rattle.vf_base.specs.Lists.{has, map_numbered, joined}
 use Rattle.v_design.specs.Trees.{Piece, Vector, Expression, Constant, Name, BitSelect, PartSelect, WordSelect, Unary, Binary, Conditional, Concatenation, Replication, Expressions, no_expressions, more_expressions}
 use Rattle.v_design.specs.Expressions.{is_constant, up_from, whole_slices, some_place_within, slices_at, slice_piece, slice_pieces, no_values, bit_slices, index_number, part_places, place_of_number, memory_pieces, pieces_read, parts_read, piece_objects}
 use Rattle.v_design.specs.Designs.{FlatObject, FlatNodeKind, AssignNode, GateNode, BlockNode, FlatDesign}

@@ -3,7 +3,7 @@ use Rattle.std.proofs.Common.{◌≡◌, ℕ, zero, suc, ◌+◌, ◌<◌, ◌�
 use Rattle.std.specs.Prelude.{nat_eq, slice_get, filter, flat_map, sum_by}
 use Rattle.std.proofs.lemmas.Bool.{cases_Bool, or_cases, or_left, or_right, eq-eqb, eqb-true, cond-true, cond-false}
 use Rattle.std.proofs.lemmas.List.Sums.{sum_by-cons}
-use Rattle.v_design.specs.Lists.{has, map_numbered, without_repeats, fresh_only, AllHold}
+use Rattle.vf_base.specs.Lists.{has, map_numbered, without_repeats, fresh_only, AllHold}
 use Rattle.v_design.specs.Expressions.{up_from}
 use Rattle.v_design.specs.WellFormed.{IsAscending}
 use Rattle.graph_order.specs.ListLaws.{AllHold-has, sum_by-none}

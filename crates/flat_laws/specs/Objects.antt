@@ -7,7 +7,7 @@ use Rattle.std.proofs.lemmas.Bool.Decides.{leb_tells}
 use Rattle.std.proofs.lemmas.List.{length-replicate}
 use Rattle.four_value.specs.Values.{LogicValue}
 use Rattle.four_value.specs.declared.logic.Bit.TheVariants.{X, Z}
-use Rattle.v_design.specs.Lists.{map_numbered, joined, AllHold}
+use Rattle.vf_base.specs.Lists.{map_numbered, joined, AllHold}
 use Rattle.v_design.specs.Expressions.{up_from}
 use Rattle.v_design.specs.Sized.{span, most_bits}
 use Rattle.v_design.specs.Designs.{FlatDesign}

@@ -3,7 +3,7 @@ use Rattle.std.proofs.Common.{◌≡◌, ℕ, zero, suc, Bool, true, false, List
 use Rattle.std.specs.Prelude.{◌||◌, nat_eq, nat_lt, slice_get, filter, flat_map}
 use Rattle.std.proofs.lemmas.Bool.{eq-eqb}
 use Rattle.vf_base.specs.Base.{SourcePlace}
-use Rattle.v_design.specs.Lists.{AllHold}
+use Rattle.vf_base.specs.Lists.{AllHold}
 use Rattle.v_design.specs.Sized.{span, most_bits}
 use Rattle.v_tree.specs.Trees.{Identifier, SourceExpression, NamedPlace, SourceParameter, SourceGate, SourceInstance, SourceItem, ParameterItem, PortItem, WireItem, RegItem, IntegerItem, AssignItem, GateItem, InstanceItem, InitialItem, AlwaysItem, SourceModule, same_name}
 use Rattle.v_names.specs.Faults.{same_place}

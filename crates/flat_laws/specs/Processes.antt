@@ -3,7 +3,7 @@ use Rattle.std.proofs.Common.{◌≡◌, ℕ, ◌+◌, ◌<◌, Bool, true, fals
 use Rattle.std.proofs.lemmas.List.{length-map}
 use Rattle.std.specs.Prelude.{slice_get, filter, flat_map, IsTrue}
 use Rattle.four_value.specs.declared.operator.GateKind.{GateKind}
-use Rattle.v_design.specs.Lists.{has, AllHold, map_numbered, joined}
+use Rattle.vf_base.specs.Lists.{has, AllHold, map_numbered, joined}
 use Rattle.v_design.specs.Sized.{IsSizedStatement}
 use Rattle.v_design.specs.Designs.{FlatNode, FlatProcess, FlatDesign}
 use Rattle.v_design.specs.Reads.{node_reads, named_by_node}

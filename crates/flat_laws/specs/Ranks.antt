@@ -8,10 +8,11 @@ use Rattle.std.proofs.lemmas.Bool.{cases_Bool, cases_lt, cases_eq, both_ways, or
 use Rattle.std.proofs.lemmas.List.Sorted.{IsPermutation-sym, length_permutation}
 use Rattle.std.proofs.lemmas.Map.Steps.{length-le_from_distinct_below}
 use Rattle.std.proofs.lemmas.Option.{slice_get_within}
-use Rattle.v_design.specs.Lists.{has, AllHold}
+use Rattle.vf_base.specs.Lists.{has, AllHold}
 use Rattle.v_design.specs.Expressions.{up_from}
 use Rattle.v_design.specs.Designs.{FlatNode, FlatDesign}
-use Rattle.v_design.specs.WellFormed.{greatest, feeds, rank_within, AreBelow, AreByRank}
+use Rattle.v_design.specs.WellFormed.{feeds, rank_within, AreBelow, AreByRank}
+use Rattle.vf_base.specs.Lists.{greatest}
 use Rattle.graph_order.specs.Greatest.{greatest-le, le-greatest}
 use Rattle.graph_order.specs.ListLaws.{AllHold-slice_get, AllHold-has, has-append}
 use Rattle.net_graph.specs.Loops.{IsStep, IsPath}

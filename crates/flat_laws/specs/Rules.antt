@@ -2,7 +2,7 @@
 -- (IEEE 1364-2001, clauses 6, 7 and 9 for nodes and processes, clause 12 for the hierarchy).
 use Rattle.std.proofs.Common.{◌≡◌, ℕ, ◌<◌, ◌≤◌, false, List, [], length, Some, Ok, sym, subst}
 use Rattle.std.specs.Prelude.{IsTrue, slice_get}
-use Rattle.v_design.specs.Lists.{has, without_repeats, AllHold}
+use Rattle.vf_base.specs.Lists.{has, without_repeats, AllHold}
 use Rattle.v_design.specs.Designs.{FlatNode, FlatProcess, FlatDesign}
 use Rattle.v_design.specs.Paths.{net_pieces}
 use Rattle.v_design.specs.Sized.{levels_of_statement, most_bits}

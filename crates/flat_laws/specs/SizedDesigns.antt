@@ -1,7 +1,7 @@
 -- Where names differ and joined ports have one width, a flat design has its sizes: those of its objects and joined names, and throughout each node and process
 -- (IEEE 1364-2001, clause 3.3 for objects, clause 4.4 for expressions, clauses 6, 7 and 9 for nodes and processes).
 use Rattle.std.proofs.Common.{◌≡◌, ℕ, ◌<◌, ◌^◌, List, Ok, ap, subst, arith}
-use Rattle.v_design.specs.Lists.{AllHold}
+use Rattle.vf_base.specs.Lists.{AllHold}
 use Rattle.v_design.specs.Designs.{FlatNodeKind, AssignNode, GateNode, BlockNode, FlatNode, FlatDesign}
 use Rattle.v_design.specs.CombinationalForm.{WritesOutputs}
 use Rattle.v_design.specs.Sites.{terminal_count}

@@ -3,7 +3,7 @@ use Rattle.std.proofs.Common.{◌≡◌, ℕ, ◌+◌, ◌<◌, ◌^◌, max, Bo
 use Rattle.std.specs.Prelude.{not, nat_eq, flat_map}
 use Rattle.std.proofs.lemmas.Bool.{eqb-true}
 use Rattle.vf_base.specs.Base.{SourcePlace}
-use Rattle.v_design.specs.Lists.{AllHold, map_numbered, joined}
+use Rattle.vf_base.specs.Lists.{AllHold, map_numbered, joined}
 use Rattle.v_design.specs.Expressions.{width_of}
 use Rattle.v_design.specs.Sized.{IsSizedAlone, IsSizedStatement}
 use Rattle.v_design.specs.Sites.{expressions_count}

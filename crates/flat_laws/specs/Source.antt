@@ -1,7 +1,8 @@
 -- What each unit keeps that is read from a text: its items hold no more levels than a text may have, braces hold something, and gates have the inputs of their kinds, fewer
 -- than a text may have bytes (IEEE 1364-2001, annex A for what is spelled, clause 7 for gates; that a text has few levels is own).
 use Rattle.std.specs.Prelude.{◌≡◌, ℕ, ◌<◌, ◌≤◌, ◌^◌, List, Option, Some, None, length, slice_get}
-use Rattle.v_design.specs.Lists.{AllHold}
+use Rattle.vf_base.specs.Lists.{AllHold}
+use Rattle.vf_base.specs.declared.limits.TheConstants.{MAX_LEVELS_BELOW}
 use Rattle.v_design.specs.WellFormed.{TerminalsFit}
 use Rattle.v_tree.specs.Trees.{SourceExpression, Concatenated, no_parts, SourceWire, SourceAssignment, SourceGate, SourceConnection, SourceInstance, SourceItem, ParameterItem, PortItem, WireItem, RegItem, IntegerItem, AssignItem, GateItem, InstanceItem, InitialItem, AlwaysItem, SourceModule}
 use Rattle.v_expr.specs.Heights.{height_of}
@@ -11,7 +12,7 @@ use Rattle.flat_laws.specs.Walks.{IsOf}
 
 -- the most levels below the outermost one
 abbrev pub most_height : ℕ
-most_height = 255
+most_height = MAX_LEVELS_BELOW
 
 abbrev pub IsLowIfThere : Option SourceExpression → Type 0
 IsLowIfThere None = Unit {0}

@@ -4,7 +4,7 @@ use Rattle.std.specs.Prelude.{◌||◌, option_map}
 use Rattle.std.proofs.lemmas.Bool.{leb-true, ltb-false}
 use Rattle.vf_base.specs.Base.{SourcePlace}
 use Rattle.four_value.specs.Values.{number_of}
-use Rattle.v_design.specs.Lists.{AllHold}
+use Rattle.vf_base.specs.Lists.{AllHold}
 use Rattle.v_design.specs.Expressions.{width_of, sign_of}
 use Rattle.v_design.specs.Assignments.{targets_width}
 use Rattle.v_design.specs.Sized.{most_bits, own_width, IsSized, IsSizedTarget, IsSizedAssignment, greatest_own, greatest_label, AreLabels, IsDelay, IsDelayIf, IsSizedStatement, AreSizedStatements, AreSizedItems}

@@ -3,7 +3,7 @@ use Rattle.std.proofs.Common.{◌≡◌, ℕ, zero, suc, ◌+◌, Bool, true, fa
 use Rattle.std.specs.Prelude.{nat_eq, slice_get, filter, sum_by}
 use Rattle.std.proofs.lemmas.Bool.{cases_Bool, or_cases, eq-eqb, eqb-true}
 use Rattle.std.proofs.lemmas.List.Sums.{sum_by-cons}
-use Rattle.v_design.specs.Lists.{has, AllHold}
+use Rattle.vf_base.specs.Lists.{has, AllHold}
 use Rattle.v_design.specs.Trees.{Piece, Vector}
 use Rattle.v_design.specs.Sized.{pieces_width}
 use Rattle.v_design.specs.Designs.{FlatObject, FlatDesign}

@@ -5,7 +5,7 @@ use Rattle.std.specs.List.{list_all}
 use Rattle.std.proofs.lemmas.Bool.{cases_Bool, eq-eqb}
 use Rattle.std.proofs.lemmas.Option.{slice_get_cases}
 use Rattle.vf_base.specs.Base.{SourcePlace}
-use Rattle.v_design.specs.Lists.{has, without_repeats, fresh_only, AllHold}
+use Rattle.vf_base.specs.Lists.{has, without_repeats, fresh_only, AllHold}
 use Rattle.v_design.specs.Trees.{Piece, Expression, Constant, Name, BitSelect, PartSelect, WordSelect, Unary, Binary, Conditional, Concatenation, Replication, Expressions, no_expressions, more_expressions}
 use Rattle.v_design.specs.Expressions.{is_constant, no_values, bit_slices, index_number, slices_at, slice_pieces, part_places, memory_pieces, piece_objects}
 use Rattle.v_design.specs.Reads.{named_in, named_in_parts}

@@ -1,6 +1,6 @@
 -- What the processes and blocks of a flat design name and write (IEEE 1364-2001, clause 9.2 and clause 9.7.5).
 use Rattle.std.proofs.Common.{◌≡◌, ℕ, ◌≤◌, List, length, Ok}
-use Rattle.v_design.specs.Lists.{AllHold}
+use Rattle.vf_base.specs.Lists.{AllHold}
 use Rattle.v_design.specs.Designs.{FlatNodeKind, AssignNode, GateNode, BlockNode, FlatNode, FlatDesign, width_in}
 use Rattle.v_design.specs.CombinationalForm.{WritesOutputs}
 use Rattle.v_tree.specs.Trees.{Identifier, SourceUnit}

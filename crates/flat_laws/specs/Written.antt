@@ -1,7 +1,7 @@
 -- A process of a flat design names what is there and writes variables and words alone (IEEE 1364-2001, clause 9.2).
 use Rattle.std.proofs.Common.{◌≡◌, ℕ, true, false, List, ◌++◌, Option, Some, None, Ok, refl, sym, ap, ◌∙◌, subst}
 use Rattle.std.specs.Prelude.{IsTrue, slice_get}
-use Rattle.v_design.specs.Lists.{has, AllHold}
+use Rattle.vf_base.specs.Lists.{has, AllHold}
 use Rattle.v_design.specs.Designs.{FlatProcess, FlatDesign}
 use Rattle.v_design.specs.Paths.{net_pieces}
 use Rattle.v_design.specs.Reads.{named_by, written_objects}

@@ -20,10 +20,7 @@ use net_graph::{RankFault, ranks};
 use std::alloc::Global;
 use thiserror::Error;
 use v_design::{Node, Object};
-use vf_base::{NoMemory, ObjectId, Place};
-
-/// The most inputs of a node.
-const MOST_INPUTS: usize = 4096;
+use vf_base::{MAX_INPUTS, NoMemory, ObjectId, Place};
 
 /// Why nodes make no design: one has more than 4096 inputs; an object reaches itself through nodes, the declaration of the least such object is told;
 /// or want of memory.
@@ -53,7 +50,7 @@ fn some_crowded(nodes: &[Node]) -> bool
     ensures { some_inputs_over (map node_of nodes.now) ≡ too_many_if result Inputs most_inputs }
 {
     'nodes: for node in nodes {
-        if node.inputs.as_slice().len() > MOST_INPUTS {
+        if node.inputs.as_slice().len() as u64 > MAX_INPUTS {
             return true;
         }
     }

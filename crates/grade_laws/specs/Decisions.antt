@@ -2,7 +2,7 @@
 use Rattle.std.proofs.Common.{◌≡◌, ℕ, ◌<◌, ◌≤◌, List, [], ◌∷◌, ◌++◌, Bool, true, false, ◌&&◌, refl, sym, ap, subst, ◌∙◌, arith}
 use Rattle.std.specs.Prelude.{Option, Some, None, nat_le, find, cond}
 use Rattle.std.proofs.lemmas.Bool.{le-leb, lt-leb}
-use Rattle.v_design.specs.Lists.{AllHold}
+use Rattle.vf_base.specs.Lists.{AllHold}
 use Rattle.v_design.specs.Grades.{Verdict, Detected, verdict_by, FaultGrade, Judged, Stop, stop_time, by_then, good_ending, faulty_ending, good_or, faulty_or, graded_faulty, graded}
 use Rattle.grade_laws.specs.Ahead.{StopsAfter}
 

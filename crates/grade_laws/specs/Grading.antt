@@ -3,7 +3,7 @@ use Rattle.std.proofs.Common.{◌≡◌, ℕ, ◌<◌, ◌≤◌, List, [], ◌�
 use Rattle.std.specs.Prelude.{Option, Some, None, map, find}
 use Rattle.four_value.specs.declared.logic.Bit.{Bit}
 use Rattle.four_value.specs.Values.{LogicValue}
-use Rattle.v_design.specs.Lists.{AllHold}
+use Rattle.vf_base.specs.Lists.{AllHold}
 use Rattle.v_design.specs.Designs.{FlatDesign, Machine, StuckAt, TestPlan, good_machine, faulty_machine}
 use Rattle.v_design.specs.Runs.{first_run}
 use Rattle.v_design.specs.Grades.{Samples, samples, is_hard, is_possible, some_sample, first_strobe, Detected, verdict, verdict_by, first_samples, FaultGrade, Judged, Stop, first_stop, by_then, good_ending, faulty_ending, graded, grade, Sample}

@@ -1,6 +1,6 @@
 -- Strobes in order (the plan's own times; nothing of the language).
 use Rattle.std.proofs.Common.{ℕ, ◌<◌, ◌≤◌, List, [], ◌∷◌, ◌++◌, arith}
-use Rattle.v_design.specs.Lists.{AllHold}
+use Rattle.vf_base.specs.Lists.{AllHold}
 use Rattle.v_design.specs.WellFormed.{IsAscending}
 
 -- the strobes after one are later

@@ -2,14 +2,14 @@
 use Rattle.std.proofs.Common.{◌≡◌, ℕ, zero, suc, ◌+◌, ◌<◌, ◌≤◌, List, [], ◌∷◌, ◌++◌, length, get_or, take, map, refl, ap, sym, ◌∙◌, subst, arith, append_assoc, append-nil, take_all}
 use Rattle.std.proofs.lemmas.List.{take_more, map_push, length-map, length-take-le}
 use Rattle.vf_base.specs.declared.finding.Finding.{Finding}
-use Rattle.v_design.specs.Lists.{joined, zip_with}
+use Rattle.vf_base.specs.Lists.{joined, zip_with}
 use Rattle.v_design.specs.Expressions.{up_from}
 use Rattle.v_design.specs.Designs.{FlatDesign, StuckAt}
 use Rattle.v_design.specs.Grades.{FaultGrade}
 use Rattle.v_design.specs.Plain.{fault_of, grade_of}
 use Rattle.v_design.specs.declared.plan.Fault.{Fault}
 use Rattle.grade_report.specs.Report.{fault_line, fault_lines}
-use Rattle.grade_report.specs.Findings.{grades_of, AreInOrder}
+use Rattle.v_design.specs.Findings.{grades_of, AreInOrder}
 
 lines-push : {A B C : Type 0} (f : A → B → List C) (xs : List A) (ys : List B) (x : A) (y : B) → length xs ≡ length ys →
     joined (zip_with f (xs ++ x ∷ []) (ys ++ y ∷ [])) ≡ joined (zip_with f xs ys) ++ f x y

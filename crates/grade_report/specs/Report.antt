@@ -6,7 +6,7 @@ use Rattle.vf_base.specs.declared.finding.Side.{Side}
 use Rattle.vf_base.specs.declared.finding.Side.TheVariants.{Good, Faulty}
 use Rattle.vf_base.specs.declared.finding.AccessKind.{AccessKind}
 use Rattle.vf_base.specs.declared.finding.AccessKind.TheVariants.{Read, Write, Await, Ended, Held, Settle}
-use Rattle.v_design.specs.Lists.{joined, zip_with}
+use Rattle.vf_base.specs.Lists.{joined, zip_with}
 use Rattle.v_design.specs.Designs.{FlatDesign, StuckAt}
 use Rattle.v_design.specs.Sites.{site_name}
 use Rattle.v_design.specs.Grades.{Verdict, Detected, Possible, Undetected, FaultGrade, Judged, Raced, Looped}

@@ -3,7 +3,7 @@
 ghost use Rattle.std.specs.Prelude.{◌≡◌};
 ghost use Rattle.v_design.specs.Plain.{grade_of};
 ghost use Rattle.grade_report.specs.Report.{is_detected, is_possible, is_undetected, is_race, is_hyper};
-ghost use Rattle.grade_report.specs.Findings.{count_ended};
+ghost use Rattle.v_design.specs.Findings.{count_ended};
 
 use vf_base::{End, Finding};
 

@@ -3,7 +3,7 @@
 ghost use Rattle.std.specs.Prelude.{◌≡◌, ◌++◌, length, IfOk, OnOk};
 ghost use Rattle.v_design.specs.PlainDesigns.{design_of, plan_of};
 ghost use Rattle.grade_report.specs.Report.{total_line, report_text};
-ghost use Rattle.grade_report.specs.Findings.{grades_of, AreInOrder};
+ghost use Rattle.v_design.specs.Findings.{grades_of, AreInOrder};
 
 use crate::count::{count_detected, count_hyper, count_possible, count_race, count_undetected};
 use crate::line::{append_count, write_line};

@@ -1,6 +1,6 @@
 // A report on one variable of one bit.
 
-ghost use Rattle.grade_report.specs.Findings.{AreInOrder};
+ghost use Rattle.v_design.specs.Findings.{AreInOrder};
 
 use super::*;
 use four_value::{Bit, Vec4};

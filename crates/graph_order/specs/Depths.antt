@@ -3,8 +3,8 @@ use Rattle.std.proofs.Common.{◌≡◌, ℕ, ◌+◌, ◌<◌, ◌≤◌, true,
 use Rattle.std.specs.Prelude.{nat_lt}
 use Rattle.std.proofs.lemmas.Bool.{cases_eq}
 use Rattle.std.proofs.lemmas.List.{get_or-set_same, get_or-set_other, length-set, take_more, take_all, take-take, get_or-take, length-take-le}
-use Rattle.v_design.specs.Lists.{has}
-use Rattle.v_design.specs.WellFormed.{greatest}
+use Rattle.vf_base.specs.Lists.{has}
+use Rattle.vf_base.specs.Lists.{greatest}
 use Rattle.graph_order.specs.ListLaws.{has-take, has_place, has_push}
 use Rattle.graph_order.specs.Digraphs.{needs_of, IsInOrder, step_to, depth_over, AreDepths}
 use Rattle.graph_order.specs.Greatest.{greatest-le, map-has, map-agree_has}

@@ -1,8 +1,8 @@
 -- Directed graphs as lists: for each vertex, by its number, those that it needs (nothing of the language).
 use Rattle.std.specs.Prelude.{◌≡◌, ℕ, ◌+◌, ◌<◌, Bool, true, false, List, [], ◌∷◌, map, length, get_or, take, Vec, nat_lt, Option, Some, None}
 use Rattle.std.specs.declared.alloc.Global.{Global}
-use Rattle.v_design.specs.Lists.{has}
-use Rattle.v_design.specs.WellFormed.{greatest}
+use Rattle.vf_base.specs.Lists.{has}
+use Rattle.vf_base.specs.Lists.{greatest}
 
 -- lists of numbers
 abbrev pub lists_of : List (Vec ℕ Global) → List (List ℕ)

@@ -2,8 +2,8 @@
 use Rattle.std.proofs.Common.{◌≡◌, ℕ, ◌≤◌, max, true, List, [], ◌∷◌, ◌++◌, refl, ap, ◌∙◌, inl, inr, arith, map}
 use Rattle.std.specs.Prelude.{nat_eq, fold}
 use Rattle.std.proofs.lemmas.Bool.{or_cases, or_left, or_right, eqb-true, eq-eqb}
-use Rattle.v_design.specs.Lists.{has}
-use Rattle.v_design.specs.WellFormed.{greatest}
+use Rattle.vf_base.specs.Lists.{has}
+use Rattle.vf_base.specs.Lists.{greatest}
 
 pub fold-push : {A B : Type 0} (f : B → A → B) (a : B) (xs : List A) (x : A) → fold f a (xs ++ x ∷ []) ≡ f (fold f a xs) x
 fold-push f a [] x = refl

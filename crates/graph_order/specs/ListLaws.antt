@@ -4,7 +4,7 @@ use Rattle.std.specs.Prelude.{Some, slice_get, nat_eq, ◌||◌, sum_by, ◌⊎�
 use Rattle.std.proofs.lemmas.List.Sums.{sum_by-cons}
 use Rattle.std.proofs.lemmas.Bool.{or_cases, or_right, or_left, eqb-true, eq-eqb, ne_eqb}
 use Rattle.std.proofs.lemmas.List.{take_more}
-use Rattle.v_design.specs.Lists.{has, without_repeats, fresh_only, AllHold}
+use Rattle.vf_base.specs.Lists.{has, without_repeats, fresh_only, AllHold}
 
 -- a fact of each element holds of one that stands in the list
 pub AllHold-slice_get : {A : Type 0} (P : A → Type 0) (xs : List A) (i : ℕ) (x : A) → AllHold P xs → slice_get xs i ≡ Some x → P x

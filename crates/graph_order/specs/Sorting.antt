@@ -5,7 +5,7 @@ use Rattle.std.specs.declared.alloc.Global.{Global}
 use Rattle.std.proofs.lemmas.Bool.{cases_eq, cases_lt, both_ways, eq-eqb, ne_eqb, eqb-true, or_cases, and_from, and_parts, not-true, leb-true, le-leb, false_from_ne_true}
 use Rattle.std.proofs.lemmas.List.{get_or-set_same, get_or-set_other, length-set, length_push, get_or_append_left, get_or_push, take-append-le, take_all, take_more, get_or-replicate, length-replicate, get_or-map, length-map, map-set, drop_more}
 use Rattle.std.proofs.lemmas.List.Sums.{sum_by-set, sum_by-cons}
-use Rattle.v_design.specs.Lists.{has}
+use Rattle.vf_base.specs.Lists.{has}
 use Rattle.graph_order.specs.ListLaws.{has-append, or-false, has-get_or, has_place, has-take, has_push, has_before, now_has, still_has}
 use Rattle.graph_order.specs.Digraphs.{lists_of, needs_of, NeedVertices, IsInOrder, Places, IsOrder}
 

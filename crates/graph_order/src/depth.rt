@@ -1,7 +1,7 @@
 // How many steps lead to each vertex.
 
 ghost use Rattle.std.specs.Prelude.{◌≡◌, ℕ, ◌+◌, ◌<◌, ◌≤◌, ◌^◌, true, false, map, length, get_or, IfOk, vec_len};
-ghost use Rattle.v_design.specs.WellFormed.{greatest};
+ghost use Rattle.vf_base.specs.Lists.{greatest};
 ghost use Rattle.graph_order.specs.Digraphs.{lists_of, NeedVertices, IsOrder, AreDepths, step_to};
 
 use crate::order::Order;

@@ -1,7 +1,7 @@
 // Putting each vertex after those that it needs.
 
 ghost use Rattle.std.specs.Prelude.{◌≡◌, ℕ, ◌+◌, ◌<◌, ◌≤◌, Bool, true, false, List, [], length, get_or, replicate, nat_le, IfOk, OnOk, vec_len};
-ghost use Rattle.v_design.specs.Lists.{has};
+ghost use Rattle.vf_base.specs.Lists.{has};
 ghost use Rattle.graph_order.specs.Digraphs.{lists_of, NeedVertices, IsOrder};
 ghost use Rattle.graph_order.specs.Sorting.{IsSorting, AllWait, VerticesWait, one_less};
 

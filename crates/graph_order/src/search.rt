@@ -1,7 +1,7 @@
 // Looking for a loop.
 
 ghost use Rattle.std.specs.Prelude.{◌≡◌, ℕ, ◌+◌, ◌<◌, ◌≤◌, List, [], ◌∷◌, ◌++◌, true, false, length, get_or, IfOk, OnOk, vec_len};
-ghost use Rattle.v_design.specs.Lists.{has};
+ghost use Rattle.vf_base.specs.Lists.{has};
 ghost use Rattle.graph_order.specs.Digraphs.{lists_of, needs_of, NeedVertices, IsOrder, IsOnLoop, IsLeastOnLoop};
 ghost use Rattle.graph_order.specs.Searching.{IsSearch, AddsNeeds};
 

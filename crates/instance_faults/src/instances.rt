@@ -16,10 +16,7 @@ use name_faults::FirstFault;
 use std::alloc::Global;
 use v_names::{Found, Reason};
 use v_tree::{Connection, Instance};
-use vf_base::NoMemory;
-
-/// The greatest depth of an instance; the top stands at 0.
-pub const MOST_DEPTH: u32 = 64;
+use vf_base::{MAX_DEPTH, NoMemory};
 
 /// Notes what is wrong with an instance at a depth: where it stands too deep, that alone, at its name.
 fn note_instance<'m>(
@@ -31,7 +28,7 @@ fn note_instance<'m>(
 ) -> Result<(), NoMemory>
     ensures { OnOk result ((c : plain.Child) → IsChild c child.entry → first.new ≡ noted first.old (instance_faults c depth (instance_of instance.now))) }
 {
-    if depth > MOST_DEPTH {
+    if depth > MAX_DEPTH {
         first.note(Found {
             place: instance.place,
             reason: Reason::TooDeep,

@@ -17,6 +17,6 @@ mod offers;
 pub use actuals::Child;
 pub use given::given_parameters;
 pub use heads::not_port_fault;
-pub use instances::{MOST_DEPTH, instance_fault};
+pub use instances::instance_fault;
 pub use name_lists::Names;
 pub use offers::Formals;

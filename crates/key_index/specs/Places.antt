@@ -3,7 +3,7 @@ use Rattle.std.specs.Prelude.{ℕ, ◌+◌, List, map, drop, Option, Some, None}
 use Rattle.std.specs.Borrow.{Bor}
 use Rattle.std.specs.HashMap.{HashMap, get_by}
 use Rattle.std.specs.Str.{bytes_eq}
-use Rattle.v_design.specs.Lists.{first_place}
+use Rattle.vf_base.specs.Lists.{first_place}
 
 -- keys as bytes
 abbrev pub keys_of : List (Bor (List ℕ)) → List (List ℕ)

@@ -3,7 +3,7 @@ use Rattle.std.proofs.Common.{◌≡◌, ℕ, zero, suc, ◌+◌, ◌-◌, ◌<�
 use Rattle.std.specs.Str.{bytes_eq}
 use Rattle.std.proofs.lemmas.List.{get_or-drop, drop-map, length-drop}
 use Rattle.std.proofs.lemmas.Slice.Eq.{bytes_eq-Decides}
-use Rattle.v_design.specs.Lists.{first_place, earlier_place}
+use Rattle.vf_base.specs.Lists.{first_place, earlier_place}
 use Rattle.key_index.specs.Places.{later, key_from}
 
 -- Places of keys

@@ -2,7 +2,7 @@
 use Rattle.std.proofs.Common.{◌≡◌, ℕ, zero, suc, ◌+◌, ◌<◌, List, [], ◌∷◌, length, map, Bool, true, false, refl, sym, ap, subst, ◌∙◌, arith}
 use Rattle.std.specs.Prelude.{Option, Some, None, slice_get}
 use Rattle.std.proofs.lemmas.List.{length-map}
-use Rattle.v_design.specs.Lists.{first_place, earlier_place, zip_with}
+use Rattle.vf_base.specs.Lists.{first_place, earlier_place, zip_with}
 use Rattle.v_design.specs.States.{ProcessState, found_or}
 use Rattle.event_queue.specs.Queues.{HeldProcess}
 use Rattle.process_table.specs.declared.table.ProcessTable.{ProcessTable}

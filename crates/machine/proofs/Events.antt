@@ -9,7 +9,7 @@ use Rattle.v_design.specs.PlainDesigns.{design_of}
 use Rattle.v_design.specs.WellFormed.{KeepsRules}
 use Rattle.v_design.specs.Designs.{FlatDesign, FlatNode, Machine}
 use Rattle.v_design.specs.States.{State, ProcessState, Event, Step, LaneStep, Evaluation, found_or, idle_process, process_at, is_ready, is_any, first_update, after_lane_step}
-use Rattle.v_design.specs.Lists.{change_at}
+use Rattle.vf_base.specs.Lists.{change_at}
 use Rattle.v_design.specs.Assignments.{ValueUpdate}
 use Rattle.v_design.specs.Runs.{most_steps, work_of}
 use Rattle.causal_monitor.specs.Notes.{noted_access}

@@ -7,7 +7,7 @@ use Rattle.vf_base.specs.Base.{object_number, process_number, node_number}
 use Rattle.vf_base.specs.declared.ids.ObjectId.{ObjectId}
 use Rattle.four_value.specs.Values.{LogicValue, same_value}
 use Rattle.v_design.specs.PlainDesigns.{design_of}
-use Rattle.v_design.specs.Lists.{has, AllHold, joined, map_numbered}
+use Rattle.vf_base.specs.Lists.{has, AllHold, joined, map_numbered}
 use Rattle.v_design.specs.WellFormed.{KeepsRules}
 use Rattle.v_design.specs.Designs.{FlatDesign, FlatNode, Machine}
 use Rattle.v_design.specs.Assignments.{value_at}

@@ -3,7 +3,7 @@ use Rattle.std.proofs.Common.{◌≡◌, ℕ, ◌+◌, ◌<◌, ◌≤◌, ◌^�
 use Rattle.std.specs.Prelude.{Option, Some, None}
 use Rattle.four_value.specs.Values.{LogicValue}
 use Rattle.v_design.specs.PlainDesigns.{design_of}
-use Rattle.v_design.specs.Lists.{first_place, earlier_place, joined, map_numbered}
+use Rattle.vf_base.specs.Lists.{first_place, earlier_place, joined, map_numbered}
 use Rattle.v_design.specs.Designs.{FlatDesign, Machine}
 use Rattle.v_design.specs.States.{State, ProcessState, NodeState, TurnKind, PostponedTurn, UpdatesTurn, TimeTurn, turn_of, turned, has_event, some_in, is_ready, is_any}
 use Rattle.v_design.specs.Runs.{Turns, most_steps, turn_in_slot, turned_by}

@@ -4,7 +4,7 @@ use Rattle.std.specs.List.{All}
 use Rattle.vf_base.specs.Base.{object_number, process_number, node_number}
 use Rattle.v_design.specs.PlainDesigns.{design_of}
 use Rattle.v_design.specs.Designs.{FlatDesign, Machine}
-use Rattle.v_design.specs.Lists.{AllHold}
+use Rattle.vf_base.specs.Lists.{AllHold}
 use Rattle.v_design.specs.Assignments.{ValueUpdate}
 use Rattle.v_design.specs.States.{State, Event, after, written}
 use Rattle.v_design.specs.Runs.{most_steps}

@@ -4,7 +4,7 @@ use Rattle.std.specs.Option.{option_map}
 use Rattle.vf_base.specs.Base.{reported_pair}
 use Rattle.vf_base.specs.declared.finding.Pair.{Pair}
 use Rattle.v_design.specs.Grades.{SlotOutcome, Hyper, race_or_fine}
-use Rattle.v_design.specs.Lists.{joined, map_numbered}
+use Rattle.vf_base.specs.Lists.{joined, map_numbered}
 use Rattle.v_design.specs.Designs.{Machine}
 use Rattle.v_design.specs.States.{State, TurnKind, PostponedTurn, UpdatesTurn, TimeTurn, turn_of}
 use Rattle.v_design.specs.Runs.{Turns, most_steps, turn_in_slot}

@@ -3,7 +3,7 @@ use Rattle.std.proofs.Common.{◌≡◌, ℕ, zero, suc, ◌+◌, ◌<◌, List,
 use Rattle.std.specs.Prelude.{nat_eq, slice_get}
 use Rattle.std.proofs.lemmas.Bool.{ne_eqb, eq-eqb}
 use Rattle.four_value.specs.Values.{LogicValue}
-use Rattle.v_design.specs.Lists.{has, joined, map_numbered, change_at}
+use Rattle.vf_base.specs.Lists.{has, joined, map_numbered, change_at}
 use Rattle.v_design.specs.Trees.{Entry}
 use Rattle.v_design.specs.Processes.{Activity}
 use Rattle.v_design.specs.States.{ProcessState, found_or, idle_process, some_entry, entry_matches}

@@ -4,7 +4,7 @@ use Rattle.std.specs.Prelude.{nat_eq, slice_get}
 use Rattle.std.proofs.lemmas.Bool.{cases_eq, ne_eqb, eq-eqb}
 use Rattle.four_value.specs.Values.{LogicValue, same_value}
 use Rattle.four_value.specs.ValueLaws.{same_value-refl}
-use Rattle.v_design.specs.Lists.{has, joined, map_numbered, change_at}
+use Rattle.vf_base.specs.Lists.{has, joined, map_numbered, change_at}
 use Rattle.v_design.specs.Designs.{Machine}
 use Rattle.v_design.specs.Assignments.{ValueUpdate, value_at}
 use Rattle.v_design.specs.States.{State, ProcessState, found_or, idle_process, process_at, written, value_written, is_ready, some_entry}

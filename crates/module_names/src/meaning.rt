@@ -15,16 +15,13 @@ use name_faults::{BitRange, Bounds, bound_number, context_width, range_of, width
 use std::alloc::Global;
 use v_names::{Constant, Entry, Scope, constant_of, is_waiting};
 use v_tree::Expr;
-use vf_base::NoMemory;
-
-/// The most of a bound that is kept.
-const MOST_KEPT: u128 = 4_294_967_295;
+use vf_base::{MAX_KEPT_BOUND, NoMemory};
 
 /// A bound as it is kept: one over the most, which is refused elsewhere, counts as 0.
 fn kept_bound(bound: u128) -> u32
     ensures { result ≡ kept_bound bound }
 {
-    if bound > MOST_KEPT { 0 } else { bound as u32 }
+    if bound > MAX_KEPT_BOUND { 0 } else { bound as u32 }
 }
 
 /// What a net or a variable is in a scope.

@@ -12,13 +12,7 @@ use crate::first_fault::FirstFault;
 use std::alloc::Global;
 use v_names::{ConstantPlace, Entry, Found, Reason, Scope, value_fault};
 use v_tree::{Expr, Range};
-use vf_base::{NoMemory, Place, Text};
-
-/// The most of a bound of a range or of a part.
-pub const MOST_BOUND: u32 = 65_536;
-
-/// The most of an address of a memory.
-pub const MOST_ADDRESS: u32 = 1_048_575;
+use vf_base::{MAX_ADDRESS, MAX_BOUND, NoMemory, Place, Text};
 
 /// Notes a name that must be a parameter.
 fn note_parameter(scope: &Scope<'_>, name: &Text, place: Place, first: &mut FirstFault)
@@ -71,7 +65,7 @@ pub fn note_constant_names(
             note_value(
                 alloc,
                 scope,
-                ConstantPlace::BoundUpTo(MOST_BOUND),
+                ConstantPlace::BoundUpTo(MAX_BOUND),
                 from,
                 first,
             )?;
@@ -79,7 +73,7 @@ pub fn note_constant_names(
             note_value(
                 alloc,
                 scope,
-                ConstantPlace::BoundUpTo(MOST_BOUND),
+                ConstantPlace::BoundUpTo(MAX_BOUND),
                 to,
                 first,
             )?;
@@ -242,7 +236,7 @@ pub fn note_range(
     match range {
         None => Ok(()),
         Some(range) => {
-            note_bounds(alloc, scope, MOST_BOUND, range, first)?;
+            note_bounds(alloc, scope, MAX_BOUND, range, first)?;
             Ok(())
         }
     }

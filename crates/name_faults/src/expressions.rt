@@ -9,13 +9,13 @@ ghost use Rattle.v_names.specs.Constants.{most_bound, BoundUpTo, constant_faults
 ghost use Rattle.v_names.specs.Names.{target_faults, fixed_target_faults};
 ghost use Rattle.name_faults.specs.Noted.{noted};
 
-use crate::constants::{MOST_BOUND, note_constant};
+use crate::constants::note_constant;
 use crate::first_fault::FirstFault;
 use std::alloc::Global;
 use std::slice::from_ref;
 use v_names::{ConstantPlace, Found, Reason, Scope};
 use v_tree::{Expr, Index, Select, Target};
-use vf_base::{NoMemory, Place, Text};
+use vf_base::{MAX_BOUND, NoMemory, Place, Text};
 
 /// Notes a name that must be declared.
 pub fn note_known(scope: &Scope<'_>, name: &Text, place: Place, first: &mut FirstFault)
@@ -43,14 +43,14 @@ fn note_part_bounds(
     note_constant(
         alloc,
         scope,
-        ConstantPlace::BoundUpTo(MOST_BOUND),
+        ConstantPlace::BoundUpTo(MAX_BOUND),
         from,
         first,
     )?;
     note_constant(
         alloc,
         scope,
-        ConstantPlace::BoundUpTo(MOST_BOUND),
+        ConstantPlace::BoundUpTo(MAX_BOUND),
         to,
         first,
     )?;

@@ -9,7 +9,7 @@ ghost use Rattle.name_faults.specs.Noted.{noted};
 
 use crate::bounds::bounds_of;
 use crate::constants::{
-    MOST_ADDRESS, note_bounds, note_constant, note_constant_names, note_optional_constant,
+    note_bounds, note_constant, note_constant_names, note_optional_constant,
     note_range, note_value_within,
 };
 use crate::expressions::{note_fixed_target, note_names, note_optional_names};
@@ -21,7 +21,7 @@ use v_names::{ConstantPlace, Scope};
 use v_tree::{
     Assignment, Connection, Content, Expr, Gate, Instance, Item, Param, Params, Ports, Reg, Wire,
 };
-use vf_base::NoMemory;
+use vf_base::{MAX_ADDRESS, NoMemory};
 
 /// Notes what is wrong with what stands behind the name of a variable.
 fn note_content(
@@ -39,7 +39,7 @@ fn note_content(
             Ok(())
         }
         Content::Memory(addresses) => {
-            note_bounds(alloc, scope, MOST_ADDRESS, addresses, first)?;
+            note_bounds(alloc, scope, MAX_ADDRESS, addresses, first)?;
             Ok(())
         }
     }

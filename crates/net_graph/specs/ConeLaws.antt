@@ -14,7 +14,7 @@ use Rattle.std.proofs.lemmas.List.Elements.{filter-append}
 use Rattle.std.proofs.Math.Logic.{∥∥₁_elim}
 use Rattle.std.specs.Coded.{le_prop}
 use Rattle.std.proofs.Math.Bool.{Bool-set}
-use Rattle.v_design.specs.Lists.{AllHold, has}
+use Rattle.vf_base.specs.Lists.{AllHold, has}
 use Rattle.v_design.specs.Designs.{FlatNode, FlatObject, FlatDesign}
 use Rattle.v_design.specs.Paths.{is_net, numbers_of, paths, cone}
 use Rattle.v_design.specs.WellFormed.{KeepsRules}

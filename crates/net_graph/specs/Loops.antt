@@ -1,6 +1,6 @@
 -- Which objects reach themselves through nodes, and the ranks of nodes, in any list of nodes (continuous assignments and gates of IEEE 1364-2001, clause 6 and clause 7).
 use Rattle.std.specs.Prelude.{◌≡◌, ℕ, ◌<◌, true, List, [], ◌∷◌, length, Some, slice_get}
-use Rattle.v_design.specs.Lists.{has, AllHold}
+use Rattle.vf_base.specs.Lists.{has, AllHold}
 use Rattle.v_design.specs.Designs.{FlatNode}
 use Rattle.v_design.specs.WellFormed.{rank_within}
 

@@ -6,7 +6,7 @@ use Rattle.std.proofs.lemmas.List.Sums.{sum_by_more, sum_by-take-drop}
 use Rattle.std.proofs.lemmas.List.{drop_all, drop_more}
 use Rattle.std.proofs.lemmas.Option.{slice_get_within, get_or_from_slice_get}
 use Rattle.std.proofs.lemmas.Bool.{cases_lt, cases_Bool, or_cases, or_left, or_right, and_parts, and_from, both_ways, false_from_ne_true, eqb-true, eq-eqb, ltb-true, lt-ltb}
-use Rattle.v_design.specs.Lists.{has, without_repeats}
+use Rattle.vf_base.specs.Lists.{has, without_repeats}
 use Rattle.v_design.specs.Designs.{FlatNode, FlatNodeKind, AssignNode, GateNode, BlockNode}
 use Rattle.v_design.specs.Paths.{path_weight, one_if, paths_through, paths_within}
 use Rattle.v_design.specs.WellFormed.{AreBelow}

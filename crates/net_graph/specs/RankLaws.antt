@@ -6,11 +6,12 @@ use Rattle.std.proofs.lemmas.Bool.{cases_Bool, cases_lt, both_ways, or_cases, or
 use Rattle.std.proofs.lemmas.List.{take_more, map_push}
 use Rattle.std.proofs.lemmas.Option.{slice_get_within, get_or_from_slice_get}
 use Rattle.std.proofs.lemmas.Map.Steps.{length-le_from_distinct_below}
-use Rattle.v_design.specs.Lists.{has, AllHold}
+use Rattle.vf_base.specs.Lists.{has, AllHold}
 use Rattle.v_design.specs.RulesHold.{rules_hold}
 use Rattle.net_graph.specs.RuleLaws.{inputs_are_objects, outputs_are_objects}
 use Rattle.v_design.specs.Designs.{FlatNode, FlatDesign}
-use Rattle.v_design.specs.WellFormed.{greatest, feeds, rank_within, AreBelow, KeepsRules}
+use Rattle.v_design.specs.WellFormed.{feeds, rank_within, AreBelow, KeepsRules}
+use Rattle.vf_base.specs.Lists.{greatest}
 use Rattle.graph_order.specs.Digraphs.{needs_of, step_to, depth_over, AreDepths}
 use Rattle.graph_order.specs.Greatest.{greatest-le, le-greatest, has-map, map-has}
 use Rattle.net_graph.specs.Loops.{IsPath, IsLooping, rank_in, AreAmong}

@@ -12,7 +12,7 @@ use Rattle.v_design.specs.declared.plan.Node.{Node}
 use Rattle.v_design.specs.Plain.{node_of}
 use Rattle.vf_base.specs.declared.ids.ObjectId.{ObjectId}
 use Rattle.vf_base.specs.Base.{object_number}
-use Rattle.v_design.specs.Lists.{has, without_repeats, AllHold}
+use Rattle.vf_base.specs.Lists.{has, without_repeats, AllHold}
 use Rattle.v_design.specs.Designs.{FlatObject, FlatNode, FlatDesign}
 use Rattle.v_design.specs.Paths.{is_net, numbers_of, net_pieces}
 use Rattle.v_design.specs.WellFormed.{KeepsRules, IsNodeOf}

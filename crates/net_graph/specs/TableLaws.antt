@@ -6,7 +6,7 @@ use Rattle.std.proofs.lemmas.List.{map-set, get_or-map, map_push, get_or-set_sam
 use Rattle.std.proofs.lemmas.Bool.{ne_eqb, eq-eqb, cases_eq}
 use Rattle.vf_base.specs.declared.ids.NodeId.{NodeId}
 use Rattle.vf_base.specs.Base.{node_number}
-use Rattle.v_design.specs.Lists.{has, without_repeats, fresh_only}
+use Rattle.vf_base.specs.Lists.{has, without_repeats, fresh_only}
 use Rattle.v_design.specs.Designs.{FlatNode}
 use Rattle.graph_order.specs.ListLaws.{without_repeats-push, now_has, still_has}
 use Rattle.net_graph.specs.Tables.{distinct_inputs, before_if, readers_from, node_lists}

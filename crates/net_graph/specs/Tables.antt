@@ -4,7 +4,7 @@ use Rattle.std.specs.declared.alloc.Global.{Global}
 use Rattle.vf_base.specs.declared.ids.ObjectId.{ObjectId}
 use Rattle.vf_base.specs.declared.ids.NodeId.{NodeId}
 use Rattle.vf_base.specs.Base.{object_number, node_number}
-use Rattle.v_design.specs.Lists.{has, without_repeats}
+use Rattle.vf_base.specs.Lists.{has, without_repeats}
 use Rattle.v_design.specs.Designs.{FlatNode, FlatDesign}
 use Rattle.v_design.specs.Paths.{paths}
 

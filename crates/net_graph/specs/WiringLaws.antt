@@ -7,7 +7,7 @@ use Rattle.std.proofs.lemmas.Option.{slice_get_within}
 use Rattle.std.specs.List.{All}
 use Rattle.vf_base.specs.declared.ids.ObjectId.{ObjectId}
 use Rattle.vf_base.specs.Base.{object_number}
-use Rattle.v_design.specs.Lists.{has, AllHold}
+use Rattle.vf_base.specs.Lists.{has, AllHold}
 use Rattle.v_design.specs.Designs.{FlatNode}
 use Rattle.graph_order.specs.ListLaws.{AllHold-slice_get, AllHold-has, has-append, or-false, now_has, still_has}
 use Rattle.graph_order.specs.Digraphs.{needs_of, NeedVertices, IsWalk, IsOnLoop, NoneOnLoop}

@@ -3,7 +3,7 @@
 ghost use Rattle.std.specs.Prelude.{◌≡◌, ℕ, ◌+◌, ◌<◌, ◌≤◌, ◌^◌, [], ◌∷◌, ◌++◌, map, length, IfOk, nat_eq, vec_len, get_or, slice_get, Some, replicate, slice_set};
 ghost use Rattle.std.specs.List.{All};
 ghost use Rattle.vf_base.specs.Base.{object_number, node_number};
-ghost use Rattle.v_design.specs.Lists.{has, without_repeats, fresh_only};
+ghost use Rattle.vf_base.specs.Lists.{has, without_repeats, fresh_only};
 ghost use Rattle.v_design.specs.PlainDesigns.{design_of};
 ghost use Rattle.v_design.specs.WellFormed.{rank_of};
 ghost use Rattle.net_graph.specs.Tables.{distinct_inputs, distinct_inputs_at, before_if, readers_of, object_lists, node_lists, ListReaders};

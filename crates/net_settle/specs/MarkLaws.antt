@@ -7,7 +7,7 @@ use Rattle.std.proofs.lemmas.List.{get_or-set_same, get_or-set_other, get_or_pas
 use Rattle.std.proofs.lemmas.Option.{slice_get_past}
 use Rattle.vf_base.specs.declared.ids.NodeId.{NodeId}
 use Rattle.vf_base.specs.Base.{node_number}
-use Rattle.v_design.specs.Lists.{has}
+use Rattle.vf_base.specs.Lists.{has}
 use Rattle.v_design.specs.Designs.{FlatNode, FlatDesign}
 use Rattle.graph_order.specs.ListLaws.{has-append, or-false}
 use Rattle.net_graph.specs.Tables.{before_if, readers_from, readers_of}

@@ -1,6 +1,6 @@
 -- Marked nodes: those that are still to be evaluated (continuous assignments and gates of IEEE 1364-2001, clause 6 and clause 7).
 use Rattle.std.specs.Prelude.{◌≡◌, ℕ, ◌<◌, Bool, true, false, not, ◌&&◌, ◌||◌, List, Option, Some, None, get_or, slice_get, nat_eq}
-use Rattle.v_design.specs.Lists.{has}
+use Rattle.vf_base.specs.Lists.{has}
 use Rattle.v_design.specs.Designs.{FlatNode, FlatDesign}
 
 -- whether a node is marked, no node past the last

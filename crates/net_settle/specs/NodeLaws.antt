@@ -7,7 +7,7 @@ use Rattle.vf_base.specs.Base.{object_number}
 use Rattle.vf_base.specs.declared.ids.ObjectId.{ObjectId}
 use Rattle.four_value.specs.Values.{LogicValue}
 use Rattle.four_value.specs.declared.operator.GateKind.{GateKind}
-use Rattle.v_design.specs.Lists.{AllHold, zip_with, has}
+use Rattle.vf_base.specs.Lists.{AllHold, zip_with, has}
 use Rattle.v_design.specs.Trees.{Expression, Expressions, Statement}
 use Rattle.v_design.specs.Designs.{FlatDesign, FlatNode, FlatNodeKind, AssignNode, GateNode, BlockNode, Machine, width_in, forced_output}
 use Rattle.v_design.specs.Assignments.{node_value, node_outputs}

@@ -4,7 +4,7 @@ ghost use Rattle.std.specs.Prelude.{◌≡◌, ℕ, ◌<◌, ◌≤◌, [], ◌�
 ghost use Rattle.std.specs.List.{All};
 ghost use Rattle.vf_base.specs.Base.{object_number, node_number};
 ghost use Rattle.four_value.specs.Values.{IsWidth};
-ghost use Rattle.v_design.specs.Lists.{zip_with};
+ghost use Rattle.vf_base.specs.Lists.{zip_with};
 ghost use Rattle.v_design.specs.Designs.{FlatNode, AssignNode, GateNode, BlockNode, forced_output, width_in};
 ghost use Rattle.v_design.specs.Assignments.{node_value, node_outputs};
 ghost use Rattle.v_design.specs.Plain.{expression_of, expressions_of, statement_of};

@@ -3,7 +3,7 @@
 ghost use Rattle.std.specs.Prelude.{◌≡◌, ℕ, ◌<◌, ◌≤◌, true, false, length, map, IfOk, IsTrue, ◌↔◌, MatchOption, vec_len, slice_set};
 ghost use Rattle.std.specs.List.{All};
 ghost use Rattle.vf_base.specs.Base.{object_number, node_number};
-ghost use Rattle.v_design.specs.Lists.{has};
+ghost use Rattle.vf_base.specs.Lists.{has};
 ghost use Rattle.v_design.specs.PlainDesigns.{design_of};
 ghost use Rattle.net_graph.specs.ConeLaws.{Marks};
 ghost use Rattle.net_settle.specs.Marked.{marked_at, MarksReaders, NoneMarked, IsLeastMarked, TakesLeast};

@@ -4,7 +4,7 @@ use Rattle.std.specs.Prelude.{Some, slice_get, nat_eq, filter}
 use Rattle.std.proofs.lemmas.Bool.{cases_Bool, cases_eq, eq-eqb, ne_eqb}
 use Rattle.four_value.specs.Values.{LogicValue, same_value}
 use Rattle.four_value.specs.ValueLaws.{same_value-refl}
-use Rattle.v_design.specs.Lists.{has, joined, map_numbered, AllHold}
+use Rattle.vf_base.specs.Lists.{has, joined, map_numbered, AllHold}
 use Rattle.v_design.specs.Designs.{FlatNode, FlatDesign, Machine}
 use Rattle.v_design.specs.Paths.{net_pieces}
 use Rattle.v_design.specs.Assignments.{value_at, node_outputs}

@@ -1,6 +1,6 @@
 -- Which states the values of the objects and the marks of the nodes are those of (IEEE 1364-2001, clause 5).
 use Rattle.std.specs.Prelude.{◌≡◌, ℕ, ◌<◌, Bool, true, ◌&&◌, ◌||◌, List, [], length, map, get_or, None}
-use Rattle.v_design.specs.Lists.{zip_with, has, AllHold}
+use Rattle.vf_base.specs.Lists.{zip_with, has, AllHold}
 use Rattle.four_value.specs.Values.{LogicValue}
 use Rattle.v_design.specs.Designs.{FlatNode, FlatDesign, width_in}
 use Rattle.v_design.specs.Paths.{net_pieces}

@@ -7,7 +7,7 @@ use Rattle.std.specs.Option.{option_map}
 use Rattle.std.proofs.lemmas.Bool.{cases_eq, false≢true}
 use Rattle.std.proofs.lemmas.List.{get_or-set_same, get_or-set_other, length-set, take_more, length-take-le}
 use Rattle.four_value.specs.Values.{LogicValue, same_value}
-use Rattle.v_design.specs.Lists.{has, zip_with, change_at}
+use Rattle.vf_base.specs.Lists.{has, zip_with, change_at}
 use Rattle.v_design.specs.Designs.{FlatNode, FlatDesign, Machine, width_in}
 use Rattle.v_design.specs.Assignments.{value_at, node_outputs, with_outputs}
 use Rattle.v_design.specs.States.{NodeState, State, Evaluation, NetUpdate, found_or, idle_node, node_at, marked_by, with_value, with_values, with_node, after, evaluated, nets_updated}

@@ -2,7 +2,7 @@
 use Rattle.std.specs.Prelude.{◌≡◌, ℕ, suc, ◌<◌, ◌≤◌, true, false, List, [], ◌∷◌, length, get_or, nat_lt, cond}
 use Rattle.vf_base.specs.Base.{object_number}
 use Rattle.four_value.specs.Values.{same_value}
-use Rattle.v_design.specs.Lists.{AllHold}
+use Rattle.vf_base.specs.Lists.{AllHold}
 use Rattle.value_change.specs.declared.change.Change.{Change}
 use Rattle.value_change.specs.Changes.{ObjectChange}
 

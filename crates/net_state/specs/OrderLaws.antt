@@ -6,7 +6,7 @@ use Rattle.std.proofs.lemmas.Bool.{cases_eq, ne_eqb, false≢true, lt-ltb, le-lt
 use Rattle.std.proofs.lemmas.List.{get_or-map, length-map}
 use Rattle.vf_base.specs.Base.{object_number}
 use Rattle.four_value.specs.Values.{LogicValue, same_value}
-use Rattle.v_design.specs.Lists.{has, AllHold}
+use Rattle.vf_base.specs.Lists.{has, AllHold}
 use Rattle.v_design.specs.Designs.{FlatObject, FlatDesign}
 use Rattle.v_design.specs.Paths.{is_net, numbers_of, net_pieces}
 use Rattle.v_design.specs.WellFormed.{IsAscending}

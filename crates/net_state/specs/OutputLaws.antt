@@ -9,7 +9,7 @@ use Rattle.four_value.specs.ValueLaws.{length-part_of, length-with_part}
 use Rattle.four_value.specs.declared.logic.Bit.{Bit}
 use Rattle.vf_base.specs.declared.ids.ObjectId.{ObjectId}
 use Rattle.vf_base.specs.Base.{object_number}
-use Rattle.v_design.specs.Lists.{zip_with, AllHold, has}
+use Rattle.vf_base.specs.Lists.{zip_with, AllHold, has}
 use Rattle.v_design.specs.Expressions.{value_of, width_of}
 use Rattle.v_design.specs.Designs.{FlatNode, FlatDesign, FlatNodeKind, AssignNode, GateNode, BlockNode, Machine, StuckAt, FaultSite, VariableBit, OutputBit, GateTerminal, width_in, forced_if, forced_output, forced_variable, forced_at_output, forced_at_variable}
 use Rattle.v_design.specs.Paths.{net_pieces}

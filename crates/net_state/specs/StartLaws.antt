@@ -5,7 +5,7 @@ use Rattle.std.proofs.lemmas.List.{take_more, length-take-le, get_or-map}
 use Rattle.v_design.specs.declared.plan.Object.{Object}
 use Rattle.v_design.specs.Plain.{object_of}
 use Rattle.four_value.specs.Values.{LogicValue}
-use Rattle.v_design.specs.Lists.{map_numbered, AllHold}
+use Rattle.vf_base.specs.Lists.{map_numbered, AllHold}
 use Rattle.v_design.specs.Designs.{FlatObject, FlatNode, Machine, forced_variable}
 use Rattle.v_design.specs.Assignments.{value_at, first_contents, with_outputs, node_outputs, settled_from}
 use Rattle.v_design.specs.WellFormed.{KeepsRules, IsSizedObject}

@@ -3,7 +3,7 @@ use Rattle.std.proofs.Common.{◌≡◌, ℕ, zero, suc, ◌<◌, List, [], ◌�
 use Rattle.std.specs.Prelude.{Some, slice_get}
 use Rattle.std.proofs.lemmas.List.{length-map}
 use Rattle.four_value.specs.Values.{same_value}
-use Rattle.v_design.specs.Lists.{has, joined, map_numbered}
+use Rattle.vf_base.specs.Lists.{has, joined, map_numbered}
 use Rattle.v_design.specs.Designs.{FlatNode, Machine}
 use Rattle.v_design.specs.Assignments.{value_at}
 use Rattle.v_design.specs.States.{State, Evaluation, NetUpdate, after}

@@ -4,7 +4,7 @@ ghost use Rattle.std.specs.Prelude.{◌≡◌, ◌<◌, length, map, Some, slice
 ghost use Rattle.std.specs.Option.{option_map};
 ghost use Rattle.std.specs.List.{All};
 ghost use Rattle.vf_base.specs.Base.{object_number, node_number};
-ghost use Rattle.v_design.specs.Lists.{AllHold};
+ghost use Rattle.vf_base.specs.Lists.{AllHold};
 ghost use Rattle.v_design.specs.Designs.{FlatNode};
 ghost use Rattle.v_design.specs.Assignments.{value_at, first_contents};
 ghost use Rattle.v_design.specs.States.{State, Evaluation, NetUpdate, start, written, value_written, after};

@@ -3,7 +3,7 @@
 ghost use Rattle.std.specs.Prelude.{◌≡◌, ◌<◌, false, length, map, IfOk, [], slice_set, MatchOption};
 ghost use Rattle.std.specs.List.{All};
 ghost use Rattle.vf_base.specs.Base.{object_number, node_number};
-ghost use Rattle.v_design.specs.Lists.{AllHold};
+ghost use Rattle.vf_base.specs.Lists.{AllHold};
 ghost use Rattle.v_design.specs.Designs.{Machine, width_in};
 ghost use Rattle.v_design.specs.Assignments.{value_at, with_outputs, settled_from};
 ghost use Rattle.v_design.specs.States.{State, with_value, with_values};

@@ -8,7 +8,7 @@ use Rattle.four_value.specs.declared.logic.Bit.{Bit}
 use Rattle.four_value.specs.declared.logic.Bit.TheVariants.{Zero, One, X, Z}
 use Rattle.four_value.specs.declared.operator.GateKind.{GateKind}
 use Rattle.four_value.specs.declared.operator.GateKind.TheVariants.{And, Nand, Or, Nor, Xor, Xnor, Buf, Not}
-use Rattle.v_design.specs.Lists.{map_numbered, AllHold}
+use Rattle.vf_base.specs.Lists.{map_numbered, AllHold}
 use Rattle.v_design.specs.Trees.{Expression, Expressions, no_expressions, more_expressions}
 use Rattle.v_design.specs.Designs.{StuckAt, forced_terminal}
 use Rattle.v_design.specs.Assignments.{value_at, label_values, gate_bit}

@@ -4,7 +4,7 @@ ghost use Rattle.std.specs.Prelude.{◌≡◌, ℕ, ◌<◌, ◌≤◌, map, len
 ghost use Rattle.std.specs.List.{All};
 ghost use Rattle.vf_base.specs.Base.{object_number, node_number};
 ghost use Rattle.four_value.specs.Values.{IsWidth, part_of};
-ghost use Rattle.v_design.specs.Lists.{zip_with};
+ghost use Rattle.vf_base.specs.Lists.{zip_with};
 ghost use Rattle.v_design.specs.Designs.{forced_output, width_in};
 ghost use Rattle.v_design.specs.Assignments.{object_width};
 ghost use Rattle.v_design.specs.PlainDesigns.{design_of};

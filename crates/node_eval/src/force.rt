@@ -2,7 +2,7 @@
 
 ghost use Rattle.std.specs.Prelude.{◌≡◌, ◌≤◌, map, length, take};
 ghost use Rattle.vf_base.specs.Base.{object_number, node_number};
-ghost use Rattle.v_design.specs.Lists.{zip_with};
+ghost use Rattle.vf_base.specs.Lists.{zip_with};
 ghost use Rattle.v_design.specs.Designs.{forced_output};
 ghost use Rattle.v_design.specs.Views.{machine_of};
 

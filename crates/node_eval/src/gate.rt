@@ -2,7 +2,7 @@
 
 ghost use Rattle.std.specs.Prelude.{◌≡◌, ℕ, ◌+◌, ◌<◌, ◌≤◌, ◌^◌, length};
 ghost use Rattle.vf_base.specs.Base.{node_number};
-ghost use Rattle.v_design.specs.Lists.{map_numbered};
+ghost use Rattle.vf_base.specs.Lists.{map_numbered};
 ghost use Rattle.v_design.specs.Designs.{forced_terminal};
 ghost use Rattle.v_design.specs.Assignments.{value_at, gate_bit, label_values};
 ghost use Rattle.v_design.specs.Plain.{expression_of, expressions_of};

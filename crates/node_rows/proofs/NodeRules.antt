@@ -7,7 +7,7 @@ use Rattle.std.proofs.lemmas.Bool.{eqb-true, or_cases, and_parts, false≢true}
 use Rattle.std.proofs.lemmas.Fmt.{decimal_digit}
 use Rattle.std.proofs.lemmas.Slice.Eq.{bytes_eq-Decides}
 use Rattle.four_value.specs.declared.operator.GateKind.TheVariants.{Nand, Xor}
-use Rattle.v_design.specs.Lists.{has, AllHold}
+use Rattle.vf_base.specs.Lists.{has, AllHold}
 use Rattle.v_design.specs.Designs.{FlatObject, FlatNode}
 use Rattle.v_design.specs.declared.plan.Object.{Object}
 use Rattle.v_design.specs.declared.plan.JoinedName.{JoinedName}

@@ -5,7 +5,7 @@ use Rattle.std.specs.declared.alloc.Global.{Global}
 use Rattle.std.proofs.lemmas.Bool.{eq-eqb, ne_eqb}
 use Rattle.std.proofs.lemmas.List.{map_push, map-set, get_or-map, length-map, length-take-le}
 use Rattle.v_design.specs.Expressions.{up_from}
-use Rattle.v_design.specs.Lists.{map_numbered}
+use Rattle.vf_base.specs.Lists.{map_numbered}
 use Rattle.v_elab.specs.Objects as plain
 use Rattle.v_elab.specs.Flat.{NodeOutput, output_if, output_of_object, outputs_of}
 use Rattle.wire_laws.specs.Held.{outputs-more}

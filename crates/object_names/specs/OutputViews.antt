@@ -2,7 +2,7 @@
 use Rattle.std.specs.Prelude.{ℕ, List, ◌++◌, Vec, map, Option}
 use Rattle.std.specs.declared.alloc.Global.{Global}
 use Rattle.vf_base.specs.Base.{object_number}
-use Rattle.v_design.specs.Lists.{map_numbered}
+use Rattle.vf_base.specs.Lists.{map_numbered}
 use Rattle.v_elab.specs.Flat as plain
 use Rattle.v_elab.specs.Objects.{PieceDriver}
 use Rattle.object_names.specs.declared.outputs.NodeOutput.{NodeOutput}

@@ -3,7 +3,7 @@
 ghost use Rattle.std.specs.Prelude.{◌≡◌, ℕ, IfOk, map, filter};
 ghost use Rattle.std.specs.List.Sorted.{IsNonDecreasing};
 ghost use Rattle.vf_base.specs.Base.{object_number};
-ghost use Rattle.v_design.specs.Lists.{has};
+ghost use Rattle.vf_base.specs.Lists.{has};
 ghost use Rattle.v_design.specs.Expressions.{up_from};
 
 use std::alloc::Global;

@@ -4,7 +4,7 @@ use Rattle.std.proofs.lemmas.List.{take_all, drop_more, take_more, append-nil, a
 use Rattle.four_value.specs.declared.logic.Bit.TheVariants.{X}
 use Rattle.std.proofs.Math.Seq.{take-append-add}
 use Rattle.four_value.specs.Values.{LogicValue, part_of, bit_at}
-use Rattle.v_design.specs.Lists.{joined}
+use Rattle.vf_base.specs.Lists.{joined}
 
 -- the first bits as a part
 pub part_of-first : (bits : LogicValue) (n low : ℕ) → low + n ≤ length bits → part_of bits low n ≡ take n (drop low bits)

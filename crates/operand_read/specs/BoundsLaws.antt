@@ -3,7 +3,7 @@ use Rattle.std.proofs.Common.{◌≡◌, ℕ, zero, suc, ◌+◌, ◌-◌, ◌<�
 use Rattle.std.specs.Prelude.{if◌then◌else◌, slice_get, nat_le}
 use Rattle.four_value.specs.Values.{LogicValue, natural_number}
 use Rattle.four_value.specs.declared.operator.CaseKind.{CaseKind}
-use Rattle.v_design.specs.Lists.{AllHold}
+use Rattle.vf_base.specs.Lists.{AllHold}
 use Rattle.v_design.specs.Trees.{Piece, Vector, Memory, Expression, Constant, Name, BitSelect, PartSelect, WordSelect, Unary, Binary, Conditional, Concatenation, Replication, Expressions, no_expressions, more_expressions, Target, WholeTarget, BitTarget, PartTarget, WordTarget, Statement, CaseItems, no_items, more_items}
 use Rattle.v_design.specs.Reads.{named_in, named_in_parts, named_in_target, named_in_targets, named_by_items, named_by}
 use Rattle.v_design.specs.Assignments.{read_index, read_indexes, read_assignment}

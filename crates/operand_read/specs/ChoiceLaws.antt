@@ -10,7 +10,7 @@ use Rattle.v_design.specs.declared.tree.FlatExpr.{FlatExpr}
 use Rattle.v_design.specs.declared.tree.FlatTarget.{FlatTarget}
 use Rattle.v_design.specs.declared.tree.CaseItem.{CaseItem}
 use Rattle.v_design.specs.Trees.{Statement, CaseItems, Target, WholeTarget, BitTarget, PartTarget, WordTarget}
-use Rattle.v_design.specs.Lists.{AllHold}
+use Rattle.vf_base.specs.Lists.{AllHold}
 use Rattle.v_design.specs.Plain.{expression_of, expressions_of, statement_of, target_of}
 use Rattle.v_design.specs.PlainLemmas.{items_of}
 use Rattle.v_design.specs.Sized.{IsSized, IsWithWhole, AreLabels, AreSizedItems, IsSizedTarget}

@@ -4,7 +4,7 @@ use Rattle.std.proofs.lemmas.Bool.{cases_lt}
 use Rattle.std.proofs.lemmas.List.{drop-drop, length-drop}
 use Rattle.std.proofs.Math.ListN.{drop_of_length-le}
 use Rattle.four_value.specs.Values.{LogicValue}
-use Rattle.v_design.specs.Lists.{joined}
+use Rattle.vf_base.specs.Lists.{joined}
 use Rattle.v_design.specs.declared.tree.PieceRef.{PieceRef}
 use Rattle.v_design.specs.Plain.{piece_of}
 use Rattle.v_design.specs.Expressions.{Needs, Has, then_with, read_slices, whole_slices}

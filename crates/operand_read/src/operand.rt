@@ -3,16 +3,13 @@
 ghost use Rattle.std.specs.Prelude.{◌≡◌, ◌≤◌, ◌<◌, ◌+◌, [], ◌∷◌, ◌++◌, length, map, take, drop, IfOk, IfErr};
 ghost use Rattle.v_design.specs.Plain.{piece_of};
 ghost use Rattle.v_design.specs.Expressions.{Needs, Has, read_slices, whole_slices};
-ghost use Rattle.v_design.specs.Lists.{joined};
+ghost use Rattle.vf_base.specs.Lists.{joined};
 ghost use Rattle.expr_eval.specs.Operands.{bits_so_far};
 ghost use Rattle.vf_base.specs.Base.{object_number};
 
 use four_value::Vec4;
 use v_design::PieceRef;
-use vf_base::ObjectId;
-
-/// The most bits of a value.
-const MOST_BITS: u8 = 128;
+use vf_base::{MAX_BITS, ObjectId};
 
 /// The next operand, which is the value of an object.
 pub(crate) fn next_operand(
@@ -73,7 +70,7 @@ fn cut_above(low: Vec4, high: Vec4) -> Vec4
     requires { 128 < length low + length high }
     ensures { result ≡ take 128 (low ++ high) }
 {
-    let room = MOST_BITS - low.width();
+    let room = MAX_BITS - low.width();
     if room == 0 {
         return low;
     }

@@ -4,7 +4,7 @@ ghost use Rattle.std.specs.Prelude.{◌≡◌, ◌≤◌, ◌<◌, ◌+◌, [], 
 ghost use Rattle.four_value.specs.Values.{LogicValue, unknown};
 ghost use Rattle.v_design.specs.Plain.{piece_of};
 ghost use Rattle.v_design.specs.Assignments.{part_width};
-ghost use Rattle.v_design.specs.Lists.{joined};
+ghost use Rattle.vf_base.specs.Lists.{joined};
 ghost use Rattle.v_design.specs.Expressions.{Needs, Has, read_slices, slices_at, place_of, place_of_number, part_places, bit_at_place, some_place_within};
 ghost use Rattle.vf_base.specs.Base.{object_number};
 ghost use Rattle.operand_read.specs.Sought.{sought_bit, got};

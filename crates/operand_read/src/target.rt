@@ -4,7 +4,7 @@ ghost use Rattle.std.specs.Prelude.{◌≡◌, ◌≤◌, ◌<◌, ◌+◌, [], 
 ghost use Rattle.four_value.specs.Values.{LogicValue};
 ghost use Rattle.v_design.specs.Plain.{expression_of, target_of, variable_of, update_of};
 ghost use Rattle.v_design.specs.Sized.{IsSizedAssignment, IsSizedTarget};
-ghost use Rattle.v_design.specs.Lists.{AllHold};
+ghost use Rattle.vf_base.specs.Lists.{AllHold};
 ghost use Rattle.v_design.specs.Assignments.{target_width, targets_width, part_width, target_update, target_updates, part_update, read_index, read_indexes, read_assignment};
 ghost use Rattle.v_design.specs.Expressions.{Needs, Has, place_of, part_indexes, part_places};
 ghost use Rattle.vf_base.specs.Base.{object_number};

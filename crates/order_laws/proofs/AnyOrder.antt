@@ -3,7 +3,7 @@ use Rattle.std.proofs.Common.{◌≡◌, ℕ, zero, suc, ◌+◌, ◌≤◌, Lis
 use Rattle.std.specs.Prelude.{◌≢◌, Option, Some, None, slice_get, nat_eq, nat_lt, cond}
 use Rattle.std.proofs.lemmas.Bool.{eqb-true, eq-eqb}
 use Rattle.four_value.specs.Values.{same_value, edge_matches, part_of}
-use Rattle.v_design.specs.Lists.{has, joined, map_numbered}
+use Rattle.vf_base.specs.Lists.{has, joined, map_numbered}
 use Rattle.v_design.specs.Trees.{Entry}
 use Rattle.v_design.specs.Designs.{FlatDesign, FlatNode, Machine}
 use Rattle.v_design.specs.Assignments.{value_at}

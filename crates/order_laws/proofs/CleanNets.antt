@@ -1,7 +1,7 @@
 -- An object that changes once at most changes, if it does, from its first value to its last: so two runs with one end change a clean net alike.
 use Rattle.std.proofs.Common.{◌≡◌, ℕ, suc, ◌≤◌, List, [], ◌∷◌, ◌++◌, map, length, Bool, true, false, not, refl, sym, ap, subst, ◌∙◌, arith, le_trans}
 use Rattle.std.specs.Prelude.{Option, Some, None, slice_get, IsTrue, filter}
-use Rattle.v_design.specs.Lists.{has, joined, map_numbered}
+use Rattle.vf_base.specs.Lists.{has, joined, map_numbered}
 use Rattle.four_value.specs.Values.{LogicValue, same_value}
 use Rattle.v_design.specs.Designs.{FlatNode, Machine}
 use Rattle.v_design.specs.Assignments.{value_at}

@@ -1,7 +1,7 @@
 -- What it says that an element stands at the last place that passes a test.
 use Rattle.std.proofs.Common.{◌≡◌, ℕ, zero, suc, ◌+◌, ◌<◌, List, [], ◌∷◌, Bool, true, false, refl, ap, subst, ◌∙◌, arith}
 use Rattle.std.specs.Prelude.{Option, Some, None, slice_get}
-use Rattle.v_design.specs.Lists.{last_place, later_place}
+use Rattle.vf_base.specs.Lists.{last_place, later_place}
 use Rattle.v_design.specs.States.{found_or}
 
 -- no later element passes

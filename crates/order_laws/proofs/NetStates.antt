@@ -2,7 +2,7 @@
 use Rattle.std.proofs.Common.{◌≡◌, ℕ, zero, suc, List, [], ◌∷◌, Bool, true, false, not, ◌&&◌, ◌||◌, refl, sym, ap, ◌∙◌, inl, inr}
 use Rattle.std.specs.Prelude.{◌≢◌, Option, Some, None, slice_get, nat_eq}
 use Rattle.std.proofs.lemmas.Bool.{eqb-true, eq-eqb}
-use Rattle.v_design.specs.Lists.{has, change_at, zip_with}
+use Rattle.vf_base.specs.Lists.{has, change_at, zip_with}
 use Rattle.four_value.specs.Values.{LogicValue, same_value}
 use Rattle.four_value.specs.Bits.{same_bit}
 use Rattle.v_design.specs.Designs.{FlatNode, Machine}

@@ -3,7 +3,7 @@ use Rattle.std.proofs.Common.{◌≡◌, ℕ, zero, suc, ◌+◌, ◌≤◌, Lis
 use Rattle.std.specs.Prelude.{Option, Some, None, slice_get, nat_eq, is_none, cond, option_and_then}
 use Rattle.std.specs.List.{list_all, AllZip}
 use Rattle.std.proofs.lemmas.Bool.{eqb-true}
-use Rattle.v_design.specs.Lists.{AllHold, has, change_at, zip_with, map_numbered}
+use Rattle.vf_base.specs.Lists.{AllHold, has, change_at, zip_with, map_numbered}
 use Rattle.four_value.specs.Values.{LogicValue, natural_number, is_true, part_of, with_part, bit_at}
 use Rattle.four_value.specs.Bits.{bit_of}
 use Rattle.v_design.specs.Trees.{Piece, Expression, Target, WholeTarget, BitTarget, PartTarget, WordTarget, Statement, Null, Block, If, Case, For, While, Repeat, Forever, Delay, EventControl, Wait, Blocking, Nonblocking, Finish, Statements, no_statements, more_statements, CaseItems, no_items, more_items}

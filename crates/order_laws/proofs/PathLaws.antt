@@ -3,7 +3,7 @@ use Rattle.std.proofs.Common.{◌≡◌, ℕ, zero, suc, ◌+◌, ◌*◌, ◌<�
 use Rattle.std.specs.Prelude.{Some, slice_get, nat_eq}
 use Rattle.std.proofs.lemmas.Bool.{eqb-true, eq-eqb}
 use Rattle.std.proofs.lemmas.List.Sums.{sum_by-cons, sum_by-append}
-use Rattle.v_design.specs.Lists.{has, fresh_only, without_repeats}
+use Rattle.vf_base.specs.Lists.{has, fresh_only, without_repeats}
 use Rattle.v_design.specs.Designs.{FlatNode, FlatNodeKind, AssignNode, GateNode, BlockNode, FlatDesign}
 use Rattle.v_design.specs.Paths.{path_weight, one_if, paths_through, paths_within, paths}
 use Rattle.v_design.specs.WellFormed.{AreBelow}

@@ -1,7 +1,7 @@
 -- After a legal order of a phase and a turn the next phase begins, as the laws ask it.
 use Rattle.std.proofs.Common.{◌≡◌, ℕ, zero, suc, List, [], ◌∷◌, map, length, not, refl, sym, ap, subst, ◌∙◌, get_or}
 use Rattle.std.specs.Prelude.{Option, Some, None, slice_get}
-use Rattle.v_design.specs.Lists.{change_at, zip_with}
+use Rattle.vf_base.specs.Lists.{change_at, zip_with}
 use Rattle.four_value.specs.Values.{LogicValue, same_value}
 use Rattle.v_design.specs.Designs.{FlatObject, FlatNode, Machine}
 use Rattle.v_design.specs.Assignments.{ValueUpdate, value_at, AreSettled}

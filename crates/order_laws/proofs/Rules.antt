@@ -2,7 +2,7 @@
 use Rattle.std.proofs.Common.{◌≡◌, ℕ, zero, suc, List, [], ◌∷◌, length, true, false, subst, ap, inl, inr}
 use Rattle.std.specs.Prelude.{Some, slice_get, nat_eq}
 use Rattle.std.proofs.lemmas.Bool.{eqb-true}
-use Rattle.v_design.specs.Lists.{has, AllHold}
+use Rattle.vf_base.specs.Lists.{has, AllHold}
 use Rattle.v_design.specs.Designs.{FlatObject, FlatNode, FlatProcess, FlatDesign}
 use Rattle.v_design.specs.Paths.{net_pieces}
 use Rattle.v_design.specs.Reads.{written_objects}

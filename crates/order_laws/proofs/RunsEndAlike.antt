@@ -1,7 +1,7 @@
 -- Two legal runs to a time from one state end alike, where no phase of the first has a conflict.
 use Rattle.std.proofs.Common.{◌≡◌, ℕ, List, [], ◌∷◌, ◌++◌, Bool, true, false, not, ◌&&◌, refl, sym, ap, subst, ◌∙◌, ◌⊎◌, inl, inr}
 use Rattle.std.specs.Prelude.{Option, Some, None, is_some}
-use Rattle.v_design.specs.Lists.{AllHold}
+use Rattle.vf_base.specs.Lists.{AllHold}
 use Rattle.v_design.specs.Designs.{Machine}
 use Rattle.v_design.specs.States.{State, Event, TurnKind, after, possible, found_or, is_quiescent, turn_of, turned}
 use Rattle.v_design.specs.Runs.{Move, Happens, Turns, then_state, only_if, stays_within, turn_within, moved, replayed, ends_by, Leads, happened, all_possible, IsPhase, made, turned_by}

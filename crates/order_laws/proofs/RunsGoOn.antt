@@ -1,7 +1,7 @@
 -- Each run of a phase goes on, event by event, beside a run of it without conflict.
 use Rattle.std.proofs.Common.{◌≡◌, ℕ, zero, suc, ◌≤◌, List, [], ◌∷◌, map, length, Bool, true, false, not, ◌&&◌, ◌||◌, refl, sym, ap, subst, ◌∙◌, ◌⊎◌, inl, inr, arith, filter}
 use Rattle.std.specs.Prelude.{Option, Some, None, slice_get, cond}
-use Rattle.v_design.specs.Lists.{has, joined, map_numbered}
+use Rattle.vf_base.specs.Lists.{has, joined, map_numbered}
 use Rattle.four_value.specs.Values.{LogicValue, same_value}
 use Rattle.v_design.specs.Trees.{Entry}
 use Rattle.v_design.specs.Designs.{FlatNode, Machine}

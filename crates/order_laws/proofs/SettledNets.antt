@@ -2,7 +2,7 @@
 use Rattle.std.proofs.Common.{◌≡◌, ℕ, zero, suc, ◌+◌, ◌<◌, ◌≤◌, List, [], ◌∷◌, map, length, Bool, true, false, not, ◌&&◌, ◌||◌, refl, sym, ap, subst, ◌∙◌, ◌⊎◌, inl, inr, arith, get_or}
 use Rattle.std.specs.Prelude.{◌≢◌, Option, Some, None, slice_get, nat_eq, is_some}
 use Rattle.std.proofs.lemmas.Bool.{eqb-true}
-use Rattle.v_design.specs.Lists.{has, change_at, without_repeats, fresh_only}
+use Rattle.vf_base.specs.Lists.{has, change_at, without_repeats, fresh_only}
 use Rattle.four_value.specs.Values.{LogicValue, same_value, with_part}
 use Rattle.four_value.specs.Bits.{bit_of}
 use Rattle.v_design.specs.Designs.{FlatObject, FlatNode, FlatDesign, Machine, StuckAt, FaultSite, VariableBit, OutputBit, GateTerminal, forced_if, forced_at_variable, forced_variable}

@@ -1,7 +1,7 @@
 -- At the start of a machine its first phase begins, as the laws ask it: the nets are settled.
 use Rattle.std.proofs.Common.{◌≡◌, ℕ, zero, suc, ◌+◌, ◌<◌, ◌≤◌, List, [], ◌∷◌, map, length, true, false, refl, sym, ap, subst, ◌∙◌, ◌⊎◌, inl, inr, arith, get_or}
 use Rattle.std.specs.Prelude.{Option, Some, None, slice_get, nat_eq, is_some}
-use Rattle.v_design.specs.Lists.{has, change_at, map_numbered}
+use Rattle.vf_base.specs.Lists.{has, change_at, map_numbered}
 use Rattle.four_value.specs.Values.{LogicValue}
 use Rattle.v_design.specs.Designs.{FlatObject, FlatNode, Machine, StuckAt, forced_variable}
 use Rattle.v_design.specs.Assignments.{value_at, node_outputs, object_width, with_outputs, settled_from, first_contents, first_values}

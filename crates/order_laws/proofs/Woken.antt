@@ -2,7 +2,7 @@
 use Rattle.std.proofs.Common.{◌≡◌, ℕ, zero, suc, List, [], ◌∷◌, map, length, Bool, true, false, not, ◌&&◌, ◌||◌, refl, sym, ap, subst, ◌∙◌, ◌⊎◌, inl, inr, arith}
 use Rattle.std.specs.Prelude.{◌≢◌, Option, Some, None, slice_get, nat_eq}
 use Rattle.std.proofs.lemmas.Bool.{eqb-true, eq-eqb}
-use Rattle.v_design.specs.Lists.{has, change_at}
+use Rattle.vf_base.specs.Lists.{has, change_at}
 use Rattle.four_value.specs.Values.{LogicValue, with_part, part_of, edge_matches, bit_at}
 use Rattle.four_value.specs.Bits.{is_posedge, is_negedge}
 use Rattle.v_design.specs.Trees.{Entry}

@@ -3,7 +3,7 @@ use Rattle.std.proofs.Common.{◌≡◌, ℕ, zero, suc, ◌<◌, List, [], ◌�
 use Rattle.std.specs.Prelude.{◌≢◌, Some, slice_get, nat_eq, is_some}
 use Rattle.std.specs.List.{list_any}
 use Rattle.std.proofs.lemmas.Bool.{eqb-true}
-use Rattle.v_design.specs.Lists.{has}
+use Rattle.vf_base.specs.Lists.{has}
 use Rattle.four_value.specs.Values.{LogicValue, same_value}
 use Rattle.v_design.specs.Designs.{FlatObject, FlatNode, Machine}
 use Rattle.v_design.specs.Assignments.{value_at, node_outputs, with_outputs}

@@ -2,7 +2,7 @@
 use Rattle.std.proofs.Common.{◌≡◌, ℕ, zero, suc, List, [], ◌∷◌, ◌++◌, map, Bool, true, false, refl, ap, subst, inl, inr}
 use Rattle.std.specs.Prelude.{Option, Some, None, slice_get, nat_eq, nat_le, min, ◌-◌, cond}
 use Rattle.std.proofs.lemmas.Bool.{eqb-true}
-use Rattle.v_design.specs.Lists.{has, change_at}
+use Rattle.vf_base.specs.Lists.{has, change_at}
 use Rattle.four_value.specs.Values.{LogicValue, natural_number, part_of}
 use Rattle.vf_base.specs.Base.{SourcePlace}
 use Rattle.v_design.specs.Trees.{Expression, Memory, Target, WholeTarget, BitTarget, PartTarget, WordTarget, Statement, Null, Block, If, Case, For, While, Repeat, Forever, Delay, EventControl, Wait, Blocking, Nonblocking, Finish, Statements, no_statements, more_statements, CaseItems, no_items, more_items}

@@ -1,7 +1,7 @@
 -- What every legal run has in common with one in which no phase has two conflicting accesses (IEEE 1364-2001, clause 5).
 use Rattle.std.specs.Prelude.{◌≡◌, ℕ, ◌+◌, ◌<◌, ◌≤◌, true, false, List, [], ◌∷◌, Option, Some, None, slice_get, nat_le}
 use Rattle.vf_base.specs.Base.{ReportedPair}
-use Rattle.v_design.specs.Lists.{AllHold}
+use Rattle.vf_base.specs.Lists.{AllHold}
 use Rattle.v_design.specs.Designs.{Machine}
 use Rattle.v_design.specs.States.{State, Event, start, after}
 use Rattle.v_design.specs.Runs.{Move, IsLegal, IsPhase, happened, first_event, FirstSlot, first_run}

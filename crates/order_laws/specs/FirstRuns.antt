@@ -1,6 +1,6 @@
 -- The slots of a first run, one after the other (IEEE 1364-2001, clause 5).
 use Rattle.std.specs.Prelude.{◌≡◌, ℕ, ◌<◌, List, [], ◌∷◌, Option, Some, None}
-use Rattle.v_design.specs.Lists.{AllHold}
+use Rattle.vf_base.specs.Lists.{AllHold}
 use Rattle.v_design.specs.Designs.{Machine}
 use Rattle.v_design.specs.States.{State, start}
 use Rattle.vf_base.specs.Base.{ReportedPair}

@@ -1,7 +1,7 @@
 -- What a node gives rests on its inputs alone (IEEE 1364-2001, clause 6 for assignments, clause 7 for gates, clause 9 for blocks).
 use Rattle.std.specs.Prelude.{◌≡◌, ℕ, true, List, length, Some, slice_get}
 use Rattle.four_value.specs.Values.{LogicValue}
-use Rattle.v_design.specs.Lists.{has}
+use Rattle.vf_base.specs.Lists.{has}
 use Rattle.v_design.specs.Designs.{FlatNode, Machine}
 use Rattle.v_design.specs.Assignments.{value_at, node_outputs, object_width}
 use Rattle.v_design.specs.WellFormed.{KeepsRules}

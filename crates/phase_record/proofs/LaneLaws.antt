@@ -3,7 +3,7 @@ use Rattle.std.proofs.Common.{◌≡◌, ℕ, zero, suc, ◌<◌, List, [], ◌�
 use Rattle.std.specs.Prelude.{not, ◌&&◌}
 use Rattle.four_value.specs.Values.{same_value}
 use Rattle.four_value.specs.declared.logic.Bit.TheVariants.{Zero, One}
-use Rattle.v_design.specs.Lists.{has}
+use Rattle.vf_base.specs.Lists.{has}
 use Rattle.v_design.specs.Trees.{Null}
 use Rattle.v_design.specs.Designs.{FlatObject, FlatNode, Machine, BlockNode}
 use Rattle.v_design.specs.declared.plan.Object.{Object}

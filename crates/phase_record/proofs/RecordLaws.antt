@@ -6,7 +6,7 @@ use Rattle.std.specs.List.{All}
 use Rattle.std.proofs.lemmas.List.{length-map, map_push, take_more}
 use Rattle.vf_base.specs.Base.{object_number}
 use Rattle.net_graph.specs.WiringLaws.{AllHold-push}
-use Rattle.v_design.specs.Lists.{AllHold, last_place, later_place}
+use Rattle.vf_base.specs.Lists.{AllHold, last_place, later_place}
 use Rattle.v_design.specs.Designs.{FlatDesign, Machine}
 use Rattle.v_design.specs.States.{State, Event, found_or}
 use Rattle.v_design.specs.Accesses.{ObjectAccess, accesses_of, held_accesses}

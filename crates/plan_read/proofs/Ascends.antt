@@ -1,7 +1,7 @@
 -- Strobes as a plan keeps them.
 use Rattle.std.proofs.Common.{◌≡◌, ℕ, zero, suc, ◌+◌, ◌≤◌, ◌<◌, List, [], ◌∷◌, length, get_or, slice_index, All, arith, refl}
 use Rattle.vf_base.specs.Base.{WatchedBit}
-use Rattle.v_design.specs.Lists.{AllHold}
+use Rattle.vf_base.specs.Lists.{AllHold}
 use Rattle.v_design.specs.Designs.{TestPlan, StuckAt}
 use Rattle.v_design.specs.WellFormed.{IsAscending, IsPlan}
 

@@ -7,7 +7,7 @@ use Rattle.std.specs.Str.{bytes_eq}
 use Rattle.std.proofs.lemmas.Bool.{eqb-true, and_parts, false≢true}
 use borrow.Author.Tests.{ltb-true}
 use Rattle.vf_base.specs.Base.{WatchedBit}
-use Rattle.v_design.specs.Lists.{joined, map_numbered, AllHold}
+use Rattle.vf_base.specs.Lists.{joined, map_numbered, AllHold}
 use Rattle.v_design.specs.Trees.{Piece}
 use Rattle.v_design.specs.Expressions.{up_from}
 use Rattle.v_design.specs.Designs.{FlatObject, NameJoined, FlatDesign, FaultSite, StuckAt, TestPlan, width_in}

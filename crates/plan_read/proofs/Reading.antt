@@ -9,7 +9,7 @@ use Rattle.std.proofs.lemmas.List.Folds.{list_any-append}
 use Rattle.std.proofs.lemmas.Bool.{ltb-false, le-ltb}
 use Rattle.std.specs.Result.{IsErrAnd}
 use Rattle.vf_base.specs.Base.{WatchedBit}
-use Rattle.v_design.specs.Lists.{joined}
+use Rattle.vf_base.specs.Lists.{joined}
 use Rattle.v_design.specs.Designs.{FlatDesign, FaultSite, StuckAt}
 use Rattle.v_design.specs.Sites.{faults_of}
 use Rattle.plan_read.specs.Watched.{bits_spelled}

@@ -5,7 +5,7 @@ use Rattle.std.proofs.lemmas.List.{length-map}
 use Rattle.std.proofs.lemmas.Slice.Eq.{bytes_eq-Decides}
 use Rattle.vf_base.specs.Base.{WatchedBit}
 use Rattle.v_design.specs.Designs.{FlatObject, NameJoined}
-use Rattle.v_design.specs.Lists.{joined, map_numbered}
+use Rattle.vf_base.specs.Lists.{joined, map_numbered}
 use Rattle.v_design.specs.Trees.{Piece}
 use Rattle.v_design.specs.declared.logic.ObjectKind.{ObjectKind}
 use Rattle.v_design.specs.declared.logic.ObjectKind.TheVariants.{Var, Word, Net}

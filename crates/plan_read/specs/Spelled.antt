@@ -2,7 +2,8 @@
 use Rattle.std.specs.Prelude.{◌≡◌, ℕ, ◌+◌, ◌<◌, ◌≤◌, ◌↔◌, Bool, true, false, not, ◌&&◌, ◌||◌, List, [], ◌∷◌, ◌++◌, map, length, take, Contains, Option, Some, None, nat_lt, slice_get}
 use Rattle.std.specs.List.{list_any}
 use Rattle.vf_base.specs.Base.{WatchedBit}
-use Rattle.v_design.specs.Lists.{joined}
+use Rattle.vf_base.specs.Lists.{joined}
+use Rattle.vf_base.specs.declared.limits.TheConstants.{MAX_STROBES, MAX_WATCHED, MAX_FAULTS, MAX_PLAN_BYTES}
 use Rattle.v_design.specs.Designs.{FlatDesign, FaultSite, StuckAt, TestPlan}
 use Rattle.v_design.specs.Sites.{faults_of}
 use Rattle.v_design.specs.WellFormed.{IsAscending}
@@ -131,13 +132,13 @@ is_unknown design Formless = false
 
 -- the most strobe times, watched bits and faults of a plan
 abbrev pub most_strobes : ℕ
-most_strobes = 65536
+most_strobes = MAX_STROBES
 
 abbrev pub most_watched : ℕ
-most_watched = 4096
+most_watched = MAX_WATCHED
 
 abbrev pub most_faults : ℕ
-most_faults = 65536
+most_faults = MAX_FAULTS
 
 -- whether some lines have too many strobe times, watched bits or faults
 abbrev pub are_too_many : FlatDesign → List PlanLine → Bool
@@ -180,7 +181,7 @@ plan_lines text = lines_say (lines_of text)
 
 -- the most bytes of a plan
 abbrev pub most_bytes : ℕ
-most_bytes = 262144
+most_bytes = MAX_PLAN_BYTES
 
 -- the lines spell the plan: none is refused, one gives the end, what is watched and what is listed stand in the order of the lines,
 -- and the strobes are the times in ascending order without repeats

@@ -3,7 +3,7 @@ use Rattle.std.specs.Prelude.{ℕ, Bool, true, false, List, [], ◌∷◌, ◌++
 use Rattle.std.specs.Option.{option_and_then}
 use Rattle.std.specs.Str.{bytes_eq}
 use Rattle.vf_base.specs.Base.{WatchedBit}
-use Rattle.v_design.specs.Lists.{joined, map_numbered}
+use Rattle.vf_base.specs.Lists.{joined, map_numbered}
 use Rattle.v_design.specs.Trees.{Piece}
 use Rattle.v_design.specs.Expressions.{up_from}
 use Rattle.v_design.specs.Designs.{FlatObject, NameJoined, FlatDesign}

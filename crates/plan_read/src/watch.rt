@@ -3,7 +3,7 @@
 ghost use Rattle.std.specs.Prelude.{◌≡◌, ◌++◌, ◌∷◌, [], IfOk, OnOk, map};
 ghost use Rattle.std.specs.Option.{option_and_then};
 ghost use Rattle.vf_base.specs.Base.{object_number};
-ghost use Rattle.v_design.specs.Lists.{joined, map_numbered};
+ghost use Rattle.vf_base.specs.Lists.{joined, map_numbered};
 ghost use Rattle.v_design.specs.Plain.{object_of, name_joined, piece_of};
 ghost use Rattle.v_design.specs.PlainDesigns.{design_of};
 ghost use Rattle.fault_list.specs.Spelled.{bit_spelled, place_spelled, piece_bit};

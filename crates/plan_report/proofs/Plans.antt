@@ -2,7 +2,7 @@
 use Rattle.std.proofs.Common.{◌≡◌, ℕ, zero, suc, ◌+◌, ◌<◌, ◌≤◌, List, [], ◌∷◌, length, take, get_or, Some, None, refl, sym, ap, ◌∙◌, ◌⊎◌, inl, inr, arith}
 use Rattle.std.specs.Prelude.{◌≢◌, slice_get}
 use Rattle.std.specs.List.{Contains}
-use Rattle.v_design.specs.Lists.{AllHold}
+use Rattle.vf_base.specs.Lists.{AllHold}
 use Rattle.v_design.specs.Designs.{FlatDesign, TestPlan}
 use Rattle.v_design.specs.WellFormed.{IsAscending}
 use Rattle.plan_read.specs.Forms.{PlanLine}

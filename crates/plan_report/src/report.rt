@@ -2,7 +2,7 @@
 
 ghost use Rattle.std.specs.Prelude.{◌≡◌, ◌≤◌, ◌<◌, ◌⊎◌, Ok, Err, IfOk, MatchResult, length};
 ghost use Rattle.v_design.specs.PlainDesigns.{design_of, plan_of};
-ghost use Rattle.grade_report.specs.Findings.{grades_of, AreInOrder};
+ghost use Rattle.v_design.specs.Findings.{grades_of, AreInOrder};
 ghost use Rattle.plan_report.specs.declared.fault.ReportFault.TheVariants as faults;
 ghost use Rattle.plan_report.specs.Reports.{wanted_text, IsTheMeaning, HoldsInEveryOrder};
 

@@ -7,7 +7,7 @@ use Rattle.std.proofs.lemmas.List.{map_push, get_or_push, get_or_append_left, ge
 use Rattle.std.proofs.lemmas.Option.{slice_get_within, get_or_from_slice_get}
 use Rattle.v_design.specs.Trees.{Statement, Null, Block, If, Case, For, While, Repeat, Forever, Delay, EventControl, Wait, Blocking, Nonblocking, Finish}
 use Rattle.v_design.specs.declared.plan.Process.{Process}
-use Rattle.v_design.specs.Lists.{has}
+use Rattle.vf_base.specs.Lists.{has}
 use Rattle.v_design.specs.Trees.{Piece, Entry}
 use Rattle.v_design.specs.Plain.{piece_of, entry_of}
 use Rattle.v_design.specs.Processes.{pieces_once, piece_unless}

@@ -4,7 +4,7 @@ use Rattle.four_value.specs.Values.{LogicValue}
 use Rattle.four_value.specs.declared.operator.BinaryOperator.TheVariants.{Add}
 use Rattle.four_value.specs.declared.operator.CaseKind.{CaseKind}
 use Rattle.vf_base.specs.Base.{SourcePlace}
-use Rattle.v_design.specs.Lists.{AllHold}
+use Rattle.vf_base.specs.Lists.{AllHold}
 use Rattle.v_design.specs.Trees.{Piece, Entry, Expression, Constant, Name, Binary, WordSelect, Expressions, no_expressions, more_expressions, Target, WholeTarget, WordTarget, Statement, Null, Block, If, Case, For, While, Repeat, Forever, Delay, EventControl, Wait, Blocking, Nonblocking, Finish, no_statements, more_statements, no_items, more_items}
 use Rattle.v_design.specs.Expressions.{width_of, sign_of}
 use Rattle.v_design.specs.Assignments.{target_width, targets_width}

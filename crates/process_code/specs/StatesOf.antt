@@ -1,6 +1,6 @@
 -- States of compiled code: they stand at a rest of the process, and have room for what its statements read and write (IEEE 1364-2001, clause 9).
 use Rattle.std.specs.Prelude.{◌≡◌, ℕ, ◌+◌, ◌≤◌, ◌<◌, List, [], ◌∷◌, length, map, slice_get, Option, Some, vec_capacity}
-use Rattle.v_design.specs.Lists.{AllHold}
+use Rattle.vf_base.specs.Lists.{AllHold}
 use Rattle.v_design.specs.Trees.{Piece, Expression, Target, Statement, Null, Block, If, Case, For, While, Repeat, Forever, Delay, EventControl, Wait, Blocking, Nonblocking, Finish}
 use Rattle.v_design.specs.Reads.{named_by}
 use Rattle.v_design.specs.Sized.{IsSizedStatement}

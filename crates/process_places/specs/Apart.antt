@@ -1,6 +1,6 @@
 -- No two statements of a process stand at one place, in each flat design of a text (IEEE 1364-2001, clause 2.1 for the places of tokens, clause 9 for processes).
 use Rattle.std.proofs.Common.{◌≡◌, ℕ, List, Ok, subst, arith}
-use Rattle.v_design.specs.Lists.{AllHold}
+use Rattle.vf_base.specs.Lists.{AllHold}
 use Rattle.v_design.specs.Designs.{FlatProcess, FlatDesign}
 use Rattle.v_tree.specs.Tokens.{SourceToken}
 use Rattle.v_tree.specs.Trees.{Identifier, SourceStatement, SourceItem, InitialItem, AlwaysItem, SourceUnit}

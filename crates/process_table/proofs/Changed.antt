@@ -2,7 +2,7 @@
 use Rattle.std.proofs.Common.{◌≡◌, ℕ, zero, suc, ◌+◌, ◌<◌, ◌≤◌, Bool, true, false, List, [], ◌∷◌, ◌++◌, length, map, get_or, set, Option, Some, None, refl, sym, ap, ◌∙◌, subst, arith}
 use Rattle.std.specs.Prelude.{slice_get}
 use Rattle.std.proofs.lemmas.List.{length-map}
-use Rattle.v_design.specs.Lists.{AllHold, change_at, zip_with, first_place, earlier_place}
+use Rattle.vf_base.specs.Lists.{AllHold, change_at, zip_with, first_place, earlier_place}
 use Rattle.v_design.specs.Designs.{FlatDesign, FlatProcess}
 use Rattle.four_value.specs.Values.{LogicValue}
 use Rattle.v_design.specs.Processes.{Activity, Done, ProcessStep}

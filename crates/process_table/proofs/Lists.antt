@@ -1,7 +1,7 @@
 -- Lists with one element changed (nothing of the language).
 use Rattle.std.proofs.Common.{◌≡◌, ℕ, zero, suc, ◌+◌, ◌<◌, ◌≤◌, Bool, true, false, List, [], ◌∷◌, ◌++◌, length, map, get_or, set, Option, Some, None, refl, sym, ap, ◌∙◌, subst, arith}
 use Rattle.std.specs.Prelude.{slice_get}
-use Rattle.v_design.specs.Lists.{AllHold, change_at, first_place, earlier_place}
+use Rattle.vf_base.specs.Lists.{AllHold, change_at, first_place, earlier_place}
 use Rattle.v_design.specs.States.{found_or}
 use Rattle.event_queue.specs.Queues.{repeated}
 

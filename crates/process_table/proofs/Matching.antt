@@ -3,7 +3,7 @@ use Rattle.std.proofs.Common.{◌≡◌, ℕ, zero, suc, ◌+◌, ◌<◌, ◌�
 use Rattle.std.specs.Prelude.{slice_get, nat_eq, ◌||◌, ◌&&◌}
 use Rattle.std.proofs.lemmas.Bool.{or_cases, or_left, or_right, and_parts, eqb-true, eq-eqb}
 use Rattle.four_value.specs.Values.{IsWidth, edge_matches, part_of}
-use Rattle.v_design.specs.Lists.{AllHold, has, first_place, earlier_place}
+use Rattle.vf_base.specs.Lists.{AllHold, has, first_place, earlier_place}
 use Rattle.v_design.specs.Trees.{Entry, Null}
 use Rattle.v_design.specs.Designs.{FlatDesign, FlatProcess}
 use Rattle.v_design.specs.Processes.{Activity, Ready, Waiting, Asleep, Postponed, Done}

@@ -2,7 +2,7 @@
 use Rattle.std.proofs.Common.{◌≡◌, ℕ, zero, suc, ◌+◌, ◌<◌, ◌≤◌, ◌^◌, Bool, true, false, List, [], ◌∷◌, ◌++◌, length, get_or, set, min, Option, Some, None, refl, sym, ap, ◌∙◌, subst, arith, inl, inr, cond}
 use Rattle.std.proofs.lemmas.List.{length-set}
 use Rattle.std.proofs.lemmas.Bool.{cases_lt, cases_eq}
-use Rattle.v_design.specs.Lists.{first_place, earlier_place}
+use Rattle.vf_base.specs.Lists.{first_place, earlier_place}
 use Rattle.event_queue.specs.Queues.{repeated}
 use Rattle.process_table.specs.Sets.{IsLeastFrom, IsSet}
 

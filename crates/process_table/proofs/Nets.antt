@@ -3,7 +3,7 @@ use Rattle.std.proofs.Common.{◌≡◌, ℕ, zero, suc, ◌+◌, ◌<◌, Bool,
 use Rattle.std.specs.Prelude.{nat_eq, ◌||◌}
 use Rattle.std.proofs.lemmas.Bool.{ne_eqb, eq-eqb}
 use Rattle.std.proofs.lemmas.List.{get_or-map, length-map}
-use Rattle.v_design.specs.Lists.{has}
+use Rattle.vf_base.specs.Lists.{has}
 use Rattle.v_design.specs.Designs.{FlatObject, FlatDesign}
 use Rattle.v_design.specs.Paths.{numbers_of, net_pieces, is_net}
 use Rattle.v_design.specs.Plain.{object_of}

@@ -8,7 +8,7 @@ use Rattle.vf_base.specs.Base.{object_number, process_number}
 use Rattle.vf_base.specs.declared.ids.ProcId.{ProcId}
 use Rattle.vf_base.specs.declared.finding.AccessKind.{AccessKind}
 use Rattle.vf_base.specs.declared.finding.AccessKind.TheVariants as kind
-use Rattle.v_design.specs.Lists.{AllHold, has, first_place}
+use Rattle.vf_base.specs.Lists.{AllHold, has, first_place}
 use Rattle.v_design.specs.Trees.{Entry}
 use Rattle.v_design.specs.Processes.{Activity}
 use Rattle.v_design.specs.States.{some_entry}

@@ -2,7 +2,7 @@
 use Rattle.std.proofs.Common.{◌≡◌, ℕ, zero, suc, ◌+◌, ◌<◌, Bool, true, false, List, [], ◌∷◌, length, map, Option, Some, None, refl, sym, ap, ◌∙◌, subst, arith}
 use Rattle.std.specs.Prelude.{slice_get, ◌||◌}
 use Rattle.four_value.specs.Values.{LogicValue}
-use Rattle.v_design.specs.Lists.{first_place, earlier_place}
+use Rattle.vf_base.specs.Lists.{first_place, earlier_place}
 use Rattle.v_design.specs.Designs.{FlatDesign, Machine, good_machine}
 use Rattle.v_design.specs.States.{State, ProcessState, found_or, idle_process, is_ready, is_any, has_event, some_in}
 use Rattle.process_table.specs.Tables.{TableState, IsTableOf}

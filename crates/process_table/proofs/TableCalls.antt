@@ -3,7 +3,7 @@ use Rattle.std.proofs.Common.{◌≡◌, ℕ, zero, suc, ◌+◌, ◌<◌, ◌�
 use Rattle.std.specs.Prelude.{slice_get}
 use Rattle.std.proofs.lemmas.List.{length-map}
 use Rattle.four_value.specs.Values.{IsWidth}
-use Rattle.v_design.specs.Lists.{AllHold, change_at, has, first_place}
+use Rattle.vf_base.specs.Lists.{AllHold, change_at, has, first_place}
 use Rattle.v_design.specs.Trees.{Entry, Null}
 use Rattle.v_design.specs.Designs.{FlatDesign, FlatProcess, Machine}
 use Rattle.v_design.specs.Processes as does

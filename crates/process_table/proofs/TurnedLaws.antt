@@ -3,7 +3,7 @@ use Rattle.std.proofs.Common.{◌≡◌, ℕ, zero, suc, ◌+◌, ◌<◌, ◌�
 use Rattle.std.specs.Prelude.{slice_get, filter, min, nat_le, ◌||◌, if◌then◌else◌}
 use Rattle.std.proofs.lemmas.List.{length-map}
 use Rattle.std.proofs.lemmas.Bool.{leb-false}
-use Rattle.v_design.specs.Lists.{AllHold, change_at, zip_with}
+use Rattle.vf_base.specs.Lists.{AllHold, change_at, zip_with}
 use Rattle.v_design.specs.Assignments.{ValueUpdate}
 use Rattle.v_design.specs.Trees.{Entry}
 use Rattle.v_design.specs.Designs.{FlatDesign, Machine}

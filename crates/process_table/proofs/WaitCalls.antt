@@ -5,7 +5,7 @@ use Rattle.std.specs.List.{All}
 use Rattle.std.proofs.lemmas.List.{map_push}
 use Rattle.vf_base.specs.Base.{process_number, object_number}
 use Rattle.vf_base.specs.declared.ids.ProcId.{ProcId}
-use Rattle.v_design.specs.Lists.{AllHold, change_at, joined, map_numbered}
+use Rattle.vf_base.specs.Lists.{AllHold, change_at, joined, map_numbered}
 use Rattle.v_design.specs.Trees.{Entry}
 use Rattle.v_design.specs.Designs.{FlatDesign}
 use Rattle.v_design.specs.Plain.{entry_of}

@@ -1,6 +1,6 @@
 -- How a table arranges the processes of a state: rows by process, sets of those that have an event, and a queue of turns (nothing of the language).
 use Rattle.std.specs.Prelude.{◌≡◌, ℕ, Bool, List, [], ◌∷◌, ◌++◌, map, filter, length, take, drop, slice_get, Option, Some, None}
-use Rattle.v_design.specs.Lists.{AllHold, change_at, zip_with, joined, map_numbered}
+use Rattle.vf_base.specs.Lists.{AllHold, change_at, zip_with, joined, map_numbered}
 use Rattle.v_design.specs.Designs.{FlatDesign, FlatProcess}
 use Rattle.v_design.specs.Processes.{Activity}
 use Rattle.v_design.specs.States.{ProcessState, LaterUpdate, is_ready, is_any}

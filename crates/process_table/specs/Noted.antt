@@ -5,7 +5,7 @@ use Rattle.vf_base.specs.Base.{object_number}
 use Rattle.vf_base.specs.declared.ids.ProcId.{ProcId}
 use Rattle.vf_base.specs.declared.finding.AccessKind.{AccessKind}
 use Rattle.four_value.specs.Values.{IsWidth}
-use Rattle.v_design.specs.Lists.{AllHold, has}
+use Rattle.vf_base.specs.Lists.{AllHold, has}
 use Rattle.v_design.specs.Trees.{Entry}
 use Rattle.v_design.specs.Designs.{FlatDesign}
 use Rattle.v_design.specs.Paths.{net_pieces}

@@ -1,6 +1,6 @@
 -- What a turn does to the rows of a table and to what its queue holds (IEEE 1364-2001, clauses 5.3 and 5.4).
 use Rattle.std.specs.Prelude.{◌≡◌, ℕ, true, List, [], ◌∷◌, map, cond}
-use Rattle.v_design.specs.Lists.{AllHold, change_at}
+use Rattle.vf_base.specs.Lists.{AllHold, change_at}
 use Rattle.v_design.specs.Assignments.{ValueUpdate}
 use Rattle.v_design.specs.States.{TurnKind, PostponedTurn, UpdatesTurn, TimeTurn, is_any}
 use Rattle.event_queue.specs.Queues.{HeldProcess, is_postponed, wakes_by, updates_due}

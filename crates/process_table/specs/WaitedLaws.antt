@@ -2,7 +2,7 @@
 use Rattle.std.proofs.Common.{◌≡◌, ℕ, zero, suc, ◌+◌, List, [], ◌∷◌, ◌++◌, map, Bool, true, false, refl, ap, sym, subst, inl, inr, arith, ◌∙◌}
 use Rattle.std.specs.Prelude.{Option, Some, None, slice_get, nat_eq, nat_le, nat_lt, min, ◌-◌, ◌&&◌, ◌||◌, cond, if◌then◌else◌, IsTrue, is_some}
 use Rattle.std.proofs.lemmas.Bool.{eqb-true, eq-eqb, or_cases, or_right, or_left, and_parts}
-use Rattle.v_design.specs.Lists.{has, change_at, AllHold}
+use Rattle.vf_base.specs.Lists.{has, change_at, AllHold}
 use Rattle.four_value.specs.Values.{LogicValue, natural_number, edge_matches, part_of}
 use Rattle.vf_base.specs.Base.{SourcePlace}
 use Rattle.v_design.specs.Trees.{Piece, Entry, Vector, Expression, Constant, Name, BitSelect, PartSelect, WordSelect, Unary, Binary, Conditional, Concatenation, Replication, Expressions, no_expressions, more_expressions, Statement, Null, Block, If, Case, For, While, Repeat, Forever, Delay, EventControl, Wait, Blocking, Nonblocking, Finish, Statements, no_statements, more_statements, CaseItems, no_items, more_items}

@@ -4,7 +4,7 @@ ghost use Rattle.std.specs.Prelude.{◌≡◌, ◌≤◌, ◌<◌, ◌^◌, ◌+
 ghost use Rattle.std.specs.Option.{option_map};
 ghost use Rattle.vf_base.specs.Base.{object_number, process_number};
 ghost use Rattle.vf_base.specs.Counts.{raised};
-ghost use Rattle.v_design.specs.Lists.{AllHold, change_at, first_place, joined, map_numbered};
+ghost use Rattle.vf_base.specs.Lists.{AllHold, change_at, first_place, joined, map_numbered};
 ghost use Rattle.v_design.specs.PlainDesigns.{design_of};
 ghost use Rattle.v_design.specs.Plain.{update_of};
 ghost use Rattle.v_design.specs.Designs.{Machine};

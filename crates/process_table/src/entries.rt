@@ -5,7 +5,7 @@ ghost use Rattle.std.specs.List.{All};
 ghost use Rattle.vf_base.specs.Base.{object_number};
 ghost use Rattle.vf_base.specs.declared.finding.AccessKind.TheVariants as Kind;
 ghost use Rattle.four_value.specs.Values.{IsWidth};
-ghost use Rattle.v_design.specs.Lists.{AllHold, first_place, has};
+ghost use Rattle.vf_base.specs.Lists.{AllHold, first_place, has};
 ghost use Rattle.v_design.specs.Paths.{net_pieces, is_net};
 ghost use Rattle.v_design.specs.Plain.{entry_of};
 ghost use Rattle.v_design.specs.PlainDesigns.{design_of};

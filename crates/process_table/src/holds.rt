@@ -2,7 +2,7 @@
 
 ghost use Rattle.std.specs.Prelude.{◌≡◌, ◌<◌, Bool, length, OnOk};
 ghost use Rattle.vf_base.specs.Base.{process_number};
-ghost use Rattle.v_design.specs.Lists.{change_at};
+ghost use Rattle.vf_base.specs.Lists.{change_at};
 ghost use Rattle.event_queue.specs.Queues.{held_at, with_holding};
 ghost use Rattle.event_queue.specs.declared.held.Holding.TheVariants as Holding;
 ghost use Rattle.process_code.specs.Points.{said_by};

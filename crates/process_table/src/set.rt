@@ -3,7 +3,7 @@
 ghost use Rattle.std.specs.Prelude.{◌≡◌, ◌<◌, ◌≤◌, ◌^◌, Bool, true, false, ℕ, length, get_or, cond, IfOk};
 ghost use Rattle.std.specs.Option.{option_map};
 ghost use Rattle.vf_base.specs.Base.{process_number};
-ghost use Rattle.v_design.specs.Lists.{change_at, first_place};
+ghost use Rattle.vf_base.specs.Lists.{change_at, first_place};
 ghost use Rattle.event_queue.specs.Queues.{repeated};
 ghost use Rattle.process_table.specs.Sets.{IsLeastFrom};
 

@@ -4,7 +4,7 @@ ghost use Rattle.std.specs.Prelude.{◌≡◌, ◌<◌, Bool, true, false, lengt
 ghost use Rattle.std.specs.Option.{option_map};
 ghost use Rattle.vf_base.specs.Base.{process_number};
 ghost use Rattle.v_design.specs.Designs.{Machine};
-ghost use Rattle.v_design.specs.Lists.{AllHold};
+ghost use Rattle.vf_base.specs.Lists.{AllHold};
 ghost use Rattle.v_design.specs.Runs.{turned_by};
 ghost use Rattle.v_design.specs.States.{State, turn_of, has_event, some_in};
 ghost use Rattle.event_queue.specs.Arranged.{lane_number, lane_of};

@@ -2,7 +2,7 @@
 
 ghost use Rattle.std.specs.Prelude.{◌≡◌, ◌++◌, map, OnOk};
 ghost use Rattle.vf_base.specs.Base.{process_number};
-ghost use Rattle.v_design.specs.Lists.{AllHold, joined, map_numbered};
+ghost use Rattle.vf_base.specs.Lists.{AllHold, joined, map_numbered};
 ghost use Rattle.v_design.specs.Accesses.{await_accesses, held_by, waiting_entries};
 ghost use Rattle.v_design.specs.PlainDesigns.{design_of};
 ghost use Rattle.causal_monitor.specs.Notes.{noted_access};

@@ -3,7 +3,7 @@
 ghost use Rattle.std.specs.Prelude.{◌≡◌, ◌<◌, ◌++◌, [], length, map, get_or, IfOk, OnOk};
 ghost use Rattle.std.specs.List.{All};
 ghost use Rattle.vf_base.specs.Base.{object_number, process_number};
-ghost use Rattle.v_design.specs.Lists.{AllHold};
+ghost use Rattle.vf_base.specs.Lists.{AllHold};
 ghost use Rattle.four_value.specs.Values.{IsWidth};
 ghost use Rattle.v_design.specs.Accesses.{waiting_entries};
 ghost use Rattle.v_design.specs.Trees.{Entry};

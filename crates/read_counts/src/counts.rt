@@ -12,10 +12,7 @@ use std::slice::from_ref;
 use v_comb::names_in_exprs;
 use v_names::{Entry, Scope, span};
 use v_tree::Expr;
-use vf_base::{NoMemory, Text};
-
-/// The most objects that a node may read.
-const MOST_INPUTS: u64 = 4096;
+use vf_base::{MAX_INPUTS, NoMemory, Text};
 
 /// How many objects a name stands for, by what it means.
 fn objects_of(entry: &Option<Entry>) -> u64
@@ -33,7 +30,7 @@ fn objects_of(entry: &Option<Entry>) -> u64
 pub fn are_over(scope: &Scope<'_>, names: &[Text]) -> bool
     ensures { result ≡ reads_over scope.now names.now }
 {
-    let mut left = MOST_INPUTS;
+    let mut left = MAX_INPUTS;
     'names: for name in names {
         let objects = objects_of(&scope.lookup(name));
         if objects > left {

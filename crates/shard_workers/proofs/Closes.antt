@@ -13,7 +13,7 @@ use Rattle.v_design.specs.Designs.{FlatDesign, TestPlan}
 use Rattle.v_design.specs.Grades as plain
 use Rattle.order_laws.specs.Reports.{AreGrades}
 use Rattle.grade_laws.specs.Grading.{good_stop}
-use Rattle.grade_report.specs.Findings.{grades_of, AreInOrder}
+use Rattle.v_design.specs.Findings.{grades_of, AreInOrder}
 use Rattle.fault_grade.specs.Results.{LoopsAt}
 use Rattle.fault_grade.specs.Stops.{race_stop, loop_stop, race_if}
 use Rattle.fault_shards.specs.Cuts.{shard, shard_count, ShardsCover}

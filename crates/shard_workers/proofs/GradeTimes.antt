@@ -6,7 +6,7 @@ use Rattle.vf_base.specs.Base.{ReportedPair, reported_pair}
 use Rattle.vf_base.specs.declared.finding.End.{End}
 use Rattle.vf_base.specs.declared.finding.End.TheVariants as ending
 use Rattle.vf_base.specs.declared.finding.Side.TheVariants.{Good, Faulty}
-use Rattle.v_design.specs.Lists.{AllHold}
+use Rattle.vf_base.specs.Lists.{AllHold}
 use Rattle.v_design.specs.Designs.{FlatDesign, Machine, TestPlan, StuckAt, good_machine, faulty_machine}
 use Rattle.v_design.specs.States.{State, start, TurnKind, PostponedTurn, UpdatesTurn, TimeTurn, turn_of, time_turn}
 use Rattle.v_design.specs.Runs.{FirstSlot, first_moves, first_slots, first_run, next_slot, next_slot_at, only_if, is_hyper, slot_end}

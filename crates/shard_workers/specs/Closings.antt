@@ -2,7 +2,7 @@
 use Rattle.std.specs.Prelude.{◌≡◌, ℕ, List, length, slice_index}
 use Rattle.v_design.specs.Designs.{FlatDesign, TestPlan}
 use Rattle.order_laws.specs.Reports.{AreGrades}
-use Rattle.grade_report.specs.Findings.{grades_of, AreInOrder}
+use Rattle.v_design.specs.Findings.{grades_of, AreInOrder}
 use Rattle.verdict_words.specs.Codes.{IsCode}
 use Rattle.verdict_words.specs.Last.{words_of, sizes_of, last_view}
 use Rattle.verdict_words.specs.Rule.{times, once_below}

@@ -4,7 +4,7 @@ use Rattle.std.specs.List.{AllZip}
 use Rattle.v_design.specs.Designs.{FlatDesign, TestPlan}
 use Rattle.v_design.specs.Laws.{ReportHolds}
 use Rattle.order_laws.specs.Reports.{AreGrades}
-use Rattle.grade_report.specs.Findings.{grades_of, AreInOrder}
+use Rattle.v_design.specs.Findings.{grades_of, AreInOrder}
 use Rattle.fault_grade.specs.Results.{LoopsAt, SpeaksOfOrders}
 use Rattle.shard_workers.specs.declared.plan.PlanGrades.{PlanGrades}
 use Rattle.shard_workers.specs.declared.plan.PlanGrades.TheVariants.{Findings, GoodLoop}

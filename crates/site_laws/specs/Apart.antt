@@ -1,7 +1,7 @@
 -- Lists whose elements differ by a relation, each from all later ones (nothing of the language).
 use Rattle.std.proofs.Common.{◌≡◌, ℕ, zero, suc, ◌+◌, ◌<◌, ◌≤◌, List, [], ◌∷◌, ◌++◌, map, Some, refl, ap, ◌∙◌, subst, arith}
 use Rattle.std.specs.Prelude.{◌≢◌, slice_get, flat_map}
-use Rattle.v_design.specs.Lists.{AllHold, joined, map_numbered}
+use Rattle.vf_base.specs.Lists.{AllHold, joined, map_numbered}
 use Rattle.v_design.specs.Expressions.{up_from}
 use Rattle.v_design.specs.Sites.{AllDiffer}
 use Rattle.graph_order.specs.ListLaws.{AllHold-slice_get}

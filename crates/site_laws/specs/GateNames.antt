@@ -3,7 +3,7 @@ use Rattle.std.proofs.Common.{◌≡◌, ℕ, ◌+◌, ◌≤◌, Bool, true, fa
 use Rattle.std.specs.Prelude.{slice_get, sum_by}
 use Rattle.std.proofs.lemmas.List.Sorted.{sum_by-IsPermutation}
 use Rattle.std.proofs.lemmas.List.Sums.{sum_by-cons, sum_by-append}
-use Rattle.v_design.specs.Lists.{map_numbered, joined}
+use Rattle.vf_base.specs.Lists.{map_numbered, joined}
 use Rattle.v_design.specs.Designs.{FlatNodeKind, AssignNode, GateNode, BlockNode, FlatNode, FlatDesign}
 use Rattle.v_design.specs.Sites.{terminal_count}
 use Rattle.v_tree.specs.Trees.{Identifier, SourceModule, same_name}

@@ -2,7 +2,7 @@
 -- processes, clause 12 for the hierarchy).
 use Rattle.std.proofs.Common.{◌≡◌, ◌<◌, ◌≤◌, [], length, Ok}
 use Rattle.std.specs.Prelude.{IsTrue}
-use Rattle.v_design.specs.Lists.{has, without_repeats, AllHold}
+use Rattle.vf_base.specs.Lists.{has, without_repeats, AllHold}
 use Rattle.v_design.specs.CombinationalForm.{WritesOutputs}
 use Rattle.v_design.specs.Designs.{FlatNode, FlatProcess, FlatDesign}
 use Rattle.v_design.specs.Paths.{net_pieces}

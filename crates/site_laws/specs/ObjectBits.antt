@@ -1,7 +1,7 @@
 -- The bits of the objects of a walk: each has its name and its declared index, and no two are the same (IEEE 1364-2001, clause 3.2 for nets and variables; that a bit has a name is own).
 use Rattle.std.proofs.Common.{◌≡◌, ℕ, ◌+◌, ◌<◌, ◌≤◌, ◌^◌, Bool, true, false, List, [], ◌∷◌, ◌++◌, map, Some, refl, sym, ap, ◌∙◌, subst, arith}
 use Rattle.std.specs.Prelude.{slice_get}
-use Rattle.v_design.specs.Lists.{AllHold}
+use Rattle.vf_base.specs.Lists.{AllHold}
 use Rattle.v_design.specs.Designs.{FlatObject, FlatDesign}
 use Rattle.v_design.specs.Sites.{index_of_bit, index_text}
 use Rattle.v_design.specs.declared.logic.ObjectKind.{ObjectKind}

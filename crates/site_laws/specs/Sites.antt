@@ -3,7 +3,7 @@
 use Rattle.std.proofs.Common.{◌≡◌, ℕ, zero, suc, ◌+◌, ◌<◌, ◌≤◌, ◌^◌, Bool, true, false, List, [], ◌∷◌, ◌++◌, map, Some, refl, sym, ap, ◌∙◌, subst, inl, inr, arith}
 use Rattle.std.specs.Prelude.{◌≢◌, IsTrue, decimal, filter, get_or, slice_get}
 use Rattle.std.proofs.lemmas.Bool.{cases_Bool, cases_lt, cond-true, cond-false}
-use Rattle.v_design.specs.Lists.{has, joined, map_numbered, AllHold}
+use Rattle.vf_base.specs.Lists.{has, joined, map_numbered, AllHold}
 use Rattle.v_design.specs.Expressions.{up_from}
 use Rattle.v_design.specs.Designs.{FlatObject, FlatNode, FlatDesign, width_in, FaultSite, VariableBit, OutputBit, GateTerminal}
 use Rattle.v_design.specs.Paths.{is_net, numbers_of, net_pieces}

@@ -6,7 +6,7 @@ use Rattle.std.proofs.lemmas.Fmt.{decimal_injective, decimal_is_IsNumeral}
 use Rattle.std.proofs.lemmas.List.{append_assoc, append_cancel_left, append_cancel_right}
 use Rattle.std.proofs.lemmas.Str.Parse.{digit_from_value}
 use Rattle.std.specs.Str.Parse.{AllDigits}
-use Rattle.v_design.specs.Lists.{AllHold}
+use Rattle.vf_base.specs.Lists.{AllHold}
 use Rattle.v_design.specs.Sites.{index_text}
 use Rattle.flat_laws.specs.Numbered.{AllHold-each, AllHold-append}
 use Rattle.flat_laws.specs.Spelled.{IsSpelled}

@@ -5,7 +5,7 @@ use Rattle.std.proofs.lemmas.Bool.{eqb-true, ne_eqb, eq-eqb}
 use Rattle.std.proofs.lemmas.List.{take_more, map_push}
 use Rattle.vf_base.specs.Base.{object_number, node_number}
 use Rattle.vf_base.specs.declared.ids.ObjectId.{ObjectId}
-use Rattle.v_design.specs.Lists.{has, first_place, earlier_place}
+use Rattle.vf_base.specs.Lists.{has, first_place, earlier_place}
 use Rattle.key_index.specs.Places.{later}
 
 pub noted-one : {N : Type 0} (drivers : List (Option N)) (place object : ℕ) (node : N) → place < length drivers → get_or (set drivers place (Some node)) object None ≡ cond (nat_eq place object) (Some node) (get_or drivers object None)

@@ -8,7 +8,7 @@ use Rattle.std.specs.Str.{bytes_eq}
 use Rattle.std.proofs.lemmas.Bool.{ne_eqb, false≢true, or_right}
 use Rattle.std.proofs.lemmas.Fmt.{decimal-digits_of}
 use Rattle.std.proofs.lemmas.Slice.Eq.{bytes_eq-Decides}
-use Rattle.v_design.specs.Lists.{has}
+use Rattle.vf_base.specs.Lists.{has}
 use Rattle.v_design.specs.Designs.{FlatObject, FlatNode, NameJoined, FlatDesign, FaultSite, GateTerminal}
 use Rattle.v_design.specs.Expressions.{up_from}
 use Rattle.v_design.specs.Sites.{index_of_bit, index_text, bit_name, terminal_name}

@@ -1,6 +1,6 @@
 -- The part of a word that names an object or a gate (the forms of names are this program's own).
 use Rattle.std.specs.Prelude.{ℕ, List, [], ◌∷◌, nat_eq, if◌then◌else◌}
-use Rattle.v_design.specs.Lists.{has}
+use Rattle.vf_base.specs.Lists.{has}
 use Rattle.v_design.specs.Designs.{FlatObject, FlatNode, NameJoined}
 
 -- the bytes before the first `[` (91)

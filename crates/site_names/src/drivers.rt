@@ -2,7 +2,7 @@
 
 ghost use Rattle.std.specs.Prelude.{◌≡◌, ◌<◌, ℕ, Some, None, IfOk, map, length, vec_len, slice_index_or, option_map, nat_eq, if◌then◌else◌};
 ghost use Rattle.vf_base.specs.Base.{object_number, node_number};
-ghost use Rattle.v_design.specs.Lists.{has};
+ghost use Rattle.vf_base.specs.Lists.{has};
 ghost use Rattle.v_design.specs.PlainDesigns.{design_of};
 ghost use Rattle.fault_list.specs.Spelled.{driver_of};
 

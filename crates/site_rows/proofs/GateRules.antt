@@ -4,7 +4,7 @@ use Rattle.std.specs.Prelude.{Some, slice_get, IsTrue, codes}
 use Rattle.std.proofs.lemmas.Fmt.{decimal_digit}
 use Rattle.four_value.specs.declared.operator.GateKind.{GateKind}
 use Rattle.four_value.specs.declared.operator.GateKind.TheVariants.{Nand, Xor}
-use Rattle.v_design.specs.Lists.{has, AllHold}
+use Rattle.vf_base.specs.Lists.{has, AllHold}
 use Rattle.v_design.specs.Designs.{FlatObject, FlatNode}
 use Rattle.v_design.specs.declared.plan.Object.{Object}
 use Rattle.v_design.specs.declared.plan.JoinedName.{JoinedName}

@@ -2,7 +2,7 @@
 use Rattle.std.proofs.Common.{◌≡◌, ℕ, ◌+◌, ◌<◌, ◌≤◌, List, [], ◌∷◌, true, false, map, refl, sym, subst, arith, lit<}
 use Rattle.std.specs.Prelude.{Some, slice_get, IsTrue}
 use Rattle.std.proofs.lemmas.Fmt.{decimal_digit}
-use Rattle.v_design.specs.Lists.{has, AllHold}
+use Rattle.vf_base.specs.Lists.{has, AllHold}
 use Rattle.v_design.specs.Designs.{FlatObject, NameJoined, FlatNode}
 use Rattle.v_design.specs.declared.plan.Object.{Object}
 use Rattle.v_design.specs.declared.plan.JoinedName.{JoinedName}

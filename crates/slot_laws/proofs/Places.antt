@@ -2,7 +2,7 @@
 use Rattle.std.proofs.Common.{◌≡◌, ℕ, zero, suc, ◌+◌, ◌<◌, List, [], ◌∷◌, Bool, true, false, not, ◌&&◌, ◌||◌, refl, ap, subst, ◌∙◌, arith}
 use Rattle.std.specs.Prelude.{Option, Some, None, slice_get, is_some}
 use Rattle.four_value.specs.Values.{LogicValue}
-use Rattle.v_design.specs.Lists.{first_place, earlier_place, change_at}
+use Rattle.vf_base.specs.Lists.{first_place, earlier_place, change_at}
 use Rattle.v_design.specs.States.{State, ProcessState, NodeState, Event, Evaluation, NetUpdate, found_or, idle_node, has_event, has_work, some_in, is_ready, is_any, is_quiescent}
 use Rattle.v_design.specs.Runs.{least_work, work_of}
 use Rattle.slot_laws.specs.SlotLoop.{IsIdle, first_lane, first_ready}

@@ -2,7 +2,7 @@
 use Rattle.std.specs.Prelude.{◌≡◌, ℕ, ◌+◌, ◌≤◌, Bool, true, false, List, [], ◌∷◌, ◌++◌, length, Option, Some, None, IsTrue, slice_get, sum_by}
 use Rattle.std.specs.Option.{option_map}
 use Rattle.vf_base.specs.Base.{ReportedPair}
-use Rattle.v_design.specs.Lists.{first_place}
+use Rattle.vf_base.specs.Lists.{first_place}
 use Rattle.v_design.specs.Designs.{FlatNode, Machine}
 use Rattle.v_design.specs.States.{State, ProcessState, Event, Step, LaneStep, Evaluation, NetUpdate, TurnKind, TimeTurn, after, is_ready, is_any, turn_of, turned, time_turn}
 use Rattle.v_design.specs.Runs.{Move, Turns, FirstSlot, work_of, first_event, turn_in_slot, all_made, counted_steps, slot_moves, most_steps, first_moves, slot_end, is_hyper, happened, all_possible}

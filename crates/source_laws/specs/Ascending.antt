@@ -3,7 +3,7 @@ use Rattle.std.proofs.Common.{◌≡◌, ℕ, ◌+◌, ◌<◌, Bool, true, List
 use Rattle.std.specs.Prelude.{◌==◌}
 use Rattle.std.proofs.lemmas.Bool.{cases_Bool, cond-true, cond-false}
 use Rattle.vf_base.specs.declared.ids.Place.{Place}
-use Rattle.v_design.specs.Lists.{AllHold}
+use Rattle.vf_base.specs.Lists.{AllHold}
 use Rattle.v_tree.specs.declared.token.Mark.{Mark}
 use Rattle.v_tree.specs.declared.token.Mark.TheVariants as marks
 use Rattle.v_tree.specs.Tokens.{SourceToken}

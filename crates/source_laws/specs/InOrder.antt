@@ -1,7 +1,7 @@
 -- A list that stands in another one in its order, and lists whose elements are in order (nothing of the language).
 use Rattle.std.proofs.Common.{◌≡◌, ℕ, zero, suc, ◌<◌, ◌≤◌, List, [], ◌∷◌, ◌++◌, length, map, Some, refl, sym, ap, subst, ◌⊎◌, inl, inr, arith}
 use Rattle.std.specs.Prelude.{slice_get}
-use Rattle.v_design.specs.Lists.{AllHold}
+use Rattle.vf_base.specs.Lists.{AllHold}
 use Rattle.flat_laws.specs.Lists.{same_some}
 use Rattle.graph_order.specs.ListLaws.{AllHold-slice_get}
 

@@ -1,7 +1,7 @@
 -- The modules and items of a spelled unit each have tokens of their own among those of the unit (IEEE 1364-2001, annexes A.1.3 and A.1.5).
 use Rattle.std.proofs.Common.{◌≡◌, ℕ, zero, suc, ◌≤◌, List, [], ◌∷◌, ◌++◌, map, Some, sym, ap, subst, arith}
 use Rattle.std.specs.Prelude.{slice_get}
-use Rattle.v_design.specs.Lists.{AllHold}
+use Rattle.vf_base.specs.Lists.{AllHold}
 use Rattle.v_tree.specs.Tokens.{SourceToken}
 use Rattle.v_tree.specs.Trees.{SourceItem, ParameterItem, PortItem, SourceHeads, PlainHeads, DeclaredHeads, SourceParameters, SourcePorts, SourceModule, SourceUnit}
 use Rattle.v_read.specs.declared.class.Class.TheVariants as classes

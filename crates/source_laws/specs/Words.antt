@@ -4,7 +4,7 @@ use Rattle.std.specs.Prelude.{◌==◌, nat_le, ◌&&◌, ◌||◌}
 use Rattle.std.proofs.lemmas.Bool.{or_cases, eqb-true, leb-true}
 use Rattle.vf_base.specs.declared.ids.Place.{Place}
 use Rattle.vf_base.specs.declared.limits.TheConstants.{MAX_DESIGN_BYTES}
-use Rattle.v_design.specs.Lists.{AllHold}
+use Rattle.vf_base.specs.Lists.{AllHold}
 use Rattle.v_tree.specs.declared.token.TokenKind.{TokenKind}
 use Rattle.v_tree.specs.declared.token.TokenKind.TheVariants as kinds
 use Rattle.v_tree.specs.Tokens.{SourceToken}

@@ -1,7 +1,7 @@
 // The grader of a fault.
 
 ghost use Rattle.std.specs.Prelude.{◌≡◌, ℕ, List, [], ◌∷◌, ◌++◌, map, length, IsTrue, IsSome, ◌↔◌, None};
-ghost use Rattle.v_design.specs.Lists.{AllHold};
+ghost use Rattle.vf_base.specs.Lists.{AllHold};
 ghost use Rattle.v_design.specs.Grades.{Samples, is_hard, is_possible, some_sample, samples, verdict_by};
 ghost use Rattle.v_design.specs.Grades.{verdict as verdict_of};
 ghost use Rattle.vf_base.specs.Base.{watched_bit};

@@ -1,7 +1,7 @@
 // Watched bits that are kept, and compared with a machine at a strobe.
 
 ghost use Rattle.std.specs.Prelude.{◌≡◌, ◌<◌, length, map, IfOk};
-ghost use Rattle.v_design.specs.Lists.{AllHold};
+ghost use Rattle.vf_base.specs.Lists.{AllHold};
 ghost use Rattle.v_design.specs.Grades.{is_hard as is_hard_pair, is_possible as is_possible_pair, some_sample, samples};
 ghost use Rattle.vf_base.specs.Base.{watched_bit};
 ghost use Rattle.strobe_detect.specs.Graders.{IsWatched};

@@ -1,6 +1,6 @@
 -- What an assignment writes, and the function of a node (IEEE 1364-2001, clause 6 and clause 9.2; gates by clause 7).
 use Rattle.std.specs.Prelude.{◌≡◌, ℕ, ◌+◌, Bool, true, false, ◌||◌, List, [], ◌∷◌, map, length, Option, Some, None, get_or, slice_get, sum_by, fold}
-use Rattle.v_design.specs.Lists.{zip_with, change_at, map_numbered}
+use Rattle.vf_base.specs.Lists.{zip_with, change_at, map_numbered}
 use Rattle.four_value.specs.Bits.{and_bit, or_bit, xor_bit, not_bit}
 use Rattle.four_value.specs.Values.{LogicValue, bit_at, natural_number, is_true, part_of, with_part, reduced}
 use Rattle.four_value.specs.Operators.{label_matches}

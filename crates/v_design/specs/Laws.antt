@@ -1,7 +1,7 @@
 -- The laws of settling nets and of exchanging events, and the headline: what a report says of every legal order (IEEE 1364-2001, clause 5).
 use Rattle.std.specs.Prelude.{◌≡◌, ◌≢◌, ℕ, ◌+◌, ◌<◌, ◌≤◌, Bool, true, false, not, ◌&&◌, ◌||◌, List, [], ◌∷◌, ◌++◌, map, filter, length, Option, Some, None, IsTrue, slice_get, nat_eq, nat_le, sum_by}
 use Rattle.std.specs.List.{AllZip, list_any}
-use Rattle.v_design.specs.Lists.{has, AllHold}
+use Rattle.vf_base.specs.Lists.{has, AllHold}
 use Rattle.four_value.specs.Values.{LogicValue, same_value}
 use Rattle.vf_base.specs.Base.{WatchedBit}
 use Rattle.v_design.specs.Designs.{FlatObject, FlatNode, FlatDesign, Machine, StuckAt, TestPlan, good_machine, faulty_machine}

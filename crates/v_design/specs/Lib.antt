@@ -1,4 +1,3 @@
-pub mod Lists
 pub mod Trees
 pub mod Expressions
 pub mod Designs
@@ -24,3 +23,4 @@ pub mod PlainDesigns
 pub mod Views
 pub mod PlainLemmas
 pub mod RulesHold
+pub mod Findings

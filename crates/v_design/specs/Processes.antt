@@ -1,6 +1,6 @@
 -- The steps of a process, by cases over the rest of its statement (IEEE 1364-2001, clause 9).
 use Rattle.std.specs.Prelude.{ℕ, zero, suc, ◌+◌, Bool, true, false, List, [], ◌∷◌, map, Option, Some, None}
-use Rattle.v_design.specs.Lists.{has}
+use Rattle.vf_base.specs.Lists.{has}
 use Rattle.vf_base.specs.Base.{SourcePlace}
 use Rattle.four_value.specs.Values.{LogicValue, natural_number, is_true}
 use Rattle.v_design.specs.Trees.{Piece, Expression, Target, Entry, Statement, Null, Block, If, Case, For, While, Repeat, Forever, Delay, EventControl, Wait, Blocking, Nonblocking, Finish, Statements, no_statements, more_statements, CaseItems, no_items, more_items}

@@ -1,7 +1,7 @@
 -- The sites of faults, how they are spelled, and which faults of a gate are equivalent (gates by IEEE 1364-2001, clause 7).
 use Rattle.std.specs.Prelude.{◌≢◌, ℕ, ◌+◌, ◌-◌, Bool, true, false, not, ◌&&◌, ◌||◌, IsTrue, List, [], ◌∷◌, ◌++◌, map, filter, Option, Some, None, nat_le, nat_eq, slice_get}
 use Rattle.std.specs.Prelude.{decimal}
-use Rattle.v_design.specs.Lists.{joined, map_numbered, has, AllHold}
+use Rattle.vf_base.specs.Lists.{joined, map_numbered, has, AllHold}
 use Rattle.v_design.specs.Trees.{Expressions, no_expressions, more_expressions}
 use Rattle.v_design.specs.Expressions.{up_from}
 use Rattle.v_design.specs.Paths.{net_pieces}

@@ -1,6 +1,7 @@
 -- Sizes and signs: those of what stands together agree (IEEE 1364-2001, clause 4.4 and clause 4.5; bounds and indexes by clause 3.3 and clause 3.10).
 use Rattle.std.specs.Prelude.{◌≡◌, ℕ, ◌+◌, ◌-◌, ◌*◌, ◌≤◌, ◌<◌, min, max, Bool, false, List, [], ◌∷◌, length, sum_by, Option, Some, None}
-use Rattle.v_design.specs.Lists.{AllHold}
+use Rattle.vf_base.specs.Lists.{AllHold}
+use Rattle.vf_base.specs.declared.limits.TheConstants.{MAX_BITS}
 use Rattle.v_design.specs.Trees.{Piece, Vector, Memory, Variable, Expression, Constant, Name, BitSelect, PartSelect, WordSelect, Unary, Binary, Conditional, Concatenation, Replication, Expressions, no_expressions, more_expressions, Target, WholeTarget, BitTarget, PartTarget, WordTarget, Entry, Statement, Null, Block, If, Case, For, While, Repeat, Forever, Delay, EventControl, Wait, Blocking, Nonblocking, Finish, Statements, no_statements, more_statements, CaseItems, no_items, more_items}
 use Rattle.v_design.specs.Expressions.{width_of, sign_of}
 use Rattle.v_design.specs.Assignments.{part_width, targets_width}
@@ -109,7 +110,7 @@ abbrev mutual
 
 -- the most bits of a vector
 abbrev pub most_bits : ℕ
-most_bits = 128
+most_bits = MAX_BITS
 
 -- an expression is sized alone
 abbrev pub IsAlone : Expression → Type 0

@@ -1,8 +1,9 @@
 -- What every flat design keeps (IEEE 1364-2001, clause 4 for expressions, clause 6 for assignments, clause 7 for gates, clause 9 for processes).
-use Rattle.std.specs.Prelude.{◌≡◌, ℕ, ◌+◌, ◌<◌, ◌≤◌, max, Bool, false, List, [], ◌∷◌, filter, fold, length, Option, Some, None, IsTrue, slice_get, map, nat_eq, suc, zero}
+use Rattle.std.specs.Prelude.{◌≡◌, ℕ, ◌+◌, ◌<◌, ◌≤◌, Bool, false, List, [], ◌∷◌, filter, length, Option, Some, None, IsTrue, slice_get, map, nat_eq, suc, zero}
 use Rattle.std.specs.List.{list_all, list_any, AllZip, Contains}
 use Rattle.vf_base.specs.Base.{WatchedBit}
-use Rattle.v_design.specs.Lists.{has, without_repeats, AllHold}
+use Rattle.vf_base.specs.Lists.{has, without_repeats, AllHold, greatest}
+use Rattle.vf_base.specs.declared.limits.TheConstants.{MAX_LEVELS, MAX_OBJECTS, MAX_INPUTS, MAX_END, MAX_STROBES, MAX_WATCHED, MAX_FAULTS}
 use Rattle.v_design.specs.Trees.{Piece, Expressions, no_expressions, more_expressions, Entry}
 use Rattle.v_design.specs.Expressions.{width_of}
 use Rattle.v_design.specs.Designs.{FlatObject, NameJoined, FlatNodeKind, AssignNode, GateNode, BlockNode, FlatNode, FlatProcess, FlatDesign, width_in, StuckAt, TestPlan}
@@ -65,15 +66,15 @@ levels_of_node (BlockNode statement) = levels_of_statement statement
 
 -- the most levels of a statement or an expression
 abbrev pub most_levels : ℕ
-most_levels = 256
+most_levels = MAX_LEVELS
 
 -- the most objects, nodes and processes, each counted alone
 abbrev pub most_parts : ℕ
-most_parts = 65536
+most_parts = MAX_OBJECTS
 
 -- the most inputs of one node
 abbrev pub most_inputs : ℕ
-most_inputs = 4096
+most_inputs = MAX_INPUTS
 
 -- an object has the bits that its bounds span, and a first content of its width
 abbrev pub IsSizedObject : FlatObject → Type 0
@@ -88,10 +89,6 @@ IsSizedName design name = IsTrue (have_widths design name.vector.pieces) × (pie
 -- whether an output of one node is an input of another
 abbrev pub feeds : FlatNode → FlatNode → Bool
 feeds driver reader = list_any (has reader.inputs) driver.outputs
-
--- the greatest of some numbers, 0 of none
-abbrev pub greatest : List ℕ → ℕ
-greatest numbers = fold max 0 numbers
 
 -- the rank of a node, looking back over at most so many nodes
 abbrev pub rank_within : ℕ → List FlatNode → FlatNode → ℕ
@@ -168,12 +165,12 @@ IsAscending (time ∷ times) = AllHold (λ later. time < later) times × IsAscen
 -- what every plan keeps
 pub record IsPlan (plan : TestPlan) : Type 0 where
   -- the strobes ascend to the end at most
-  pub end : plan.end ≤ 1000000000000
+  pub end : plan.end ≤ MAX_END
   pub ascending : IsAscending plan.strobes
   pub in_time : AllHold (λ strobe. strobe ≤ plan.end) plan.strobes
-  pub few_strobes : length plan.strobes ≤ 65536
-  pub few_watched : length plan.watched ≤ 4096
-  pub few_faults : length plan.faults ≤ 65536
+  pub few_strobes : length plan.strobes ≤ MAX_STROBES
+  pub few_watched : length plan.watched ≤ MAX_WATCHED
+  pub few_faults : length plan.faults ≤ MAX_FAULTS
 
 -- a plan is one of a design: what is watched and what is held are bits of the design
 pub record IsPlanOf (design : FlatDesign) (plan : TestPlan) : Type 0 where

@@ -1,6 +1,6 @@
 -- The objects that a process in some state is still to write, as far as its tasks and updates say (IEEE 1364-2001, clause 9.2).
 use Rattle.std.specs.Prelude.{◌≡◌, ℕ, false, List, [], ◌∷◌, ◌++◌, Option, Some, None, IsTrue}
-use Rattle.v_design.specs.Lists.{has}
+use Rattle.vf_base.specs.Lists.{has}
 use Rattle.v_design.specs.Assignments.{ValueUpdate}
 use Rattle.v_design.specs.Designs.{FlatDesign}
 use Rattle.v_design.specs.Paths.{net_pieces}

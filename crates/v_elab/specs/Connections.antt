@@ -1,6 +1,7 @@
 -- Connections of an instance: parameters and ports (IEEE 1364-2001, clause 12.2.2 and clause 12.3; that a port and a whole net or variable of equal width are one object is own).
 use Rattle.std.specs.Prelude.{ℕ, ◌+◌, Bool, true, false, not, ◌&&◌, List, [], ◌∷◌, ◌++◌, map, filter, flat_map, Option, Some, None, slice_get, nat_eq, nat_lt}
 use Rattle.vf_base.specs.Base.{SourcePlace}
+use Rattle.vf_base.specs.declared.limits.TheConstants.{MAX_DEPTH}
 use Rattle.four_value.specs.declared.logic.Bit.TheVariants.{Zero}
 use Rattle.v_tree.specs.declared.item.Direction.{Direction}
 use Rattle.v_tree.specs.declared.item.Direction.TheVariants.{Input, Output}
@@ -16,7 +17,7 @@ use Rattle.v_elab.specs.Parts.{Joining, Drive, Part, AssignPart}
 
 -- the greatest depth of an instance; the top stands at 0
 abbrev pub most_depth : ℕ
-most_depth = 64
+most_depth = MAX_DEPTH
 
 -- Parameters
 

@@ -2,7 +2,7 @@
 use Rattle.std.specs.Prelude.{ℕ, zero, suc, ◌+◌, Bool, true, false, not, ◌&&◌, ◌||◌, List, [], ◌∷◌, ◌++◌, map, filter, flat_map, length, Option, Some, None, nat_eq, nat_le}
 use Rattle.std.specs.List.{list_all, list_any}
 use Rattle.vf_base.specs.Base.{SourcePlace}
-use Rattle.v_design.specs.Lists.{map_numbered, joined}
+use Rattle.vf_base.specs.Lists.{map_numbered, joined}
 use Rattle.v_design.specs.Expressions.{up_from}
 use Rattle.four_value.specs.declared.operator.GateKind.{GateKind}
 use Rattle.v_tree.specs.declared.item.Direction.{Direction}

@@ -2,6 +2,7 @@
 use Rattle.std.specs.Prelude.{ℕ, Bool, true, false, not, ◌&&◌, ◌||◌, List, [], ◌∷◌, ◌++◌, Option, Some, None, nat_lt}
 use Rattle.std.specs.List.{list_all, list_any}
 use Rattle.vf_base.specs.Base.{SourcePlace}
+use Rattle.vf_base.specs.declared.limits.TheConstants.{MAX_BOUND, MAX_ADDRESS, MAX_DELAY}
 use Rattle.four_value.specs.Bits.{is_unknown}
 use Rattle.four_value.specs.Values.{some_bit, number_of, natural_number}
 use Rattle.v_tree.specs.Trees.{SourceExpression, Number, Selected, Parenthesised, Prefixed, Infixed, Chosen, Concatenated, Replicated, SourceIndex, NoIndex, IndexAt, IndexRange, SourceExpressions, no_parts, more_parts, SourceSelect, SourceRange, place_of_expression, names_in}
@@ -24,13 +25,13 @@ pub data ConstantPlace : Type 0 where
 
 -- the most of a bound, of a bound of a memory, and of a delay
 abbrev pub most_bound : ℕ
-most_bound = 65536
+most_bound = MAX_BOUND
 
 abbrev pub most_address : ℕ
-most_address = 1048575
+most_address = MAX_ADDRESS
 
 abbrev pub most_delay : ℕ
-most_delay = 4294967295
+most_delay = MAX_DELAY
 
 abbrev pub exceeds : ℕ → Option ℕ → Bool
 exceeds limit None = true

@@ -1,6 +1,7 @@
 -- The scope of a module with given parameters (IEEE 1364-2001, clause 12.2 for parameters, clause 12.3 for ports, clause 12.5 for scopes).
 use Rattle.std.specs.Prelude.{ℕ, zero, suc, ◌+◌, Bool, true, false, not, ◌&&◌, ◌||◌, List, [], ◌∷◌, ◌++◌, map, filter, length, flat_map, Option, Some, None, Result, nat_lt, nat_eq, if◌then◌else◌}
 use Rattle.vf_base.specs.Base.{SourcePlace}
+use Rattle.vf_base.specs.declared.limits.TheConstants.{MAX_KEPT_BOUND}
 use Rattle.four_value.specs.Values.{resized}
 use Rattle.v_design.specs.Sized.{span, most_bits}
 use Rattle.v_tree.specs.declared.item.Direction.{Direction}
@@ -194,7 +195,7 @@ parameter_of scope signed bounds value None =
 
 -- a bound of a net, a variable or a memory is kept as a number of 32 bits; a greater one is refused, and counts as 0
 abbrev pub most_kept : ℕ
-most_kept = 4294967295
+most_kept = MAX_KEPT_BOUND
 
 abbrev pub kept_bound : ℕ → ℕ
 kept_bound n = if nat_lt most_kept n then 0 else n

@@ -15,10 +15,7 @@ use crate::modules::unit;
 use std::alloc::Global;
 use v_read::{Class, Lexeme, Stop, lexemes};
 use v_tree::{Mark, Token, TokenKind, Unit};
-use vf_base::{NoMemory, Place, Text};
-
-/// How many levels may stand below an outermost expression or statement, which is level 1 of 256.
-const MOST_BELOW: u32 = 255;
+use vf_base::{MAX_LEVELS_BELOW, NoMemory, Place, Text};
 
 /// The place behind the last token, or the beginning of a text without tokens.
 fn end_place(tokens: &[Token]) -> Place
@@ -53,7 +50,7 @@ fn goes_on(alloc: Global, front: &[Token], next: &Token) -> Result<bool, NoMemor
 {
     let mut lexemes = lexemes(alloc, front)?;
     lexemes.push(Lexeme::new(next))?;
-    match unit(alloc, &lexemes, MOST_BELOW) {
+    match unit(alloc, &lexemes, MAX_LEVELS_BELOW) {
         Ok(_) => Ok(true),
         Err(Stop::Wrong(rest)) => Ok(rest.is_empty()),
         Err(Stop::Deep(_)) => Ok(true),
@@ -135,7 +132,7 @@ pub fn parse(alloc: Global, tokens: &[Token]) -> Result<Unit, ParseFault>
     ensures fault { IfErr result (IsFault 255 tokens.now) }
 {
     let lexemes = lexemes(alloc, tokens)?;
-    match unit(alloc, &lexemes, MOST_BELOW) {
+    match unit(alloc, &lexemes, MAX_LEVELS_BELOW) {
         Ok((unit, _)) => Ok(unit),
         Err(Stop::Wrong(rest)) => Err(refusal(alloc, tokens, rest)),
         Err(Stop::Deep(rest)) => Err(ParseFault::TooDeep(place_at(tokens, rest))),

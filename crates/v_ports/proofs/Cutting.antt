@@ -5,7 +5,7 @@ use Rattle.std.proofs.Math.Seq.{drop-cons, drop-nil}
 use Rattle.std.proofs.lemmas.Bool.{cases_eq, eq-eqb, ne_eqb}
 use Rattle.std.proofs.lemmas.List.{get_or-set_same, get_or-set_other, length-set, map-append}
 use Rattle.v_design.specs.Expressions.{up_from}
-use Rattle.v_design.specs.Lists.{has}
+use Rattle.vf_base.specs.Lists.{has}
 use Rattle.vf_base.specs.Base.{SourcePlace, source_place}
 use Rattle.v_ports.specs.Pieces.{DrivenRun, lesser_if, least_among, SecondDriver, second_if, second_driver, driver_of_bit, CutPiece, same_driver, grown_or_new, bit_before, pieces_from, pieces_of, DriveOfRun, run_of_drive, unless_second, cut_pieces}
 use Rattle.v_ports.specs.declared.cut.Drive.{Drive}

@@ -4,7 +4,7 @@ use Rattle.std.proofs.Math.Seq.{drop-cons}
 use Rattle.std.proofs.lemmas.Bool.{cases_eq, eq-eqb, ne_eqb}
 use Rattle.std.proofs.lemmas.List.{get_or-replicate, get_or-set_same, get_or-set_other, length-set, map-append}
 use Rattle.v_design.specs.Expressions.{up_from}
-use Rattle.v_design.specs.Lists.{has}
+use Rattle.vf_base.specs.Lists.{has}
 use Rattle.vf_base.specs.Base.{SourcePlace, source_place}
 use Rattle.vf_base.specs.declared.ids.Place.{Place}
 use Rattle.v_names.specs.Faults.{Fault, BadConnection, first_fault, fault_at}

@@ -9,7 +9,7 @@ use Rattle.four_value.specs.declared.logic.Bit.{Bit}
 use Rattle.four_value.specs.declared.logic.Bit.TheVariants.{Zero, One, X, Z}
 use Rattle.four_value.specs.declared.logic.Edge.{Edge}
 use Rattle.four_value.specs.declared.logic.Edge.TheVariants.{Any, Pos, Neg}
-use Rattle.v_design.specs.Lists.{has, joined, map_numbered, change_at, AllHold, without_repeats, fresh_only}
+use Rattle.vf_base.specs.Lists.{has, joined, map_numbered, change_at, AllHold, without_repeats, fresh_only}
 use Rattle.v_design.specs.Trees.{Entry}
 use Rattle.v_design.specs.Designs.{FlatNode, FlatDesign, Machine}
 use Rattle.v_design.specs.Paths.{net_pieces}

@@ -18,8 +18,9 @@ pub use finding::{Access, AccessKind, End, Finding, Pair, Side};
 pub use gate::{Gate, HeldGate, OpenGate};
 pub use ids::{FaultId, NodeId, ObjectId, Place, ProcId, WatchBit};
 pub use limits::{
-    MAX_BITS, MAX_DELAY, MAX_DEPTH, MAX_DESIGN_BYTES, MAX_END, MAX_FAULTS, MAX_INPUTS, MAX_LEVELS,
-    MAX_OBJECTS, MAX_PLAN_BYTES, MAX_SLOT_STEPS, MAX_STROBES, MAX_WATCHED, MAX_WORKERS,
+    MAX_ADDRESS, MAX_BITS, MAX_BOUND, MAX_DELAY, MAX_DEPTH, MAX_DESIGN_BYTES, MAX_END, MAX_FAULTS,
+    MAX_INPUTS, MAX_KEPT_BOUND, MAX_LEVELS, MAX_LEVELS_BELOW, MAX_NESTED_MODULES, MAX_OBJECTS,
+    MAX_PLAN_BYTES, MAX_SLOT_STEPS, MAX_SOAK_SIZE, MAX_STROBES, MAX_WATCHED, MAX_WORKERS,
     SHARD_FAULTS, WINDOW_SLOTS, WINDOW_STEPS,
 };
 pub use list::Seq;
@@ -27,6 +28,3 @@ pub use shelf::{FolderShelf, MemShelf, Shelf, ShelfFault};
 pub use sink::{MemSink, OutSink, Sink, SinkFault};
 pub use steps::Steps;
 pub use text::{NoMemory, Text};
-
-#[cfg(test)]
-mod tests;

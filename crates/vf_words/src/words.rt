@@ -6,10 +6,7 @@ ghost use Rattle.vf_words.specs.Forms.{plain_source, plain_form};
 
 use crate::number::number_between;
 use v_elab::Mode;
-use vf_base::MAX_WORKERS;
-
-/// The most registers of a generated design.
-const MAX_SIZE: u32 = 4_000;
+use vf_base::{MAX_SOAK_SIZE, MAX_WORKERS};
 
 /// A design: its file, the name of its top module, and whether its blocks may be nodes.
 #[derive(Clone, Copy, Debug)]
@@ -100,7 +97,7 @@ fn soak_form<'w>(number: &str, size: &str, workers: &str) -> Option<Form<'w>>
     ensures { option_map plain_form result ≡ soak_form (seed_of number.now) (size_of size.now) (workers_of workers.now) }
 {
     let number = number_between(number, 0, u32::MAX)?;
-    let size = number_between(size, 1, MAX_SIZE)?;
+    let size = number_between(size, 1, MAX_SOAK_SIZE)?;
     let workers = workers_of(workers)?;
     Some(Form::Soak {
         number,

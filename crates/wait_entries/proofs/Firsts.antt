@@ -5,7 +5,7 @@ use Rattle.std.proofs.lemmas.Bool.{eq-eqb, eqb-true}
 use Rattle.std.proofs.lemmas.List.{append_assoc, drop_all}
 use Rattle.vf_base.specs.declared.ids.ObjectId.{ObjectId}
 use Rattle.vf_base.specs.Base.{object_number}
-use Rattle.v_design.specs.Lists.{has, fresh_only, without_repeats}
+use Rattle.vf_base.specs.Lists.{has, fresh_only, without_repeats}
 use Rattle.wait_entries.specs.ObjectLists.{with_object, with_objects}
 
 -- two tests that hold together are one

@@ -1,6 +1,6 @@
 -- Objects in an order, each once (nothing of the language).
 use Rattle.std.specs.Prelude.{ℕ, cond, List, [], ◌∷◌, ◌++◌}
-use Rattle.v_design.specs.Lists.{has}
+use Rattle.vf_base.specs.Lists.{has}
 
 -- an object put behind others, unless it is among them
 abbrev pub with_object : List ℕ → ℕ → List ℕ

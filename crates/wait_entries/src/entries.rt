@@ -2,7 +2,7 @@
 
 ghost use Rattle.std.specs.Prelude.{◌≡◌, ◌+◌, ◌<◌, ◌^◌, [], ◌∷◌, Some, None, IfOk, IfSome, IfNone, map};
 ghost use Rattle.vf_base.specs.Base.{object_number};
-ghost use Rattle.v_design.specs.Lists.{without_repeats};
+ghost use Rattle.vf_base.specs.Lists.{without_repeats};
 ghost use Rattle.v_design.specs.Plain.{piece_of, entry_of};
 ghost use Rattle.v_design.specs.Expressions.{up_from};
 ghost use Rattle.v_elab.specs.Statements.{run_within, entry_on, entries_on, places_by_edge, whole_entry};

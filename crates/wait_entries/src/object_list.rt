@@ -2,7 +2,7 @@
 
 ghost use Rattle.std.specs.Prelude.{◌≡◌, [], IfOk, OnOk, map};
 ghost use Rattle.vf_base.specs.Base.{object_number};
-ghost use Rattle.v_design.specs.Lists.{has, without_repeats};
+ghost use Rattle.vf_base.specs.Lists.{has, without_repeats};
 ghost use Rattle.wait_entries.specs.ObjectLists.{with_object};
 
 use indexmap::IndexSet;

@@ -6,7 +6,7 @@ use Rattle.std.proofs.lemmas.List.{map-set, get_or-map, map_push, get_or-set_sam
 use Rattle.std.proofs.lemmas.Bool.{ne_eqb, eq-eqb, cases_eq}
 use Rattle.vf_base.specs.declared.ids.ProcId.{ProcId}
 use Rattle.vf_base.specs.Base.{process_number}
-use Rattle.v_design.specs.Lists.{has}
+use Rattle.vf_base.specs.Lists.{has}
 use Rattle.v_design.specs.Designs.{FlatProcess}
 use Rattle.graph_order.specs.ListLaws.{now_has, still_has}
 use Rattle.wait_index.specs.Waits.{waited_objects, before_if, waiters_from}

@@ -3,7 +3,7 @@ use Rattle.std.proofs.Common.{◌≡◌, ℕ, zero, suc, ◌+◌, ◌-◌, ◌<�
 use Rattle.std.specs.Prelude.{nat_eq, nat_lt, filter, replicate, slice_get}
 use Rattle.std.proofs.lemmas.Bool.{cases_Bool, cond-true, cond-false, eqb-true, ltb-true, ltb-false, eq-eqb, eqb-false}
 use Rattle.vf_base.specs.Base.{SourcePlace}
-use Rattle.v_design.specs.Lists.{has, AllHold, first_place, earlier_place}
+use Rattle.vf_base.specs.Lists.{has, AllHold, first_place, earlier_place}
 use Rattle.graph_order.specs.ListLaws.{has-append}
 use Rattle.v_design.specs.Expressions.{up_from}
 use Rattle.v_ports.specs.Pieces.{DrivenRun, lesser_if, least_among, SecondDriver, second_if, second_driver, CutPiece, driver_of_bit, same_driver, grown_or_new, bit_before, pieces_from, pieces_of, DriveOfRun, run_of_drive, cut_pieces, unless_second}

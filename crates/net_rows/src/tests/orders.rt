@@ -1,7 +1,7 @@
 // Orders, depths and loops of small graphs, worked out by hand.
 
 ghost use Rattle.std.specs.Prelude.{◌≡◌, ℕ, ◌<◌, true, false, length, get_or};
-ghost use Rattle.v_design.specs.Lists.{has};
+ghost use Rattle.vf_base.specs.Lists.{has};
 ghost use Rattle.graph_order.specs.Digraphs.{lists_of, NeedVertices};
 
 use graph_order::{depths, least_on_loop, put_in_order};

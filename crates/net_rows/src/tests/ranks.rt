@@ -2,7 +2,7 @@
 
 ghost use Rattle.std.specs.Prelude.{◌≡◌, ◌<◌, true, map};
 ghost use Rattle.vf_base.specs.Base.{object_number};
-ghost use Rattle.v_design.specs.Lists.{AllHold};
+ghost use Rattle.vf_base.specs.Lists.{AllHold};
 ghost use Rattle.v_design.specs.Plain.{node_of};
 ghost use Rattle.net_graph.specs.Loops.{AreAmong};
 

@@ -4,7 +4,7 @@ use Rattle.std.specs.Prelude.{Option, Some, None, slice_get, if◌then◌else◌
 use Rattle.std.proofs.lemmas.Bool.{leb-false}
 use Rattle.vf_base.specs.Base.{SourcePlace}
 use Rattle.four_value.specs.Values.{LogicValue, is_true, natural_number}
-use Rattle.v_design.specs.Lists.{change_at}
+use Rattle.vf_base.specs.Lists.{change_at}
 use Rattle.v_design.specs.Trees.{Expression, Statement, Null, Block, If, Case, For, While, Repeat, Forever, Delay, EventControl, Wait, Blocking, Nonblocking, Finish, no_statements, more_statements}
 use Rattle.v_design.specs.Expressions.{Progress, Needs, Has, read_expression, sign_of}
 use Rattle.v_design.specs.Designs.{FlatNode, FlatProcess, Machine}

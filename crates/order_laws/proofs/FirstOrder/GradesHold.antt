@@ -4,7 +4,7 @@ use Rattle.std.specs.Prelude.{Option, Some, None, find, cond, nat_le}
 use Rattle.std.proofs.lemmas.Bool.{leb-false, leb-true, le-leb}
 use Rattle.four_value.specs.declared.logic.Bit.{Bit}
 use Rattle.vf_base.specs.declared.finding.Side.TheVariants.{Good, Faulty}
-use Rattle.v_design.specs.Lists.{AllHold}
+use Rattle.vf_base.specs.Lists.{AllHold}
 use Rattle.v_design.specs.Designs.{FlatDesign, StuckAt, TestPlan, good_machine, faulty_machine}
 use Rattle.v_design.specs.States.{State}
 use Rattle.v_design.specs.Runs.{Move, IsLegal, first_run}

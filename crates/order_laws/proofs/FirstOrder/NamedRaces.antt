@@ -3,7 +3,7 @@ use Rattle.std.proofs.Common.{◌≡◌, ℕ, zero, suc, ◌+◌, ◌<◌, List,
 use Rattle.std.specs.Prelude.{Option, Some, None, slice_get, nat_eq, find, cond}
 use Rattle.std.proofs.lemmas.Bool.{eq-eqb, eqb-true}
 use Rattle.vf_base.specs.Base.{ReportedPair}
-use Rattle.v_design.specs.Lists.{AllHold}
+use Rattle.vf_base.specs.Lists.{AllHold}
 use Rattle.v_design.specs.Designs.{Machine}
 use Rattle.v_design.specs.States.{State, start}
 use Rattle.v_design.specs.Runs.{first_moves, FirstSlot, is_hyper, first_run}

@@ -5,7 +5,7 @@ use Rattle.std.specs.List.{AllZip}
 use Rattle.std.proofs.lemmas.Bool.{leb-true, lt-leb}
 use Rattle.vf_base.specs.Base.{ReportedPair}
 use Rattle.vf_base.specs.declared.finding.Side.TheVariants.{Good, Faulty}
-use Rattle.v_design.specs.Lists.{AllHold}
+use Rattle.vf_base.specs.Lists.{AllHold}
 use Rattle.v_design.specs.Designs.{FlatDesign, Machine, StuckAt, TestPlan, good_machine, faulty_machine}
 use Rattle.v_design.specs.States.{State, start}
 use Rattle.v_design.specs.Runs.{Move, IsLegal, FirstSlot, next_slot, first_slots, first_run}

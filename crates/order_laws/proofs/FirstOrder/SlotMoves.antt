@@ -1,7 +1,7 @@
 -- The moves of a slot of the first order may be made, and time stands still.
 use Rattle.std.proofs.Common.{◌≡◌, ℕ, zero, suc, ◌+◌, List, [], ◌∷◌, ◌++◌, Bool, true, false, ◌&&◌, refl, sym, ap, subst, ◌∙◌, ◌⊎◌, inl, inr, arith}
 use Rattle.std.specs.Prelude.{Option, Some, None, slice_get, is_some}
-use Rattle.v_design.specs.Lists.{first_place, earlier_place, AllHold}
+use Rattle.vf_base.specs.Lists.{first_place, earlier_place, AllHold}
 use Rattle.v_design.specs.Designs.{Machine}
 use Rattle.v_design.specs.States.{State, ProcessState, NodeState, Event, Step, LaneStep, Evaluation, NetUpdate, TurnKind, PostponedTurn, UpdatesTurn, TimeTurn, after, possible, found_or, idle_node, idle_process, is_ready, is_any, is_quiescent, turn_of, turned}
 use Rattle.v_design.specs.Runs.{Move, Happens, Turns, then_state, only_if, turn_within, moved, replayed, named_event, or_event, least_work, work_of, first_event, turn_in_slot, event_or_turn, slot_move, turned_by, made, all_made, is_counted, less_one_if, slot_moves}

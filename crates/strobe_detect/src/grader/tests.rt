@@ -1,7 +1,7 @@
 // One watched bit at three strobes.
 
 ghost use Rattle.std.specs.Prelude.{◌≡◌, ◌<◌};
-ghost use Rattle.v_design.specs.Lists.{AllHold};
+ghost use Rattle.vf_base.specs.Lists.{AllHold};
 ghost use Rattle.vf_base.specs.Base.{WatchedBit};
 
 use super::*;

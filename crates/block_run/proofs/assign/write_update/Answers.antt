@@ -3,7 +3,7 @@ use Rattle.std.specs.Prelude.{option_map}
 use Rattle.std.proofs.lemmas.List.{get_or_default, length-map}
 use Rattle.vf_base.specs.Base.{object_number}
 use Rattle.four_value.specs.Values.{with_part}
-use Rattle.v_design.specs.Lists.{change_at}
+use Rattle.vf_base.specs.Lists.{change_at}
 use Rattle.v_design.specs.Plain.{update_of}
 use Rattle.v_design.specs.Assignments.{updated}
 use Rattle.block_run.specs.Overlaid.{overlaid, overlaid-front, overlaid-put, once-tabled, changed-to}

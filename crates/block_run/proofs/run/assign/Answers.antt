@@ -1,7 +1,7 @@
 use Rattle.std.proofs.Common.{sym, subst, map}
 use Rattle.std.specs.Prelude.{option_map}
 use Rattle.vf_base.specs.Base.{object_number}
-use Rattle.v_design.specs.Lists.{AllHold}
+use Rattle.vf_base.specs.Lists.{AllHold}
 use Rattle.v_design.specs.Plain.{target_of, update_of}
 use Rattle.block_run.specs.WriteLaws.{IsAmong, targets-among}
 use Rattle.block_run.proofs.run.assign.Goals as goal

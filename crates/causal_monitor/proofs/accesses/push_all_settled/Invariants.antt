@@ -1,5 +1,5 @@
 use Rattle.std.proofs.Common.{map, take, length}
-use Rattle.v_design.specs.Lists.{joined}
+use Rattle.vf_base.specs.Lists.{joined}
 use Rattle.v_design.specs.Logs.{settles_of, phase_changes}
 use Rattle.v_design.specs.PlainDesigns.{design_of}
 use Rattle.causal_monitor.specs.Notes.{noted_access}

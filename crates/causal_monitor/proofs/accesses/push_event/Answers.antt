@@ -1,6 +1,6 @@
 use Rattle.std.proofs.Common.{◌≡◌, ◌++◌, List, map, filter, length, true, ap, sym, subst, ◌∙◌}
 use Rattle.std.proofs.lemmas.List.{map-append}
-use Rattle.v_design.specs.Lists.{joined, has}
+use Rattle.vf_base.specs.Lists.{joined, has}
 use Rattle.v_design.specs.Accesses.{ObjectAccess}
 use Rattle.v_design.specs.Logs.{counts, settles_of, changes_of, phase_changes, counted_accesses}
 use Rattle.v_design.specs.PlainDesigns.{design_of}

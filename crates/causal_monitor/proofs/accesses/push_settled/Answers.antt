@@ -4,7 +4,7 @@ use Rattle.std.proofs.lemmas.Bool.{eq-eqb, or_left}
 use Rattle.std.specs.Prelude.{nat_eq}
 use Rattle.vf_base.specs.declared.ids.ObjectId.{ObjectId}
 use Rattle.vf_base.specs.Base.{object_number}
-use Rattle.v_design.specs.Lists.{has}
+use Rattle.vf_base.specs.Lists.{has}
 use Rattle.v_design.specs.Designs.{FlatDesign}
 use Rattle.v_design.specs.Accesses.{ObjectAccess}
 use Rattle.v_design.specs.Logs.{change_of, phase_changes}

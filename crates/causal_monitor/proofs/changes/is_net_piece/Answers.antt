@@ -1,6 +1,6 @@
 use Rattle.std.proofs.Common.{◌≡◌, ◌<◌, ℕ, List, length, get_or, map, ap, sym, subst, ◌∙◌, refl}
 use Rattle.std.proofs.lemmas.List.{get_or-map, length-map}
-use Rattle.v_design.specs.Lists.{has}
+use Rattle.vf_base.specs.Lists.{has}
 use Rattle.v_design.specs.Designs.{FlatObject, FlatDesign}
 use Rattle.v_design.specs.Paths.{is_net, net_pieces}
 use Rattle.v_design.specs.Plain.{object_of}

@@ -1,6 +1,6 @@
 use Rattle.std.proofs.Common.{◌≡◌, ℕ, map, drop}
 use Rattle.std.specs.Prelude.{◌||◌}
-use Rattle.v_design.specs.Lists.{has}
+use Rattle.vf_base.specs.Lists.{has}
 use Rattle.object_names.specs.OutputViews.{output_of}
 use Rattle.elab_nodes.specs.Inputs.{objects_written}
 use Rattle.elab_nodes.proofs.inputs.object_list.Given as goal

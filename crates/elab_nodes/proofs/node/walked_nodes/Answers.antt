@@ -1,6 +1,6 @@
 use Rattle.std.proofs.Common.{◌++◌, ◌∷◌, [], length, map, ap, sym, ◌∙◌}
 use Rattle.std.proofs.lemmas.List.{map_push}
-use Rattle.v_design.specs.Lists.{map_numbered}
+use Rattle.vf_base.specs.Lists.{map_numbered}
 use Rattle.v_design.specs.Plain.{node_of}
 use Rattle.v_elab.specs.Flat as plain
 use Rattle.elab_parts.specs.BehaviourViews as walked

@@ -1,5 +1,5 @@
 use Rattle.std.proofs.Common.{◌≡◌, ◌++◌, List, map, drop, length}
-use Rattle.v_design.specs.Lists.{map_numbered}
+use Rattle.vf_base.specs.Lists.{map_numbered}
 use Rattle.v_design.specs.Expressions.{up_from}
 use Rattle.v_design.specs.Plain.{node_of}
 use Rattle.v_elab.specs.Parts.{Part}

@@ -1,5 +1,5 @@
 use Rattle.std.proofs.Common.{◌≡◌, take, map}
-use Rattle.v_design.specs.Lists.{AllHold}
+use Rattle.vf_base.specs.Lists.{AllHold}
 use Rattle.key_index.specs.Groups.{keyed_of}
 use Rattle.v_elab.specs.Drivers.{signals_of}
 use Rattle.elab_parts.specs.PartViews.{part_of}

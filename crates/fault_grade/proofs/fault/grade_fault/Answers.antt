@@ -3,7 +3,7 @@ use Rattle.std.proofs.Common.{◌≡◌, ◌<◌, ◌≤◌, ◌+◌, ℕ, List,
 use Rattle.std.proofs.lemmas.List.{drop_more}
 use Rattle.vf_base.specs.Base.{watched_bit, WatchedBit}
 use Rattle.vf_base.specs.declared.finding.End.{End}
-use Rattle.v_design.specs.Lists.{AllHold}
+use Rattle.vf_base.specs.Lists.{AllHold}
 use Rattle.v_design.specs.Designs.{FlatDesign, Machine, StuckAt}
 use Rattle.v_design.specs.Plain.{fault_of}
 use Rattle.v_design.specs.RulesHold.{rules_hold, plan_rules_hold}

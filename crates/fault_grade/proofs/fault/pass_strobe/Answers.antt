@@ -1,7 +1,7 @@
 -- The faulty machine at a strobe.
 use Rattle.std.proofs.Common.{◌≡◌, Option, Some, None, ap, sym, subst, ◌∙◌}
 use Rattle.four_value.specs.declared.logic.Bit.{Bit}
-use Rattle.v_design.specs.Lists.{AllHold}
+use Rattle.vf_base.specs.Lists.{AllHold}
 use Rattle.v_design.specs.Designs.{Machine}
 use Rattle.v_design.specs.Grades.{samples}
 use Rattle.strobe_detect.specs.Graders.{shown_at}

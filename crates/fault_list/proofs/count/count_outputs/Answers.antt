@@ -2,7 +2,7 @@ use Rattle.std.proofs.Common.{◌≡◌, ◌<◌, length, map, take, get_or, min
 use Rattle.std.specs.Prelude.{slice_get, Some, sum_by}
 use Rattle.vf_base.specs.Base.{object_number}
 use Rattle.v_design.specs.Designs.{width_in}
-use Rattle.v_design.specs.Lists.{joined, map_numbered}
+use Rattle.vf_base.specs.Lists.{joined, map_numbered}
 use Rattle.v_design.specs.Plain.{node_of}
 use Rattle.v_design.specs.PlainDesigns.{design_of}
 use Rattle.v_design.specs.RulesHold.{rules_hold}

@@ -2,7 +2,7 @@ use Rattle.std.proofs.Common.{◌≡◌, length, map, take, sym, ◌∙◌, ◌^
 use Rattle.std.proofs.lemmas.List.{length-map}
 use Rattle.v_design.specs.Designs.{GateTerminal}
 use Rattle.v_design.specs.Expressions.{up_from}
-use Rattle.v_design.specs.Lists.{joined, map_numbered}
+use Rattle.vf_base.specs.Lists.{joined, map_numbered}
 use Rattle.v_design.specs.Plain.{node_of, node_kind_of}
 use Rattle.v_design.specs.Sites.{terminal_count, terminal_sites}
 use Rattle.fault_list.proofs.Counting.{plain, count-more, up_from-length}

@@ -1,5 +1,5 @@
 use Rattle.std.proofs.Common.{◌≡◌, ◌-◌, ◌^◌, length, map, take, min}
-use Rattle.v_design.specs.Lists.{joined, map_numbered}
+use Rattle.vf_base.specs.Lists.{joined, map_numbered}
 use Rattle.v_design.specs.Plain.{node_of}
 use Rattle.v_design.specs.Sites.{terminal_sites}
 use Rattle.fault_list.proofs.count.count_terminals.Given as goal

@@ -1,5 +1,5 @@
 use Rattle.std.proofs.Common.{length, map, take, ◌^◌, ◌-◌}
-use Rattle.v_design.specs.Lists.{joined, map_numbered}
+use Rattle.vf_base.specs.Lists.{joined, map_numbered}
 use Rattle.v_design.specs.Plain.{object_of}
 use Rattle.v_design.specs.Sites.{variable_sites}
 use Rattle.fault_list.proofs.Counting.{plain, count-more}

@@ -1,7 +1,7 @@
 use Rattle.std.proofs.Common.{◌≡◌, map, drop}
 use Rattle.vf_base.specs.Base.{object_number}
 use Rattle.v_design.specs.Designs.{FlatNode}
-use Rattle.v_design.specs.Lists.{has, first_place}
+use Rattle.vf_base.specs.Lists.{has, first_place}
 use Rattle.v_design.specs.Plain.{node_of}
 use Rattle.fault_list.proofs.Drivers.{shifted}
 use Rattle.fault_list.proofs.spelled.driver_of.Given as goal

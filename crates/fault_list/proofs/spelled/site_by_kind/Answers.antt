@@ -2,7 +2,7 @@ use Rattle.std.proofs.Common.{◌∙◌, sym, ap, map}
 use Rattle.std.specs.Option.{option_map}
 use Rattle.vf_base.specs.Base.{object_number}
 use Rattle.v_design.specs.Designs.{FlatNode, OutputBit}
-use Rattle.v_design.specs.Lists.{has, first_place}
+use Rattle.vf_base.specs.Lists.{has, first_place}
 use Rattle.v_design.specs.Plain.{node_of}
 use Rattle.v_design.specs.PlainDesigns.{design_of}
 use Rattle.fault_list.specs.Spelled.{site_by_kind}

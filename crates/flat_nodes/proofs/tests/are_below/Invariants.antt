@@ -1,6 +1,6 @@
 use Rattle.std.proofs.Common.{◌<◌, map, take}
 use Rattle.vf_base.specs.Base.{object_number}
-use Rattle.v_design.specs.Lists.{AllHold}
+use Rattle.vf_base.specs.Lists.{AllHold}
 use Rattle.flat_nodes.proofs.tests.are_below.Given as goal
 
 abbrev pub invariant-objects : goal.invariant-objects

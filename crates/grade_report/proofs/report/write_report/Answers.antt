@@ -1,7 +1,7 @@
 use Rattle.std.proofs.Common.{◌≡◌, ◌<◌, ◌≤◌, ◌++◌, ◌∷◌, [], ap, length, arith, codes}
 use Rattle.v_design.specs.PlainDesigns.{design_of}
 use Rattle.grade_report.specs.Report.{total_line}
-use Rattle.grade_report.specs.Findings.{grades_of}
+use Rattle.v_design.specs.Findings.{grades_of}
 use Rattle.grade_report.proofs.Lines.{lines-more, lines-done, in-order-count}
 use Rattle.grade_report.proofs.report.write_report.Goals as goal
 

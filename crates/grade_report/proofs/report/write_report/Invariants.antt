@@ -2,7 +2,7 @@ use Rattle.std.proofs.Common.{◌≡◌, ◌++◌, ◌∷◌, [], map, take, cod
 use Rattle.v_design.specs.Plain.{fault_of}
 use Rattle.v_design.specs.PlainDesigns.{design_of}
 use Rattle.grade_report.specs.Report.{fault_lines}
-use Rattle.grade_report.specs.Findings.{grades_of}
+use Rattle.v_design.specs.Findings.{grades_of}
 use Rattle.grade_report.proofs.report.write_report.Given as goal
 
 abbrev pub invariant-findings : goal.invariant-findings

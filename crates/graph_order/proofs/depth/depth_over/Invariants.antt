@@ -1,5 +1,5 @@
 use Rattle.std.proofs.Common.{◌≡◌, ◌+◌, get_or, map, take}
-use Rattle.v_design.specs.WellFormed.{greatest}
+use Rattle.vf_base.specs.Lists.{greatest}
 use Rattle.graph_order.proofs.depth.depth_over.Given as goal
 
 abbrev pub invariant-needs : goal.invariant-needs

@@ -1,5 +1,5 @@
 use Rattle.std.proofs.Common.{rules, ◌≡◌, ℕ, ◌+◌, ◌<◌, length, get_or, arith, ap, sym, subst, map, ◌∙◌}
-use Rattle.v_design.specs.WellFormed.{greatest}
+use Rattle.vf_base.specs.Lists.{greatest}
 use Rattle.graph_order.specs.Digraphs.{lists_of, step_to}
 use Rattle.graph_order.specs.Sorting.{length-lists_of, needs_at, own_need}
 use Rattle.graph_order.specs.Depths.{DepthsBefore-more, DepthsBefore-all}

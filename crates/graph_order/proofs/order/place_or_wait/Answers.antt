@@ -3,7 +3,7 @@ use Rattle.std.proofs.lemmas.List.{get_or_read}
 use Rattle.graph_order.specs.Digraphs.{lists_of, needs_of}
 use Rattle.graph_order.specs.Sorting.{IsSorting, AllWait, one_less, length-lists_of, needs_at, own_need, met_to, waits_in, IsSorting-met, IsSorting-place, AllWait-wait, AllWait-place, VerticesWait, VerticesWait-wait}
 use Rattle.graph_order.specs.ListLaws.{has-get_or}
-use Rattle.v_design.specs.Lists.{has}
+use Rattle.vf_base.specs.Lists.{has}
 use Rattle.graph_order.proofs.order.place_or_wait.Goals as goal
 use Rattle.graph_order.proofs.order.place_or_wait.Goals.{After-first_missing-at, After-len}
 

@@ -1,6 +1,6 @@
 use Rattle.std.proofs.Common.{rules, ◌≡◌, ◌+◌, ◌<◌, ◌≤◌, [], length, get_or, set, arith, ap, sym, subst, ◌∙◌}
 use Rattle.std.proofs.lemmas.List.{get_or_read}
-use Rattle.v_design.specs.Lists.{has}
+use Rattle.vf_base.specs.Lists.{has}
 use Rattle.graph_order.specs.ListLaws.{has-get_or}
 use Rattle.graph_order.specs.Digraphs.{lists_of}
 use Rattle.graph_order.specs.Sorting.{AllWait, VerticesWait, length-lists_of, needs_at, taken_in, IsOrder-all, AllWait-told, VerticesWait-told}

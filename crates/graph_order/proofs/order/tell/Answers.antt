@@ -1,5 +1,5 @@
 use Rattle.std.proofs.Common.{rules, ◌+◌, ◌≤◌, length, drop, get_or, arith}
-use Rattle.v_design.specs.Lists.{has}
+use Rattle.vf_base.specs.Lists.{has}
 use Rattle.graph_order.specs.Digraphs.{lists_of}
 use Rattle.graph_order.specs.Sorting.{one_less, one_less_told, AllWait-but}
 use Rattle.graph_order.proofs.order.tell.Goals as goal

@@ -1,5 +1,5 @@
 use Rattle.std.proofs.Common.{◌≡◌, ℕ, ◌≤◌, length, drop, vec_len}
-use Rattle.v_design.specs.Lists.{has}
+use Rattle.vf_base.specs.Lists.{has}
 use Rattle.graph_order.specs.Digraphs.{lists_of}
 use Rattle.graph_order.specs.Sorting.{IsSorting, AllWait, VerticesWait}
 use Rattle.graph_order.proofs.order.tell.Given as goal

@@ -1,6 +1,6 @@
 use Rattle.std.proofs.Common.{rules, ◌<◌, take, length, ap, sym, subst, ◌∙◌}
 use Rattle.std.proofs.lemmas.List.{take_more}
-use Rattle.v_design.specs.Lists.{has}
+use Rattle.vf_base.specs.Lists.{has}
 use Rattle.graph_order.specs.ListLaws.{has-get_or}
 use Rattle.graph_order.specs.Searching.{AddsNeeds}
 use Rattle.graph_order.proofs.search.add_needs.Goals as goal

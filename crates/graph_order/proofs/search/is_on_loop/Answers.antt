@@ -2,7 +2,7 @@ use Rattle.std.proofs.Common.{rules, ◌≡◌, ◌<◌, ◌∷◌, ◌++◌, fa
 use Rattle.std.specs.Prelude.{nat_eq}
 use Rattle.std.proofs.lemmas.Bool.{or_cases, eqb-true}
 use Rattle.std.proofs.lemmas.List.{get_or_read}
-use Rattle.v_design.specs.Lists.{has}
+use Rattle.vf_base.specs.Lists.{has}
 use Rattle.graph_order.specs.ListLaws.{has-get_or}
 use Rattle.graph_order.specs.Digraphs.{lists_of}
 use Rattle.graph_order.specs.Sorting.{length-lists_of}

@@ -1,5 +1,5 @@
 use Rattle.std.proofs.Common.{◌≡◌, ℕ, true, false, drop, get_or, vec_len}
-use Rattle.v_design.specs.Lists.{has}
+use Rattle.vf_base.specs.Lists.{has}
 use Rattle.graph_order.proofs.search.unmark.Given as goal
 
 abbrev pub invariant-found : goal.invariant-found

@@ -6,7 +6,7 @@ use Rattle.vf_base.specs.Base.{object_number, process_number}
 use Rattle.vf_base.specs.declared.ids.ObjectId.{ObjectId}
 use Rattle.vf_base.specs.declared.ids.ProcId.{ProcId}
 use Rattle.four_value.specs.Values.{same_value}
-use Rattle.v_design.specs.Lists.{AllHold, joined, map_numbered}
+use Rattle.vf_base.specs.Lists.{AllHold, joined, map_numbered}
 use Rattle.v_design.specs.Plain.{update_of}
 use Rattle.v_design.specs.Assignments.{value_at}
 use Rattle.causal_monitor.specs.Notes.{IsNoted, noted_access}

@@ -3,7 +3,7 @@ use Rattle.std.proofs.lemmas.List.{take_more, map_push, length-map}
 use Rattle.vf_base.specs.declared.ids.ObjectId.{ObjectId}
 use Rattle.vf_base.specs.Base.{object_number, node_number}
 use Rattle.std.specs.Prelude.{nat_eq}
-use Rattle.v_design.specs.Lists.{fresh_only}
+use Rattle.vf_base.specs.Lists.{fresh_only}
 use Rattle.net_graph.specs.Tables.{node_lists}
 use Rattle.net_graph.specs.TableLaws.{InputsAdded, InputsAdded-more}
 use Rattle.net_graph.proofs.graph.add_inputs.Goals as goal

@@ -1,6 +1,6 @@
 use Rattle.std.proofs.Common.{◌≡◌, ℕ, ◌≤◌, true, map, take}
 use Rattle.vf_base.specs.Base.{node_number}
-use Rattle.v_design.specs.Lists.{has}
+use Rattle.vf_base.specs.Lists.{has}
 use Rattle.net_settle.proofs.settle.least_of.Given as goal
 
 abbrev pub invariant-nodes : goal.invariant-nodes

@@ -1,5 +1,5 @@
 use Rattle.std.proofs.Common.{◌≡◌, take}
-use Rattle.v_design.specs.Lists.{map_numbered}
+use Rattle.vf_base.specs.Lists.{map_numbered}
 use Rattle.v_design.specs.Designs.{FlatObject, forced_variable}
 use Rattle.v_design.specs.PlainDesigns.{design_of}
 use Rattle.v_design.specs.Views.{machine_of}

@@ -1,7 +1,7 @@
 use Rattle.std.proofs.Common.{◌≡◌, map, take, vec_len}
 use Rattle.vf_base.specs.Base.{object_number, node_number}
 use Rattle.four_value.specs.Values.{part_of}
-use Rattle.v_design.specs.Lists.{zip_with}
+use Rattle.vf_base.specs.Lists.{zip_with}
 use Rattle.v_design.specs.Designs.{forced_output}
 use Rattle.v_design.specs.Assignments.{object_width}
 use Rattle.v_design.specs.Views.{machine_of}

@@ -1,7 +1,7 @@
 use Rattle.std.proofs.Common.{◌≡◌, ◌+◌, ◌<◌, ◌≤◌, [], ap, sym, subst, ◌∙◌, take, map, get_or, length, arith}
 use Rattle.std.proofs.lemmas.List.{get_or-map, get_or_default, get_or-set_other, length-map, take_all}
 use Rattle.vf_base.specs.Base.{object_number, node_number}
-use Rattle.v_design.specs.Lists.{zip_with}
+use Rattle.vf_base.specs.Lists.{zip_with}
 use Rattle.v_design.specs.Designs.{forced_output}
 use Rattle.v_design.specs.Views.{machine_of}
 use Rattle.node_eval.specs.Parts.{forced-more}

@@ -1,6 +1,6 @@
 use Rattle.std.proofs.Common.{◌≡◌, ℕ, ◌≤◌, [], map, take, get_or}
 use Rattle.vf_base.specs.Base.{object_number, node_number}
-use Rattle.v_design.specs.Lists.{zip_with}
+use Rattle.vf_base.specs.Lists.{zip_with}
 use Rattle.v_design.specs.Designs.{forced_output}
 use Rattle.v_design.specs.Views.{machine_of}
 use Rattle.node_eval.proofs.force.force_outputs.Given as goal

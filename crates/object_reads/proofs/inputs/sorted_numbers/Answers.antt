@@ -1,6 +1,6 @@
 use Rattle.std.proofs.Common.{ℕ, map, ◌∙◌, ap}
 use Rattle.std.proofs.lemmas.List.Sorted.{IsNonDecreasingBy-from_sort}
-use Rattle.v_design.specs.Lists.{has}
+use Rattle.vf_base.specs.Lists.{has}
 use Rattle.object_reads.proofs.Ascents.{has-either-order}
 use Rattle.object_reads.proofs.inputs.sorted_numbers.Goals as goal
 

@@ -1,5 +1,5 @@
 use Rattle.std.proofs.Common.{◌≡◌, take, None}
-use Rattle.v_design.specs.Lists.{joined}
+use Rattle.vf_base.specs.Lists.{joined}
 use Rattle.expr_eval.specs.Operands.{bits_so_far}
 use Rattle.operand_read.proofs.operand.joined_bits.Given as goal
 

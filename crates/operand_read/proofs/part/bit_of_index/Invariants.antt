@@ -1,5 +1,5 @@
 use Rattle.std.proofs.Common.{◌≡◌, drop}
-use Rattle.v_design.specs.Lists.{joined}
+use Rattle.vf_base.specs.Lists.{joined}
 use Rattle.v_design.specs.Expressions.{bit_at_place, place_of_number}
 use Rattle.operand_read.specs.Sought.{sought_bit}
 use Rattle.operand_read.proofs.part.bit_of_index.Given as goal

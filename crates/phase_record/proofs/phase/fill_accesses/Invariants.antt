@@ -1,6 +1,6 @@
 use Rattle.std.proofs.Common.{◌≡◌, map, take}
 use Rattle.vf_base.specs.Base.{process_number}
-use Rattle.v_design.specs.Lists.{AllHold}
+use Rattle.vf_base.specs.Lists.{AllHold}
 use Rattle.causal_monitor.specs.Notes.{IsNoted, noted_access}
 use Rattle.phase_record.specs.Records.{write_of_change}
 use Rattle.phase_record.proofs.phase.fill_accesses.Given as goal

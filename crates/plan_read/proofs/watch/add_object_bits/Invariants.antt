@@ -1,6 +1,6 @@
 use Rattle.std.proofs.Common.{◌≡◌, ◌++◌, map, take}
 use Rattle.vf_base.specs.Base.{object_number}
-use Rattle.v_design.specs.Lists.{joined, map_numbered}
+use Rattle.vf_base.specs.Lists.{joined, map_numbered}
 use Rattle.v_design.specs.Plain.{object_of, name_joined, piece_of}
 use Rattle.plan_read.specs.Plain.{watched_bits}
 use Rattle.plan_read.specs.Watched.{object_bits, pieces_bits, bits_in_object, bits_in_joined}

@@ -1,6 +1,6 @@
 use Rattle.std.proofs.Common.{sym, subst, ◌∙◌, ap}
 use Rattle.v_design.specs.PlainDesigns.{design_of, plan_of}
-use Rattle.grade_report.specs.Findings.{grades_of}
+use Rattle.v_design.specs.Findings.{grades_of}
 use Rattle.shard_workers.specs.Results.{IsGraded, StandsInEveryOrder}
 use Rattle.plan_report.specs.Reports.{wanted_text}
 use Rattle.plan_report.proofs.Steps.{Answers, plan-told, loop-told, report-told, every-order}

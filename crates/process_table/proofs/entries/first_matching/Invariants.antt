@@ -1,5 +1,5 @@
 use Rattle.std.proofs.Common.{◌≡◌, map, take, None}
-use Rattle.v_design.specs.Lists.{first_place}
+use Rattle.vf_base.specs.Lists.{first_place}
 use Rattle.v_design.specs.Plain.{entry_of}
 use Rattle.value_change.specs.Changes.{change_seen, matches_one}
 use Rattle.process_table.proofs.entries.first_matching.Given as goal

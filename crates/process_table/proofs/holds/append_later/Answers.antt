@@ -1,6 +1,6 @@
 use Rattle.std.proofs.Common.{◌≡◌, ℕ, List, [], sym, ap, append-nil}
 use Rattle.vf_base.specs.Base.{process_number}
-use Rattle.v_design.specs.Lists.{change_at}
+use Rattle.vf_base.specs.Lists.{change_at}
 use Rattle.v_design.specs.States.{LaterUpdate}
 use Rattle.event_queue.specs.Queues.{HeldProcess, nothing_held, held_at}
 use Rattle.process_table.specs.Arranged.{with_laters}

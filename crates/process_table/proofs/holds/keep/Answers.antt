@@ -1,6 +1,6 @@
 use Rattle.std.proofs.Common.{◌≡◌, ◌∙◌, ◌<◌, List, length, ap, sym, arith, subst}
 use Rattle.vf_base.specs.Base.{process_number}
-use Rattle.v_design.specs.Lists.{change_at}
+use Rattle.vf_base.specs.Lists.{change_at}
 use Rattle.event_queue.specs.Queues.{HeldProcess, nothing_held, held_at, with_holding}
 use Rattle.event_queue.specs.declared.held.Holding.TheVariants.{Free}
 use Rattle.process_code.specs.Points.{said_by}

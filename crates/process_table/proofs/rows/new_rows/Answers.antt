@@ -1,6 +1,6 @@
 use Rattle.std.proofs.Common.{rules, ◌≡◌, ◌∙◌, ◌++◌, ◌∷◌, ◌+◌, ◌<◌, [], List, ℕ, ap, sym, subst, take, map, length, get_or}
 use Rattle.std.proofs.lemmas.List.{take_more, take_all, map_push}
-use Rattle.v_design.specs.Lists.{AllHold}
+use Rattle.vf_base.specs.Lists.{AllHold}
 use Rattle.v_design.specs.Plain.{process_of}
 use Rattle.v_design.specs.declared.plan.Process.{Process}
 use Rattle.process_table.specs.declared.row.Row.{Row}

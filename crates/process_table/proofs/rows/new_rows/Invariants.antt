@@ -1,5 +1,5 @@
 use Rattle.std.proofs.Common.{◌≡◌, map, take}
-use Rattle.v_design.specs.Lists.{AllHold}
+use Rattle.vf_base.specs.Lists.{AllHold}
 use Rattle.v_design.specs.Plain.{process_of}
 use Rattle.process_table.specs.Rows.{IsGoodRow, row_text, row_states, new_state}
 use Rattle.process_table.proofs.rows.new_rows.Given as goal

@@ -1,7 +1,7 @@
 use Rattle.std.proofs.Common.{◌≡◌, ◌∙◌, ◌<◌, ◌+◌, ◌++◌, ◌∷◌, [], Bool, true, length, map, get_or, take, ap, sym, subst, arith, ℕ, List, take_all}
 use Rattle.vf_base.specs.Base.{process_number}
 use Rattle.vf_base.specs.declared.ids.ProcId.{ProcId}
-use Rattle.v_design.specs.Lists.{AllHold, change_at}
+use Rattle.vf_base.specs.Lists.{AllHold, change_at}
 use Rattle.process_table.specs.declared.row.Row.{Row}
 use Rattle.process_table.specs.Turned.{each_changed, ReadiesRows}
 use Rattle.process_table.proofs.Numbers.{got-any}

@@ -2,7 +2,7 @@ use Rattle.std.proofs.Common.{◌≡◌, ◌∙◌, ◌++◌, ◌<◌, [], ◌�
 use Rattle.std.specs.List.{All}
 use Rattle.vf_base.specs.Base.{process_number, object_number}
 use Rattle.vf_base.specs.declared.finding.AccessKind.TheVariants as kind
-use Rattle.v_design.specs.Lists.{AllHold, has}
+use Rattle.vf_base.specs.Lists.{AllHold, has}
 use Rattle.v_design.specs.Paths.{net_pieces}
 use Rattle.v_design.specs.Plain.{entry_of}
 use Rattle.v_design.specs.Designs.{FlatDesign}

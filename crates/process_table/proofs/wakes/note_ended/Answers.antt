@@ -2,7 +2,7 @@ use Rattle.std.proofs.Common.{◌≡◌, ◌∙◌, length, map, ap, sym, subst,
 use Rattle.std.proofs.lemmas.List.{length-map}
 use Rattle.vf_base.specs.Base.{process_number}
 use Rattle.four_value.specs.Values.{IsWidth}
-use Rattle.v_design.specs.Lists.{AllHold}
+use Rattle.vf_base.specs.Lists.{AllHold}
 use Rattle.v_design.specs.Trees.{Entry}
 use Rattle.v_design.specs.Plain.{entry_of}
 use Rattle.v_design.specs.Accesses.{waiting_entries, waiting_line}

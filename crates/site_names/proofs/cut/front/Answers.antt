@@ -1,5 +1,5 @@
 use Rattle.std.proofs.Common.{◌≡◌, ◌+◌, ◌-◌, false, drop, sym, subst, arith}
-use Rattle.v_design.specs.Lists.{has}
+use Rattle.vf_base.specs.Lists.{has}
 use Rattle.site_names.proofs.Cuts.{front-at, front-none}
 use Rattle.site_names.proofs.cut.front.Goals as goal
 

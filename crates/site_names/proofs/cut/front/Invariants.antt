@@ -1,5 +1,5 @@
 use Rattle.std.proofs.Common.{◌≡◌, false, drop}
-use Rattle.v_design.specs.Lists.{has}
+use Rattle.vf_base.specs.Lists.{has}
 use Rattle.site_names.proofs.cut.front.Given as goal
 
 abbrev pub invariant-bytes : goal.invariant-bytes

@@ -2,7 +2,7 @@ use Rattle.std.proofs.Common.{◌≡◌, ◌<◌, ℕ, drop, map, length, vec_le
 use Rattle.std.specs.Prelude.{slice_index_or, option_map}
 use Rattle.vf_base.specs.Base.{node_number}
 use Rattle.v_design.specs.Designs.{FlatNode}
-use Rattle.v_design.specs.Lists.{has, first_place}
+use Rattle.vf_base.specs.Lists.{has, first_place}
 use Rattle.v_design.specs.Plain.{node_of}
 use Rattle.v_design.specs.PlainDesigns.{design_of}
 use Rattle.key_index.specs.Places.{later}

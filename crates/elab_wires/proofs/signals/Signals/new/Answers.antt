@@ -1,5 +1,5 @@
 use Rattle.std.proofs.Common.{sym, subst}
-use Rattle.v_design.specs.Lists.{AllHold}
+use Rattle.vf_base.specs.Lists.{AllHold}
 use Rattle.elab_wires.specs.SignalTables.{IsOwn}
 use Rattle.elab_wires.proofs.signals.Signals.new.Goals as goal
 

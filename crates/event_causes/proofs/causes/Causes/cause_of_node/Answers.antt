@@ -3,7 +3,7 @@ use Rattle.std.proofs.Math.ListN.{drop_of_length-le}
 use Rattle.std.proofs.lemmas.List.{drop_more, get_or_read}
 use Rattle.vf_base.specs.declared.ids.ObjectId.{ObjectId}
 use Rattle.vf_base.specs.Base.{object_number}
-use Rattle.v_design.specs.Lists.{last_place}
+use Rattle.vf_base.specs.Lists.{last_place}
 use Rattle.v_design.specs.States.{Evaluation, NetUpdate}
 use Rattle.v_design.specs.PhaseLogs.{cause_of}
 use Rattle.event_causes.specs.Causes.{greatest_number, place_within, changes_among}

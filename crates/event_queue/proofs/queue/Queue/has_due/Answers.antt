@@ -2,7 +2,7 @@
 use Rattle.std.proofs.Common.{◌≡◌, ◌∙◌, List, [], ◌∷◌, Option, Some, None, sym, ap, refl, subst, map}
 use Rattle.std.specs.Prelude.{is_some}
 use Rattle.std.specs.Option.{option_map}
-use Rattle.v_design.specs.Lists.{AllHold}
+use Rattle.vf_base.specs.Lists.{AllHold}
 use Rattle.v_design.specs.States.{is_any, some_in, is_due}
 use Rattle.event_queue.specs.Queues.{HeldProcess, ComesAfter, lanes_from}
 use Rattle.event_queue.specs.Arranged.{held_by_process, updates_at, lane_of, listed_in}

@@ -1,6 +1,6 @@
 -- The list of the postponed and the process's state change together.
 use Rattle.std.proofs.Common.{◌≡◌, ◌<◌, length, sym, subst, List}
-use Rattle.v_design.specs.Lists.{change_at}
+use Rattle.vf_base.specs.Lists.{change_at}
 use Rattle.vf_base.specs.declared.ids.ProcId.{ProcId}
 use Rattle.event_queue.specs.declared.held.Holding.TheVariants.{Postponed, Free}
 use Rattle.event_queue.specs.Queues.{HeldProcess, held_at, with_holding}

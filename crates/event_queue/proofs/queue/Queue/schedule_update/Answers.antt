@@ -1,6 +1,6 @@
 -- The time's lanes and the process's updates change together.
 use Rattle.std.proofs.Common.{◌<◌, ◌∙◌, length, sym, subst, ap, List}
-use Rattle.v_design.specs.Lists.{change_at}
+use Rattle.vf_base.specs.Lists.{change_at}
 use Rattle.v_design.specs.Plain.{update_of}
 use Rattle.event_queue.specs.Queues.{HeldProcess, with_later}
 use Rattle.event_queue.specs.Arranged.{held_by_process, IsArranged}

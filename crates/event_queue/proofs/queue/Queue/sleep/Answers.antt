@@ -1,6 +1,6 @@
 -- The time's list and the process's state change together.
 use Rattle.std.proofs.Common.{◌≡◌, ◌<◌, length, sym, subst, List}
-use Rattle.v_design.specs.Lists.{change_at}
+use Rattle.vf_base.specs.Lists.{change_at}
 use Rattle.event_queue.specs.declared.held.Holding.TheVariants.{Asleep, Free}
 use Rattle.event_queue.specs.Queues.{HeldProcess, held_at, with_holding}
 use Rattle.event_queue.specs.Arranged.{held_by_process, IsArranged}

@@ -1,6 +1,6 @@
 -- What is postponed is taken whole.
 use Rattle.std.proofs.Common.{◌≡◌, ◌<◌, ◌∙◌, ◌++◌, take, drop, true, false, length, map, sym, subst, ap, List, refl, ℕ, []}
-use Rattle.v_design.specs.Lists.{AllHold}
+use Rattle.vf_base.specs.Lists.{AllHold}
 use Rattle.v_design.specs.States.{is_any}
 use Rattle.vf_base.specs.declared.ids.ProcId.{ProcId}
 use Rattle.vf_base.specs.Base.{process_number}

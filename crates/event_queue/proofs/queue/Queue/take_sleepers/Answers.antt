@@ -1,7 +1,7 @@
 -- The sleepers of the time are taken whole.
 use Rattle.std.proofs.Common.{◌≡◌, ◌<◌, ◌∙◌, ◌++◌, take, drop, length, map, sym, subst, ap, List, ℕ, [], None, cond, nat_cmp, nat_eq}
 use Rattle.std.specs.BTreeMap.{get}
-use Rattle.v_design.specs.Lists.{AllHold}
+use Rattle.vf_base.specs.Lists.{AllHold}
 use Rattle.v_design.specs.States.{is_any}
 use Rattle.vf_base.specs.declared.ids.ProcId.{ProcId}
 use Rattle.vf_base.specs.Base.{process_number}

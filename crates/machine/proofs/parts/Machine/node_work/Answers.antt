@@ -8,7 +8,7 @@ use Rattle.vf_base.specs.Base.{object_number, process_number, node_number}
 use Rattle.vf_base.specs.declared.ids.ObjectId.{ObjectId}
 use Rattle.vf_base.specs.declared.ids.ProcId.{ProcId}
 use Rattle.v_design.specs.declared.plan.Design.{Design}
-use Rattle.v_design.specs.Lists.{joined, map_numbered}
+use Rattle.vf_base.specs.Lists.{joined, map_numbered}
 use Rattle.v_design.specs.Designs.{FlatDesign, FlatNode, Machine}
 use Rattle.v_design.specs.Plain.{node_of}
 use Rattle.v_design.specs.PlainDesigns.{design_of}

@@ -1,5 +1,5 @@
 use Rattle.std.proofs.Common.{◌≡◌, ℕ, ◌<◌, true, take}
-use Rattle.v_design.specs.Lists.{has}
+use Rattle.vf_base.specs.Lists.{has}
 use Rattle.net_rows.proofs.tests.orders.are_below.Given as goal
 
 abbrev pub invariant-needs : goal.invariant-needs

@@ -1,5 +1,5 @@
 use Rattle.std.proofs.Common.{◌≡◌, ℕ, ◌<◌, true, length}
-use Rattle.v_design.specs.Lists.{has}
+use Rattle.vf_base.specs.Lists.{has}
 use Rattle.graph_order.specs.Digraphs.{lists_of, needs_of}
 use Rattle.net_rows.proofs.tests.orders.need_vertices.Given as goal
 

@@ -1,7 +1,7 @@
 use Rattle.std.proofs.Common.{rules, ◌≡◌, ℕ, ◌+◌, ◌<◌, ◌++◌, ◌∷◌, [], List, ap, sym, subst, ◌∙◌, take, map, length}
 use Rattle.std.proofs.lemmas.List.{map_more}
 use Rattle.vf_base.specs.Base.{object_number}
-use Rattle.v_design.specs.Lists.{AllHold}
+use Rattle.vf_base.specs.Lists.{AllHold}
 use Rattle.v_design.specs.Designs.{FlatNode}
 use Rattle.v_design.specs.Plain.{node_of}
 use Rattle.net_graph.specs.Loops.{AreAmong}

@@ -1,7 +1,7 @@
 use Rattle.std.proofs.Common.{rules, ◌≡◌, ℕ, ◌+◌, ◌<◌, ◌++◌, ◌∷◌, [], List, sym, subst, ◌∙◌, take, map, get_or, length, arith}
 use Rattle.std.proofs.lemmas.List.{map_more, take_all}
 use Rattle.vf_base.specs.Base.{object_number}
-use Rattle.v_design.specs.Lists.{AllHold}
+use Rattle.vf_base.specs.Lists.{AllHold}
 use Rattle.net_graph.specs.WiringLaws.{AllHold-push}
 use Rattle.net_rows.proofs.tests.ranks.are_below.Goals as goal
 

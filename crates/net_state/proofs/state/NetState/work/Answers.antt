@@ -3,7 +3,7 @@ use Rattle.std.specs.Prelude.{Some, slice_get}
 use Rattle.std.proofs.lemmas.List.{length-map}
 use Rattle.vf_base.specs.Base.{object_number, node_number}
 use Rattle.v_design.specs.declared.plan.Design.{Design}
-use Rattle.v_design.specs.Lists.{AllHold, change_at}
+use Rattle.vf_base.specs.Lists.{AllHold, change_at}
 use Rattle.v_design.specs.Designs.{FlatNode}
 use Rattle.v_design.specs.Plain.{node_of}
 use Rattle.v_design.specs.PlainDesigns.{design_of}

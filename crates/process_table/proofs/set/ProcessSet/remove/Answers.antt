@@ -1,6 +1,6 @@
 use Rattle.std.proofs.Common.{◌≡◌, ◌∙◌, Bool, List, false, ap}
 use Rattle.vf_base.specs.Base.{process_number}
-use Rattle.v_design.specs.Lists.{change_at}
+use Rattle.vf_base.specs.Lists.{change_at}
 use Rattle.process_table.proofs.Lists.{set-change}
 use Rattle.process_table.proofs.set.ProcessSet.remove.Goals as goal
 

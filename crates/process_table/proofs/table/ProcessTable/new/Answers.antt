@@ -4,7 +4,7 @@ use Rattle.v_design.specs.Plain.{process_of, statement_of}
 use Rattle.v_design.specs.Designs.{FlatDesign, FlatProcess}
 use Rattle.v_design.specs.PlainDesigns.{design_of}
 use Rattle.v_design.specs.RulesHold.{rules_hold}
-use Rattle.v_design.specs.Lists.{AllHold}
+use Rattle.vf_base.specs.Lists.{AllHold}
 use Rattle.v_design.specs.Sized.{IsSizedStatement}
 use Rattle.v_design.specs.Processes as does
 use Rattle.v_design.specs.Processes.{opened}

@@ -1,5 +1,5 @@
 use Rattle.std.proofs.Common.{ap, ◌∙◌}
-use Rattle.v_design.specs.Lists.{has}
+use Rattle.vf_base.specs.Lists.{has}
 use Rattle.wait_entries.proofs.Firsts.{has-keys}
 use Rattle.wait_entries.proofs.object_list.ObjectList.has.Goals as goal
 
