@@ -1,4 +1,0 @@
-// The expected causes and pairs are worked by hand.
-
-mod causes;
-mod pairs;

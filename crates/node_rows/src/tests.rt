@@ -1,4 +1,0 @@
-// Nodes and expressions over worked values.
-
-mod expressions;
-mod nodes;

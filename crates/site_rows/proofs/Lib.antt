@@ -1,3 +1,0 @@
-pub mod GateRules
-pub mod RowRules
-pub mod SmallDesigns

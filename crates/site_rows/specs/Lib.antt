@@ -1,2 +1,0 @@
-pub mod GateDesign
-pub mod RowDesign
