@@ -7,7 +7,4 @@
 mod copy;
 mod find;
 mod own;
-#[cfg(test)]
-mod tests;
-
 pub use copy::FaultCopy;

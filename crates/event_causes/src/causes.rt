@@ -12,9 +12,6 @@ ghost use Rattle.event_causes.specs.Causes.{AreCausesOf, Notes, NotesEvaluation,
 use std::alloc::Global;
 use vf_base::{NoMemory, ObjectId, ProcId};
 
-#[cfg(test)]
-mod tests;
-
 /// The process and the line of the statement whose write an event follows; 0 where it follows none.
 #[derive(Clone, Copy, PartialEq, Eq, Debug)]
 pub struct Writer {

@@ -22,9 +22,6 @@ use std::mem;
 use v_design::{Due, Update};
 use vf_base::{NoMemory, ProcId, Seq};
 
-#[cfg(test)]
-mod tests;
-
 /// The processes and updates that later turns activate, which contracts see as what is held of each process, by the processes' numbers.
 #[derive(Drop)]
 pub struct Queue {

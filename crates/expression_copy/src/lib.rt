@@ -6,8 +6,5 @@
 
 mod expression;
 mod select;
-#[cfg(test)]
-mod tests;
-
 pub use expression::{copy_expr, copy_parts, copy_text};
 pub use select::{copy_assigned, copy_optional, copy_target, copy_waits};

@@ -13,6 +13,3 @@ mod shards;
 pub use cut::cut_faults;
 pub use law::{shards_cover, shards_suffice};
 pub use shards::Shards;
-
-#[cfg(test)]
-mod tests;

@@ -8,7 +8,4 @@
 
 mod buckets;
 mod order;
-#[cfg(test)]
-mod tests;
-
 pub use order::{NodesFault, nodes_by_rank, order_is_of_design};

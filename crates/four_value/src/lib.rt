@@ -13,6 +13,3 @@ pub use apply::{binary, unary};
 pub use logic::{Bit, Edge, Truth, Wide};
 pub use operator::{BinaryOperator, CaseKind, GateKind, UnaryOperator};
 pub use value::{Vec4, edge_matches, label_matches};
-
-#[cfg(test)]
-mod tests;

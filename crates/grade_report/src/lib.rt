@@ -10,6 +10,3 @@ mod report;
 
 pub use line::write_line;
 pub use report::{write_report, write_totals};
-
-#[cfg(test)]
-mod tests;

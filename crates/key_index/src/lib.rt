@@ -7,8 +7,5 @@
 
 mod grouped;
 mod index;
-#[cfg(test)]
-mod tests;
-
 pub use grouped::{Grouped, Keyed};
 pub use index::KeyIndex;

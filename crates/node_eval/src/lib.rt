@@ -9,9 +9,6 @@
 mod assign;
 mod force;
 mod gate;
-#[cfg(test)]
-mod tests;
-
 pub use assign::place_parts;
 pub use force::force_outputs;
 pub use gate::gate_output;

@@ -6,7 +6,4 @@
 #![tactic(auto)]
 
 mod phase;
-#[cfg(test)]
-mod tests;
-
 pub use phase::PhaseRecord;

@@ -7,7 +7,4 @@
 
 mod part;
 mod select;
-#[cfg(test)]
-mod tests;
-
 pub use select::select_bits;

@@ -5,7 +5,4 @@
 #![tactic(auto)]
 
 mod record;
-#[cfg(test)]
-mod tests;
-
 pub use record::SlotRecord;

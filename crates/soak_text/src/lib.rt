@@ -12,6 +12,3 @@ mod plan;
 
 pub use design::design_text;
 pub use plan::plan_text;
-
-#[cfg(test)]
-mod tests;

@@ -15,9 +15,6 @@ use std::marker::Model;
 use v_design::Values;
 use vf_base::WatchBit;
 
-#[cfg(test)]
-mod tests;
-
 /// What the strobes say of a fault: the time, in steps, of the first strobe with a hard detection, else of the first with a possible one.
 #[derive(Clone, Copy, PartialEq, Eq, Debug)]
 pub enum Grade {

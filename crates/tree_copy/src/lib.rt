@@ -6,7 +6,4 @@
 
 mod copy_item;
 mod copy_statement;
-#[cfg(test)]
-mod tests;
-
 pub use copy_item::copy_tree;

@@ -9,9 +9,6 @@
 mod cut;
 mod fault;
 mod join;
-#[cfg(test)]
-mod tests;
-
 pub use cut::{Drive, Piece, pieces};
 pub use fault::PortFault;
 pub use join::{PortUse, join_ports};

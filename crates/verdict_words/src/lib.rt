@@ -15,10 +15,7 @@
 mod board;
 mod code;
 mod jobs;
-mod rule;
-#[cfg(test)]
-mod tests;
-mod view;
+mod rule;mod view;
 
 pub use board::{Board, Closed, Seat, Settled};
 pub use code::verdict_code;

@@ -9,6 +9,3 @@ mod status;
 
 pub use message::line;
 pub use status::{Refusal, Status, Which, code};
-
-#[cfg(test)]
-mod tests;

@@ -8,6 +8,3 @@ mod number;
 mod words;
 
 pub use words::{Form, Source, read_words};
-
-#[cfg(test)]
-mod tests;

@@ -9,9 +9,6 @@
 mod entries;
 mod object_list;
 mod reads;
-#[cfg(test)]
-mod tests;
-
 pub use entries::{SelectedBits, entries_of_select, star_entries};
 pub use object_list::{ObjectList, first_occurrences};
 pub use reads::{add_index_objects, add_objects};

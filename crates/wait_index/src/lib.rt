@@ -6,10 +6,7 @@
 #![tactic(auto)]
 
 mod index;
-mod law;
-#[cfg(test)]
-mod tests;
-mod waited;
+mod law;mod waited;
 
 pub use index::WaitIndex;
 pub use law::waits_stay;

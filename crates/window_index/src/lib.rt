@@ -9,8 +9,5 @@ mod index;
 mod occurrence;
 mod search;
 mod sort;
-#[cfg(test)]
-mod tests;
-
 pub use index::WindowIndex;
 pub use occurrence::Occurrence;
