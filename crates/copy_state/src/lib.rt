@@ -7,4 +7,5 @@
 mod copy;
 mod find;
 mod own;
+
 pub use copy::FaultCopy;

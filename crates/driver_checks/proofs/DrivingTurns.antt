@@ -9,7 +9,7 @@ use Rattle.key_index.specs.declared.grouped.Keyed.{Keyed}
 use Rattle.v_tree.specs.Trees.{Identifier, has_name}
 use Rattle.v_elab.specs.Parts as plain
 use Rattle.v_elab.specs.Drivers.{outermost, signals_of, drives_some, drive_signals}
-use Rattle.wire_laws.specs.Depths.{driving_if}
+use Rattle.elab_wires.specs.Depths.{driving_if}
 use Rattle.elab_parts.specs.PartViews.{drive_of, signal_of}
 use Rattle.elab_parts.specs.BitLaws.{drives-none, drives-bits}
 use Rattle.elab_parts.specs.declared.part.Drive.{Drive}

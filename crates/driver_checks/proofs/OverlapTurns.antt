@@ -11,8 +11,8 @@ use Rattle.v_elab.specs.Drivers.{run_of, taken_bits, insert_by_depth, insert_her
 use Rattle.elab_parts.specs.PartViews.{places_of}
 use Rattle.elab_parts.specs.BitLaws.{bits-driven}
 use Rattle.elab_parts.specs.declared.bits.DrivenBits.{DrivenBits}
-use Rattle.elab_drivers.specs.DriveViews.{object_drive_of}
-use Rattle.elab_drivers.specs.declared.drives.ObjectDrive.{ObjectDrive}
+use Rattle.elab_wires.specs.DriveViews.{object_drive_of}
+use Rattle.elab_wires.specs.declared.drives.ObjectDrive.{ObjectDrive}
 use Rattle.driver_checks.specs.Overlaps.{bits_of, lesser, among-either}
 
 -- one run more

@@ -7,7 +7,7 @@ use Rattle.v_elab.specs.Drivers.{by_depth}
 use Rattle.elab_parts.specs.declared.signal.Signal.{Signal}
 use Rattle.elab_wires.specs.SignalTables.{signal_borrowed}
 use Rattle.elab_wires.specs.Turns.{taken-more}
-use Rattle.wire_laws.specs.Depths.{first_two, sooner}
+use Rattle.elab_wires.specs.Depths.{first_two, sooner}
 use Rattle.driver_checks.specs.Seconds.{two_of, second_with, two-more}
 
 pub signals-turn : (signals : List (Bor Signal)) (i : ℕ) (x : Bor Signal) (first second : Option (Bor Signal)) (sooner_one : Bor Signal) (later : Option (Bor Signal)) → i < length signals → x ≡ get_or signals i x →

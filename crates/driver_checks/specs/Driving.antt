@@ -7,7 +7,7 @@ use Rattle.key_index.specs.declared.grouped.Keyed.{Keyed}
 use Rattle.v_tree.specs.Trees.{Identifier, has_name}
 use Rattle.v_elab.specs.Parts.{Signal}
 use Rattle.v_elab.specs.Drivers.{outermost, WalkedNode, block_signals, is_driving}
-use Rattle.wire_laws.specs.Depths.{driving_if, all_driving}
+use Rattle.elab_wires.specs.Depths.{driving_if, all_driving}
 use Rattle.elab_parts.specs.declared.signal.Signal as code
 use Rattle.elab_objects.specs.Driven.{driving_keyed}
 

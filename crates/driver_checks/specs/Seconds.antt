@@ -4,7 +4,7 @@ use Rattle.std.specs.Prelude.{nat_le, nat_lt}
 use Rattle.v_elab.specs.Parts.{Signal}
 use Rattle.v_elab.specs.Refusals.{Refusal, TwoDrivers}
 use Rattle.v_elab.specs.Drivers.{insert_here, insert_by_depth, by_depth, join_place, second_variable}
-use Rattle.wire_laws.specs.Depths.{FirstTwo, first_two, sooner_if, sooner, with_one, first_two-more}
+use Rattle.elab_wires.specs.Depths.{FirstTwo, first_two, sooner_if, sooner, with_one, first_two-more}
 
 abbrev pub second_in : FirstTwo → Option Signal
 second_in None = None
@@ -30,7 +30,7 @@ both-more : (first second : Option Signal) (signal : Signal) → two_of (Some (s
 both-more None second signal = refl
 both-more (Some first) second signal = by_test (nat_lt signal.depth first.depth)
   where
-    by_test : (test : Bool) → two_of (Some (sooner_if test signal first)) (second_if test first second signal) ≡ Rattle.wire_laws.specs.Depths.second_with test signal (first, second)
+    by_test : (test : Bool) → two_of (Some (sooner_if test signal first)) (second_if test first second signal) ≡ Rattle.elab_wires.specs.Depths.second_with test signal (first, second)
     by_test true = refl
     by_test false = refl
 

@@ -10,8 +10,8 @@ use Rattle.v_elab.specs.Refusals.{Refusal}
 use Rattle.v_elab.specs.Parts.{Signal, refusal_or}
 use Rattle.v_elab.specs.Drivers.{is_unjoined, WalkedNode, by_depth, ObjectDrive, run_of, taken_bits, refusal_of, second_variable, signal_two_drivers, first_two_drivers, two_drivers}
 use Rattle.key_index.specs.Groups.{items_under}
-use Rattle.wire_laws.specs.Drives.{all_drives, object-under}
-use Rattle.wire_laws.specs.Depths.{all_driving, driving-by-depth}
+use Rattle.elab_wires.specs.Drives.{all_drives, object-under}
+use Rattle.elab_wires.specs.Depths.{all_driving, driving-by-depth}
 use Rattle.driver_checks.specs.declared.fault.DriverFault.{DriverFault}
 use Rattle.driver_checks.specs.declared.fault.DriverFault.TheVariants.{TwoDrivers, NoMemory}
 

@@ -7,7 +7,7 @@ ghost use Rattle.v_names.specs.Scopes.{range_width};
 ghost use Rattle.v_elab.specs.Drivers.{signals_of, join_place, taken_bits, by_depth, run_of, refusal_of};
 ghost use Rattle.elab_parts.specs.PartViews.{part_of, parts_of, signal_of};
 ghost use Rattle.elab_wires.specs.SignalTables.{signal_borrowed};
-ghost use Rattle.elab_drivers.specs.DriveViews.{drive_keyed, object_drive_of};
+ghost use Rattle.elab_wires.specs.DriveViews.{drive_keyed, object_drive_of};
 ghost use Rattle.elab_objects.specs.Driven.{driving_keyed};
 ghost use Rattle.driver_checks.specs.Overlaps.{bits_of, second_of};
 ghost use Rattle.driver_checks.specs.TwoDrivers.{signal_two_by, two_drivers_by, FaultGives};
@@ -15,8 +15,8 @@ ghost use Rattle.driver_checks.specs.TwoDrivers.{signal_two_by, two_drivers_by, 
 use crate::fault::DriverFault;
 use crate::overlap::{Overlap, second_driver};
 use crate::second::second_by_depth;
-use elab_drivers::ObjectDrive;
 use elab_parts::{DrivenBits, Part, Signal};
+use elab_wires::ObjectDrive;
 use key_index::Grouped;
 use std::alloc::Global;
 use vf_base::{NoMemory, Place};

@@ -7,7 +7,7 @@ ghost use Rattle.v_tree.specs.Trees.{has_name};
 ghost use Rattle.v_elab.specs.Drivers.{signals_of, drive_signals, block_signals};
 ghost use Rattle.elab_parts.specs.PartViews.{drive_of, drives_of, part_of, parts_of, signal_of};
 ghost use Rattle.elab_parts.specs.BehaviourViews.{node_of};
-ghost use Rattle.wire_laws.specs.Depths.{all_driving};
+ghost use Rattle.elab_wires.specs.Depths.{all_driving};
 ghost use Rattle.elab_objects.specs.Driven.{driving_keyed};
 ghost use Rattle.driver_checks.specs.Driving.{driving_listed, driving_besides};
 

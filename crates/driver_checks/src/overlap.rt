@@ -3,11 +3,11 @@
 ghost use Rattle.std.specs.Prelude.{◌≡◌, ◌++◌, IfOk, OnOk, map, flat_map, option_map};
 ghost use Rattle.v_ports.specs.Pieces.{least_among, second_driver};
 ghost use Rattle.v_elab.specs.Drivers.{run_of};
-ghost use Rattle.elab_drivers.specs.DriveViews.{object_drive_of};
+ghost use Rattle.elab_wires.specs.DriveViews.{object_drive_of};
 ghost use Rattle.driver_checks.specs.Overlaps.{bits_of, lesser, second_of};
 
-use elab_drivers::ObjectDrive;
 use elab_parts::DrivenBits;
+use elab_wires::ObjectDrive;
 use vf_base::{NoMemory, Place};
 
 /// A drive that overlaps an earlier one: its place, and the least bit of both.

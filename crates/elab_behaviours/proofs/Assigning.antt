@@ -19,7 +19,7 @@ use Rattle.v_tree.specs.declared.statement.CaseItem.TheVariants.{Labelled, Defau
 use Rattle.v_comb.specs.CombinationalForm.{assigned_names, all_assigned_names, items_assigned_names}
 use Rattle.v_elab.specs.Parts as plain
 use Rattle.v_elab.specs.Drivers.{place_of_first, assigned_place}
-use Rattle.wire_laws.specs.Keyed.{key-name}
+use Rattle.elab_wires.specs.Keyed.{key-name}
 use Rattle.elab_behaviours.specs.Assignments.{assignment_of, assignments_listed, select_assigned, statement_assigned, item_assigned}
 
 -- Trees that are built of lists

@@ -1,6 +1,6 @@
 -- Lists to which connections add, one after another by their positions.
 use Rattle.std.proofs.Common.{◌≡◌, ℕ, ◌+◌, ◌<◌, ◌≤◌, List, [], ◌∷◌, ◌++◌, drop, get_or, length, sym, ap, ◌∙◌, append_assoc, append-nil}
-use Rattle.name_faults.specs.Rows.{drop-step, drop-past}
+use Rattle.name_checks.specs.Rows.{drop-step, drop-past}
 
 pub turn-more : {A D : Type 0} (g : A → List D) (h : ℕ → List A → List D) (xs : List A) (i : ℕ) (x : A) (list new whole : List D) → ((y : A) (ys : List A) → h i (y ∷ ys) ≡ g y ++ h (i + 1) ys) → i < length xs → x ≡ get_or xs i x
     → new ≡ list ++ g x → list ++ h i (drop i xs) ≡ whole → new ++ h (i + 1) (drop (i + 1) xs) ≡ whole

@@ -2,7 +2,7 @@
 use Rattle.std.proofs.Common.{◌≡◌, ℕ, ◌+◌, ◌<◌, ◌≤◌, List, [], ◌∷◌, ◌++◌, drop, get_or, length, refl, sym, ap, ap₂, subst, ◌∙◌, arith}
 use Rattle.std.proofs.lemmas.List.Sums.{sum_by-append}
 use Rattle.v_elab.specs.Parts.{Part, objects_of_part, nodes_of_part, processes_of_part, instances_of_part}
-use Rattle.name_faults.specs.Rows.{drop-step, drop-past}
+use Rattle.name_checks.specs.Rows.{drop-step, drop-past}
 use Rattle.elab_connections.specs.NodeCounts.{CountsNodes}
 
 pub counts-none : CountsNodes [] 0

@@ -7,13 +7,13 @@ ghost use Rattle.v_tree.specs.Views.{connection_of, expression_in, expression_of
 ghost use Rattle.v_width.specs.Targets.{target_of as target_spelled};
 ghost use Rattle.v_elab.specs.Connections as plain;
 ghost use Rattle.v_elab.specs.Connections.{actual_parts, connection_parts, connections_parts, joined_name, output_parts, port_direction};
-ghost use Rattle.instance_faults.specs.Children.{IsChild};
-ghost use Rattle.instance_faults.specs.Offered.{name_seen};
+ghost use Rattle.instance_checks.specs.Children.{IsChild};
+ghost use Rattle.instance_checks.specs.Offered.{name_seen};
 ghost use Rattle.elab_connections.specs.NodeCounts.{CountsNodes};
 
-use instance_faults::Child;
+use expr_sizes::target_of;
+use instance_checks::Child;
 use std::alloc::Global;
-use target_reading::target_of;
 use v_tree::{Connection, Direction, Expr, Target};
 use vf_base::{NoMemory, Text};
 

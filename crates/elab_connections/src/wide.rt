@@ -3,11 +3,11 @@
 ghost use Rattle.std.specs.Prelude.{◌≡◌, map, option_map};
 ghost use Rattle.v_tree.specs.Views.{connection_of};
 ghost use Rattle.v_elab.specs.Connections as plain;
-ghost use Rattle.instance_faults.specs.Children.{IsChild};
-ghost use Rattle.instance_faults.specs.Offered.{name_seen};
+ghost use Rattle.instance_checks.specs.Children.{IsChild};
+ghost use Rattle.instance_checks.specs.Offered.{name_seen};
 ghost use Rattle.elab_connections.specs.WidePorts.{connects_wide_port, is_wide};
 
-use instance_faults::Child;
+use instance_checks::Child;
 use v_tree::Connection;
 use vf_base::{MAX_BITS, Text};
 

@@ -5,7 +5,7 @@ use Rattle.v_names.specs.Faults.{Fault, first_fault, or_fault}
 use Rattle.v_names.specs.Scopes.{ScopeEntry, ScopeName, Scope, looked_up, is_parameter}
 use Rattle.v_names.specs.Names.{Declaration, GivenParameter, names_declared, meaning_of, scope_after, parameter_count, scope_of, module_name_faults, names}
 use Rattle.v_elab.specs.Blocks.{parameter_names}
-use Rattle.module_names.specs.Settled.{NoneNamed, AreApart}
+use Rattle.module_scope.specs.Settled.{NoneNamed, AreApart}
 use Rattle.elab_items.specs.Heres.{FindsParameters}
 use Rattle.elab_items.proofs.Names.{equal-name, turned-apart}
 

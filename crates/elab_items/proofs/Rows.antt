@@ -1,6 +1,6 @@
 -- Loops that put one thing after another behind a list, and loops that test one after another.
 use Rattle.std.proofs.Common.{◌≡◌, ℕ, ◌+◌, ◌<◌, ◌≤◌, Bool, true, false, ◌&&◌, ◌||◌, List, [], ◌∷◌, ◌++◌, drop, get_or, length, sym, ap, ◌∙◌, append-nil}
-use Rattle.name_faults.specs.Rows.{drop-step, drop-past}
+use Rattle.name_checks.specs.Rows.{drop-step, drop-past}
 
 -- nothing is left to put behind
 pub list-done : {A D : Type 0} (h : List A → List D) (xs : List A) (i : ℕ) (list whole : List D) → h [] ≡ [] → length xs ≤ i → list ++ h (drop i xs) ≡ whole → list ≡ whole

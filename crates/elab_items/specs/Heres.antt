@@ -6,8 +6,8 @@ use Rattle.v_names.specs.Names.{names_declared, of_name}
 use Rattle.v_elab.specs.Blocks.{parameter_names}
 use Rattle.v_elab.specs.Walk as plain
 use Rattle.v_elab.specs.Walk.{joining_of}
-use Rattle.module_names.specs.Kept.{kept}
-use Rattle.module_names.specs.Declarations.{declaration_seen, listed}
+use Rattle.module_scope.specs.Kept.{kept}
+use Rattle.module_scope.specs.Declarations.{declaration_seen, listed}
 use Rattle.elab_items.specs.Joins.{joining_seen}
 use Rattle.elab_items.specs.declared.here.Here.{Here}
 

@@ -13,14 +13,14 @@ ghost use Rattle.v_elab.specs.Blocks.{is_plain_entry, parameter_names, block_wai
 ghost use Rattle.v_elab.specs.Walk as plain;
 ghost use Rattle.v_elab.specs.Walk.{targets_by_mode, process_part};
 ghost use Rattle.elab_parts.specs.PartViews.{part_of};
-ghost use Rattle.module_names.specs.Kept.{kept};
+ghost use Rattle.module_scope.specs.Kept.{kept};
 ghost use Rattle.elab_items.specs.Heres.{FindsParameters, IsHere};
 ghost use Rattle.elab_items.specs.Forms.{entry_names, waiting_form};
 
 use crate::here::Here;
 use elab_parts::{Part, WalkedProcess};
 use four_value::Edge;
-use module_names::NameMap;
+use module_scope::NameMap;
 use std::alloc::Global;
 use v_comb::{Form, comb_form};
 use v_elab::Mode;

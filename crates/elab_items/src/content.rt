@@ -4,12 +4,12 @@ ghost use Rattle.std.specs.Prelude.{◌≡◌, IfOk};
 ghost use Rattle.four_value.specs.Values.{IsWidth};
 ghost use Rattle.v_elab.specs.Walk.{first_content_of, content_of};
 ghost use Rattle.elab_parts.specs.PartViews.{range_of};
-ghost use Rattle.module_names.specs.Declarations.{first_seen, declared_seen};
+ghost use Rattle.module_scope.specs.Declarations.{first_seen, declared_seen};
 ghost use Rattle.elab_items.specs.Wholes.{range_between};
 
 use elab_parts::DeclaredRange;
 use four_value::Vec4;
-use module_names::Declared;
+use module_scope::Declared;
 use std::alloc::Global;
 use v_names::{Scope, constant_of, span};
 use v_tree::Expr;

@@ -9,7 +9,7 @@ ghost use Rattle.v_names.specs.Names.{names_declared, Bounds, reg_declarations};
 ghost use Rattle.v_elab.specs.Walk as plain;
 ghost use Rattle.v_elab.specs.Walk.{signal_part, part_by_entry, parts_of_own};
 ghost use Rattle.elab_parts.specs.PartViews.{range_of, part_of, parts_of};
-ghost use Rattle.module_names.specs.Declarations.{declaration_seen, name_declared, wire_declarations};
+ghost use Rattle.module_scope.specs.Declarations.{declaration_seen, name_declared, wire_declarations};
 ghost use Rattle.elab_items.specs.Heres.{IsHere};
 ghost use Rattle.elab_items.specs.Wholes.{memory_part};
 
@@ -18,7 +18,7 @@ use crate::drives::hierarchical;
 use crate::here::Here;
 use crate::joins::copy_joining;
 use elab_parts::{DeclaredRange, Part, Signal, WalkedMemory};
-use module_names::Declaration;
+use module_scope::Declaration;
 use std::alloc::Global;
 use v_names::Entry;
 use v_tree::{Name, Reg, Wire};

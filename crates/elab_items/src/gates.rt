@@ -4,7 +4,7 @@ ghost use Rattle.std.specs.Prelude.{◌≡◌, ◌++◌, ◌+◌, IfOk, OnOk, ma
 ghost use Rattle.v_tree.specs.Views.{expression_of, name_in, gate_of};
 ghost use Rattle.v_elab.specs.Walk as plain;
 ghost use Rattle.v_elab.specs.Walk.{terminals_of, gate_name, gate_parts};
-ghost use Rattle.sized_tree.specs.SizedViews.{all_sized_of};
+ghost use Rattle.v_width.specs.SizedViews.{all_sized_of};
 ghost use Rattle.elab_parts.specs.PartViews.{part_of, parts_of};
 ghost use Rattle.elab_items.specs.Heres.{IsHere};
 ghost use Rattle.elab_items.specs.Gates.{gate_part};
@@ -13,13 +13,13 @@ use crate::declared::push_part;
 use crate::drives::{drives_of, hierarchical};
 use crate::here::Here;
 use elab_parts::Part;
-use expr_reading::read_expr;
-use expression_copy::copy_text;
+use expr_sizes::read_expr;
 use four_value::GateKind;
-use sized_tree::SizedExpr;
 use std::alloc::Global;
+use v_copy::copy_text;
 use v_names::Scope;
 use v_tree::{Expr, Gate, Name};
+use v_width::SizedExpr;
 use vf_base::{NoMemory, Text};
 
 /// The terminals of a gate, each of one bit at least.

@@ -9,7 +9,7 @@ ghost use Rattle.elab_items.specs.Heres.{IsHere};
 
 use crate::joins::{PortJoined, joins_by_name};
 use elab_parts::Joining;
-use module_names::{Declaration, NameMap, declarations_by_name, declared_names};
+use module_scope::{Declaration, NameMap, declarations_by_name, declared_names};
 use std::alloc::Global;
 use std::rc::Rc;
 use v_elab::Mode;

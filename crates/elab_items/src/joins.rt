@@ -3,14 +3,14 @@
 ghost use Rattle.std.specs.Prelude.{◌≡◌, ℕ, List, [], ◌∷◌, IfOk, OnOk, map, option_map};
 ghost use Rattle.std.specs.Option.{option_or};
 ghost use Rattle.v_elab.specs.Walk.{joining_of as found_joining};
-ghost use Rattle.module_names.specs.Kept.{kept};
+ghost use Rattle.module_scope.specs.Kept.{kept};
 ghost use Rattle.elab_parts.specs.PartViews.{joining_of};
 ghost use Rattle.elab_items.specs.Joins.{port_joined_of, joining_seen};
 
 use elab_parts::Joining;
-use expression_copy::copy_text;
-use module_names::NameMap;
+use module_scope::NameMap;
 use std::alloc::Global;
+use v_copy::copy_text;
 use vf_base::{NoMemory, Text};
 
 /// A port of an instance that is one object with the net or variable that it is connected to.

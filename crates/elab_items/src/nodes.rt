@@ -14,10 +14,9 @@ use crate::declared::push_part;
 use crate::drives::drives_of;
 use crate::here::Here;
 use elab_parts::{Part, ValueIn};
-use expr_reading::read_expr;
-use expression_copy::copy_text;
+use expr_sizes::{Writer, read_expr, target_width_in};
 use std::alloc::Global;
-use target_reading::{Writer, target_width_in};
+use v_copy::copy_text;
 use v_tree::{Assignment, Expr, Index, Select, Target, Wire};
 use vf_base::{NoMemory, Place, Text};
 

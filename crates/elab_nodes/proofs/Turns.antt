@@ -9,7 +9,7 @@ use Rattle.std.specs.Prelude.{nat_eq}
 use Rattle.vf_base.specs.Lists.{has}
 use Rattle.v_design.specs.Expressions.{up_from}
 use Rattle.graph_order.specs.ListLaws.{has-append}
-use Rattle.wait_entries.specs.ObjectLists.{with_object}
+use Rattle.object_waits.specs.ObjectLists.{with_object}
 use Rattle.v_elab.specs.Flat as plain
 use Rattle.v_elab.specs.Objects.{HeldObject}
 use Rattle.object_names.specs.OutputViews.{output_of, outputs_seen, output_lists}

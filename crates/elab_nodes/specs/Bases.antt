@@ -8,8 +8,8 @@ use Rattle.v_tree.specs.Trees.{Identifier}
 use Rattle.object_names.specs.NameTables.{NameTables, AreNamesOf}
 use Rattle.object_names.specs.Instances.{HoldNames}
 use Rattle.object_names.specs.declared.instance.InstanceNames.{InstanceNames}
-use Rattle.flat_body.specs.Meanings.{IsMeaning}
-use Rattle.flat_body.specs.declared.meaning.Meaning.{Meaning}
+use Rattle.object_statements.specs.Meanings.{IsMeaning}
+use Rattle.object_statements.specs.declared.meaning.Meaning.{Meaning}
 use Rattle.elab_nodes.specs.declared.basis.Basis.{Basis}
 
 -- the names and the widths are those of some parts with their objects

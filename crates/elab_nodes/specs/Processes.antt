@@ -4,8 +4,8 @@ use Rattle.v_elab.specs.Parts as plain
 use Rattle.v_elab.specs.Parts.{Part}
 use Rattle.v_elab.specs.Objects.{HeldObject}
 use Rattle.v_elab.specs.Flat.{meaning_in}
-use Rattle.flat_body.specs.Meanings.{IsMeaning}
-use Rattle.flat_body.specs.declared.meaning.Meaning.{Meaning}
+use Rattle.object_statements.specs.Meanings.{IsMeaning}
+use Rattle.object_statements.specs.declared.meaning.Meaning.{Meaning}
 use Rattle.elab_nodes.specs.declared.basis.Basis.{Basis}
 use Rattle.elab_nodes.specs.Bases.{IsBasis}
 

@@ -11,10 +11,10 @@ ghost use Rattle.elab_nodes.specs.Inputs.{kind_reads, objects_written, own_objec
 
 use object_names::NodeOutput;
 use object_reads::{objects_among, push_all_reads, push_reads, push_statement_reads};
+use object_waits::ObjectList;
 use std::alloc::Global;
 use v_design::NodeKind;
 use vf_base::{NoMemory, ObjectId};
-use wait_entries::ObjectList;
 
 /// The objects that are named where a node reads, its own outputs among them.
 fn kind_reads(alloc: Global, kind: &NodeKind) -> Result<Vec<ObjectId>, NoMemory>

@@ -2,7 +2,7 @@
 
 ghost use Rattle.std.specs.Prelude.{◌≡◌, IfOk, List, map};
 ghost use Rattle.v_design.specs.Plain.{node_kind_of};
-ghost use Rattle.sized_tree.specs.SizedViews.{all_sized_of};
+ghost use Rattle.v_width.specs.SizedViews.{all_sized_of};
 ghost use Rattle.v_elab.specs.Drivers.{AssignFunction, GateFunction, BlockFunction};
 ghost use Rattle.v_tree.specs.Views as source;
 ghost use Rattle.v_elab.specs.Parts.{Part};
@@ -17,14 +17,14 @@ ghost use Rattle.elab_nodes.specs.Bases.{IsBasis};
 use crate::basis::Basis;
 use crate::process::meaning_of;
 use elab_parts::{NodeFunction, ValueIn, WalkedProcess};
-use flat_body::statement_over;
 use four_value::GateKind;
 use object_expr::{all_over_objects, over_objects};
 use object_names::{InstanceNames, NodeOutput};
-use sized_tree::SizedExpr;
+use object_statements::statement_over;
 use std::alloc::Global;
 use v_design::NodeKind;
 use v_tree::Stmt;
+use v_width::SizedExpr;
 use vf_base::{NoMemory, Seq, Text};
 
 /// Where the outputs of a node stand in its value.

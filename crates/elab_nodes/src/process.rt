@@ -12,8 +12,8 @@ ghost use Rattle.elab_nodes.specs.Processes.{IsMeantBy};
 
 use crate::basis::Basis;
 use elab_parts::{ProcessPart, WalkedProcess};
-use flat_body::{Meaning, statement_over};
 use object_names::InstanceNames;
+use object_statements::{Meaning, statement_over};
 use std::alloc::Global;
 use v_design::Process;
 use vf_base::NoMemory;

@@ -12,7 +12,7 @@ use Rattle.elab_parts.specs.declared.part.Part.{Part}
 use Rattle.elab_parts.specs.declared.signal.Signal.{Signal}
 use Rattle.elab_wires.specs.SignalTables.{signal_borrowed}
 use Rattle.elab_wires.specs.Turns.{taken-more}
-use Rattle.wire_laws.specs.Depths.{sooner}
+use Rattle.elab_wires.specs.Depths.{sooner}
 use Rattle.elab_objects.specs.Driven.{driving_keyed, first_by_depth, first-more}
 use Rattle.elab_objects.specs.Found.{variables-found}
 

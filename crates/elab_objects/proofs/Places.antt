@@ -12,11 +12,11 @@ use Rattle.v_ports.specs.declared.cut.Piece.{Piece}
 use Rattle.v_ports.specs.declared.fault.PortFault.{PortFault}
 use Rattle.v_elab.specs.Drivers.{run_of}
 use Rattle.v_elab.specs.Objects.{HeldObject, PieceDriver, value_place, piece_driver, drive_numbered}
-use Rattle.elab_drivers.specs.DriveViews.{object_drive_of}
-use Rattle.elab_drivers.specs.declared.drives.ObjectDrive.{ObjectDrive}
+use Rattle.elab_wires.specs.DriveViews.{object_drive_of}
+use Rattle.elab_wires.specs.declared.drives.ObjectDrive.{ObjectDrive}
 use Rattle.std.proofs.lemmas.List.{map-append}
 use Rattle.elab_wires.specs.Turns.{turn}
-use Rattle.wire_laws.specs.Clipped.{clipped, bit-place, no-place, EndsBy, pieces-within}
+use Rattle.elab_wires.specs.Clipped.{clipped, bit-place, no-place, EndsBy, pieces-within}
 use Rattle.elab_objects.specs.ObjectViews.{run_drive}
 use Rattle.elab_objects.specs.PieceLaws.{drive-at, drive-past, cut-is}
 

@@ -11,8 +11,8 @@ use Rattle.v_elab.specs.Parts.{Signal, Part, SignalPart, MemoryPart, AssignPart,
 use Rattle.v_elab.specs.Drivers.{signals_of, is_unjoined, WalkedNode, by_depth, driving_variables, ObjectDrive, object_drives, run_of, taken_bits, refusal_of, second_variable, signal_two_drivers, first_two_drivers, two_drivers}
 use Rattle.v_elab.specs.Objects.{HeldObject, pieces_or_variable, variable_object, signal_objects, word_objects, part_objects, objects_of_parts}
 use Rattle.key_index.specs.Groups.{items_under, first_of}
-use Rattle.wire_laws.specs.Drives.{all_drives, object-under}
-use Rattle.wire_laws.specs.Depths.{all_driving, driving-by-depth, before_here, insert_behind, by_depth-more, sooner_if, sooner}
+use Rattle.elab_wires.specs.Drives.{all_drives, object-under}
+use Rattle.elab_wires.specs.Depths.{all_driving, driving-by-depth, before_here, insert_behind, by_depth-more, sooner_if, sooner}
 use Rattle.elab_parts.specs.PartViews.{signal_of}
 use Rattle.elab_parts.specs.declared.signal.Signal as code
 

@@ -4,7 +4,7 @@ use Rattle.vf_base.specs.Base.{source_place}
 use Rattle.v_design.specs.Plain.{object_of}
 use Rattle.v_ports.specs.Pieces.{DriveOfRun}
 use Rattle.v_elab.specs.Objects as plain
-use Rattle.elab_drivers.specs.declared.drives.ObjectDrive.{ObjectDrive}
+use Rattle.elab_wires.specs.declared.drives.ObjectDrive.{ObjectDrive}
 use Rattle.elab_objects.specs.declared.object.PieceDriver.{PieceDriver}
 use Rattle.elab_objects.specs.declared.object.HeldObject.{HeldObject}
 

@@ -8,9 +8,9 @@ use Rattle.v_ports.specs.Pieces.{CutPiece, second_driver, pieces_of, run_of_driv
 use Rattle.v_elab.specs.Drivers as drivers
 use Rattle.v_elab.specs.Drivers.{run_of}
 use Rattle.v_elab.specs.Objects.{drive_numbered}
-use Rattle.elab_drivers.specs.DriveViews.{object_drive_of}
-use Rattle.elab_drivers.specs.declared.drives.ObjectDrive.{ObjectDrive}
-use Rattle.wire_laws.specs.Clipped.{run-bits, clipped, pieces-are, pieces-within, EndsBy, numbered-at}
+use Rattle.elab_wires.specs.DriveViews.{object_drive_of}
+use Rattle.elab_wires.specs.declared.drives.ObjectDrive.{ObjectDrive}
+use Rattle.elab_wires.specs.Clipped.{run-bits, clipped, pieces-are, pieces-within, EndsBy, numbered-at}
 use Rattle.elab_objects.specs.ObjectViews.{run_drive}
 
 run-is : (d : ObjectDrive) → run_of (object_drive_of d) ≡ run_of_drive (run_drive d)

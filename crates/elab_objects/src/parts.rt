@@ -4,16 +4,16 @@ ghost use Rattle.std.specs.Prelude.{◌≡◌, ◌++◌, IfOk, OnOk, map, flat_m
 ghost use Rattle.vf_base.specs.Lists.{AllHold};
 ghost use Rattle.elab_parts.specs.PartViews.{part_of, parts_of, signal_of};
 ghost use Rattle.elab_wires.specs.SignalTables.{signal_borrowed};
-ghost use Rattle.elab_drivers.specs.DriveViews.{drive_keyed};
-ghost use Rattle.wire_laws.specs.Depths.{sooner};
+ghost use Rattle.elab_wires.specs.DriveViews.{drive_keyed};
+ghost use Rattle.elab_wires.specs.Depths.{sooner};
 ghost use Rattle.elab_objects.specs.ObjectViews.{held_objects};
 ghost use Rattle.elab_objects.specs.Driven.{driving_keyed, first_by_depth, objects_by, HasOneDriver, part_objects_by, PartHasOneDriver};
 
 use crate::object::HeldObject;
 use crate::pieces::push_net;
 use crate::words::{push_words, variable_object};
-use elab_drivers::ObjectDrive;
 use elab_parts::{Part, Signal};
+use elab_wires::ObjectDrive;
 use key_index::Grouped;
 use std::alloc::Global;
 use vf_base::NoMemory;

@@ -7,13 +7,13 @@ ghost use Rattle.v_ports.specs.Cuts.{drive_of, piece_of};
 ghost use Rattle.v_elab.specs.Drivers.{run_of};
 ghost use Rattle.v_elab.specs.Objects as plain;
 ghost use Rattle.elab_parts.specs.PartViews.{range_of, signal_of};
-ghost use Rattle.elab_drivers.specs.DriveViews.{object_drive_of};
-ghost use Rattle.wire_laws.specs.Clipped.{clipped};
+ghost use Rattle.elab_wires.specs.DriveViews.{object_drive_of};
+ghost use Rattle.elab_wires.specs.Clipped.{clipped};
 ghost use Rattle.elab_objects.specs.ObjectViews.{driver_of, held_of, held_objects, run_drive};
 
 use crate::object::{HeldObject, PieceDriver};
-use elab_drivers::ObjectDrive;
 use elab_parts::{DeclaredRange, Signal};
+use elab_wires::ObjectDrive;
 use four_value::{Bit, Vec4};
 use std::alloc::Global;
 use v_design::{Object, ObjectKind};

@@ -3,7 +3,7 @@ use Rattle.std.specs.Prelude.{ℕ, List, [], Option, Some, None}
 use Rattle.std.specs.Borrow.{Bor}
 use Rattle.v_elab.specs.Parts as parts
 use Rattle.v_elab.specs.Drivers as plain
-use Rattle.sized_tree.specs.SizedViews.{all_sized_of}
+use Rattle.v_width.specs.SizedViews.{all_sized_of}
 use Rattle.elab_parts.specs.PartViews.{drives_of, value_of, process_of}
 use Rattle.elab_parts.specs.declared.behaviour.NodeFunction.{NodeFunction}
 use Rattle.elab_parts.specs.declared.behaviour.NodeFunction.TheVariants as functions

@@ -5,7 +5,7 @@ use Rattle.v_design.specs.Expressions.{up_from}
 use Rattle.v_tree.specs.Views.{statement_of}
 use Rattle.v_names.specs.Scopes as scopes
 use Rattle.v_elab.specs.Parts as plain
-use Rattle.sized_tree.specs.SizedViews.{sized_of, all_sized_of}
+use Rattle.v_width.specs.SizedViews.{sized_of, all_sized_of}
 use Rattle.elab_parts.specs.declared.range.DeclaredRange.{DeclaredRange}
 use Rattle.elab_parts.specs.declared.bits.DrivenBits.{DrivenBits}
 use Rattle.elab_parts.specs.declared.signal.Joining.{Joining}

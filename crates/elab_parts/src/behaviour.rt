@@ -6,7 +6,7 @@ ghost use Rattle.elab_parts.specs.BehaviourViews.{node_drives_of};
 
 use crate::part::{Drive, ValueIn, WalkedProcess};
 use four_value::GateKind;
-use sized_tree::SizedExpr;
+use v_width::SizedExpr;
 use vf_base::Text;
 
 /// What a node computes: a value, a gate's function of its terminals, or what a block leaves in its targets.

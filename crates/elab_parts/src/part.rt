@@ -5,10 +5,10 @@ ghost use Rattle.std.specs.Prelude.{◌≡◌};
 use crate::bits::DrivenBits;
 use crate::signal::{Signal, WalkedMemory};
 use four_value::GateKind;
-use sized_tree::SizedExpr;
 use std::rc::Rc;
 use v_names::Scope;
 use v_tree::Stmt;
+use v_width::SizedExpr;
 use vf_base::{Place, Seq, Text};
 
 /// A select that a node drives, by the hierarchical name of its signal.

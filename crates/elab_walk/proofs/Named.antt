@@ -1,7 +1,7 @@
 -- Modules by their names.
 use Rattle.std.proofs.Common.{◌≡◌, ℕ, ◌+◌, ◌<◌, ◌≤◌, Bool, true, false, not, cond, List, [], ◌∷◌, Option, Some, None, option_map, is_some, map, filter, drop, get_or, length, refl, sym, ap, ◌∙◌}
 use Rattle.std.specs.Borrow.{Bor}
-use Rattle.name_faults.specs.Rows.{drop-step, drop-past}
+use Rattle.name_checks.specs.Rows.{drop-step, drop-past}
 use Rattle.vf_base.specs.Base.{source_place}
 use Rattle.vf_base.specs.declared.ids.Place.{Place}
 use Rattle.v_names.specs.Faults.{DeclaredTwice, fault_at}
@@ -12,7 +12,7 @@ use Rattle.v_tree.specs.declared.item.Module.{Module}
 use Rattle.v_elab.specs.Refusals.{Faulty}
 use Rattle.v_elab.specs.Walk.{module_if, module_named}
 use Rattle.v_elab.specs.Flat.{twice_if, second_module}
-use Rattle.module_names.specs.Kept.{kept}
+use Rattle.module_scope.specs.Kept.{kept}
 use Rattle.elab_walk.specs.ModuleViews.{module_seen}
 
 -- one module more in front

@@ -22,9 +22,9 @@ use Rattle.elab_parts.specs.PartViews.{part_of, parts_of}
 use Rattle.elab_parts.specs.declared.part.Part as code
 use Rattle.elab_parts.specs.declared.part.Part.TheVariants as parts
 use Rattle.v_elab.specs.Walk.{Here, Entered, Walker, walked, walked_module, walked_item, walked_items, walked_instance_item, not_port_faults, head_items, module_named}
-use Rattle.module_names.specs.declared.module_scope.NameFault.{NameFault}
-use Rattle.module_names.specs.declared.module_scope.NameFault.TheVariants as wrong
-use Rattle.module_names.specs.NameFaults.{IsNameFault}
+use Rattle.module_scope.specs.declared.module_scope.NameFault.{NameFault}
+use Rattle.module_scope.specs.declared.module_scope.NameFault.TheVariants as wrong
+use Rattle.module_scope.specs.NameFaults.{IsNameFault}
 use Rattle.elab_walk.specs.NameFaults.{of_name_fault}
 use Rattle.elab_walk.specs.WalkFaults.{IsWalkFault}
 use Rattle.elab_walk.specs.ModuleViews.{module_seen}

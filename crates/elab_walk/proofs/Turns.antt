@@ -1,6 +1,6 @@
 -- A walk goes on step by step.
 use Rattle.std.proofs.Common.{◌≡◌, ℕ, ◌+◌, ◌<◌, ◌≤◌, List, [], ◌∷◌, ◌++◌, Option, Some, None, option_map, Result, Ok, Err, MatchResult, drop, get_or, length, refl, sym, ap, subst, ◌∙◌, append_assoc, append-nil}
-use Rattle.name_faults.specs.Rows.{drop-step, drop-past}
+use Rattle.name_checks.specs.Rows.{drop-step, drop-past}
 use Rattle.v_names.specs.Faults.{Fault, first_fault, or_fault}
 use Rattle.v_names.specs.FaultViews.{fault_of}
 use Rattle.v_elab.specs.Refusals.{Refusal, Faulty, as_refusal, then_go, checked}

@@ -5,7 +5,7 @@ use Rattle.v_tree.specs.Trees.{Identifier, SourceModule}
 use Rattle.v_tree.specs.Views.{module_of}
 use Rattle.v_tree.specs.declared.item.Module.{Module}
 use Rattle.v_elab.specs.Walk.{module_named}
-use Rattle.module_names.specs.Kept.{kept}
+use Rattle.module_scope.specs.Kept.{kept}
 use Rattle.elab_walk.specs.declared.modules.Modules.{Modules}
 
 abbrev pub module_seen : Bor Module → SourceModule

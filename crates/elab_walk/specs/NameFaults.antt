@@ -1,6 +1,6 @@
 -- Faults of names as faults of the walk.
-use Rattle.module_names.specs.declared.module_scope.NameFault.{NameFault}
-use Rattle.module_names.specs.declared.module_scope.NameFault.TheVariants as wrong
+use Rattle.module_scope.specs.declared.module_scope.NameFault.{NameFault}
+use Rattle.module_scope.specs.declared.module_scope.NameFault.TheVariants as wrong
 use Rattle.elab_walk.specs.declared.fault.WalkFault.{WalkFault}
 use Rattle.elab_walk.specs.declared.fault.WalkFault.TheVariants as faults
 

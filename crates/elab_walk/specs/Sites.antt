@@ -5,9 +5,9 @@ use Rattle.v_tree.specs.Views.{module_of}
 use Rattle.v_names.specs.Names.{GivenParameter}
 use Rattle.v_elab.specs.Walk as plain
 use Rattle.v_elab.specs.Walk.{child_of}
-use Rattle.module_names.specs.Givens.{given_parameter}
-use Rattle.instance_faults.specs.Offered.{AreFormals}
-use Rattle.instance_faults.specs.Children.{IsChild}
+use Rattle.module_scope.specs.Givens.{given_parameter}
+use Rattle.instance_checks.specs.Offered.{AreFormals}
+use Rattle.instance_checks.specs.Children.{IsChild}
 use Rattle.elab_items.specs.Joins.{port_joined_of}
 use Rattle.elab_items.specs.Heres.{IsHere}
 use Rattle.elab_walk.specs.ModuleViews.{AreModules}

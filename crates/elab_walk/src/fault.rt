@@ -3,7 +3,7 @@
 ghost use Rattle.std.specs.Prelude.{◌≡◌, false, Some, None, MatchResult};
 ghost use Rattle.elab_walk.specs.WalkFaults.{reads_fault, refusal_in};
 
-use module_names::NameFault;
+use module_scope::NameFault;
 use std::alloc::{AllocError, AllocFailed};
 use thiserror::Error;
 use v_elab::What;

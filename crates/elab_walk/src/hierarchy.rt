@@ -9,7 +9,7 @@ ghost use Rattle.v_elab.specs.Parts as parts;
 ghost use Rattle.v_elab.specs.Walk as plain;
 ghost use Rattle.v_elab.specs.Walk.{gates_in, paths_of, entered, walked_module, walked_items, walked_item, walked_instance_item, walked_instances, walked_instance, walked_from};
 ghost use Rattle.elab_parts.specs.PartViews.{parts_of};
-ghost use Rattle.instance_faults.specs.Offered.{AreFormals};
+ghost use Rattle.instance_checks.specs.Offered.{AreFormals};
 ghost use Rattle.elab_connections.specs.PathViews.{ArePaths};
 ghost use Rattle.elab_walk.specs.ModuleViews.{AreModules};
 ghost use Rattle.elab_walk.specs.WalkFaults.{IsWalkFault};
@@ -27,9 +27,9 @@ use elab_connections::{
 };
 use elab_items::{Here, gates_in, hierarchical};
 use elab_parts::Part;
-use instance_faults::{Child, Formals, given_parameters, instance_fault, not_port_fault};
-use module_names::{names, scope_of_module};
-use read_counts::connection_reads_over;
+use input_counts::connection_reads_over;
+use instance_checks::{Child, Formals, given_parameters, instance_fault, not_port_fault};
+use module_scope::{names, scope_of_module};
 use std::alloc::Global;
 use std::rc::Rc;
 use v_elab::Mode;
@@ -303,6 +303,13 @@ pub fn walked_from<'u>(
         joins: &[],
     };
     let mut walked = Walked::new(alloc);
-    enter(alloc, modules, mode, MAX_NESTED_MODULES, entrance, &mut walked)?;
+    enter(
+        alloc,
+        modules,
+        mode,
+        MAX_NESTED_MODULES,
+        entrance,
+        &mut walked,
+    )?;
     Ok(walked.parts)
 }

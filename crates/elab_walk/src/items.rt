@@ -15,8 +15,8 @@ use crate::fault::{WalkFault, refuse, refuse_reads};
 use crate::site::Site;
 use crate::walked::Walked;
 use elab_items::{push_item_parts, push_port_parts};
-use item_faults::{item_fault, params_fault, ports_fault};
-use read_counts::item_reads_over;
+use input_counts::item_reads_over;
+use item_checks::{item_fault, params_fault, ports_fault};
 use std::alloc::Global;
 use v_tree::{Heads, Item, Params, Ports};
 

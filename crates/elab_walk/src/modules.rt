@@ -10,7 +10,7 @@ ghost use Rattle.v_elab.specs.Walk.{module_named};
 ghost use Rattle.v_elab.specs.Flat.{second_module};
 ghost use Rattle.elab_walk.specs.ModuleViews.{AreModules, module_seen};
 
-use module_names::NameMap;
+use module_scope::NameMap;
 use std::alloc::Global;
 use v_tree::{Module, Unit};
 use vf_base::{NoMemory, Place};

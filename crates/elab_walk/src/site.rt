@@ -4,8 +4,8 @@ ghost use Rattle.std.specs.Prelude.{◌≡◌};
 
 use crate::modules::Modules;
 use elab_items::{Here, PortJoined};
-use instance_faults::{Child, Formals};
-use module_names::Given;
+use instance_checks::{Child, Formals};
+use module_scope::Given;
 use std::rc::Rc;
 use v_names::Scope;
 use v_tree::Module;

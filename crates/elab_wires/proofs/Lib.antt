@@ -1,3 +1,4 @@
 pub mod NamedSignals
 pub mod WrittenTurns
 pub mod BlockLaws
+pub mod DriveTurns

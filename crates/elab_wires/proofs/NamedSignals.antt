@@ -13,7 +13,7 @@ use Rattle.v_elab.specs.Drivers.{signals_of, signal_if, signal_named, joined_int
 use Rattle.elab_parts.specs.PartViews.{signal_of}
 use Rattle.elab_parts.specs.declared.signal.Signal.{Signal}
 use Rattle.elab_wires.specs.SignalTables.{signal_seen, signal_borrowed, signals_listed, IsOwn}
-use Rattle.wire_laws.specs.Keyed.{key-name}
+use Rattle.elab_wires.specs.Keyed.{key-name}
 
 -- Signals under their names
 

@@ -4,7 +4,7 @@ use Rattle.std.specs.Str.{bytes_eq}
 use Rattle.vf_base.specs.Lists.{first_place, earlier_place}
 use Rattle.key_index.specs.Places.{later, key_from}
 use Rattle.v_tree.specs.Trees.{Identifier, has_name}
-use Rattle.wire_laws.specs.Keyed.{key-name}
+use Rattle.elab_wires.specs.Keyed.{key-name}
 
 there-by : (b : Bool) (o : Option ℕ) (has : Bool) → is_some o ≡ has → is_some (earlier_place b o) ≡ (b || has)
 there-by true o has e = refl

@@ -1,3 +1,9 @@
+pub mod Keyed
+pub mod Drives
+pub mod Writers
+pub mod Depths
+pub mod Held
+pub mod Clipped
 pub mod SignalTables
 pub mod WrittenNames
 pub mod WrittenLaws
@@ -6,3 +12,4 @@ pub mod Wirings
 pub mod Turns
 pub mod PartLists
 pub mod IndexLaws
+pub mod DriveViews

@@ -6,7 +6,7 @@ use Rattle.v_tree.specs.Trees.{Identifier, same_name, has_name}
 use Rattle.v_elab.specs.Parts.{Joining, Signal, Part}
 use Rattle.v_elab.specs.Drivers.{signals_written, outermost, writes_object, other_writes, is_output, joins_output, port_writes}
 use Rattle.key_index.specs.Groups.{item_if, items_under}
-use Rattle.wire_laws.specs.Keyed.{key-name}
+use Rattle.elab_wires.specs.Keyed.{key-name}
 use Rattle.elab_wires.specs.WrittenNames.{written_by, written_from, objects_written, is_other, has_other_writer, into_if, output_into, output_names}
 
 or-assoc : (a b c : Bool) → ((a || b) || c) ≡ (a || (b || c))

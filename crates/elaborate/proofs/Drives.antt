@@ -7,8 +7,8 @@ use Rattle.v_elab.specs.Refusals.{Refusal}
 use Rattle.v_elab.specs.Parts.{Signal, Part}
 use Rattle.v_elab.specs.Drivers.{signals_of, WalkedNode, ObjectDrive, two_drivers}
 use Rattle.v_elab.specs.Objects.{objects_of_parts}
-use Rattle.wire_laws.specs.Drives.{all_drives}
-use Rattle.wire_laws.specs.Depths.{all_driving}
+use Rattle.elab_wires.specs.Drives.{all_drives}
+use Rattle.elab_wires.specs.Depths.{all_driving}
 use Rattle.elab_objects.specs.Driven.{PartHasOneDriver, part_objects_by, parts-driven, objects-by}
 use Rattle.driver_checks.specs.TwoDrivers.{two_drivers_by, two-drivers-by}
 

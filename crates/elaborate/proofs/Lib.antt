@@ -1,1 +1,4 @@
 mod Drives
+pub mod Stops
+pub mod Refused
+pub mod Steps

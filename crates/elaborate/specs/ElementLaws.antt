@@ -17,8 +17,8 @@ use Rattle.v_elab.specs.Objects.{HeldObject, PieceDriver, objects_of_parts, name
 use Rattle.v_elab.specs.Flat.{NodeOutput, output_if, output_of_object, outputs_of, inputs_of, node_kind, flat_node, flat_process, walked_nodes, too_many_behaviours, over_nodes, over_parts, over_behaviours, flat_of_parts, second_module, flat_from}
 use Rattle.flat_laws.specs.Lists.{AllHold-from}
 use Rattle.flat_laws.specs.Numbered.{at-numbered, AllHold-up_from, AllHold-filter, AllHold-each, AllHold-append}
-use Rattle.flat_nodes.specs.NodeOrder.{ordered_nodes}
-use Rattle.flat_nodes.specs.OrderLaws.{design_of_nodes, nodes-give-design}
+use Rattle.node_order.specs.NodeOrder.{ordered_nodes}
+use Rattle.node_order.specs.OrderLaws.{design_of_nodes, nodes-give-design}
 use Rattle.v_design.specs.Plain as flats
 use Rattle.v_design.specs.declared.plan.Object.{Object}
 use Rattle.v_design.specs.declared.plan.JoinedName.{JoinedName}

@@ -1,3 +1,4 @@
 pub mod ElabFaults
 pub mod Elements
 pub mod ElementLaws
+pub mod Meanings

@@ -4,7 +4,8 @@
 //! clauses 4.1 and 4.4). The values may be those of a whole machine or an overlay. Evaluating takes no memory.
 #![tactic(auto)]
 
-mod operand;mod value;
+mod operand;
+mod value;
 
 pub use operand::{part_index, place_of_index, put_left, put_right, width_of_part, word_of_index};
 pub use value::{Stack, chosen, eval, is_signed, repeated_bits};

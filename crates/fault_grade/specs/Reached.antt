@@ -11,7 +11,7 @@ use Rattle.v_design.specs.Runs.{FirstSlot, only_if, first_run, next_slot, slot_e
 use Rattle.v_design.specs.Grades as plain
 use Rattle.v_design.specs.WellFormed.{KeepsRules}
 use Rattle.order_laws.specs.FirstRuns.{FirstRunsGoOn}
-use Rattle.slot_laws.specs.SlotLoop.{slot_from}
+use Rattle.machine_laws.specs.SlotLoop.{slot_from}
 use Rattle.causal_monitor.specs.declared.slot.Turn.{Turn}
 use Rattle.causal_monitor.specs.declared.slot.SlotLog.{SlotLog}
 use Rattle.grade_laws.specs.Ahead.{IsAhead, Shows, ahead-start, ahead-fine, ahead-race, ahead-hyper, ahead-since, ahead-rises, ahead-never, ahead-over, ahead-later}

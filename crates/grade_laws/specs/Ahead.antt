@@ -11,7 +11,7 @@ use Rattle.v_design.specs.Runs.{FirstSlot, first_run, next_slot, slot_end}
 use Rattle.v_design.specs.Grades.{SlotOutcome, Fine, Race, Hyper, slot_outcome, values_after, Stop, first_stop}
 use Rattle.v_design.specs.WellFormed.{KeepsRules}
 use Rattle.order_laws.specs.FirstRuns.{Follow, Rise, FirstRunsGoOn}
-use Rattle.slot_laws.specs.SlotLoop.{slot_from}
+use Rattle.machine_laws.specs.SlotLoop.{slot_from}
 
 -- What stands
 

@@ -7,5 +7,6 @@
 
 mod grouped;
 mod index;
+
 pub use grouped::{Grouped, Keyed};
 pub use index::KeyIndex;

@@ -7,8 +7,8 @@ use Rattle.v_design.specs.States.{State, TurnKind, PostponedTurn, UpdatesTurn, T
 use Rattle.v_design.specs.PhaseLogs.{NotedEvent}
 use Rattle.causal_monitor.specs.declared.slot.Turn.{Turn}
 use Rattle.causal_monitor.specs.declared.slot.SlotLog.{SlotLog}
-use Rattle.phase_record.specs.Records.{object_count}
-use Rattle.slot_laws.specs.SlotLoop.{SlotsBegin, first_moment}
+use Rattle.slot_record.specs.Records.{object_count}
+use Rattle.machine_laws.specs.SlotLoop.{SlotsBegin, first_moment}
 use Rattle.slot_record.specs.declared.record.SlotRecord.{SlotRecord}
 use Rattle.slot_record.specs.SlotRecords.{BeginsSlot, BeginsPhase, RecordedSlot, IsEmptyLog}
 use Rattle.net_state.specs.declared.state.NetState.{NetState}

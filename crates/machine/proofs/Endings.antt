@@ -11,9 +11,9 @@ use Rattle.causal_monitor.specs.declared.slot.Turn.{Turn}
 use Rattle.causal_monitor.specs.declared.slot.SlotLog.{SlotLog}
 use Rattle.causal_monitor.specs.declared.slot.Actor.{Actor}
 use Rattle.event_causes.specs.Causes.{AreCausesOf}
-use Rattle.phase_record.specs.Records.{event_of}
-use Rattle.phase_record.specs.SlotLogs.{IsSlotLog}
-use Rattle.slot_laws.specs.SlotLoop.{Moment, NextSlotsBegin, EndsAt, slot_from, phases_so_far}
+use Rattle.slot_record.specs.Records.{event_of}
+use Rattle.slot_record.specs.SlotLogs.{IsSlotLog}
+use Rattle.machine_laws.specs.SlotLoop.{Moment, NextSlotsBegin, EndsAt, slot_from, phases_so_far}
 use Rattle.slot_record.specs.declared.record.SlotRecord.{SlotRecord}
 use Rattle.slot_record.specs.SlotRecords.{EndsPhase, RecordedSlot}
 use Rattle.slot_record.specs.SlotEnds.{outcome_kept, outcome-recorded, log-recorded}

@@ -15,7 +15,7 @@ use Rattle.v_design.specs.Runs.{most_steps, work_of}
 use Rattle.causal_monitor.specs.Notes.{noted_access}
 use Rattle.causal_monitor.specs.declared.slot.Turn.{Turn}
 use Rattle.causal_monitor.specs.declared.slot.SlotLog.{SlotLog}
-use Rattle.slot_laws.specs.SlotLoop.{Moment, ComesTo, NodesGoOn, LanesGoOn, StepsGoOn, NoNodeWorks, first_lane, first_ready, after_event, after_node}
+use Rattle.machine_laws.specs.SlotLoop.{Moment, ComesTo, NodesGoOn, LanesGoOn, StepsGoOn, NoNodeWorks, first_lane, first_ready, after_event, after_node}
 use Rattle.slot_record.specs.SlotRecords.{AddsStep}
 use Rattle.net_state.specs.States.{values_in}
 use Rattle.process_table.specs.declared.table.ProcessTable.{ProcessTable}

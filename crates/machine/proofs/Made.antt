@@ -5,7 +5,7 @@ use Rattle.v_design.specs.States.{State, Event, turn_of}
 use Rattle.v_design.specs.Runs.{most_steps, turn_in_slot}
 use Rattle.causal_monitor.specs.declared.slot.Turn.{Turn}
 use Rattle.causal_monitor.specs.declared.slot.SlotLog.{SlotLog}
-use Rattle.slot_laws.specs.SlotLoop.{Moment, after_event, after_node, steps_of, QuietSlotsEnd, HyperSlotsEnd, IsIdle, present_phase}
+use Rattle.machine_laws.specs.SlotLoop.{Moment, after_event, after_node, steps_of, QuietSlotsEnd, HyperSlotsEnd, IsIdle, present_phase}
 use Rattle.slot_record.specs.SlotRecords.{RecordsSlot}
 use Rattle.net_state.specs.States.{machine_in, values_in, nodes_in}
 use Rattle.process_table.specs.Arranged.{IsKept, table_of}

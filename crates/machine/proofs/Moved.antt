@@ -16,8 +16,8 @@ use Rattle.v_design.specs.PhaseLogs.{noted_events}
 use Rattle.v_design.specs.Accesses.{ObjectAccess}
 use Rattle.causal_monitor.specs.declared.slot.Turn.{Turn}
 use Rattle.causal_monitor.specs.declared.slot.SlotLog.{SlotLog}
-use Rattle.slot_laws.specs.SlotLoop.{Moment, ComesTo, present_phase}
-use Rattle.phase_record.specs.Records.{IsRecord, process_count, object_count}
+use Rattle.machine_laws.specs.SlotLoop.{Moment, ComesTo, present_phase}
+use Rattle.slot_record.specs.Records.{IsRecord, process_count, object_count}
 use Rattle.slot_record.specs.declared.record.SlotRecord.{SlotRecord}
 use Rattle.slot_record.specs.SlotRecords.{RecordsSlot, AddsStep, one_more}
 use Rattle.process_table.specs.Arranged.{IsKept, table_of}

@@ -22,8 +22,8 @@ use Rattle.event_queue.specs.Queues.{numbers_where}
 use Rattle.value_change.specs.declared.change.Change.{Change}
 use Rattle.value_change.specs.Changes.{ObjectChange, change_seen, woken_by, ended_by_changes}
 use Rattle.value_change.specs.ChangeLaws as seen
-use Rattle.phase_record.specs.Records.{TellsUpdate, write_of_change}
-use Rattle.slot_laws.specs.SlotLoop.{Moment, ComesTo, NodesGoOn, after_node}
+use Rattle.slot_record.specs.Records.{TellsUpdate, write_of_change}
+use Rattle.machine_laws.specs.SlotLoop.{Moment, ComesTo, NodesGoOn, after_node}
 use Rattle.slot_record.specs.SlotRecords.{AddsNode}
 use Rattle.net_state.specs.declared.state.NetState.{NetState}
 use Rattle.net_state.specs.States.{machine_in, values_in, nodes_in, AreNetsOf}

@@ -11,9 +11,9 @@ use Rattle.v_design.specs.Accesses.{ObjectAccess, held_by, held_accesses}
 use Rattle.causal_monitor.specs.declared.slot.Turn.{Turn}
 use Rattle.causal_monitor.specs.declared.slot.SlotLog.{SlotLog}
 use Rattle.causal_monitor.specs.Phases.{IsLogOf}
-use Rattle.phase_record.specs.SlotLogs.{turn_before}
-use Rattle.phase_record.specs.Records.{object_count}
-use Rattle.slot_laws.specs.SlotLoop.{Moment, TurnsGoOn, IsIdle, after_turn, phases_so_far, first_lane, first_ready}
+use Rattle.slot_record.specs.SlotLogs.{turn_before}
+use Rattle.slot_record.specs.Records.{object_count}
+use Rattle.machine_laws.specs.SlotLoop.{Moment, TurnsGoOn, IsIdle, after_turn, phases_so_far, first_lane, first_ready}
 use Rattle.slot_record.specs.declared.record.SlotRecord.{SlotRecord}
 use Rattle.slot_record.specs.SlotRecords.{BeginsPhase, EndsPhase, RecordedSlot}
 use Rattle.net_state.specs.declared.state.NetState.{NetState}

@@ -11,9 +11,9 @@ use Rattle.v_design.specs.Runs.{most_steps}
 use Rattle.causal_monitor.specs.Notes.{IsNoted, noted_access}
 use Rattle.causal_monitor.specs.declared.slot.Turn.{Turn}
 use Rattle.causal_monitor.specs.declared.slot.SlotLog.{SlotLog}
-use Rattle.slot_laws.specs.SlotLoop.{Moment, ComesTo, present_phase}
-use Rattle.phase_record.specs.declared.phase.PhaseRecord.{PhaseRecord}
-use Rattle.phase_record.specs.Records.{process_count, object_count}
+use Rattle.machine_laws.specs.SlotLoop.{Moment, ComesTo, present_phase}
+use Rattle.slot_record.specs.declared.phase.PhaseRecord.{PhaseRecord}
+use Rattle.slot_record.specs.Records.{process_count, object_count}
 use Rattle.slot_record.specs.SlotRecords.{RecordsSlot}
 use Rattle.net_state.specs.declared.state.NetState.{NetState}
 use Rattle.net_state.specs.States.{machine_in, values_in, AreNetsOf}

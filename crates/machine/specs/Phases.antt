@@ -11,8 +11,8 @@ use Rattle.v_design.specs.Runs.{Turns, most_steps, turn_in_slot}
 use Rattle.v_design.specs.Accesses.{ObjectAccess, held_by}
 use Rattle.causal_monitor.specs.declared.slot.Turn.{Turn}
 use Rattle.causal_monitor.specs.declared.slot.SlotLog.{SlotLog}
-use Rattle.phase_record.specs.SlotLogs.{turn_before}
-use Rattle.slot_laws.specs.SlotLoop.{Moment, EndsAt, IsIdle}
+use Rattle.slot_record.specs.SlotLogs.{turn_before}
+use Rattle.machine_laws.specs.SlotLoop.{Moment, EndsAt, IsIdle}
 use Rattle.process_table.specs.Tables.{TableState}
 use Rattle.machine.specs.declared.end.SlotEnd.{SlotEnd}
 use Rattle.machine.specs.declared.moves.Made.{Made}

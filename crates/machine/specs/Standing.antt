@@ -11,12 +11,12 @@ use Rattle.v_design.specs.Runs.{Move, FirstSlot, Leads, ends_by, only_if, first_
 use Rattle.v_design.specs.Laws.{BeginsPhase}
 use Rattle.v_design.specs.PhaseLogs.{NotedEvent}
 use Rattle.v_design.specs.Grades.{SlotOutcome, Fine, Race, Hyper, phases, slot_outcome}
-use Rattle.slot_laws.specs.SlotLoop.{slot_from}
+use Rattle.machine_laws.specs.SlotLoop.{slot_from}
 use Rattle.event_causes.specs.Causes.{AreCausesOf}
 use Rattle.causal_monitor.specs.declared.slot.Turn.{Turn}
 use Rattle.causal_monitor.specs.declared.slot.Turn.TheVariants as turn
 use Rattle.causal_monitor.specs.declared.slot.SlotLog.{SlotLog}
-use Rattle.phase_record.specs.SlotLogs.{IsSlotLog}
+use Rattle.slot_record.specs.SlotLogs.{IsSlotLog}
 use Rattle.net_state.specs.States.{machine_in, values_in, nodes_in}
 use Rattle.process_table.specs.Arranged.{IsKept, table_of}
 use Rattle.machine.specs.declared.end.SlotEnd.{SlotEnd}

@@ -5,7 +5,7 @@ ghost use Rattle.std.specs.Option.{option_map};
 ghost use Rattle.vf_base.specs.Base.{node_number};
 ghost use Rattle.v_design.specs.States.{Evaluation, turn_of};
 ghost use Rattle.v_design.specs.Runs.{work_of, named_event};
-ghost use Rattle.slot_laws.specs.SlotLoop.{IsIdle, NoNodeWorks, first_lane};
+ghost use Rattle.machine_laws.specs.SlotLoop.{IsIdle, NoNodeWorks, first_lane};
 ghost use Rattle.net_state.specs.States.{nodes_in};
 ghost use Rattle.machine.specs.Standing.{state_kept};
 ghost use Rattle.machine.specs.Moments.{IsMovingIn, StaysAt};
@@ -55,7 +55,7 @@ impl<'d> Machine<'d> {
         requires turn { TellsTurn (Some turn) (turn_of (state_kept self.old)) }
         ensures { OnOk result (TurnsPhase self.old self.new log.old log.new) }
     {
-        slot_laws::slot_goes_on();
+        machine_laws::slot_goes_on();
         self.record.end_phase(self.graph, log)?;
         self.table.turn()?;
         begin_phase(&self.table, &mut self.record, &mut self.told, turn)?;
@@ -172,7 +172,7 @@ impl<'d> Machine<'d> {
         requires { IsBegun self.old log.old }
         ensures { IfOk result (λ hyper. ComesToEnd hyper self.old self.new log.old log.new) }
     {
-        slot_laws::slot_ends();
+        machine_laws::slot_ends();
         let mut taken = 0u32;
         'moves: for _ in 0..u64::MAX {
             if taken > MAX_SLOT_STEPS {

@@ -4,7 +4,7 @@ ghost use Rattle.std.specs.Prelude.{◌≡◌, Some, OnOk};
 ghost use Rattle.vf_base.specs.Base.{node_number};
 ghost use Rattle.v_design.specs.States.{Evaluation};
 ghost use Rattle.v_design.specs.Runs.{work_of};
-ghost use Rattle.slot_laws.specs.SlotLoop.{after_node};
+ghost use Rattle.machine_laws.specs.SlotLoop.{after_node};
 ghost use Rattle.net_state.specs.States.{nodes_in};
 ghost use Rattle.machine.specs.Moments.{IsMoving, GoesOn};
 
@@ -23,7 +23,7 @@ impl<'d> Machine<'d> {
         requires node { work_of 0 (nodes_in self.old.nets) ≡ Some (Evaluation (node_number node)) }
         ensures { OnOk result (GoesOn (λ machine at. after_node machine (node_number node) at) self.old self.new) }
     {
-        slot_laws::slot_goes_on();
+        machine_laws::slot_goes_on();
         self.told.clear();
         self.nets.work(node, &mut self.changes)?;
         self.table.wake(&self.changes, &mut self.told.accesses, &mut self.told.ended)?;

@@ -5,7 +5,7 @@ ghost use Rattle.std.specs.List.{All};
 ghost use Rattle.vf_base.specs.Base.{object_number, process_number, node_number};
 ghost use Rattle.v_design.specs.States.{Step, LaneStep};
 ghost use Rattle.causal_monitor.specs.Notes.{noted_access};
-ghost use Rattle.phase_record.specs.Records.{IsRecord, IsNodeRecord, process_count, object_count};
+ghost use Rattle.slot_record.specs.Records.{IsRecord, IsNodeRecord, process_count, object_count};
 ghost use Rattle.slot_record.specs.SlotRecords.{AddsStep, AddsNode};
 ghost use Rattle.machine.specs.Moments.{FitsRecord};
 

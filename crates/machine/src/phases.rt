@@ -3,7 +3,7 @@
 ghost use Rattle.std.specs.Prelude.{◌≡◌, false, Some, length, OnOk, IfOk};
 ghost use Rattle.v_design.specs.Designs.{Machine};
 ghost use Rattle.v_design.specs.States.{State, turn_of, has_event, some_in};
-ghost use Rattle.phase_record.specs.Records.{object_count};
+ghost use Rattle.slot_record.specs.Records.{object_count};
 ghost use Rattle.process_table.specs.Arranged.{IsKept, table_of};
 ghost use Rattle.process_table.specs.Tables.{IsTableOf};
 ghost use Rattle.slot_record.specs.SlotRecords.{BeginsPhase};

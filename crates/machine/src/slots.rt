@@ -41,7 +41,7 @@ impl<'d> Machine<'d> {
         requires left { IsSomeAnd (begins_next self.old) (λ begins. begins.time ≤ 2 ^ 63) }
         ensures { OnOk result (BeginsSlotHere self.old self.new log.new) }
     {
-        slot_laws::slot_goes_on();
+        machine_laws::slot_goes_on();
         let turn = turn_to_slot(self.stage, &mut self.table)?;
         self.record.begin_slot(log)?;
         begin_phase(&self.table, &mut self.record, &mut self.told, turn)?;
@@ -57,7 +57,7 @@ impl<'d> Machine<'d> {
         requires { IsEnded hyper self.old log.old }
         ensures { IfOk result (λ end. FinishesSlot hyper end self.old self.new log.old log.new) }
     {
-        slot_laws::slot_ends();
+        machine_laws::slot_ends();
         self.record.end_phase(self.graph, log)?;
         log.time = self.table.time();
         self.stage = stage_after(hyper);

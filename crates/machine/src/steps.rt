@@ -4,7 +4,7 @@ ghost use Rattle.std.specs.Prelude.{◌≡◌, ◌<◌, Some, None, length, OnOk
 ghost use Rattle.vf_base.specs.Base.{object_number, process_number};
 ghost use Rattle.v_design.specs.States.{Step, LaneStep};
 ghost use Rattle.v_design.specs.Accesses.{waiting_entries};
-ghost use Rattle.slot_laws.specs.SlotLoop.{NoNodeWorks, first_lane, first_ready, after_event};
+ghost use Rattle.machine_laws.specs.SlotLoop.{NoNodeWorks, first_lane, first_ready, after_event};
 ghost use Rattle.net_state.specs.States.{values_in, machine_in};
 ghost use Rattle.process_table.specs.Arranged.{IsKept, table_of};
 ghost use Rattle.process_table.specs.Tables.{process_in};
@@ -161,7 +161,7 @@ impl<'d> Machine<'d> {
         requires ready { first_ready (state_kept self.old) ≡ Some (process_number process) }
         ensures { OnOk result (GoesOn (λ machine at. after_event machine (Step (process_number process)) at) self.old self.new) }
     {
-        slot_laws::slot_goes_on();
+        machine_laws::slot_goes_on();
         let stepped = self.table.step(process, &self.nets, steps)?;
         finish_step(
             &mut self.nets,
@@ -185,7 +185,7 @@ impl<'d> Machine<'d> {
         requires lanes { first_lane (state_kept self.old) ≡ Some (process_number process) }
         ensures { OnOk result (GoesOn (λ machine at. after_event machine (LaneStep (process_number process)) at) self.old self.new) }
     {
-        slot_laws::slot_goes_on();
+        machine_laws::slot_goes_on();
         let Some(update) = self.table.lane_step(process) else {
             unreachable!();
         };

@@ -1,3 +1,4 @@
+pub mod SlotLoop
 pub mod Waits
 pub mod WriteTells
 pub mod StepTells

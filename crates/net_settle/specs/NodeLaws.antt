@@ -25,8 +25,8 @@ use Rattle.v_design.specs.Plain.{node_of, node_kind_of}
 use Rattle.expr_eval.specs.Operands.{AreThere}
 use Rattle.expr_eval.specs.WidthLaws.{AllHold-get_or}
 use Rattle.node_eval.specs.ValuesOf.{AreValuesOf, named_there}
-use Rattle.block_run.specs.Overlaid.{StandOnce, once-distinct}
-use Rattle.block_run.specs.Running.{MayRun}
+use Rattle.node_eval.specs.Overlaid.{StandOnce, once-distinct}
+use Rattle.node_eval.specs.Running.{MayRun}
 
 -- a continuous assignment may be evaluated over some values
 pub record MayAssign (values : List LogicValue) (value : Expression) (places : List ℕ) (outputs : ℕ) : Type 0 where

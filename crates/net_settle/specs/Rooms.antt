@@ -3,7 +3,7 @@ use Rattle.std.specs.Prelude.{◌≡◌, ℕ, ◌≤◌, List, length, take, Som
 use Rattle.std.proofs.Common.{◌∙◌, arith}
 use Rattle.four_value.specs.Values.{LogicValue}
 use Rattle.v_design.specs.Designs.{FlatNode, FlatDesign}
-use Rattle.block_run.specs.Rooms.{room_size}
+use Rattle.node_eval.specs.Rooms.{room_size}
 use Rattle.net_settle.specs.declared.work.NodeWork.{NodeWork}
 
 -- the values that were put there last

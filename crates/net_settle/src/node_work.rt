@@ -11,17 +11,16 @@ ghost use Rattle.v_design.specs.Plain.{expression_of, expressions_of, statement_
 ghost use Rattle.v_design.specs.PlainDesigns.{design_of};
 ghost use Rattle.v_design.specs.Views.{machine_of};
 ghost use Rattle.node_eval.specs.ValuesOf.{AreValuesOf};
-ghost use Rattle.block_run.specs.Overlaid.{StandOnce};
-ghost use Rattle.block_run.specs.Running.{MayRun};
-ghost use Rattle.block_run.specs.Rooms.{room_size};
+ghost use Rattle.node_eval.specs.Overlaid.{StandOnce};
+ghost use Rattle.node_eval.specs.Running.{MayRun};
+ghost use Rattle.node_eval.specs.Rooms.{room_size};
 ghost use Rattle.net_settle.specs.Rooms.{values_put, IsMadeFor, IsAsLarge};
 ghost use Rattle.net_settle.specs.NodeLaws.{MayAssign, MayGate};
 
 use crate::work::NodeWork;
-use block_run::{BlockRoom, run_block};
 use expr_eval::{Stack, eval};
 use four_value::{Bit, GateKind, Vec4};
-use node_eval::{force_outputs, gate_output, place_parts};
+use node_eval::{BlockRoom, force_outputs, gate_output, place_parts, run_block};
 use std::alloc::Global;
 use v_design::{Design, FlatExpr, FlatStmt, Node, NodeKind, Values, View};
 use vf_base::{NoMemory, NodeId, ObjectId};

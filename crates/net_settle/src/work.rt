@@ -2,9 +2,9 @@
 
 ghost use Rattle.std.specs.Prelude.{◌≡◌, ◌≤◌, vec_len};
 
-use block_run::BlockRoom;
 use expr_eval::Stack;
 use four_value::Vec4;
+use node_eval::BlockRoom;
 
 /// Room for evaluating any node of the design that it was made for, and the values that the last one gave its outputs.
 #[derive(Drop)]

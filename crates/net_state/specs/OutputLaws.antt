@@ -17,7 +17,7 @@ use Rattle.v_design.specs.Assignments.{value_at, run_statement, node_value, node
 use Rattle.v_design.specs.WellFormed.{KeepsRules, IsNodeOf, IsSizedNode}
 use Rattle.v_design.specs.CombinationalForm.{WritesOutputs}
 use Rattle.node_eval.specs.ValuesOf.{AreValuesOf}
-use Rattle.block_run.specs.Running.{alike-run}
+use Rattle.node_eval.specs.Running.{alike-run}
 use Rattle.net_graph.specs.RuleLaws.{rules_of_node, numbers_of-bound}
 use Rattle.net_state.specs.Held.{AreNets, HaveWidths}
 use Rattle.net_state.specs.OrderLaws.{held-at, AllHold-more}

@@ -5,8 +5,8 @@ use Rattle.v_design.specs.Trees.{Expression, Expressions, no_expressions, more_e
 use Rattle.v_design.specs.Plain.{expression_of, expressions_of}
 use Rattle.v_design.specs.declared.tree.FlatExpr.{FlatExpr}
 use Rattle.v_names.specs.SizedTrees.{Holders, over_objects, all_over_objects}
-use Rattle.sized_tree.specs.declared.expression.SizedExpr.{SizedExpr}
-use Rattle.sized_tree.specs.SizedViews.{sized_of, all_sized_of}
+use Rattle.v_width.specs.declared.expression.SizedExpr.{SizedExpr}
+use Rattle.v_width.specs.SizedViews.{sized_of, all_sized_of}
 
 -- a sized expression of the code over objects
 abbrev pub seen_over : Holders → SizedExpr → Expression

@@ -3,13 +3,13 @@
 ghost use Rattle.std.specs.Prelude.{◌≡◌, IfOk};
 ghost use Rattle.v_design.specs.Plain.{expression_of, expressions_of};
 ghost use Rattle.v_names.specs.SizedTrees.{Holders, over_objects, all_over_objects};
-ghost use Rattle.sized_tree.specs.SizedViews.{sized_of, all_sized_of};
+ghost use Rattle.v_width.specs.SizedViews.{sized_of, all_sized_of};
 ghost use Rattle.object_names.specs.Instances.{HoldNames};
 
 use object_names::InstanceNames;
-use sized_tree::SizedExpr;
 use std::alloc::Global;
 use v_design::FlatExpr;
+use v_width::SizedExpr;
 use vf_base::NoMemory;
 
 /// A bound of a part or a count. What isn't refused has none over what 32 bits hold.

@@ -7,10 +7,9 @@ ghost use Rattle.v_elab.specs.Statements.{Meaning, alone_expression, assigned_ex
 ghost use Rattle.object_expr.specs.Meanings.{IsMeaning};
 
 use crate::expression::over_objects;
-use expr_reading::read_expr;
+use expr_sizes::{Writer, read_expr, target_width_in};
 use object_names::InstanceNames;
 use std::alloc::Global;
-use target_reading::{Writer, target_width_in};
 use v_design::FlatExpr;
 use v_names::Scope;
 use v_tree::{Expr, Target};

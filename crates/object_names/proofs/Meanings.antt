@@ -13,8 +13,8 @@ use Rattle.v_elab.specs.Parts.{Signal, Part}
 use Rattle.v_elab.specs.Drivers.{signals_of, signal_named, outermost, is_unjoined}
 use Rattle.v_elab.specs.Objects.{HeldObject, range_of_signal, vector_of_name, memories_of, memory_if, memory_of_name, pieces_held, joined_if, names_joined}
 use Rattle.key_index.specs.Groups.{items_under, first_of, first_under}
-use Rattle.wire_laws.specs.Keyed.{under-map}
-use Rattle.wire_laws.specs.Held.{all_pieces, pieces-under}
+use Rattle.elab_wires.specs.Keyed.{under-map}
+use Rattle.elab_wires.specs.Held.{all_pieces, pieces-under}
 use Rattle.elab_parts.specs.PartViews.{range_of, memory_of}
 use Rattle.elab_parts.specs.declared.range.DeclaredRange.{DeclaredRange}
 use Rattle.elab_parts.specs.declared.signal.WalkedMemory.{WalkedMemory}

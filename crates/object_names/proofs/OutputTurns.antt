@@ -8,7 +8,7 @@ use Rattle.v_design.specs.Expressions.{up_from}
 use Rattle.vf_base.specs.Lists.{map_numbered}
 use Rattle.v_elab.specs.Objects as plain
 use Rattle.v_elab.specs.Flat.{NodeOutput, output_if, output_of_object, outputs_of}
-use Rattle.wire_laws.specs.Held.{outputs-more}
+use Rattle.elab_wires.specs.Held.{outputs-more}
 use Rattle.elab_wires.specs.Turns.{taken-more}
 use Rattle.elab_objects.specs.ObjectViews.{driver_of, held_of, held_objects}
 use Rattle.elab_objects.specs.declared.object.HeldObject.{HeldObject}

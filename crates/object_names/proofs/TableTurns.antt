@@ -13,7 +13,7 @@ use Rattle.v_elab.specs.Objects.{memories_of}
 use Rattle.key_index.specs.Groups.{keyed_of}
 use Rattle.key_index.specs.declared.grouped.Keyed.{Keyed}
 use Rattle.v_design.specs.declared.tree.PieceRef.{PieceRef}
-use Rattle.wire_laws.specs.Held.{all_pieces}
+use Rattle.elab_wires.specs.Held.{all_pieces}
 use Rattle.elab_wires.specs.PartLists.{signals-append}
 use Rattle.elab_wires.specs.Turns.{taken-more}
 use Rattle.elab_objects.specs.ObjectViews.{held_of, held_objects}

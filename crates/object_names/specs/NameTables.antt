@@ -8,7 +8,7 @@ use Rattle.v_elab.specs.Parts.{Signal, WalkedMemory, Part}
 use Rattle.v_elab.specs.Drivers.{signals_of, signal_named, outermost, is_unjoined}
 use Rattle.v_elab.specs.Objects.{HeldObject, range_of_signal, memories_of}
 use Rattle.key_index.specs.Groups.{items_under, first_under}
-use Rattle.wire_laws.specs.Held.{all_pieces}
+use Rattle.elab_wires.specs.Held.{all_pieces}
 
 -- the nets and variables of a walk, its memories by their names, and the pieces of its objects by the names whose bits they hold
 pub record NameTables : Type 0 where

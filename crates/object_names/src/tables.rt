@@ -3,7 +3,7 @@
 ghost use Rattle.std.specs.Prelude.{◌≡◌, ◌++◌, ◌∷◌, [], IfOk, OnOk, map, option_map};
 ghost use Rattle.vf_base.specs.Base.{object_number};
 ghost use Rattle.v_elab.specs.Objects.{range_of_signal, memories_of};
-ghost use Rattle.wire_laws.specs.Held.{all_pieces};
+ghost use Rattle.elab_wires.specs.Held.{all_pieces};
 ghost use Rattle.elab_parts.specs.PartViews.{part_of, parts_of, range_of};
 ghost use Rattle.elab_wires.specs.SignalTables.{signal_borrowed};
 ghost use Rattle.elab_objects.specs.ObjectViews.{held_objects};

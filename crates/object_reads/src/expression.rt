@@ -6,7 +6,7 @@ ghost use Rattle.v_design.specs.Plain.{expression_of, piece_of};
 ghost use Rattle.v_design.specs.Expressions.{objects_of, piece_objects};
 
 use crate::shape::shape_of;
-use operand_read::pieces_read;
+use process_operands::pieces_read;
 use std::alloc::Global;
 use v_design::{FlatExpr, PieceRef};
 use vf_base::{NoMemory, ObjectId};

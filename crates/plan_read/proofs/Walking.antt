@@ -12,8 +12,8 @@ use Rattle.v_design.specs.declared.logic.ObjectKind.TheVariants.{Var, Word, Net}
 use Rattle.std.specs.Option.{option_and_then}
 use Rattle.fault_list.specs.Spelled.{bit_spelled, piece_bit, place_spelled}
 use Rattle.key_index.specs.Places.{key_from}
-use Rattle.site_names.specs.Stems.{stem}
-use Rattle.site_names.specs.StemLaws.{name-apart, bit-apart, place-apart}
+use Rattle.plan_read.specs.Stems.{stem}
+use Rattle.plan_read.specs.StemLaws.{name-apart, bit-apart, place-apart}
 use Rattle.key_index.specs.Walks.{rest_from, rest-begins, rest-goes, rest-here, key-sound, places_left, left-smaller, IsPlaceOf}
 use Rattle.plan_read.specs.Watched.{object_bits, pieces_bits, bit_if, held_if, all_or_one, bits_by_kind, bits_in_object, bits_in_joined}
 

@@ -12,10 +12,10 @@ ghost use Rattle.plan_read.specs.Spelled.{fault_at, most_strobes, most_watched, 
 ghost use Rattle.plan_read.specs.Plain.{watched_bits};
 ghost use Rattle.plan_read.specs.Steps.{FaultIs, strobes_reason, watched_reason, site_reason, all_reason};
 
+use crate::SiteNames;
 use crate::fault::PlanFault;
 use crate::row::Row;
 use crate::watch::bits_of;
-use site_names::SiteNames;
 use std::alloc::Global;
 use v_design::Fault;
 use vf_base::{MAX_FAULTS, MAX_STROBES, MAX_WATCHED, NoMemory, WatchBit};

@@ -5,11 +5,11 @@ ghost use Rattle.v_design.specs.PlainDesigns.{design_of};
 ghost use Rattle.plan_read.specs.Plain.{plain_line};
 ghost use Rattle.plan_read.specs.Steps.{FaultIs, AreKept, IsAdded, IsWithin, reason_first, reason_after, reason_at};
 
+use crate::SiteNames;
 use crate::draft::{Draft, add_all, add_fault, add_strobes, add_watched};
 use crate::fault::PlanFault;
 use crate::form::Line;
 use fault_list::all_sites;
-use site_names::SiteNames;
 use std::alloc::Global;
 use v_design::{Design, Fault};
 use vf_base::{MAX_END, NoMemory};

@@ -11,13 +11,13 @@ ghost use Rattle.v_design.specs.WellFormed.{IsAscending, IsPlan, IsPlanOf};
 ghost use Rattle.plan_read.specs.Spelled.{most_bytes, most_strobes, most_watched, most_faults, latest_end, lines_say, plan_lines, LinesSpell, Spells, Refuses};
 ghost use Rattle.plan_read.specs.Steps.{IsRead, FaultOf};
 
+use crate::SiteNames;
 use crate::cut::{lines, words};
 use crate::draft::Draft;
 use crate::fault::PlanFault;
 use crate::form::line_of;
 use crate::line::add_line;
 use crate::sorted::ascending;
-use site_names::SiteNames;
 use std::alloc::Global;
 use v_design::{Design, Plan};
 use vf_base::{MAX_PLAN_BYTES, NoMemory, Seq};

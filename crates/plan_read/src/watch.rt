@@ -10,8 +10,8 @@ ghost use Rattle.fault_list.specs.Spelled.{bit_spelled, place_spelled, piece_bit
 ghost use Rattle.plan_read.specs.Plain.{watched_bits};
 ghost use Rattle.plan_read.specs.Watched.{bit_of, object_bits, pieces_bits, bit_if, held_if, bits_in_object, bits_in_joined, bits_spelled};
 
+use crate::SiteNames;
 use fault_list::{bit_spelled, joined_place, piece_bit};
-use site_names::SiteNames;
 use std::alloc::Global;
 use v_design::{JoinedName, Object, ObjectKind, PieceRef};
 use vf_base::{NoMemory, ObjectId, WatchBit};

@@ -9,7 +9,7 @@ use Rattle.v_design.specs.Trees.{Expression, Statement, Null, Block, If, Case, F
 use Rattle.v_design.specs.Expressions.{sign_of, Progress, Needs, Has, read_expression}
 use Rattle.v_design.specs.Assignments.{ValueUpdate, read_assignment}
 use Rattle.v_design.specs.Processes.{loop_of, read_case, either_statement}
-use Rattle.operand_read.specs.Choices.{chosen_by}
+use Rattle.process_operands.specs.Choices.{chosen_by}
 use Rattle.process_code.specs.Rests.{Part, Runs, TurnsLeft, opened_parts, opened_all_parts}
 use Rattle.process_code.specs.Positions.{StandsAt, PartLeads}
 use Rattle.process_code.specs.Points.{Point, StepSaid, TakesFirst, TakesUpdate, after_turn, stage_after}

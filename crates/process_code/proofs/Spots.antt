@@ -9,7 +9,7 @@ use Rattle.v_design.specs.Plain.{statement_of, update_of}
 use Rattle.v_design.specs.Trees.{Statement, Null, Block, If, Case, For, While, Repeat, Forever, Delay, EventControl, Wait, Blocking, Nonblocking, Finish}
 use Rattle.v_design.specs.Sized.{IsSizedStatement}
 use Rattle.v_design.specs.Reads.{named_by}
-use Rattle.operand_read.specs.BoundsLaws.{AreBelow}
+use Rattle.process_operands.specs.BoundsLaws.{AreBelow}
 use Rattle.process_code.specs.Rests.{Part, Runs, TurnsLeft, opened_parts, tasks_of}
 use Rattle.process_code.specs.Positions.{part_of_head, rests_of, StandsAt, PartLeads}
 use Rattle.process_code.specs.StatesOf.{IsRestAt, IsPartWithin, IsGoodPart, IsStateOf, CountsPart, HasRoomFor, KeepsRoom, FitsIn}

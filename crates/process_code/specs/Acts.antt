@@ -6,7 +6,7 @@ use Rattle.v_design.specs.Trees.{Statement, Null, Block, If, Case, For, While, R
 use Rattle.v_design.specs.Expressions.{sign_of, Progress, Needs, Has, read_expression}
 use Rattle.v_design.specs.Assignments.{ValueUpdate, value_at, read_assignment}
 use Rattle.v_design.specs.Processes.{turns_of, read_case}
-use Rattle.operand_read.specs.Choices.{chosen_by}
+use Rattle.process_operands.specs.Choices.{chosen_by}
 use Rattle.v_design.specs.Trees.{CaseItems}
 use Rattle.process_code.specs.Rests.{Part, Runs, TurnsLeft}
 use Rattle.process_code.specs.Points.{Point, StepSaid, SaysRead, SaysAwait, SaysFinished, SaysInner, TakesUpdate, after_turn, stage_after, said_delay}

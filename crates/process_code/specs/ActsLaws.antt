@@ -9,7 +9,7 @@ use Rattle.v_design.specs.Assignments.{ValueUpdate, value_at, read_assignment}
 use Rattle.v_design.specs.Designs.{FlatProcess}
 use Rattle.v_design.specs.Processes.{Task, ProcessStep, process_step, reads_or, goes_on, end_step, read_case, write_step, append_step}
 use Rattle.v_design.specs.Processes as activities
-use Rattle.operand_read.specs.Choices.{chosen_by}
+use Rattle.process_operands.specs.Choices.{chosen_by}
 use Rattle.process_code.specs.Rests.{Part, Runs, TurnsLeft, opened_parts, tasks_of, NumbersFall}
 use Rattle.process_code.specs.Positions.{StandsAt, ItemsLead, PartLeads}
 use Rattle.process_code.specs.Points.{Point, StepSaid, SaysInner, IsStep, ready_at, left_at, said_write, said_append, said_update, TakesFirst, after_turn, stage_after, said_delay, tasks_at, updates_left}

@@ -10,7 +10,7 @@ use Rattle.v_design.specs.Expressions.{width_of, sign_of}
 use Rattle.v_design.specs.Assignments.{target_width, targets_width}
 use Rattle.v_design.specs.Reads.{named_in, named_in_target, named_in_targets, named_by}
 use Rattle.v_design.specs.Sized.{IsSized, IsSizedTarget, IsSizedAssignment, IsSizedStatement, IsSizedEntry, IsDelay, IsDelayIf, own_width}
-use Rattle.operand_read.specs.BoundsLaws.{AreBelow}
+use Rattle.process_operands.specs.BoundsLaws.{AreBelow}
 
 -- an unsigned expression of four bits
 pub record IsNibble (e : Expression) : Type 0 where

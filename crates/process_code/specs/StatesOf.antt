@@ -4,8 +4,8 @@ use Rattle.vf_base.specs.Lists.{AllHold}
 use Rattle.v_design.specs.Trees.{Piece, Expression, Target, Statement, Null, Block, If, Case, For, While, Repeat, Forever, Delay, EventControl, Wait, Blocking, Nonblocking, Finish}
 use Rattle.v_design.specs.Reads.{named_by}
 use Rattle.v_design.specs.Sized.{IsSizedStatement}
-use Rattle.operand_read.specs.Bounds.{reads_most, reads_most_items, reads_most_targets}
-use Rattle.operand_read.specs.BoundsLaws.{AreBelow}
+use Rattle.process_operands.specs.Bounds.{reads_most, reads_most_items, reads_most_targets}
+use Rattle.process_operands.specs.BoundsLaws.{AreBelow}
 use Rattle.process_code.specs.Rests.{Part, Runs, TurnsLeft}
 use Rattle.process_code.specs.Positions.{part_of_head, StandsAt}
 use Rattle.four_value.specs.Values.{LogicValue}

@@ -11,7 +11,7 @@ use Rattle.v_design.specs.Expressions.{sign_of, width_of, Progress, Needs, Has, 
 use Rattle.v_design.specs.Assignments.{ValueUpdate, read_assignment}
 use Rattle.v_design.specs.Processes.{loop_of, read_case}
 use Rattle.expr_eval.specs.WidthLaws.{AllHold-left, AllHold-right}
-use Rattle.operand_read.specs.BoundsLaws.{AreBelow}
+use Rattle.process_operands.specs.BoundsLaws.{AreBelow}
 use Rattle.process_code.specs.Rests.{Part, Runs, TurnsLeft, opened_parts, opened_all_parts}
 use Rattle.process_code.specs.Positions.{StandsAt, ItemsLead, PartLeads}
 use Rattle.process_code.specs.Points.{Point, StepSaid, TakesFirst, TakesUpdate, after_turn}

@@ -12,7 +12,7 @@ ghost use Rattle.process_code.specs.StatesOf.{IsStateOf, HasRoomFor, most_operan
 
 use crate::code::{Code, Head, Spot};
 use crate::state::{ProcState, Stage};
-use operand_read::{most_assignment_reads, most_case_reads, most_reads};
+use process_operands::{most_assignment_reads, most_case_reads, most_reads};
 use std::alloc::Global;
 use v_design::FlatStmt;
 use vf_base::NoMemory;

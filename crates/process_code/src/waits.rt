@@ -18,7 +18,7 @@ ghost use Rattle.process_code.specs.Waits.{change_entry, head_entries, AreWaits}
 use crate::code::{Code, Head, Spot};
 use crate::state::{ProcState, Stage};
 use four_value::Edge;
-use operand_read::pieces_read;
+use process_operands::pieces_read;
 use std::alloc::Global;
 use std::collections::HashSet;
 use v_design::{FlatExpr, FlatStmt, PieceRef, WaitEntry};

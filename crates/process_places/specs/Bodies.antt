@@ -3,9 +3,9 @@ use Rattle.std.proofs.Common.{◌≡◌, ◌+◌, ◌≤◌, List, [], ◌∷◌
 use Rattle.vf_base.specs.Base.{SourcePlace}
 use Rattle.v_tree.specs.Tokens.{SourceToken}
 use Rattle.v_tree.specs.Trees.{SourceTarget, OneSelect, JoinedSelects, place_of_target, SourceStatement, NullStatement, BlockStatement, IfStatement, IfElseStatement, CaseStatement, ForStatement, WhileStatement, RepeatStatement, ForeverStatement, WaitStatement, EventStatement, DelayStatement, BlockingStatement, NonblockingStatement, IgnoredTask, FinishTask, SourceStatements, no_source_statements, more_source_statements, SourceCaseItems, no_source_items, labelled, otherwise}
-use Rattle.v_read.specs.declared.class.Class.TheVariants as classes
-use Rattle.v_read.specs.Classes.{token_of, name_token}
-use Rattle.v_read.specs.Reading.{place_of}
+use Rattle.v_readers.specs.declared.class.Class.TheVariants as classes
+use Rattle.v_readers.specs.Classes.{token_of, name_token}
+use Rattle.v_readers.specs.Reading.{place_of}
 use Rattle.v_names.specs.Readings.{Size, reading_of}
 use Rattle.v_expr.specs.Spelling.{SpellsTarget}
 use Rattle.v_stmt.specs.Spelling.{SpellsStatement, SpellsBody, SpellsItems}

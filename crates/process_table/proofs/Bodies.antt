@@ -11,7 +11,7 @@ use Rattle.v_design.specs.Sized.{IsSizedEntry, IsSizedStatement, AreSizedStateme
 use Rattle.v_design.specs.States.{found_or}
 use Rattle.v_design.specs.Plain.{process_of, statement_of}
 use Rattle.v_design.specs.declared.plan.Process.{Process}
-use Rattle.operand_read.specs.BoundsLaws.{AreBelow}
+use Rattle.process_operands.specs.BoundsLaws.{AreBelow}
 use Rattle.v_design.specs.WellFormed.{KeepsRules, IsProcessOf, IsEntryOf, IsSizedObject, width_is, has_width, have_widths}
 use Rattle.wait_index.specs.Waits.{waited_objects, all_waited, items_waited, entry_objects}
 use Rattle.process_table.specs.Waited.{any_change, piece_entries, waited_entries, all_entries, items_entries, IsWaitable, body_of}

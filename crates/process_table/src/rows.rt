@@ -10,7 +10,7 @@ ghost use Rattle.v_design.specs.Reads.{named_by};
 ghost use Rattle.v_design.specs.Sized.{IsSizedStatement};
 ghost use Rattle.v_design.specs.States.{is_ready, is_any, first_update};
 ghost use Rattle.v_design.specs.declared.plan.Process.{Process};
-ghost use Rattle.operand_read.specs.BoundsLaws.{AreBelow};
+ghost use Rattle.process_operands.specs.BoundsLaws.{AreBelow};
 ghost use Rattle.process_code.specs.Points.{said_by};
 ghost use Rattle.process_table.specs.Rows.{IsGoodRow, RowChanges, RowsChange, StepsRow, StepsRows, row_state, row_states, row_text, state_at, text_at, made_ready, after_update, with_lane, new_state};
 

@@ -7,4 +7,5 @@
 
 mod part;
 mod select;
+
 pub use select::select_bits;

@@ -14,7 +14,7 @@ use Rattle.v_design.specs.Accesses.{is_waiting}
 use Rattle.v_design.specs.Grades.{Phase}
 use Rattle.event_causes.specs.Causes.{Tells}
 use Rattle.causal_monitor.specs.declared.slot.SlotLog.{SlotLog}
-use Rattle.phase_record.specs.Records.{TellsUpdate}
+use Rattle.slot_record.specs.Records.{TellsUpdate}
 use Rattle.slot_record.specs.SlotRecords.{one_more, node_more, state_in}
 
 -- A machine with one process that is done, and one node that reads and drives nothing

@@ -1,2 +1,4 @@
 pub mod RecordLaws
+pub mod LaneLaws
+pub mod SlotRecordLaws
 pub mod IdleLaws

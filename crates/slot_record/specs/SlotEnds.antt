@@ -7,8 +7,8 @@ use Rattle.v_design.specs.Designs.{Machine}
 use Rattle.v_design.specs.Grades.{SlotOutcome, Hyper, phases, race_or_fine, slot_outcome}
 use Rattle.causal_monitor.specs.declared.slot.Turn.{Turn}
 use Rattle.causal_monitor.specs.declared.slot.SlotLog.{SlotLog}
-use Rattle.slot_laws.specs.SlotLoop.{Moment, EndsAt, slot_from, phases_so_far}
-use Rattle.phase_record.specs.SlotLogs.{IsSlotLog}
+use Rattle.machine_laws.specs.SlotLoop.{Moment, EndsAt, slot_from, phases_so_far}
+use Rattle.slot_record.specs.SlotLogs.{IsSlotLog}
 use Rattle.slot_record.specs.declared.record.SlotRecord.{SlotRecord}
 use Rattle.slot_record.specs.SlotRecords.{RecordedSlot}
 

@@ -12,8 +12,8 @@ use Rattle.event_causes.specs.Causes.{AreCausesOf, Tells}
 use Rattle.causal_monitor.specs.declared.slot.Turn.{Turn}
 use Rattle.causal_monitor.specs.declared.slot.SlotLog.{SlotLog}
 use Rattle.value_change.specs.declared.change.Change.{Change}
-use Rattle.phase_record.specs.Records.{IsRecordOf, TellsUpdate}
-use Rattle.phase_record.specs.SlotLogs.{turn_before, IsSlotLog}
+use Rattle.slot_record.specs.Records.{IsRecordOf, TellsUpdate}
+use Rattle.slot_record.specs.SlotLogs.{turn_before, IsSlotLog}
 use Rattle.slot_record.specs.declared.record.SlotRecord.{SlotRecord}
 
 -- what is kept stands for a slot whose first phase comes after a given turn: these phases ended, and this is the present one so far

@@ -13,13 +13,13 @@ ghost use Rattle.v_design.specs.PlainDesigns.{design_of};
 ghost use Rattle.causal_monitor.specs.Notes.{IsNoted, IsHeld, noted_access};
 ghost use Rattle.causal_monitor.specs.Phases.{IsLogOf};
 ghost use Rattle.event_causes.specs.Causes.{AreCausesOf};
-ghost use Rattle.slot_laws.specs.SlotLoop.{or_race};
-ghost use Rattle.phase_record.specs.Records.{IsRecordOf, IsRecord, IsNodeRecord, SameRecord, process_count, object_count};
+ghost use Rattle.machine_laws.specs.SlotLoop.{or_race};
+ghost use Rattle.slot_record.specs.Records.{IsRecordOf, IsRecord, IsNodeRecord, SameRecord, process_count, object_count};
 ghost use Rattle.slot_record.specs.SlotRecords.{IsEmptyLog, BeginsSlot, BeginsPhase, AddsStep, AddsNode, EndsPhase};
 
+use crate::PhaseRecord;
 use causal_monitor::{Noted, SlotLog, Turn};
 use net_graph::Graph;
-use phase_record::PhaseRecord;
 use std::alloc::Global;
 use value_change::Change;
 use vf_base::{NoMemory, NodeId, ObjectId, Pair, ProcId};
@@ -134,7 +134,7 @@ impl SlotRecord {
         requires ended { All (λ process. process_number process < process_count self.old.phase) ended.now }
         ensures { OnOk result (AddsStep (Step (process_number process)) line (map noted_access accesses.now) (map object_number changed.now) (map process_number ended.now) self.old self.new) }
     {
-        slot_laws::phases_go_on();
+        machine_laws::phases_go_on();
         self.phase
             .note_step(process, line, accesses, changed, ended)?;
         Ok(())
@@ -162,7 +162,7 @@ impl SlotRecord {
         requires ended { All (λ process. process_number process < process_count self.old.phase) ended.now }
         ensures { OnOk result (AddsStep (LaneStep (process_number process)) line (map noted_access accesses.now) (map object_number changed.now) (map process_number ended.now) self.old self.new) }
     {
-        slot_laws::phases_go_on();
+        machine_laws::phases_go_on();
         self.phase
             .note_lane(process, line, accesses, changed, ended)?;
         Ok(())
@@ -191,7 +191,7 @@ impl SlotRecord {
         requires ended { All (λ process. process_number process < process_count self.old.phase) ended.now }
         ensures { OnOk result (AddsNode (node_number node) (map object_number inputs.now) changes.now (map noted_access ended_accesses.now) (map process_number ended.now) self.old self.new) }
     {
-        slot_laws::phases_go_on();
+        machine_laws::phases_go_on();
         self.phase
             .note_node(node, inputs, changes, ended_accesses, ended)?;
         Ok(())
@@ -206,7 +206,7 @@ impl SlotRecord {
         requires { IsLogOf (design_of graph.now.design.now) self.old.phase.log.log }
         ensures { OnOk result (EndsPhase (design_of graph.now.design.now) self.old self.new log.old log.new) }
     {
-        slot_laws::phases_go_on();
+        machine_laws::phases_go_on();
         let race = race_or(self.race, &mut self.phase, graph)?;
         self.phase.end_phase(self.turn, log)?;
         self.race = race;

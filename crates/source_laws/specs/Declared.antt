@@ -6,10 +6,10 @@ use Rattle.vf_base.specs.Base.{SourcePlace}
 use Rattle.four_value.specs.declared.operator.GateKind.{GateKind}
 use Rattle.v_tree.specs.Tokens.{SourceToken}
 use Rattle.v_tree.specs.Trees.{NamedPlace, SourceRange, SourceParameter, SourceParameters, SourcePorts, SourceWire, SourceReg, SourceGate, SourceInstance, SourceItem, ParameterItem, PortItem, WireItem, RegItem, IntegerItem, AssignItem, GateItem, InstanceItem, InitialItem, AlwaysItem, SourceHeads, PlainHeads, DeclaredHeads, SourceModule}
-use Rattle.v_read.specs.declared.class.Class.{Class}
-use Rattle.v_read.specs.declared.class.Class.TheVariants as classes
-use Rattle.v_read.specs.Classes.{name_token, token_of}
-use Rattle.v_read.specs.Separated.{SpellsBehind, SpellsList}
+use Rattle.v_readers.specs.declared.class.Class.{Class}
+use Rattle.v_readers.specs.declared.class.Class.TheVariants as classes
+use Rattle.v_readers.specs.Classes.{name_token, token_of}
+use Rattle.v_readers.specs.Separated.{SpellsBehind, SpellsList}
 use Rattle.v_names.specs.Names.{Bounds, IntegerBounds, DeclaredParameter, DeclaredPort, DeclaredNet, DeclaredGate, DeclaredInstance, Declaration, bounds_of, parameter_declarations, port_declarations, reg_declared, gate_declarations, item_declarations, head_declarations, declarations_of}
 use Rattle.v_parse.specs.Spelling.{SpellsEach, SpellsNamed, SpellsParameter, SpellsParameters, SpellsGroup, parameter_word, SpellsParameterList, direction_word, SpellsPorts, SpellsHeads, SpellsWire, SpellsReg, SpellsDeclared, gate_word, SpellsGateName, SpellsGate, SpellsInstance, SpellsItem, SpellsModule}
 use Rattle.source_laws.specs.InOrder.{StandsIn, none-stand, first-stands, append-stands, back-stands, front-stands}

@@ -8,9 +8,9 @@ use Rattle.vf_base.specs.Lists.{AllHold}
 use Rattle.v_design.specs.WellFormed.{TerminalsFit}
 use Rattle.v_tree.specs.Tokens.{SourceToken}
 use Rattle.v_tree.specs.Trees.{SourceExpression, Concatenated, no_parts, more_parts, SourceWire, SourceAssignment, SourceGate, SourceConnection, SourceInstance, SourceItem, ParameterItem, PortItem, WireItem, RegItem, IntegerItem, AssignItem, GateItem, InstanceItem, InitialItem, AlwaysItem}
-use Rattle.v_read.specs.Classes.{token_of}
-use Rattle.v_read.specs.declared.class.Class.TheVariants as classes
-use Rattle.v_read.specs.Separated.{SpellsList}
+use Rattle.v_readers.specs.Classes.{token_of}
+use Rattle.v_readers.specs.declared.class.Class.TheVariants as classes
+use Rattle.v_readers.specs.Separated.{SpellsList}
 use Rattle.v_expr.specs.Spelling.{SpellsExpression}
 use Rattle.v_expr.specs.Heights.{height_of}
 use Rattle.v_parse.specs.Spelling.{SpellsWire, SpellsAssignment, has_one_input, SpellsGate, SpellsActual, SpellsConnections, SpellsPlacedConnections, SpellsNamedConnection, SpellsInstance, SpellsItem}

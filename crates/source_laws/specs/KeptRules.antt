@@ -9,7 +9,7 @@ use Rattle.v_parse.specs.Spelling.{SpellsUnit}
 use Rattle.v_parse.specs.Heights.{unit_height}
 use Rattle.v_elab.specs.declared.Mode.{Mode}
 use Rattle.v_elab.specs.Flat.{flat}
-use Rattle.site_laws.specs.KeptRules.{named-keep}
+use Rattle.source_laws.specs.NamedRules.{named-keep}
 use Rattle.source_laws.specs.Texts.{text-source, text-named}
 
 -- each flat design of the unit that a text spells within its levels keeps all rules

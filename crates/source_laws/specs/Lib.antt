@@ -7,3 +7,11 @@ pub mod Units
 pub mod Declared
 pub mod Texts
 pub mod KeptRules
+pub mod SitesApart
+pub mod Spelling
+pub mod Indexes
+pub mod NamedSignals
+pub mod ObjectBits
+pub mod GateNames
+pub mod Sites
+pub mod NamedRules

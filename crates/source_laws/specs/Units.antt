@@ -4,8 +4,8 @@ use Rattle.std.specs.Prelude.{slice_get}
 use Rattle.vf_base.specs.Lists.{AllHold}
 use Rattle.v_tree.specs.Tokens.{SourceToken}
 use Rattle.v_tree.specs.Trees.{SourceItem, ParameterItem, PortItem, SourceHeads, PlainHeads, DeclaredHeads, SourceParameters, SourcePorts, SourceModule, SourceUnit}
-use Rattle.v_read.specs.declared.class.Class.TheVariants as classes
-use Rattle.v_read.specs.Classes.{token_of, name_token}
+use Rattle.v_readers.specs.declared.class.Class.TheVariants as classes
+use Rattle.v_readers.specs.Classes.{token_of, name_token}
 use Rattle.v_parse.specs.Spelling.{SpellsEach, SpellsItem, SpellsModule, SpellsUnit}
 use Rattle.v_parse.specs.Heights.{greatest, item_height, module_height, unit_height}
 use Rattle.v_elab.specs.Walk.{head_items}

@@ -1,12 +1,14 @@
-//! What the unit that a text spells keeps: the premises under which the laws of flat designs hold (IEEE 1364-2001, clause 2 for tokens and names, annex A for what
-//! they spell).
+//! What each flat design of a text keeps: all rules of flat designs (IEEE 1364-2001, clause 2 for tokens and names, clause 9 for processes, clause 12 for the
+//! hierarchy, annex A for what a text spells).
 //!
-//! `specs/Ascending` and `specs/Words` have what the tokens of a text keep, `specs/Items` and `specs/Declared` what the items that tokens spell keep, and
-//! `specs/Texts` joins both; `specs/KeptRules` draws the conclusion. The functions do nothing when they run: their contracts are the laws.
+//! `flat_laws` proves the rules one by one. Here `specs/Ascending` and `specs/Words` have what the tokens of a text keep, `specs/Items` and `specs/Declared` what
+//! the items that they spell keep, `specs/Bodies` why no two statements of a process stand at one place, `specs/ObjectBits`, `specs/GateNames` and `specs/Sites` why
+//! no two sites have one name; `specs/KeptRules` draws the conclusion. The functions do nothing when they run: their contracts are the laws.
 #![tactic(auto)]
 
 ghost use Rattle.source_laws.specs.KeptRules.{TextsKeepRules};
 ghost use Rattle.source_laws.specs.Texts.{TextsGiveSourceUnits, TextsGiveNamedUnits};
+ghost use Rattle.source_laws.specs.NamedRules.{NamedDesignsKeepRules};
 
 /// In the unit that a text spells within the levels that are read, each item has at most as many levels, braces hold something, and gates have the inputs of
 /// their kinds.
@@ -22,4 +24,9 @@ pub fn named_units()
 /// Each flat design of the unit that a text spells within the levels that are read keeps the rules of flat designs.
 pub fn kept()
     ensures { TextsKeepRules }
+{}
+
+/// The flat design of a unit whose items are those of a text, and whose names are spelled as a text spells them, keeps the rules of flat designs.
+pub fn named_kept()
+    ensures { NamedDesignsKeepRules }
 {}

@@ -5,9 +5,9 @@ use Rattle.std.specs.declared.alloc.Global.{Global}
 use Rattle.vf_base.specs.Counts.{raised, Rose}
 use Rattle.vf_base.specs.Shelf.{Files}
 use Rattle.v_design.specs.Designs.{FlatDesign}
-use Rattle.design_text.specs.declared.fault.DesignFault.{DesignFault}
-use Rattle.design_text.specs.declared.fault.DesignFault.TheVariants as designs
-use Rattle.design_text.specs.Meanings as texts
+use Rattle.elaborate.specs.declared.design_fault.DesignFault.{DesignFault}
+use Rattle.elaborate.specs.declared.design_fault.DesignFault.TheVariants as designs
+use Rattle.elaborate.specs.Meanings as texts
 use Rattle.design_report.specs.Texts.{check_text, IsFaultsText}
 use Rattle.plan_report.specs.declared.fault.ReportFault.{ReportFault}
 use Rattle.plan_report.specs.declared.fault.ReportFault.TheVariants as reported

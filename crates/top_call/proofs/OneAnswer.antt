@@ -2,8 +2,8 @@
 use Rattle.std.proofs.Common.{◌≡◌, ℕ, ◌<◌, ◌≤◌, List, length, codes, Option, Some, None, Result, Ok, Err, refl, sym, ap, subst, ◌∙◌, inl, inr, arith}
 use Rattle.vf_base.specs.Shelf.{Files, content_of}
 use Rattle.v_design.specs.Designs.{FlatDesign}
-use Rattle.design_text.specs.declared.fault.DesignFault.{DesignFault}
-use Rattle.design_text.specs.Meanings as texts
+use Rattle.elaborate.specs.declared.design_fault.DesignFault.{DesignFault}
+use Rattle.elaborate.specs.Meanings as texts
 use Rattle.design_report.specs.Texts.{check_text, IsFaultsText}
 use Rattle.plan_report.specs.declared.fault.ReportFault.{ReportFault}
 use Rattle.plan_report.specs.declared.fault.ReportFault.TheVariants as reported

@@ -2,9 +2,9 @@
 use Rattle.std.specs.Prelude.{◌≡◌, ℕ, ◌<◌, ◌≤◌, ◌⊎◌, List, length, codes, Option, Some, None, Result, Ok, Err}
 use Rattle.vf_base.specs.Shelf.{Files, content_of}
 use Rattle.v_design.specs.Designs.{FlatDesign}
-use Rattle.design_text.specs.declared.fault.DesignFault.{DesignFault}
-use Rattle.design_text.specs.declared.fault.DesignFault.TheVariants as designs
-use Rattle.design_text.specs.Meanings as texts
+use Rattle.elaborate.specs.declared.design_fault.DesignFault.{DesignFault}
+use Rattle.elaborate.specs.declared.design_fault.DesignFault.TheVariants as designs
+use Rattle.elaborate.specs.Meanings as texts
 use Rattle.design_report.specs.Texts.{check_text, IsFaultsText}
 use Rattle.v_elab.specs.declared.Mode.TheVariants.{Usual}
 use Rattle.soak_text.specs.Soak as soaks

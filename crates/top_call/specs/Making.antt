@@ -6,8 +6,8 @@ use Rattle.vf_base.specs.Shelf.{Files, content_of}
 use Rattle.v_design.specs.Designs.{FlatDesign}
 use Rattle.v_design.specs.PlainDesigns.{design_of}
 use Rattle.v_design.specs.declared.plan.Design.{Design}
-use Rattle.design_text.specs.declared.fault.DesignFault.{DesignFault}
-use Rattle.design_text.specs.Meanings as texts
+use Rattle.elaborate.specs.declared.design_fault.DesignFault.{DesignFault}
+use Rattle.elaborate.specs.Meanings as texts
 use Rattle.plan_report.specs.declared.fault.ReportFault.{ReportFault}
 use Rattle.plan_report.specs.declared.fault.ReportFault.TheVariants as reported
 use Rattle.vf_words.specs.Words.{Source, Form}

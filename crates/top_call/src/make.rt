@@ -6,7 +6,7 @@ ghost use Rattle.vf_words.specs.Forms.{plain_source, plain_form};
 ghost use Rattle.top_call.specs.Outside.{files_of, files_for, CanEnd};
 ghost use Rattle.top_call.specs.Making as making;
 
-use crate::soak::soaked;
+use crate::soak::soak_output;
 use crate::source::{read_file, read_source};
 use design_report::{check_text, faults_text};
 use plan_report::{Extent, ReportFault, plan_report};
@@ -29,7 +29,7 @@ fn report_status(fault: ReportFault) -> Status
 }
 
 /// The report on the faults of a plan.
-fn graded<R: Threads + Sync, S: Shelf, G: Gate + Sync, L: Ledger + Send + Sync>(
+fn grade_output<R: Threads + Sync, S: Shelf, G: Gate + Sync, L: Ledger + Send + Sync>(
     rt: &R,
     alloc: Global,
     shelf: &mut S,
@@ -67,7 +67,11 @@ fn graded<R: Threads + Sync, S: Shelf, G: Gate + Sync, L: Ledger + Send + Sync>(
 }
 
 /// How large a design is.
-fn checked<S: Shelf>(alloc: Global, shelf: &mut S, source: Source<'_>) -> Result<Vec<u8>, Status>
+fn check_output<S: Shelf>(
+    alloc: Global,
+    shelf: &mut S,
+    source: Source<'_>,
+) -> Result<Vec<u8>, Status>
     ensures gives { making.OutputGives (Check (plain_source source.entry)) (S.held shelf.old)
         record { faults = S.faults shelf.old; reads = S.reads shelf.old; long_answers = S.long_answers shelf.old }
         record { faults = S.faults shelf.new; reads = S.reads shelf.new; long_answers = S.long_answers shelf.new } result }
@@ -84,7 +88,11 @@ fn checked<S: Shelf>(alloc: Global, shelf: &mut S, source: Source<'_>) -> Result
 }
 
 /// The faults that can be listed.
-fn listed<S: Shelf>(alloc: Global, shelf: &mut S, source: Source<'_>) -> Result<Vec<u8>, Status>
+fn faults_output<S: Shelf>(
+    alloc: Global,
+    shelf: &mut S,
+    source: Source<'_>,
+) -> Result<Vec<u8>, Status>
     ensures gives { making.OutputGives (Faults (plain_source source.entry)) (S.held shelf.old)
         record { faults = S.faults shelf.old; reads = S.reads shelf.old; long_answers = S.long_answers shelf.old }
         record { faults = S.faults shelf.new; reads = S.reads shelf.new; long_answers = S.long_answers shelf.new } result }
@@ -124,13 +132,13 @@ pub(crate) fn make_output<R: Threads + Sync, S: Shelf, G: Gate + Sync, L: Ledger
             source,
             plan,
             workers,
-        } => graded(rt, alloc, shelf, source, plan, workers, gate, steps),
-        Form::Check(source) => checked(alloc, shelf, source),
-        Form::Faults(source) => listed(alloc, shelf, source),
+        } => grade_output(rt, alloc, shelf, source, plan, workers, gate, steps),
+        Form::Check(source) => check_output(alloc, shelf, source),
+        Form::Faults(source) => faults_output(alloc, shelf, source),
         Form::Soak {
             number,
             size,
             workers,
-        } => soaked(rt, alloc, number, size, workers, gate, steps),
+        } => soak_output(rt, alloc, number, size, workers, gate, steps),
     }
 }

@@ -3,13 +3,13 @@
 ghost use Rattle.std.specs.Prelude.{◌≡◌, ◌≤◌, ◌<◌, [], length, codes, Some, Ok, IfOk, IfErr};
 ghost use Rattle.v_design.specs.PlainDesigns.{design_of};
 ghost use Rattle.v_elab.specs.declared.Mode.TheVariants.{Usual};
-ghost use Rattle.design_text.specs.Meanings.{IsTheMeaning};
+ghost use Rattle.elaborate.specs.Meanings.{IsTheMeaning};
 ghost use Rattle.soak_text.specs.Soak as soaks;
 ghost use Rattle.vf_words.specs.Words.{Soak};
 ghost use Rattle.top_call.specs.Outside.{ShelfCounts, CanEnd};
 ghost use Rattle.top_call.specs.Making as making;
 
-use design_text::read_design;
+use elaborate::read_design;
 use plan_report::{Extent, ReportFault, plan_report};
 use soak_text::{design_text, plan_text};
 use std::alloc::Global;
@@ -44,7 +44,7 @@ fn soak_status(fault: ReportFault) -> Status
 }
 
 /// The totals over the generated design and plan of a number and a size.
-pub(crate) fn soaked<R: Threads + Sync, G: Gate + Sync, L: Ledger + Send + Sync>(
+pub(crate) fn soak_output<R: Threads + Sync, G: Gate + Sync, L: Ledger + Send + Sync>(
     rt: &R,
     alloc: Global,
     number: u32,

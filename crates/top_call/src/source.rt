@@ -6,7 +6,7 @@ ghost use Rattle.vf_words.specs.Forms.{plain_source};
 ghost use Rattle.top_call.specs.Answers.{most_of};
 ghost use Rattle.top_call.specs.Making as making;
 
-use design_text::{DesignFault, read_design};
+use elaborate::{DesignFault, read_design};
 use std::alloc::Global;
 use v_design::Design;
 use vf_base::{MAX_DESIGN_BYTES, MAX_PLAN_BYTES, Shelf, ShelfFault};

@@ -4,10 +4,10 @@ use Rattle.std.specs.Prelude.{nat_le, if◌then◌else◌}
 use Rattle.four_value.specs.declared.operator.BinaryOperator.{BinaryOperator}
 use Rattle.v_tree.specs.Tokens.{SourceToken}
 use Rattle.v_tree.specs.Trees.{SourceExpression, parts_of}
-use Rattle.v_read.specs.Reading.{next_class, repeat}
-use Rattle.v_read.specs.Given.{Fails}
-use Rattle.v_read.specs.declared.stop.Stop.{Stop}
-use Rattle.v_read.specs.Reads.{turn-is, last-is, stop-is, Fails-through}
+use Rattle.v_readers.specs.Reading.{next_class, repeat}
+use Rattle.v_readers.specs.Given.{Fails}
+use Rattle.v_readers.specs.declared.stop.Stop.{Stop}
+use Rattle.v_readers.specs.Reads.{turn-is, last-is, stop-is, Fails-through}
 use Rattle.v_expr.specs.Heights.{height_of, heights_of}
 use Rattle.v_expr.specs.Spelling.{rank_of}
 use Rattle.v_expr.specs.Expressions.{Inner, operator_of, joining, operand_by, operand_turn, operands, choice, ranked, inner_of}

@@ -9,15 +9,15 @@ use Rattle.v_tree.specs.Tokens.{SourceToken}
 use Rattle.v_tree.specs.declared.token.NumberForm.TheVariants.{Plain}
 use Rattle.v_tree.specs.declared.token.TokenKind.TheVariants as kinds
 use Rattle.v_tree.specs.Trees.{SourceExpression, Number, Selected, Parenthesised, Prefixed, Infixed, Chosen, Concatenated, Replicated, SourceIndex, NoIndex, IndexAt, IndexRange, place_of_expression, parts_of}
-use Rattle.v_read.specs.declared.class.Class.{Class}
-use Rattle.v_read.specs.declared.class.Class.TheVariants as classes
-use Rattle.v_read.specs.Classes.{token_at, token_of, is_fixed}
-use Rattle.v_read.specs.Reading.{give}
-use Rattle.v_read.specs.Separated.{SpellsBehind, SpellsList, element_turn}
-use Rattle.v_read.specs.Exact.{Language, Exact, behind, exact-bind, exact-under, exact-give, exact-weaken, exact-shift}
-use Rattle.v_read.specs.Branches.{nowhere, Some-of, Branch, branch, branch-wrong, branch-step, branch-down, exact-by_class, exact-after, exact-name, exact-number}
-use Rattle.v_read.specs.Repeat.{append-nil, Turn, TurnFits, exact-repeat}
-use Rattle.v_read.specs.SeparatedLaws.{EachFits, exact-separated, turn-exact}
+use Rattle.v_readers.specs.declared.class.Class.{Class}
+use Rattle.v_readers.specs.declared.class.Class.TheVariants as classes
+use Rattle.v_readers.specs.Classes.{token_at, token_of, is_fixed}
+use Rattle.v_readers.specs.Reading.{give}
+use Rattle.v_readers.specs.Separated.{SpellsBehind, SpellsList, element_turn}
+use Rattle.v_readers.specs.Exact.{Language, Exact, behind, exact-bind, exact-under, exact-give, exact-weaken, exact-shift}
+use Rattle.v_readers.specs.Branches.{nowhere, Some-of, Branch, branch, branch-wrong, branch-step, branch-down, exact-by_class, exact-after, exact-name, exact-number}
+use Rattle.v_readers.specs.Repeat.{append-nil, Turn, TurnFits, exact-repeat}
+use Rattle.v_readers.specs.SeparatedLaws.{EachFits, exact-separated, turn-exact}
 use Rattle.v_expr.specs.Operators.{unary_of, binary_of, level_of}
 use Rattle.v_expr.specs.Spelling.{rank_of, SpellsExpression, SpellsIndex, SpellsParts, SpellsMoreParts}
 use Rattle.v_expr.specs.Heights.{height_of, index_height, heights_of}

@@ -6,14 +6,14 @@ use Rattle.four_value.specs.declared.operator.BinaryOperator.{BinaryOperator}
 use Rattle.vf_base.specs.Base.{SourcePlace}
 use Rattle.v_tree.specs.Tokens.{SourceToken}
 use Rattle.v_tree.specs.Trees.{Identifier, SourceExpression, Number, Selected, Parenthesised, Prefixed, Infixed, Chosen, Concatenated, Replicated, SourceIndex, NoIndex, IndexAt, IndexRange, SourceExpressions, no_parts, more_parts, parts_of}
-use Rattle.v_read.specs.declared.class.Class.{Class}
-use Rattle.v_read.specs.declared.class.Class.TheVariants as classes
-use Rattle.v_read.specs.Classes.{token_of, name_token, IsName}
-use Rattle.v_read.specs.ClassLaws.{class_of-kind_of}
-use Rattle.v_read.specs.Reading.{Reading, followed, give, by_class, next_class, repeat}
-use Rattle.v_read.specs.Separated.{SpellsBehind, SpellsList, element_turn, separated}
-use Rattle.v_read.specs.Reads.{turn-is, last-is, name-reads, separated-reads, behind-reads}
-use Rattle.v_read.specs.SeparatedLaws.{EachFits}
+use Rattle.v_readers.specs.declared.class.Class.{Class}
+use Rattle.v_readers.specs.declared.class.Class.TheVariants as classes
+use Rattle.v_readers.specs.Classes.{token_of, name_token, IsName}
+use Rattle.v_readers.specs.ClassLaws.{class_of-kind_of}
+use Rattle.v_readers.specs.Reading.{Reading, followed, give, by_class, next_class, repeat}
+use Rattle.v_readers.specs.Separated.{SpellsBehind, SpellsList, element_turn, separated}
+use Rattle.v_readers.specs.Reads.{turn-is, last-is, name-reads, separated-reads, behind-reads}
+use Rattle.v_readers.specs.SeparatedLaws.{EachFits}
 use Rattle.v_expr.specs.Operators.{unary_of, binary_of, level_of}
 use Rattle.v_expr.specs.Spelling.{rank_of, SpellsExpression, SpellsIndex, SpellsParts, SpellsMoreParts}
 use Rattle.v_expr.specs.Heights.{height_of, index_height, heights_of}

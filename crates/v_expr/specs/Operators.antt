@@ -4,8 +4,8 @@ use Rattle.four_value.specs.declared.operator.UnaryOperator.{UnaryOperator}
 use Rattle.four_value.specs.declared.operator.UnaryOperator.TheVariants as unary
 use Rattle.four_value.specs.declared.operator.BinaryOperator.{BinaryOperator}
 use Rattle.four_value.specs.declared.operator.BinaryOperator.TheVariants as binary
-use Rattle.v_read.specs.declared.class.Class.{Class}
-use Rattle.v_read.specs.declared.class.Class.TheVariants as classes
+use Rattle.v_readers.specs.declared.class.Class.{Class}
+use Rattle.v_readers.specs.declared.class.Class.TheVariants as classes
 
 -- the operator that a token of this class stands for before an operand
 abbrev pub unary_of : Class → Option UnaryOperator

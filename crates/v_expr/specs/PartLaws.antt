@@ -5,15 +5,15 @@ use Rattle.v_tree.specs.Tokens.{SourceToken}
 use Rattle.v_tree.specs.Trees.{SourceExpression, Number, Selected, Parenthesised, Prefixed, Infixed, Chosen, Concatenated, Replicated, NoIndex, IndexAt, IndexRange, SourceSelect, SourceTarget, OneSelect, JoinedSelects, SourceRange}
 use Rattle.v_tree.specs.declared.token.NumberForm.TheVariants.{Plain}
 use Rattle.v_tree.specs.declared.token.TokenKind.TheVariants as kinds
-use Rattle.v_read.specs.declared.class.Class.{Class}
-use Rattle.v_read.specs.declared.class.Class.TheVariants as classes
-use Rattle.v_read.specs.Classes.{token_at, token_of, name_token}
-use Rattle.v_read.specs.Reading.{followed, give, wrong}
-use Rattle.v_read.specs.Exact.{Language, Family, Exact, exact-bind, exact-under, exact-give, exact-weaken, exact-shift}
-use Rattle.v_read.specs.Branches.{nowhere, Some-of, Branch, branch, branch-wrong, branch-step, branch-down, exact-by_class, exact-after, exact-name, exact-number}
-use Rattle.v_read.specs.Repeat.{append-nil}
-use Rattle.v_read.specs.SeparatedLaws.{EachFits, exact-separated}
-use Rattle.v_read.specs.Reads.{name-reads, separated-reads}
+use Rattle.v_readers.specs.declared.class.Class.{Class}
+use Rattle.v_readers.specs.declared.class.Class.TheVariants as classes
+use Rattle.v_readers.specs.Classes.{token_at, token_of, name_token}
+use Rattle.v_readers.specs.Reading.{followed, give, wrong}
+use Rattle.v_readers.specs.Exact.{Language, Family, Exact, exact-bind, exact-under, exact-give, exact-weaken, exact-shift}
+use Rattle.v_readers.specs.Branches.{nowhere, Some-of, Branch, branch, branch-wrong, branch-step, branch-down, exact-by_class, exact-after, exact-name, exact-number}
+use Rattle.v_readers.specs.Repeat.{append-nil}
+use Rattle.v_readers.specs.SeparatedLaws.{EachFits, exact-separated}
+use Rattle.v_readers.specs.Reads.{name-reads, separated-reads}
 use Rattle.v_expr.specs.Spelling.{SpellsExpression, SpellsIndex, SpellsSelect, SpellsTarget, SpellsRange, SpellsBareDelay, SpellsDelay}
 use Rattle.v_expr.specs.Heights.{height_of, select_height, select_heights, target_height, range_height}
 use Rattle.v_expr.specs.Expressions.{index, inner_of, expression}

@@ -1,10 +1,10 @@
 -- Reading selects, targets, ranges and delays.
 use Rattle.std.specs.Prelude.{ℕ, zero, suc, Option, Some}
 use Rattle.v_tree.specs.Trees.{SourceExpression, Number, Selected, NoIndex, SourceSelect, SourceTarget, OneSelect, JoinedSelects, SourceRange}
-use Rattle.v_read.specs.declared.class.Class.{Class}
-use Rattle.v_read.specs.declared.class.Class.TheVariants as classes
-use Rattle.v_read.specs.Reading.{Reader, ◌>>=◌, give, wrong, by_class, expect, step, down, name, number}
-use Rattle.v_read.specs.Separated.{separated}
+use Rattle.v_readers.specs.declared.class.Class.{Class}
+use Rattle.v_readers.specs.declared.class.Class.TheVariants as classes
+use Rattle.v_readers.specs.Reading.{Reader, ◌>>=◌, give, wrong, by_class, expect, step, down, name, number}
+use Rattle.v_readers.specs.Separated.{separated}
 use Rattle.v_expr.specs.Expressions.{index, inner_of, expression}
 
 -- an expression one level down

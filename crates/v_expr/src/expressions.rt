@@ -4,10 +4,10 @@ ghost use Rattle.std.specs.Prelude.{◌≡◌, ◌+◌, ◌≤◌, ◌<◌, Some
 ghost use Rattle.vf_base.specs.Base.{source_place};
 ghost use Rattle.v_tree.specs.Trees.{parts_of, Selected};
 ghost use Rattle.v_tree.specs.Views.{expression_of, index_of};
-ghost use Rattle.v_read.specs.Given.{Gives};
-ghost use Rattle.v_read.specs.Reading.{repeat};
-ghost use Rattle.v_read.specs.Separated.{element_turn};
-ghost use Rattle.v_read.specs.declared.class.Class.TheVariants as classes;
+ghost use Rattle.v_readers.specs.Given.{Gives};
+ghost use Rattle.v_readers.specs.Reading.{repeat};
+ghost use Rattle.v_readers.specs.Separated.{element_turn};
+ghost use Rattle.v_readers.specs.declared.class.Class.TheVariants as classes;
 ghost use Rattle.v_expr.specs.Heights.{height_of, heights_of, index_height};
 ghost use Rattle.v_expr.specs.Expressions as read;
 ghost use Rattle.v_expr.specs.Expressions.{inner_of};
@@ -15,7 +15,7 @@ ghost use Rattle.v_expr.specs.Expressions.{inner_of};
 use crate::operators::{joining, operand_rank, place_of, rank_of, unary_of};
 use four_value::{BinaryOperator, UnaryOperator};
 use std::alloc::Global;
-use v_read::{Class, Lexeme, Stop, down, expect, is_next, name, next_class, number, step};
+use v_readers::{Class, Lexeme, Stop, down, expect, is_next, name, next_class, number, step};
 use v_tree::{Expr, Index};
 use vf_base::{NoMemory, Place, Text};
 
@@ -252,7 +252,7 @@ fn braced<'t>(
 
 /// What is repeated, behind the count.
 #[cycle(expression)]
-#[tactic(auto, unfolding(crate::specs::Expressions::replication, v_read::specs::Separated::separated))]
+#[tactic(auto, unfolding(crate::specs::Expressions::replication, v_readers::specs::Separated::separated))]
 fn replication<'t>(
     alloc: Global,
     tokens: &'t [Lexeme<'t>],

@@ -9,7 +9,7 @@ ghost use Rattle.v_expr.specs.Spelling.{rank_of};
 ghost use Rattle.v_expr.specs.Expressions as read;
 
 use four_value::{BinaryOperator, UnaryOperator};
-use v_read::Class;
+use v_readers::Class;
 use v_tree::Expr;
 use vf_base::Place;
 

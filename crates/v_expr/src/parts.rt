@@ -2,14 +2,14 @@
 
 ghost use Rattle.std.specs.Prelude.{◌≡◌, ◌+◌, ◌≤◌, ◌<◌, List, [], ◌∷◌, map, length, IfOk};
 ghost use Rattle.v_tree.specs.Views.{expression_of, select_of, target_of, range_of};
-ghost use Rattle.v_read.specs.Given.{Gives};
-ghost use Rattle.v_read.specs.Separated.{separated};
-ghost use Rattle.v_read.specs.declared.class.Class.TheVariants as classes;
+ghost use Rattle.v_readers.specs.Given.{Gives};
+ghost use Rattle.v_readers.specs.Separated.{separated};
+ghost use Rattle.v_readers.specs.declared.class.Class.TheVariants as classes;
 ghost use Rattle.v_expr.specs.Parts as read;
 
 use crate::expressions::{expression, index};
 use std::alloc::Global;
-use v_read::{Class, Lexeme, Stop, down, expect, is_next, name, next_class, number, step};
+use v_readers::{Class, Lexeme, Stop, down, expect, is_next, name, next_class, number, step};
 use v_tree::{Expr, Range, Select, Target};
 use vf_base::Seq;
 
@@ -67,7 +67,7 @@ pub fn inner_select<'t>(
 }
 
 /// Selects one level down, with a comma between them.
-#[tactic(auto, unfolding(v_read::specs::Separated::separated))]
+#[tactic(auto, unfolding(v_readers::specs::Separated::separated))]
 fn selects<'t>(
     alloc: Global,
     tokens: &'t [Lexeme<'t>],

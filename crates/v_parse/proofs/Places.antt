@@ -3,8 +3,8 @@ use Rattle.std.proofs.Common.{◌≡◌, ℕ, suc, ◌+◌, ◌-◌, get_or, ◌
 use Rattle.std.proofs.Math.Seq.{take-append_seam}
 use Rattle.v_tree.specs.Tokens.{SourceToken}
 use Rattle.v_tree.specs.Trees.{SourceUnit}
-use Rattle.v_read.specs.Repeat.{append-nil}
-use Rattle.v_read.specs.Reading.{wrong, deep}
+use Rattle.v_readers.specs.Repeat.{append-nil}
+use Rattle.v_readers.specs.Reading.{wrong, deep}
 use Rattle.v_parse.specs.Spelling.{SpellsUnit}
 use Rattle.v_parse.specs.Items.{unit_reader}
 use Rattle.v_parse.specs.Verdict.{Begins, BeginsWithin, IsFirstDeep}

@@ -6,14 +6,14 @@ use Rattle.vf_base.specs.Base.{SourcePlace}
 use Rattle.v_tree.specs.Tokens.{SourceToken}
 use Rattle.v_tree.specs.declared.item.Direction.{Direction}
 use Rattle.v_tree.specs.Trees.{SourceExpression, SourceConnection, SourceParameters, SourcePorts, DeclaredHeads, SourceItem, SourceModule}
-use Rattle.v_read.specs.declared.class.Class.{Class}
-use Rattle.v_read.specs.declared.class.Class.TheVariants as classes
-use Rattle.v_read.specs.declared.stop.Stop.{Stop}
-use Rattle.v_read.specs.ClassLaws.{same_class-true}
-use Rattle.v_read.specs.Reading.{Reading, Reader, followed, ◌>>=◌, give, by_class, next_class, is_class, place_of, expect, step, end, repeat}
-use Rattle.v_read.specs.Exact.{Found, Tells}
-use Rattle.v_read.specs.Reads.{turn-is, last-is, stop-is, Fails-through, Fails-followed}
-use Rattle.v_read.specs.Given.{Fails}
+use Rattle.v_readers.specs.declared.class.Class.{Class}
+use Rattle.v_readers.specs.declared.class.Class.TheVariants as classes
+use Rattle.v_readers.specs.declared.stop.Stop.{Stop}
+use Rattle.v_readers.specs.ClassLaws.{same_class-true}
+use Rattle.v_readers.specs.Reading.{Reading, Reader, followed, ◌>>=◌, give, by_class, next_class, is_class, place_of, expect, step, end, repeat}
+use Rattle.v_readers.specs.Exact.{Found, Tells}
+use Rattle.v_readers.specs.Reads.{turn-is, last-is, stop-is, Fails-through, Fails-followed}
+use Rattle.v_readers.specs.Given.{Fails}
 use Rattle.v_expr.specs.Spelling.{SpellsExpression}
 use Rattle.v_expr.specs.Expressions.{expression}
 use Rattle.v_expr.specs.ExpressionExact.{Within}

@@ -5,15 +5,15 @@ use Rattle.vf_base.specs.Base.{SourcePlace}
 use Rattle.four_value.specs.declared.operator.GateKind.{GateKind}
 use Rattle.v_tree.specs.Tokens.{SourceToken}
 use Rattle.v_tree.specs.Trees.{SourceExpression, place_of_expression, SourceAssignment, SourceGate, SourceConnection, SourceInstance}
-use Rattle.v_read.specs.declared.class.Class.{Class}
-use Rattle.v_read.specs.declared.class.Class.TheVariants as classes
-use Rattle.v_read.specs.Classes.{token_of, name_token, IsName}
-use Rattle.v_read.specs.Reading.{◌>>=◌, give}
-use Rattle.v_read.specs.Separated.{SpellsBehind, SpellsList, separated}
-use Rattle.v_read.specs.Exact.{Language, Family, Exact, behind, exact-bind, exact-under, exact-give, exact-weaken}
-use Rattle.v_read.specs.Branches.{nowhere, Some-of, Branch, branch, branch-step, exact-by_class, exact-after, exact-name}
-use Rattle.v_read.specs.Repeat.{append-nil, Turn, TurnFits, exact-repeat}
-use Rattle.v_read.specs.SeparatedLaws.{EachFits, exact-separated}
+use Rattle.v_readers.specs.declared.class.Class.{Class}
+use Rattle.v_readers.specs.declared.class.Class.TheVariants as classes
+use Rattle.v_readers.specs.Classes.{token_of, name_token, IsName}
+use Rattle.v_readers.specs.Reading.{◌>>=◌, give}
+use Rattle.v_readers.specs.Separated.{SpellsBehind, SpellsList, separated}
+use Rattle.v_readers.specs.Exact.{Language, Family, Exact, behind, exact-bind, exact-under, exact-give, exact-weaken}
+use Rattle.v_readers.specs.Branches.{nowhere, Some-of, Branch, branch, branch-step, exact-by_class, exact-after, exact-name}
+use Rattle.v_readers.specs.Repeat.{append-nil, Turn, TurnFits, exact-repeat}
+use Rattle.v_readers.specs.SeparatedLaws.{EachFits, exact-separated}
 use Rattle.v_expr.specs.Spelling.{SpellsExpression}
 use Rattle.v_expr.specs.Heights.{height_of}
 use Rattle.v_expr.specs.Expressions.{expression}

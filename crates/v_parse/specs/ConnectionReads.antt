@@ -6,13 +6,13 @@ use Rattle.vf_base.specs.Base.{SourcePlace}
 use Rattle.four_value.specs.declared.operator.GateKind.{GateKind}
 use Rattle.v_tree.specs.Tokens.{SourceToken}
 use Rattle.v_tree.specs.Trees.{SourceExpression, place_of_expression, NamedPlace, SourceAssignment, SourceGate, SourceConnection, SourceInstance}
-use Rattle.v_read.specs.declared.class.Class.{Class}
-use Rattle.v_read.specs.declared.class.Class.TheVariants as classes
-use Rattle.v_read.specs.Classes.{token_of, name_token}
-use Rattle.v_read.specs.Reading.{Reading, Reader, ◌>>=◌, followed, give, next_class, is_class, expect, repeat}
-use Rattle.v_read.specs.Separated.{SpellsBehind, SpellsList, separated}
-use Rattle.v_read.specs.SeparatedLaws.{EachFits}
-use Rattle.v_read.specs.Reads.{name-reads, turn-is, last-is, separated-reads}
+use Rattle.v_readers.specs.declared.class.Class.{Class}
+use Rattle.v_readers.specs.declared.class.Class.TheVariants as classes
+use Rattle.v_readers.specs.Classes.{token_of, name_token}
+use Rattle.v_readers.specs.Reading.{Reading, Reader, ◌>>=◌, followed, give, next_class, is_class, expect, repeat}
+use Rattle.v_readers.specs.Separated.{SpellsBehind, SpellsList, separated}
+use Rattle.v_readers.specs.SeparatedLaws.{EachFits}
+use Rattle.v_readers.specs.Reads.{name-reads, turn-is, last-is, separated-reads}
 use Rattle.v_expr.specs.Spelling.{SpellsExpression}
 use Rattle.v_expr.specs.Heights.{height_of}
 use Rattle.v_expr.specs.Expressions.{expression}

@@ -5,14 +5,14 @@ use Rattle.v_tree.specs.Tokens.{SourceToken}
 use Rattle.v_tree.specs.declared.item.Direction.{Direction}
 use Rattle.v_tree.specs.declared.item.Direction.TheVariants.{Input, Output}
 use Rattle.v_tree.specs.Trees.{SourceExpression, NamedPlace, SourceRange, SourceParameter, SourceParameters, SourcePorts, SourceWire, SourceContent, NoContent, FirstContent, MemoryBounds, SourceReg, SourceHeads, PlainHeads, DeclaredHeads}
-use Rattle.v_read.specs.declared.class.Class.{Class}
-use Rattle.v_read.specs.declared.class.Class.TheVariants as classes
-use Rattle.v_read.specs.Classes.{is_fixed, token_of}
-use Rattle.v_read.specs.Separated.{SpellsBehind, SpellsList}
-use Rattle.v_read.specs.Exact.{Language, Exact, behind, exact-bind, exact-under, exact-give}
-use Rattle.v_read.specs.Branches.{nowhere, Some-of, Branch, branch, branch-wrong, branch-step, exact-by_class, exact-after, exact-name}
-use Rattle.v_read.specs.Repeat.{append-nil, Turn, TurnFits, exact-repeat}
-use Rattle.v_read.specs.SeparatedLaws.{EachFits, exact-separated, list-append}
+use Rattle.v_readers.specs.declared.class.Class.{Class}
+use Rattle.v_readers.specs.declared.class.Class.TheVariants as classes
+use Rattle.v_readers.specs.Classes.{is_fixed, token_of}
+use Rattle.v_readers.specs.Separated.{SpellsBehind, SpellsList}
+use Rattle.v_readers.specs.Exact.{Language, Exact, behind, exact-bind, exact-under, exact-give}
+use Rattle.v_readers.specs.Branches.{nowhere, Some-of, Branch, branch, branch-wrong, branch-step, exact-by_class, exact-after, exact-name}
+use Rattle.v_readers.specs.Repeat.{append-nil, Turn, TurnFits, exact-repeat}
+use Rattle.v_readers.specs.SeparatedLaws.{EachFits, exact-separated, list-append}
 use Rattle.v_expr.specs.Spelling.{SpellsExpression, SpellsRange}
 use Rattle.v_expr.specs.Heights.{height_of, range_height}
 use Rattle.v_expr.specs.PartLaws.{expression-within, range-exact}

@@ -6,16 +6,16 @@ use Rattle.v_tree.specs.Tokens.{SourceToken}
 use Rattle.v_tree.specs.declared.item.Direction.{Direction}
 use Rattle.v_tree.specs.declared.item.Direction.TheVariants.{Input, Output}
 use Rattle.v_tree.specs.Trees.{SourceExpression, NamedPlace, SourceRange, SourceParameter, SourceParameters, SourcePorts, SourceWire, SourceContent, NoContent, FirstContent, MemoryBounds, SourceReg, SourceHeads, PlainHeads, DeclaredHeads}
-use Rattle.v_read.specs.declared.class.Class.{Class}
-use Rattle.v_read.specs.declared.class.Class.TheVariants as classes
-use Rattle.v_read.specs.Classes.{same_class, token_of}
-use Rattle.v_read.specs.ClassLaws.{same_class-same, class_of-kind_of}
-use Rattle.v_read.specs.Reading.{Reading, Reader, ◌>>=◌, followed, give, next_class, is_class, expect, repeat}
-use Rattle.v_read.specs.Separated.{SpellsBehind, SpellsList}
-use Rattle.v_read.specs.Exact.{Language}
-use Rattle.v_read.specs.Branches.{nowhere}
-use Rattle.v_read.specs.SeparatedLaws.{EachFits}
-use Rattle.v_read.specs.Reads.{next-class, expect-reads, name-reads, turn-is, last-is, separated-reads}
+use Rattle.v_readers.specs.declared.class.Class.{Class}
+use Rattle.v_readers.specs.declared.class.Class.TheVariants as classes
+use Rattle.v_readers.specs.Classes.{same_class, token_of}
+use Rattle.v_readers.specs.ClassLaws.{same_class-same, class_of-kind_of}
+use Rattle.v_readers.specs.Reading.{Reading, Reader, ◌>>=◌, followed, give, next_class, is_class, expect, repeat}
+use Rattle.v_readers.specs.Separated.{SpellsBehind, SpellsList}
+use Rattle.v_readers.specs.Exact.{Language}
+use Rattle.v_readers.specs.Branches.{nowhere}
+use Rattle.v_readers.specs.SeparatedLaws.{EachFits}
+use Rattle.v_readers.specs.Reads.{next-class, expect-reads, name-reads, turn-is, last-is, separated-reads}
 use Rattle.v_expr.specs.Heights.{height_of, range_height}
 use Rattle.v_expr.specs.ExpressionReads.{EndsBefore, expression-reads}
 use Rattle.v_expr.specs.PartLaws.{range-reads}

@@ -7,14 +7,14 @@ use Rattle.v_tree.specs.Tokens.{SourceToken}
 use Rattle.v_tree.specs.declared.item.Direction.{Direction}
 use Rattle.v_tree.specs.declared.item.Direction.TheVariants.{Input, Output}
 use Rattle.v_tree.specs.Trees.{SourceItem, ParameterItem, PortItem, WireItem, RegItem, IntegerItem, AssignItem, GateItem, InstanceItem, InitialItem, AlwaysItem, SourceRange, SourceModule, SourceUnit}
-use Rattle.v_read.specs.declared.class.Class.{Class}
-use Rattle.v_read.specs.declared.class.Class.TheVariants as classes
-use Rattle.v_read.specs.Classes.{is_fixed, token_of, name_token}
-use Rattle.v_read.specs.Separated.{SpellsList}
-use Rattle.v_read.specs.Exact.{Language, Family, Exact, exact-bind, exact-under, exact-give}
-use Rattle.v_read.specs.Branches.{Some-of, Branch, branch, branch-wrong, exact-by_class, exact-after, exact-name, exact-end}
-use Rattle.v_read.specs.Repeat.{append-nil, Turn, TurnFits, exact-repeat}
-use Rattle.v_read.specs.SeparatedLaws.{EachFits, exact-separated}
+use Rattle.v_readers.specs.declared.class.Class.{Class}
+use Rattle.v_readers.specs.declared.class.Class.TheVariants as classes
+use Rattle.v_readers.specs.Classes.{is_fixed, token_of, name_token}
+use Rattle.v_readers.specs.Separated.{SpellsList}
+use Rattle.v_readers.specs.Exact.{Language, Family, Exact, exact-bind, exact-under, exact-give}
+use Rattle.v_readers.specs.Branches.{Some-of, Branch, branch, branch-wrong, exact-by_class, exact-after, exact-name, exact-end}
+use Rattle.v_readers.specs.Repeat.{append-nil, Turn, TurnFits, exact-repeat}
+use Rattle.v_readers.specs.SeparatedLaws.{EachFits, exact-separated}
 use Rattle.v_stmt.specs.Spelling.{SpellsStatement}
 use Rattle.v_stmt.specs.StatementExact.{statement-exact}
 use Rattle.v_parse.specs.Spelling.{SpellsEach, parameter_word, SpellsParameters, SpellsWire, SpellsReg, SpellsAssignment, gate_word, SpellsGate, SpellsInstance, SpellsDeclared, SpellsItem, SpellsModule, SpellsUnit}

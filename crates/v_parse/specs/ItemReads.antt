@@ -8,14 +8,14 @@ use Rattle.v_tree.specs.Tokens.{SourceToken}
 use Rattle.v_tree.specs.declared.item.Direction.{Direction}
 use Rattle.v_tree.specs.declared.item.Direction.TheVariants.{Input, Output}
 use Rattle.v_tree.specs.Trees.{SourceItem, ParameterItem, PortItem, WireItem, RegItem, IntegerItem, AssignItem, GateItem, InstanceItem, InitialItem, AlwaysItem, Identifier, SourceInstance, SourceHeads, PlainHeads, DeclaredHeads, SourceModule, SourceUnit}
-use Rattle.v_read.specs.declared.class.Class.{Class}
-use Rattle.v_read.specs.declared.class.Class.TheVariants as classes
-use Rattle.v_read.specs.Classes.{token_of, name_token, IsName}
-use Rattle.v_read.specs.Reading.{Reader, followed, give, next_class, repeat}
-use Rattle.v_read.specs.Separated.{SpellsList}
-use Rattle.v_read.specs.Exact.{Language}
-use Rattle.v_read.specs.SeparatedLaws.{EachFits}
-use Rattle.v_read.specs.Reads.{next-class, expect-reads, name-reads, turn-is, last-is, separated-reads}
+use Rattle.v_readers.specs.declared.class.Class.{Class}
+use Rattle.v_readers.specs.declared.class.Class.TheVariants as classes
+use Rattle.v_readers.specs.Classes.{token_of, name_token, IsName}
+use Rattle.v_readers.specs.Reading.{Reader, followed, give, next_class, repeat}
+use Rattle.v_readers.specs.Separated.{SpellsList}
+use Rattle.v_readers.specs.Exact.{Language}
+use Rattle.v_readers.specs.SeparatedLaws.{EachFits}
+use Rattle.v_readers.specs.Reads.{next-class, expect-reads, name-reads, turn-is, last-is, separated-reads}
 use Rattle.v_stmt.specs.StatementReads.{statement-reads}
 use Rattle.v_parse.specs.Spelling.{SpellsEach, parameter_word, direction_word, SpellsWire, SpellsReg, SpellsAssignment, gate_word, SpellsGate, SpellsInstance, SpellsItem, SpellsHeads, SpellsModule, SpellsUnit}
 use Rattle.v_parse.specs.Heights.{greatest, wire_height, reg_height, assignment_height, gate_height, instance_height, item_height, module_height, unit_height}

@@ -2,9 +2,9 @@
 use Rattle.std.proofs.Common.{◌≡◌, ℕ, ◌≤◌, max, List, [], ◌∷◌, ◌++◌, Ok, Err, refl, sym, ◌∙◌, ap, subst, arith, append_assoc, ◌⊎◌, inl, inr}
 use Rattle.v_tree.specs.Tokens.{SourceToken}
 use Rattle.v_tree.specs.Trees.{SourceModule, SourceUnit}
-use Rattle.v_read.specs.Reading.{Why, Wrong, Deep, Stopped, Reading, followed, ◌>>=◌, give, wrong, deep, end, repeat}
-use Rattle.v_read.specs.Exact.{SameNext, Stops, Tells}
-use Rattle.v_read.specs.Repeat.{append-nil}
+use Rattle.v_readers.specs.Reading.{Why, Wrong, Deep, Stopped, Reading, followed, ◌>>=◌, give, wrong, deep, end, repeat}
+use Rattle.v_readers.specs.Exact.{SameNext, Stops, Tells}
+use Rattle.v_readers.specs.Repeat.{append-nil}
 use Rattle.v_parse.specs.Spelling.{SpellsUnit}
 use Rattle.v_parse.specs.Heights.{unit_height}
 use Rattle.v_parse.specs.Items.{modules_turn, unit_reader}

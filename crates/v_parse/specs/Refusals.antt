@@ -3,9 +3,9 @@
 use Rattle.std.specs.Prelude.{◌≡◌, ℕ, Bool, true, false, ◌+◌, List, [], ◌∷◌, ◌++◌, ◌⊎◌}
 use Rattle.vf_base.specs.Base.{SourcePlace, source_place}
 use Rattle.v_tree.specs.Tokens.{SourceToken}
-use Rattle.v_read.specs.declared.class.Class.TheVariants.{RefusedWord, SystemName, FinishTask, Bang}
-use Rattle.v_read.specs.Classes.{class_of, token_of}
-use Rattle.v_read.specs.Reading.{place_of}
+use Rattle.v_readers.specs.declared.class.Class.TheVariants.{RefusedWord, SystemName, FinishTask, Bang}
+use Rattle.v_readers.specs.Classes.{class_of, token_of}
+use Rattle.v_readers.specs.Reading.{place_of}
 use Rattle.v_parse.specs.declared.fault.ParseFault.{ParseFault}
 use Rattle.v_parse.specs.declared.fault.ParseFault.TheVariants.{Unexpected, Unsupported, TooDeep, NoMemory}
 use Rattle.v_parse.specs.Verdict.{Begins, IsFirstWrong, IsFirstDeep}

@@ -4,16 +4,16 @@ ghost use Rattle.std.specs.Prelude.{◌≡◌, ◌+◌, ◌≤◌, ◌<◌, Some
 ghost use Rattle.vf_base.specs.Base.{source_place};
 ghost use Rattle.v_tree.specs.Trees.{place_of_expression};
 ghost use Rattle.v_tree.specs.Views.{expression_of, expression_in, connection_of, instance_of};
-ghost use Rattle.v_read.specs.Given.{Gives};
-ghost use Rattle.v_read.specs.Reading.{by_class};
-ghost use Rattle.v_read.specs.Separated.{separated};
-ghost use Rattle.v_read.specs.declared.class.Class.TheVariants as classes;
+ghost use Rattle.v_readers.specs.Given.{Gives};
+ghost use Rattle.v_readers.specs.Reading.{by_class};
+ghost use Rattle.v_readers.specs.Separated.{separated};
+ghost use Rattle.v_readers.specs.declared.class.Class.TheVariants as classes;
 ghost use Rattle.v_parse.specs.Items as read;
 ghost use Rattle.v_parse.specs.Rows as rows;
 
 use std::alloc::Global;
 use v_expr::expression;
-use v_read::{Class, Lexeme, Stop, expect, is_next, name, next_class, step};
+use v_readers::{Class, Lexeme, Stop, expect, is_next, name, next_class, step};
 use v_tree::{Connection, Expr, Instance};
 use vf_base::{Place, Seq};
 
@@ -113,7 +113,7 @@ fn connection<'t>(
 }
 
 /// Connections by name, with a comma between them.
-#[tactic(auto, unfolding(v_read::specs::Separated::separated))]
+#[tactic(auto, unfolding(v_readers::specs::Separated::separated))]
 fn named_row<'t>(
     alloc: Global,
     tokens: &'t [Lexeme<'t>],
@@ -271,7 +271,7 @@ fn given_expression<'t>(
 }
 
 /// Values that parameters are given by position, with a comma between them.
-#[tactic(auto, unfolding(v_read::specs::Separated::separated))]
+#[tactic(auto, unfolding(v_readers::specs::Separated::separated))]
 fn given_row<'t>(
     alloc: Global,
     tokens: &'t [Lexeme<'t>],
@@ -371,7 +371,7 @@ fn instance<'t>(
 }
 
 /// Instances of one module, with a comma between them.
-#[tactic(auto, unfolding(v_read::specs::Separated::separated))]
+#[tactic(auto, unfolding(v_readers::specs::Separated::separated))]
 pub fn instances<'t>(
     alloc: Global,
     tokens: &'t [Lexeme<'t>],

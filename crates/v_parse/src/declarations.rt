@@ -3,15 +3,15 @@
 ghost use Rattle.std.specs.Prelude.{◌≡◌, ◌+◌, ◌^◌, ◌≤◌, ◌<◌, List, [], ◌∷◌, map, length, IfOk};
 ghost use Rattle.vf_base.specs.Base.{source_place};
 ghost use Rattle.v_tree.specs.Views.{expression_in, name_of, range_in, parameter_of, parameters_of, ports_of, wire_of, content_of, reg_of};
-ghost use Rattle.v_read.specs.Given.{Gives};
-ghost use Rattle.v_read.specs.Separated.{separated};
-ghost use Rattle.v_read.specs.declared.class.Class.TheVariants as classes;
+ghost use Rattle.v_readers.specs.Given.{Gives};
+ghost use Rattle.v_readers.specs.Separated.{separated};
+ghost use Rattle.v_readers.specs.declared.class.Class.TheVariants as classes;
 ghost use Rattle.v_parse.specs.Items as read;
 ghost use Rattle.v_parse.specs.Spelling.{parameter_word, direction_word};
 
 use std::alloc::Global;
 use v_expr::{expression, range};
-use v_read::{Class, Lexeme, Stop, expect, is_next, name, next_class, step};
+use v_readers::{Class, Lexeme, Stop, expect, is_next, name, next_class, step};
 use v_tree::{Content, Direction, Expr, Name, Param, Params, Ports, Range, Reg, Wire};
 use vf_base::Seq;
 
@@ -188,7 +188,7 @@ pub fn reg<'t>(
 }
 
 /// Names, with a comma between them.
-#[tactic(auto, unfolding(v_read::specs::Separated::separated))]
+#[tactic(auto, unfolding(v_readers::specs::Separated::separated))]
 pub fn names<'t>(
     alloc: Global,
     tokens: &'t [Lexeme<'t>],
@@ -209,7 +209,7 @@ pub fn names<'t>(
 }
 
 /// Parameters, with a comma between them.
-#[tactic(auto, unfolding(v_read::specs::Separated::separated))]
+#[tactic(auto, unfolding(v_readers::specs::Separated::separated))]
 pub fn params<'t>(
     alloc: Global,
     tokens: &'t [Lexeme<'t>],
@@ -232,7 +232,7 @@ pub fn params<'t>(
 }
 
 /// Nets, with a comma between them.
-#[tactic(auto, unfolding(v_read::specs::Separated::separated))]
+#[tactic(auto, unfolding(v_readers::specs::Separated::separated))]
 pub fn wires<'t>(
     alloc: Global,
     tokens: &'t [Lexeme<'t>],
@@ -255,7 +255,7 @@ pub fn wires<'t>(
 }
 
 /// Variables, with a comma between them.
-#[tactic(auto, unfolding(v_read::specs::Separated::separated))]
+#[tactic(auto, unfolding(v_readers::specs::Separated::separated))]
 pub fn regs<'t>(
     alloc: Global,
     tokens: &'t [Lexeme<'t>],

@@ -2,9 +2,9 @@
 
 ghost use Rattle.std.specs.Prelude.{◌≡◌, ◌+◌, ◌≤◌, ◌<◌, List, [], ◌∷◌, map, length, IfOk};
 ghost use Rattle.v_tree.specs.Views.{expression_of, name_in, assignment_of, gate_of};
-ghost use Rattle.v_read.specs.Given.{Gives};
-ghost use Rattle.v_read.specs.Separated.{separated};
-ghost use Rattle.v_read.specs.declared.class.Class.TheVariants as classes;
+ghost use Rattle.v_readers.specs.Given.{Gives};
+ghost use Rattle.v_readers.specs.Separated.{separated};
+ghost use Rattle.v_readers.specs.declared.class.Class.TheVariants as classes;
 ghost use Rattle.v_expr.specs.Expressions as expressions;
 ghost use Rattle.v_parse.specs.Items as read;
 ghost use Rattle.v_parse.specs.Spelling.{has_one_input};
@@ -14,7 +14,7 @@ use crate::headers::alone;
 use four_value::GateKind;
 use std::alloc::Global;
 use v_expr::{expression, target};
-use v_read::{Class, Lexeme, Stop, expect, is_next, next_class, step};
+use v_readers::{Class, Lexeme, Stop, expect, is_next, next_class, step};
 use v_tree::{Assignment, Expr, Gate, Name};
 use vf_base::Seq;
 
@@ -36,7 +36,7 @@ pub fn assignment<'t>(
 }
 
 /// Assignments, with a comma between them.
-#[tactic(auto, unfolding(v_read::specs::Separated::separated))]
+#[tactic(auto, unfolding(v_readers::specs::Separated::separated))]
 pub fn assignments<'t>(
     alloc: Global,
     tokens: &'t [Lexeme<'t>],
@@ -88,7 +88,7 @@ fn has_one_input(kind: GateKind) -> bool
 }
 
 /// Expressions, with a comma between them.
-#[tactic(auto, unfolding(v_read::specs::Separated::separated))]
+#[tactic(auto, unfolding(v_readers::specs::Separated::separated))]
 fn expressions<'t>(
     alloc: Global,
     tokens: &'t [Lexeme<'t>],
@@ -160,7 +160,7 @@ fn gate<'t>(
 }
 
 /// Gates of one kind, with a comma between them.
-#[tactic(auto, unfolding(v_read::specs::Separated::separated))]
+#[tactic(auto, unfolding(v_readers::specs::Separated::separated))]
 pub fn gates<'t>(
     alloc: Global,
     tokens: &'t [Lexeme<'t>],

@@ -2,14 +2,14 @@
 
 ghost use Rattle.std.specs.Prelude.{◌≡◌, ◌+◌, ◌≤◌, ◌<◌, Some, List, [], ◌∷◌, ◌++◌, map, length, IfOk};
 ghost use Rattle.v_tree.specs.Views.{name_of, parameter_of, parameters_of, ports_of, heads_of};
-ghost use Rattle.v_read.specs.Given.{Gives};
-ghost use Rattle.v_read.specs.Reading.{by_class};
+ghost use Rattle.v_readers.specs.Given.{Gives};
+ghost use Rattle.v_readers.specs.Reading.{by_class};
 ghost use Rattle.v_parse.specs.Items as read;
 ghost use Rattle.v_parse.specs.Rows as rows;
 
 use crate::declarations::{named, names, parameter, ports_head, signed, width, with_names};
 use std::alloc::Global;
-use v_read::{Class, Lexeme, Stop, expect, is_next, next_class, step};
+use v_readers::{Class, Lexeme, Stop, expect, is_next, next_class, step};
 use v_tree::{Direction, Heads, Name, Param, Params, Ports};
 use vf_base::{NoMemory, Seq};
 

@@ -2,7 +2,7 @@
 
 ghost use Rattle.std.specs.Prelude.{◌≡◌, ◌+◌, ◌≤◌, ◌<◌, map, length, IfOk};
 ghost use Rattle.v_tree.specs.Views.{item_of};
-ghost use Rattle.v_read.specs.Given.{Gives};
+ghost use Rattle.v_readers.specs.Given.{Gives};
 ghost use Rattle.v_parse.specs.Items as read;
 ghost use Rattle.v_parse.specs.Spelling.{gate_word};
 
@@ -11,7 +11,7 @@ use crate::declarations::{parameters, ports, regs, signed, width, wires};
 use crate::drivers::{assignments, gates};
 use four_value::GateKind;
 use std::alloc::Global;
-use v_read::{Class, Lexeme, Stop, expect, name, next_class};
+use v_readers::{Class, Lexeme, Stop, expect, name, next_class};
 use v_stmt::statement;
 use v_tree::{Direction, Item};
 

@@ -2,14 +2,14 @@
 
 ghost use Rattle.std.specs.Prelude.{◌≡◌, ◌+◌, ◌≤◌, ◌<◌, List, [], ◌∷◌, map, length, IfOk};
 ghost use Rattle.v_tree.specs.Views.{item_of, module_of, unit_of};
-ghost use Rattle.v_read.specs.Given.{Gives};
-ghost use Rattle.v_read.specs.Reading.{repeat};
+ghost use Rattle.v_readers.specs.Given.{Gives};
+ghost use Rattle.v_readers.specs.Reading.{repeat};
 ghost use Rattle.v_parse.specs.Items as read;
 
 use crate::headers::{heads, parameter_list};
 use crate::items::item;
 use std::alloc::Global;
-use v_read::{Class, Lexeme, Stop, expect, is_next, name};
+use v_readers::{Class, Lexeme, Stop, expect, is_next, name};
 use v_tree::{Item, Module, Unit};
 use vf_base::Seq;
 

@@ -13,7 +13,7 @@ ghost use Rattle.v_parse.specs.declared.fault.ParseFault.TheVariants as faults;
 use crate::fault::ParseFault;
 use crate::modules::unit;
 use std::alloc::Global;
-use v_read::{Class, Lexeme, Stop, lexemes};
+use v_readers::{Class, Lexeme, Stop, lexemes};
 use v_tree::{Mark, Token, TokenKind, Unit};
 use vf_base::{MAX_LEVELS_BELOW, NoMemory, Place, Text};
 

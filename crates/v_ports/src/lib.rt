@@ -9,6 +9,7 @@
 mod cut;
 mod fault;
 mod join;
+
 pub use cut::{Drive, Piece, pieces};
 pub use fault::PortFault;
 pub use join::{PortUse, join_ports};

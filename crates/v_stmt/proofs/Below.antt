@@ -3,13 +3,13 @@ use Rattle.std.proofs.Common.{◌≡◌, ℕ, zero, suc, ◌-◌, ◌<◌, true,
 use Rattle.std.specs.Prelude.{nat_lt, if◌then◌else◌}
 use Rattle.v_tree.specs.Tokens.{SourceToken}
 use Rattle.v_tree.specs.Trees.{SourceStatement}
-use Rattle.v_read.specs.declared.class.Class.{Class}
-use Rattle.v_read.specs.declared.class.Class.TheVariants as classes
-use Rattle.v_read.specs.declared.stop.Stop.{Stop}
-use Rattle.v_read.specs.Reading.{Reader, ◌>>=◌, followed, give, ready, next_class, by_class, is_class, repeat}
-use Rattle.v_read.specs.Given.{Fails}
-use Rattle.v_read.specs.SeparatedLaws.{is_class-true}
-use Rattle.v_read.specs.Reads.{turn-is, last-is, stop-is, Fails-through}
+use Rattle.v_readers.specs.declared.class.Class.{Class}
+use Rattle.v_readers.specs.declared.class.Class.TheVariants as classes
+use Rattle.v_readers.specs.declared.stop.Stop.{Stop}
+use Rattle.v_readers.specs.Reading.{Reader, ◌>>=◌, followed, give, ready, next_class, by_class, is_class, repeat}
+use Rattle.v_readers.specs.Given.{Fails}
+use Rattle.v_readers.specs.SeparatedLaws.{is_class-true}
+use Rattle.v_readers.specs.Reads.{turn-is, last-is, stop-is, Fails-through}
 use Rattle.v_stmt.specs.Statements.{another, begins, body_turn, statement_by, below_of, statement, CasePart, item, items_by, items_turn}
 
 pub below_of_is : (levels : ℕ) (tokens : List SourceToken) → 0 < levels → below_of levels tokens ≡ statement (levels - 1) tokens

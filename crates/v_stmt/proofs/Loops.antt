@@ -4,14 +4,14 @@ use Rattle.std.specs.Prelude.{nat_lt, if◌then◌else◌}
 use Rattle.vf_base.specs.Base.{SourcePlace}
 use Rattle.v_tree.specs.Tokens.{SourceToken}
 use Rattle.v_tree.specs.Trees.{SourceEntry}
-use Rattle.v_read.specs.declared.class.Class.{Class}
-use Rattle.v_read.specs.declared.class.Class.TheVariants as classes
-use Rattle.v_read.specs.declared.stop.Stop.{Stop}
-use Rattle.v_read.specs.declared.stop.Stop.TheVariants as stops
-use Rattle.v_read.specs.Classes.{class_of, same_class}
-use Rattle.v_read.specs.Reading.{Wrong, Deep, place_of, Reader, Reading, followed, give, wrong, next_class, step, repeat}
-use Rattle.v_read.specs.Given.{Fails}
-use Rattle.v_read.specs.Reads.{turn-is, last-is, stop-is, Fails-through}
+use Rattle.v_readers.specs.declared.class.Class.{Class}
+use Rattle.v_readers.specs.declared.class.Class.TheVariants as classes
+use Rattle.v_readers.specs.declared.stop.Stop.{Stop}
+use Rattle.v_readers.specs.declared.stop.Stop.TheVariants as stops
+use Rattle.v_readers.specs.Classes.{class_of, same_class}
+use Rattle.v_readers.specs.Reading.{Wrong, Deep, place_of, Reader, Reading, followed, give, wrong, next_class, step, repeat}
+use Rattle.v_readers.specs.Given.{Fails}
+use Rattle.v_readers.specs.Reads.{turn-is, last-is, stop-is, Fails-through}
 use Rattle.v_stmt.specs.Statements.{entry, separates, another_entry, entries_by, entries_turn, depth_behind, skipped}
 
 -- Entries

@@ -6,14 +6,14 @@ use Rattle.four_value.specs.declared.logic.Edge.{Edge}
 use Rattle.four_value.specs.declared.logic.Edge.TheVariants.{Any, Pos, Neg}
 use Rattle.v_tree.specs.Tokens.{SourceToken}
 use Rattle.v_tree.specs.Trees.{SourceExpression, NoIndex, SourceSelect, SourceTarget, SourceEntry, SourceWaits, OnAnyRead, OnEntries}
-use Rattle.v_read.specs.declared.class.Class.{Class}
-use Rattle.v_read.specs.declared.class.Class.TheVariants as classes
-use Rattle.v_read.specs.Classes.{class_of, is_fixed, same_class, token_of, name_token, IsName}
-use Rattle.v_read.specs.ClassLaws.{same_class-true, class_of-kind_of}
-use Rattle.v_read.specs.Reading.{Why, Wrong, Deep, Reading, give, wrong, place_of}
-use Rattle.v_read.specs.Exact.{Language, SameNext, Stops, Tells, Exact, behind, exact-bind, exact-under, exact-give, exact-weaken}
-use Rattle.v_read.specs.Branches.{nowhere, Some-of, Branch, branch, branch-wrong, branch-step, exact-by_class, exact-after, exact-name, is-fixed-token}
-use Rattle.v_read.specs.Repeat.{append-nil, Turn, TurnFits, exact-repeat}
+use Rattle.v_readers.specs.declared.class.Class.{Class}
+use Rattle.v_readers.specs.declared.class.Class.TheVariants as classes
+use Rattle.v_readers.specs.Classes.{class_of, is_fixed, same_class, token_of, name_token, IsName}
+use Rattle.v_readers.specs.ClassLaws.{same_class-true, class_of-kind_of}
+use Rattle.v_readers.specs.Reading.{Why, Wrong, Deep, Reading, give, wrong, place_of}
+use Rattle.v_readers.specs.Exact.{Language, SameNext, Stops, Tells, Exact, behind, exact-bind, exact-under, exact-give, exact-weaken}
+use Rattle.v_readers.specs.Branches.{nowhere, Some-of, Branch, branch, branch-wrong, branch-step, exact-by_class, exact-after, exact-name, is-fixed-token}
+use Rattle.v_readers.specs.Repeat.{append-nil, Turn, TurnFits, exact-repeat}
 use Rattle.v_expr.specs.Spelling.{SpellsExpression, SpellsSelect, SpellsTarget, SpellsDelay}
 use Rattle.v_expr.specs.Heights.{select_height, target_height}
 use Rattle.v_expr.specs.ExpressionExact.{Below}

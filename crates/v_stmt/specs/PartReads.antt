@@ -7,12 +7,12 @@ use Rattle.four_value.specs.declared.logic.Edge.TheVariants.{Any, Pos, Neg}
 use Rattle.four_value.specs.declared.operator.UnaryOperator.{UnaryOperator}
 use Rattle.v_tree.specs.Tokens.{SourceToken}
 use Rattle.v_tree.specs.Trees.{SourceExpression, Number, Selected, Parenthesised, Prefixed, Infixed, Chosen, Concatenated, Replicated, SourceSelect, SourceTarget, SourceEntry, SourceWaits, OnAnyRead, OnEntries}
-use Rattle.v_read.specs.declared.class.Class.{Class}
-use Rattle.v_read.specs.declared.class.Class.TheVariants as classes
-use Rattle.v_read.specs.Classes.{class_of, same_class, token_of, name_token}
-use Rattle.v_read.specs.ClassLaws.{class_of-kind_of}
-use Rattle.v_read.specs.Reading.{Reading, followed, give, next_class, by_class, repeat}
-use Rattle.v_read.specs.Reads.{next-class, name-reads, turn-is, last-is}
+use Rattle.v_readers.specs.declared.class.Class.{Class}
+use Rattle.v_readers.specs.declared.class.Class.TheVariants as classes
+use Rattle.v_readers.specs.Classes.{class_of, same_class, token_of, name_token}
+use Rattle.v_readers.specs.ClassLaws.{class_of-kind_of}
+use Rattle.v_readers.specs.Reading.{Reading, followed, give, next_class, by_class, repeat}
+use Rattle.v_readers.specs.Reads.{next-class, name-reads, turn-is, last-is}
 use Rattle.v_expr.specs.Operators.{unary_of}
 use Rattle.v_expr.specs.Spelling.{SpellsExpression, SpellsSelect}
 use Rattle.v_expr.specs.Heights.{height_of, select_height, target_height}

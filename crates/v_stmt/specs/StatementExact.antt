@@ -9,16 +9,16 @@ use Rattle.v_tree.specs.declared.token.TokenKind.{TokenKind}
 use Rattle.v_tree.specs.declared.token.TokenKind.TheVariants as kinds
 use Rattle.v_tree.specs.Tokens.{SourceToken}
 use Rattle.v_tree.specs.Trees.{SourceExpression, Number, NoIndex, SourceTarget, OneSelect, JoinedSelects, OnAnyRead, SourceStatement, NullStatement, BlockStatement, IfStatement, IfElseStatement, CaseStatement, ForStatement, WhileStatement, RepeatStatement, ForeverStatement, WaitStatement, EventStatement, DelayStatement, BlockingStatement, NonblockingStatement, IgnoredTask, FinishTask, no_source_statements, no_source_items, otherwise, place_of_target, parts_of}
-use Rattle.v_read.specs.declared.class.Class.{Class}
-use Rattle.v_read.specs.declared.class.Class.TheVariants as classes
-use Rattle.v_read.specs.Classes.{class_of, is_fixed, token_at, token_of, name_token, IsName}
-use Rattle.v_read.specs.ClassLaws.{name-kind}
-use Rattle.v_read.specs.Reading.{◌>>=◌, give, wrong, place_of, by_class, expect, step, name_in, repeat}
-use Rattle.v_read.specs.Separated.{SpellsBehind, SpellsList}
-use Rattle.v_read.specs.Exact.{Language, Exact, behind, exact-bind, exact-under, exact-give, exact-weaken, exact-shift}
-use Rattle.v_read.specs.Branches.{nowhere, Some-of, Branch, branch, branch-wrong, branch-step, branch-down, branch-ready, exact-by_class, exact-after, exact-pass, is-fixed-token}
-use Rattle.v_read.specs.Repeat.{append-nil, Turn, TurnFits, exact-repeat}
-use Rattle.v_read.specs.SeparatedLaws.{exact-separated}
+use Rattle.v_readers.specs.declared.class.Class.{Class}
+use Rattle.v_readers.specs.declared.class.Class.TheVariants as classes
+use Rattle.v_readers.specs.Classes.{class_of, is_fixed, token_at, token_of, name_token, IsName}
+use Rattle.v_readers.specs.ClassLaws.{name-kind}
+use Rattle.v_readers.specs.Reading.{◌>>=◌, give, wrong, place_of, by_class, expect, step, name_in, repeat}
+use Rattle.v_readers.specs.Separated.{SpellsBehind, SpellsList}
+use Rattle.v_readers.specs.Exact.{Language, Exact, behind, exact-bind, exact-under, exact-give, exact-weaken, exact-shift}
+use Rattle.v_readers.specs.Branches.{nowhere, Some-of, Branch, branch, branch-wrong, branch-step, branch-down, branch-ready, exact-by_class, exact-after, exact-pass, is-fixed-token}
+use Rattle.v_readers.specs.Repeat.{append-nil, Turn, TurnFits, exact-repeat}
+use Rattle.v_readers.specs.SeparatedLaws.{exact-separated}
 use Rattle.v_expr.specs.Spelling.{SpellsExpression, SpellsParts, SpellsMoreParts, SpellsTarget}
 use Rattle.v_expr.specs.Heights.{height_of, heights_of, target_height}
 use Rattle.v_expr.specs.ExpressionExact.{Below, parts-below}

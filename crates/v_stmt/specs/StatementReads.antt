@@ -7,13 +7,13 @@ use Rattle.four_value.specs.declared.operator.CaseKind.{CaseKind}
 use Rattle.four_value.specs.declared.operator.CaseKind.TheVariants as kinds_of_case
 use Rattle.v_tree.specs.Tokens.{SourceToken}
 use Rattle.v_tree.specs.Trees.{SourceExpression, SourceExpressions, no_parts, more_parts, SourceTarget, OneSelect, JoinedSelects, SourceStatement, NullStatement, BlockStatement, IfStatement, IfElseStatement, CaseStatement, ForStatement, WhileStatement, RepeatStatement, ForeverStatement, WaitStatement, EventStatement, DelayStatement, BlockingStatement, NonblockingStatement, IgnoredTask, FinishTask, SourceStatements, no_source_statements, more_source_statements, SourceCaseItems, no_source_items, labelled, otherwise, place_of_target, parts_of}
-use Rattle.v_read.specs.declared.class.Class.{Class}
-use Rattle.v_read.specs.declared.class.Class.TheVariants as classes
-use Rattle.v_read.specs.Classes.{class_of, token_of}
-use Rattle.v_read.specs.Reading.{Reader, followed, give, wrong, next_class, by_class, repeat}
-use Rattle.v_read.specs.Separated.{SpellsBehind, SpellsList}
-use Rattle.v_read.specs.SeparatedLaws.{EachFits}
-use Rattle.v_read.specs.Reads.{next-class, expect-reads, pass-reads, ready-reads, turn-is, last-is, separated-reads}
+use Rattle.v_readers.specs.declared.class.Class.{Class}
+use Rattle.v_readers.specs.declared.class.Class.TheVariants as classes
+use Rattle.v_readers.specs.Classes.{class_of, token_of}
+use Rattle.v_readers.specs.Reading.{Reader, followed, give, wrong, next_class, by_class, repeat}
+use Rattle.v_readers.specs.Separated.{SpellsBehind, SpellsList}
+use Rattle.v_readers.specs.SeparatedLaws.{EachFits}
+use Rattle.v_readers.specs.Reads.{next-class, expect-reads, pass-reads, ready-reads, turn-is, last-is, separated-reads}
 use Rattle.v_expr.specs.Spelling.{SpellsExpression, SpellsParts, SpellsMoreParts, SpellsTarget}
 use Rattle.v_expr.specs.Heights.{height_of, heights_of, target_height}
 use Rattle.v_expr.specs.Parts.{inner_expression}

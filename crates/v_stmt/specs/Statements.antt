@@ -6,11 +6,11 @@ use Rattle.four_value.specs.declared.logic.Edge.TheVariants.{Any, Pos, Neg}
 use Rattle.four_value.specs.declared.operator.CaseKind.{CaseKind}
 use Rattle.four_value.specs.declared.operator.CaseKind.TheVariants.{Exact, IgnoreZ, IgnoreXz}
 use Rattle.v_tree.specs.Trees.{SourceExpression, SourceTarget, SourceEntry, SourceWaits, OnAnyRead, OnEntries, SourceStatement, NullStatement, BlockStatement, IfStatement, IfElseStatement, CaseStatement, ForStatement, WhileStatement, RepeatStatement, ForeverStatement, WaitStatement, EventStatement, DelayStatement, BlockingStatement, NonblockingStatement, IgnoredTask, FinishTask, SourceStatements, no_source_statements, more_source_statements, SourceCaseItems, no_source_items, labelled, otherwise, place_of_target, parts_of}
-use Rattle.v_read.specs.declared.class.Class.{Class}
-use Rattle.v_read.specs.declared.class.Class.TheVariants as classes
-use Rattle.v_read.specs.Classes.{class_of, same_class}
-use Rattle.v_read.specs.Reading.{Reader, ◌>>=◌, give, wrong, by_class, expect, step, ready, down, name, repeat}
-use Rattle.v_read.specs.Separated.{separated}
+use Rattle.v_readers.specs.declared.class.Class.{Class}
+use Rattle.v_readers.specs.declared.class.Class.TheVariants as classes
+use Rattle.v_readers.specs.Classes.{class_of, same_class}
+use Rattle.v_readers.specs.Reading.{Reader, ◌>>=◌, give, wrong, by_class, expect, step, ready, down, name, repeat}
+use Rattle.v_readers.specs.Separated.{separated}
 use Rattle.v_expr.specs.Parts.{inner_expression, inner_select, inner_target, inner_delay}
 use Rattle.v_stmt.specs.Spelling.{is_entry_separator, name_entry, defaults_in, is_unfinished}
 

@@ -4,15 +4,15 @@ ghost use Rattle.std.specs.Prelude.{◌≡◌, ◌+◌, ◌^◌, ◌≤◌, ◌<
 ghost use Rattle.vf_base.specs.Base.{source_place};
 ghost use Rattle.v_tree.specs.Trees.{place_of_target};
 ghost use Rattle.v_tree.specs.Views.{expression_of, expression_in, target_of, entry_of, waits_of, statement_of};
-ghost use Rattle.v_read.specs.Given.{Gives};
-ghost use Rattle.v_read.specs.Reading.{by_class, next_class};
+ghost use Rattle.v_readers.specs.Given.{Gives};
+ghost use Rattle.v_readers.specs.Reading.{by_class, next_class};
 ghost use Rattle.v_stmt.specs.Statements as read;
 ghost use Rattle.v_stmt.specs.Spelling.{name_entry, is_unfinished};
 
 use four_value::Edge;
 use std::alloc::Global;
 use v_expr::{inner_delay, inner_expression, inner_select, inner_target};
-use v_read::{Class, Lexeme, Stop, expect, name, next_class, ready, step};
+use v_readers::{Class, Lexeme, Stop, expect, name, next_class, ready, step};
 use v_tree::{Entry, Expr, Index, Select, Stmt, Target, Waits};
 use vf_base::{NoMemory, Place, Seq, Text};
 

@@ -4,10 +4,10 @@ ghost use Rattle.std.specs.Prelude.{◌≡◌, ◌+◌, ◌≤◌, ◌<◌, List
 ghost use Rattle.vf_base.specs.Base.{source_place};
 ghost use Rattle.v_tree.specs.Views.{expression_of, statement_of};
 ghost use Rattle.v_tree.specs.CaseParts.{case_part_of};
-ghost use Rattle.v_read.specs.Given.{Gives};
-ghost use Rattle.v_read.specs.Reading.{by_class, next_class};
-ghost use Rattle.v_read.specs.Separated.{separated};
-ghost use Rattle.v_read.specs.declared.class.Class.TheVariants as classes;
+ghost use Rattle.v_readers.specs.Given.{Gives};
+ghost use Rattle.v_readers.specs.Reading.{by_class, next_class};
+ghost use Rattle.v_readers.specs.Separated.{separated};
+ghost use Rattle.v_readers.specs.declared.class.Class.TheVariants as classes;
 ghost use Rattle.v_expr.specs.Parts.{inner_expression};
 ghost use Rattle.v_stmt.specs.Spelling.{defaults_in, is_unfinished};
 ghost use Rattle.v_stmt.specs.Statements as read;
@@ -16,7 +16,7 @@ ghost use Rattle.v_stmt.specs.Statements.{items_list};
 use crate::parts::{assignment, task};
 use std::alloc::Global;
 use v_expr::inner_expression;
-use v_read::{Class, Lexeme, Stop, is_next, next_class, step};
+use v_readers::{Class, Lexeme, Stop, is_next, next_class, step};
 use v_tree::{CaseItem, Expr, Stmt};
 use vf_base::Seq;
 
@@ -62,7 +62,7 @@ pub fn begins(tokens: &[Lexeme]) -> bool
 }
 
 /// The labels of an item of a case.
-#[tactic(auto, unfolding(v_read::specs::Separated::separated))]
+#[tactic(auto, unfolding(v_readers::specs::Separated::separated))]
 pub fn labels<'t>(
     alloc: Global,
     tokens: &'t [Lexeme<'t>],

@@ -4,8 +4,8 @@ ghost use Rattle.std.specs.Prelude.{◌≡◌, ◌+◌, ◌≤◌, ◌<◌, List
 ghost use Rattle.vf_base.specs.Base.{source_place};
 ghost use Rattle.v_tree.specs.Views.{expression_of, statement_of};
 ghost use Rattle.v_tree.specs.CaseParts.{case_part_of};
-ghost use Rattle.v_read.specs.Given.{Gives};
-ghost use Rattle.v_read.specs.Reading.{by_class};
+ghost use Rattle.v_readers.specs.Given.{Gives};
+ghost use Rattle.v_readers.specs.Reading.{by_class};
 ghost use Rattle.v_stmt.specs.Spelling.{is_unfinished};
 ghost use Rattle.v_stmt.specs.LoopKinds.{looping_of};
 ghost use Rattle.v_stmt.specs.Statements as read;
@@ -17,7 +17,7 @@ use crate::pieces::{LoopKind, Piece, begins, has_default, labels, simple};
 use four_value::CaseKind;
 use std::alloc::Global;
 use v_expr::{inner_delay, inner_expression};
-use v_read::{Class, Lexeme, Stop, down, expect, is_next, next_class, ready, step};
+use v_readers::{Class, Lexeme, Stop, down, expect, is_next, next_class, ready, step};
 use v_tree::{CaseItem, Expr, Stmt};
 use vf_base::Place;
 

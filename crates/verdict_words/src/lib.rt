@@ -15,7 +15,8 @@
 mod board;
 mod code;
 mod jobs;
-mod rule;mod view;
+mod rule;
+mod view;
 
 pub use board::{Board, Closed, Seat, Settled};
 pub use code::verdict_code;

@@ -6,7 +6,8 @@
 #![tactic(auto)]
 
 mod index;
-mod law;mod waited;
+mod law;
+mod waited;
 
 pub use index::WaitIndex;
 pub use law::waits_stay;

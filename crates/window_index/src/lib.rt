@@ -9,5 +9,6 @@ mod index;
 mod occurrence;
 mod search;
 mod sort;
+
 pub use index::WindowIndex;
 pub use occurrence::Occurrence;

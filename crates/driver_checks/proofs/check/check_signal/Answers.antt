@@ -3,7 +3,7 @@ use Rattle.std.proofs.lemmas.Result.{err_from_is_err_and}
 use Rattle.v_elab.specs.Drivers.{refusal_of}
 use Rattle.elab_parts.specs.PartViews.{signal_of}
 use Rattle.elab_wires.specs.SignalTables.{signal_borrowed}
-use Rattle.elab_drivers.specs.DriveViews.{drive_keyed, object_drive_of}
+use Rattle.elab_wires.specs.DriveViews.{drive_keyed, object_drive_of}
 use Rattle.elab_objects.specs.Driven.{driving_keyed}
 use Rattle.elab_objects.specs.Found.{variables-found, drives-found}
 use Rattle.driver_checks.specs.Seconds.{second_by_depth}

@@ -1,6 +1,6 @@
 use Rattle.std.proofs.Common.{map}
 use Rattle.std.proofs.lemmas.Result.{err_from_is_err_and}
-use Rattle.elab_drivers.specs.DriveViews.{drive_keyed}
+use Rattle.elab_wires.specs.DriveViews.{drive_keyed}
 use Rattle.elab_objects.specs.Driven.{driving_keyed}
 use Rattle.driver_checks.proofs.CheckTurns.{part-turn, fault-from}
 use Rattle.driver_checks.proofs.check.one_driver.Goals as goal

@@ -1,7 +1,7 @@
 use Rattle.std.proofs.Common.{◌≡◌, map, take}
 use Rattle.std.specs.Prelude.{option_map}
 use Rattle.v_elab.specs.Drivers.{by_depth}
-use Rattle.wire_laws.specs.Depths.{first_two}
+use Rattle.elab_wires.specs.Depths.{first_two}
 use Rattle.elab_wires.specs.SignalTables.{signal_borrowed}
 use Rattle.driver_checks.specs.Seconds.{second_in, two_of}
 use Rattle.driver_checks.proofs.second.second_by_depth.Given as goal

@@ -4,7 +4,7 @@ use Rattle.v_tree.specs.Views.{connection_of, expression_in}
 use Rattle.v_tree.specs.declared.item.Connection.{Connection}
 use Rattle.v_elab.specs.Connections.{head_names, connected_name, connection_parts, connections_parts}
 use Rattle.elab_parts.specs.PartViews.{parts_of}
-use Rattle.instance_faults.specs.Offered.{AreNames, name_seen}
+use Rattle.instance_checks.specs.Offered.{AreNames, name_seen}
 use Rattle.elab_connections.proofs.ConnectionTurns.{turn-more, turn-end}
 use Rattle.elab_connections.proofs.assigned.push_connection_parts.Goals as goal
 

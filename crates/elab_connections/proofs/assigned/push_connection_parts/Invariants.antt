@@ -3,7 +3,7 @@ use Rattle.v_tree.specs.Views.{connection_of}
 use Rattle.v_elab.specs.Connections as plain
 use Rattle.v_elab.specs.Connections.{connections_parts}
 use Rattle.elab_parts.specs.PartViews.{parts_of}
-use Rattle.instance_faults.specs.Children.{IsChild}
+use Rattle.instance_checks.specs.Children.{IsChild}
 use Rattle.elab_connections.specs.PathViews.{ArePaths}
 use Rattle.elab_connections.proofs.assigned.push_connection_parts.Given as goal
 

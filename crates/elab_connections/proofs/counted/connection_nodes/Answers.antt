@@ -3,7 +3,7 @@ use Rattle.v_tree.specs.Trees.{Identifier}
 use Rattle.v_tree.specs.Views.{connection_of, expression_in}
 use Rattle.v_tree.specs.declared.item.Connection.{Connection}
 use Rattle.v_elab.specs.Connections.{head_names, connected_name, connection_parts, connections_parts}
-use Rattle.instance_faults.specs.Offered.{AreNames, name_seen}
+use Rattle.instance_checks.specs.Offered.{AreNames, name_seen}
 use Rattle.elab_connections.specs.NodeCounts.{CountsNodes}
 use Rattle.elab_connections.proofs.CountLaws.{counts-turn, counts-end}
 use Rattle.elab_connections.proofs.counted.connection_nodes.Goals as goal

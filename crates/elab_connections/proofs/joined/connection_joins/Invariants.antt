@@ -2,7 +2,7 @@ use Rattle.std.proofs.Common.{◌≡◌, ◌++◌, map, drop}
 use Rattle.v_tree.specs.Views.{connection_of}
 use Rattle.v_elab.specs.Connections as plain
 use Rattle.v_elab.specs.Connections.{connections_joins}
-use Rattle.instance_faults.specs.Children.{IsChild}
+use Rattle.instance_checks.specs.Children.{IsChild}
 use Rattle.elab_items.specs.Joins.{port_joined_of}
 use Rattle.elab_connections.specs.PathViews.{ArePaths}
 use Rattle.elab_connections.proofs.joined.connection_joins.Given as goal

@@ -1,7 +1,7 @@
 use Rattle.std.proofs.Common.{◌≡◌, map, drop}
 use Rattle.v_tree.specs.Views.{connection_of}
 use Rattle.v_elab.specs.Connections as plain
-use Rattle.instance_faults.specs.Children.{IsChild}
+use Rattle.instance_checks.specs.Children.{IsChild}
 use Rattle.elab_connections.specs.WidePorts.{connects_wide_port}
 use Rattle.elab_connections.proofs.wide.connects_wide_port.Given as goal
 

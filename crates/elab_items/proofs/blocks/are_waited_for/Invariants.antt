@@ -2,7 +2,7 @@ use Rattle.std.proofs.Common.{◌≡◌, ℕ, ◌++◌, List, is_some, drop}
 use Rattle.std.specs.List.{list_all}
 use Rattle.v_tree.specs.Trees.{has_name}
 use Rattle.v_elab.specs.Blocks.{parameter_names}
-use Rattle.module_names.specs.Kept.{kept}
+use Rattle.module_scope.specs.Kept.{kept}
 use Rattle.elab_items.specs.Heres.{FindsParameters}
 use Rattle.elab_items.proofs.blocks.are_waited_for.Given as goal
 

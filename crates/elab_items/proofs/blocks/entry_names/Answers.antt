@@ -3,8 +3,8 @@ use Rattle.v_tree.specs.Trees.{same_name, has_name}
 use Rattle.v_tree.specs.Views.{entry_of}
 use Rattle.v_tree.specs.declared.statement.Entry.{Entry}
 use Rattle.vf_base.specs.declared.ids.Place.{Place}
-use Rattle.module_names.specs.Kept.{kept}
-use Rattle.name_faults.specs.Rows.{drop-step, drop-past}
+use Rattle.module_scope.specs.Kept.{kept}
+use Rattle.name_checks.specs.Rows.{drop-step, drop-past}
 use Rattle.elab_items.specs.Forms.{entry_names}
 use Rattle.elab_items.proofs.Names.{kept-turn, or-false}
 use Rattle.elab_items.proofs.blocks.entry_names.Goals as goal

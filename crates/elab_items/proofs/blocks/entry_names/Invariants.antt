@@ -1,7 +1,7 @@
 use Rattle.std.proofs.Common.{◌≡◌, ℕ, ◌||◌, List, map, is_some, drop}
 use Rattle.v_tree.specs.Trees.{has_name}
 use Rattle.v_tree.specs.Views.{entry_of}
-use Rattle.module_names.specs.Kept.{kept}
+use Rattle.module_scope.specs.Kept.{kept}
 use Rattle.elab_items.specs.Forms.{entry_names}
 use Rattle.elab_items.proofs.blocks.entry_names.Given as goal
 

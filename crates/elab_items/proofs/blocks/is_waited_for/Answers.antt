@@ -1,7 +1,7 @@
 use Rattle.std.proofs.Common.{◌≡◌, ℕ, true, false, ◌||◌, List, is_some, ap, sym, ◌∙◌}
 use Rattle.v_tree.specs.Trees.{has_name}
 use Rattle.v_elab.specs.Blocks.{parameter_names}
-use Rattle.module_names.specs.Kept.{kept}
+use Rattle.module_scope.specs.Kept.{kept}
 use Rattle.elab_items.proofs.Names.{has-append}
 use Rattle.elab_items.proofs.blocks.is_waited_for.Goals as goal
 

@@ -4,7 +4,7 @@ use Rattle.v_tree.specs.Trees.{has_name}
 use Rattle.v_tree.specs.Views.{entry_of, statement_of}
 use Rattle.v_tree.specs.declared.statement.Entry.{Entry}
 use Rattle.v_elab.specs.Blocks.{is_plain_entry, parameter_names, net_targets}
-use Rattle.module_names.specs.Kept.{kept}
+use Rattle.module_scope.specs.Kept.{kept}
 use Rattle.elab_items.specs.Forms.{entry_names, waiting_form}
 use Rattle.elab_items.proofs.Forms.{form-waiting}
 use Rattle.elab_items.proofs.blocks.waiting_targets.Goals as goal

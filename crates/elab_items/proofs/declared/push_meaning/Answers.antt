@@ -5,7 +5,7 @@ use Rattle.v_names.specs.declared.entry.Entry.{Entry}
 use Rattle.v_elab.specs.Parts.{Part}
 use Rattle.v_elab.specs.Walk.{signal_part, part_by_entry}
 use Rattle.elab_parts.specs.PartViews.{parts_of}
-use Rattle.module_names.specs.Declarations.{declaration_seen}
+use Rattle.module_scope.specs.Declarations.{declaration_seen}
 use Rattle.elab_items.specs.Wholes.{memory_part}
 use Rattle.elab_items.proofs.declared.push_meaning.Goals as goal
 

@@ -3,9 +3,9 @@ use Rattle.v_tree.specs.Views.{name_of}
 use Rattle.v_tree.specs.declared.item.Name.{Name}
 use Rattle.v_names.specs.Names.{names_declared}
 use Rattle.v_elab.specs.Walk.{parts_of_own}
-use Rattle.name_faults.specs.Rows.{list-more}
+use Rattle.name_checks.specs.Rows.{list-more}
 use Rattle.elab_parts.specs.PartViews.{parts_of}
-use Rattle.module_names.specs.Declarations.{name_declared}
+use Rattle.module_scope.specs.Declarations.{name_declared}
 use Rattle.elab_items.proofs.Rows.{list-done}
 use Rattle.elab_items.proofs.declared.push_names.Goals as goal
 

@@ -4,9 +4,9 @@ use Rattle.v_tree.specs.Views.{wire_of}
 use Rattle.v_tree.specs.declared.item.Wire.{Wire}
 use Rattle.v_names.specs.Names.{Declaration, DeclaredNet, names_declared}
 use Rattle.v_elab.specs.Walk.{parts_of_own}
-use Rattle.name_faults.specs.Rows.{list-more}
+use Rattle.name_checks.specs.Rows.{list-more}
 use Rattle.elab_parts.specs.PartViews.{parts_of}
-use Rattle.module_names.specs.Declarations.{wire_declarations}
+use Rattle.module_scope.specs.Declarations.{wire_declarations}
 use Rattle.elab_items.proofs.Rows.{list-done}
 use Rattle.elab_items.proofs.declared.push_nets.Goals as goal
 

@@ -4,7 +4,7 @@ use Rattle.v_names.specs.Names.{Bounds, names_declared}
 use Rattle.v_elab.specs.Walk as plain
 use Rattle.v_elab.specs.Walk.{parts_of_own}
 use Rattle.elab_parts.specs.PartViews.{parts_of}
-use Rattle.module_names.specs.Declarations.{wire_declarations}
+use Rattle.module_scope.specs.Declarations.{wire_declarations}
 use Rattle.elab_items.specs.Heres.{IsHere}
 use Rattle.elab_items.proofs.declared.push_nets.Given as goal
 

@@ -6,9 +6,9 @@ use Rattle.v_names.specs.Names.{Declaration, names_declared, of_name}
 use Rattle.v_elab.specs.Parts.{Part}
 use Rattle.v_elab.specs.Walk.{part_by_entry}
 use Rattle.elab_parts.specs.PartViews.{parts_of}
-use Rattle.module_names.specs.declared.declaration.Declaration as code
-use Rattle.module_names.specs.Kept.{kept}
-use Rattle.module_names.specs.Declarations.{declaration_seen, listed}
+use Rattle.module_scope.specs.declared.declaration.Declaration as code
+use Rattle.module_scope.specs.Kept.{kept}
+use Rattle.module_scope.specs.Declarations.{declaration_seen, listed}
 use Rattle.elab_items.proofs.OwnParts.{parts_at, own-here}
 use Rattle.elab_items.proofs.declared.push_own.Goals as goal
 

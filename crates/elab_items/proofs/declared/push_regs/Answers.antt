@@ -4,7 +4,7 @@ use Rattle.v_tree.specs.Views.{content_of, reg_of}
 use Rattle.v_tree.specs.declared.item.Reg.{Reg}
 use Rattle.v_names.specs.Names.{Declaration, names_declared, reg_declared, reg_declarations}
 use Rattle.v_elab.specs.Walk.{parts_of_own}
-use Rattle.name_faults.specs.Rows.{list-more}
+use Rattle.name_checks.specs.Rows.{list-more}
 use Rattle.elab_parts.specs.PartViews.{parts_of}
 use Rattle.elab_items.proofs.Rows.{list-done}
 use Rattle.elab_items.proofs.declared.push_regs.Goals as goal

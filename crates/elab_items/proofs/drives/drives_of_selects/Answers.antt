@@ -3,7 +3,7 @@ use Rattle.std.proofs.lemmas.List.{map_push}
 use Rattle.v_tree.specs.Views.{select_of}
 use Rattle.v_tree.specs.declared.expression.Select.{Select}
 use Rattle.v_elab.specs.Parts.{Drive}
-use Rattle.name_faults.specs.Rows.{list-more}
+use Rattle.name_checks.specs.Rows.{list-more}
 use Rattle.elab_parts.specs.PartViews as views
 use Rattle.elab_items.specs.Drives.{drive_of_select, drives_of_selects}
 use Rattle.elab_items.proofs.drives.drives_of_selects.Goals as goal

@@ -5,7 +5,7 @@ use Rattle.v_tree.specs.Views.{gate_of}
 use Rattle.v_tree.specs.declared.item.Gate.{Gate}
 use Rattle.v_elab.specs.Parts.{Part}
 use Rattle.v_elab.specs.Walk.{Here, gate_parts}
-use Rattle.name_faults.specs.Rows.{drop-step}
+use Rattle.name_checks.specs.Rows.{drop-step}
 use Rattle.elab_parts.specs.PartViews.{parts_of}
 use Rattle.elab_items.specs.Gates.{gate_part}
 use Rattle.elab_items.proofs.Rows.{list-done}

@@ -6,9 +6,9 @@ use Rattle.v_names.specs.Scopes.{Scope}
 use Rattle.v_names.specs.SizedTrees.{SizedExpression, more_sized}
 use Rattle.v_names.specs.Readings.{tree_in, reading_of}
 use Rattle.v_elab.specs.Walk.{terminals_of}
-use Rattle.sized_tree.specs.SizedViews.{sized_of, all_sized_of}
-use Rattle.sized_tree.specs.declared.expression.SizedExpr.{SizedExpr}
-use Rattle.name_faults.specs.Rows.{list-more}
+use Rattle.v_width.specs.SizedViews.{sized_of, all_sized_of}
+use Rattle.v_width.specs.declared.expression.SizedExpr.{SizedExpr}
+use Rattle.name_checks.specs.Rows.{list-more}
 use Rattle.elab_items.specs.Gates.{listed_sized}
 use Rattle.elab_items.proofs.Rows.{list-done}
 use Rattle.elab_items.proofs.gates.terminals_of.Goals as goal

@@ -2,7 +2,7 @@ use Rattle.std.proofs.Common.{◌≡◌, ◌++◌, map, drop}
 use Rattle.v_tree.specs.Views.{expression_of}
 use Rattle.v_tree.specs.declared.expression.Expr.{Expr}
 use Rattle.v_names.specs.Readings.{tree_in, reading_of}
-use Rattle.sized_tree.specs.SizedViews.{sized_of}
+use Rattle.v_width.specs.SizedViews.{sized_of}
 use Rattle.elab_items.proofs.gates.terminals_of.Given as goal
 
 abbrev pub invariant-inputs : goal.invariant-inputs

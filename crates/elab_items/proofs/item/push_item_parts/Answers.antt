@@ -9,7 +9,7 @@ use Rattle.v_names.specs.Names.{Bounds, IntegerBounds, names_declared, bounds_of
 use Rattle.v_elab.specs.Parts.{Part}
 use Rattle.v_elab.specs.Walk.{parts_of_own, assign_part, wire_parts, item_parts}
 use Rattle.elab_parts.specs.PartViews.{parts_of}
-use Rattle.module_names.specs.Declarations.{wire_declarations}
+use Rattle.module_scope.specs.Declarations.{wire_declarations}
 use Rattle.elab_items.proofs.item.push_item_parts.Goals as goal
 
 pub returns-in_ok-push_port_parts-in-Ports : goal.returns-in_ok-push_port_parts-in-Ports

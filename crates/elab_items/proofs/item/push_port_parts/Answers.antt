@@ -4,7 +4,7 @@ use Rattle.v_tree.specs.declared.item.Name.{Name}
 use Rattle.v_names.specs.Names.{Declared, DeclaredPort, names_declared, bounds_of}
 use Rattle.v_elab.specs.Walk.{parts_of_own}
 use Rattle.elab_parts.specs.PartViews.{parts_of}
-use Rattle.module_names.specs.Declarations.{name_declared}
+use Rattle.module_scope.specs.Declarations.{name_declared}
 use Rattle.elab_items.proofs.item.push_port_parts.Goals as goal
 
 pub returns : goal.returns

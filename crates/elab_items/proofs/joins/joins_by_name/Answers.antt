@@ -2,8 +2,8 @@ use Rattle.std.proofs.Common.{ℕ, ◌+◌, List, Option, map, option_map, drop,
 use Rattle.std.specs.Option.{option_or}
 use Rattle.v_elab.specs.Parts.{Joining}
 use Rattle.v_elab.specs.Walk.{joining_of}
-use Rattle.module_names.specs.Kept.{kept}
-use Rattle.name_faults.specs.Rows.{drop-step, drop-past}
+use Rattle.module_scope.specs.Kept.{kept}
+use Rattle.name_checks.specs.Rows.{drop-step, drop-past}
 use Rattle.elab_items.specs.declared.joins.PortJoined.{PortJoined}
 use Rattle.elab_items.specs.Joins.{port_joined_of, joining_seen}
 use Rattle.elab_items.proofs.Names.{or-none, joined-turn}

@@ -1,6 +1,6 @@
 use Rattle.std.proofs.Common.{ℕ, List, Some, cond, option_map, ap, sym, ◌∙◌}
 use Rattle.v_tree.specs.Trees.{same_name}
-use Rattle.module_names.specs.Kept.{kept}
+use Rattle.module_scope.specs.Kept.{kept}
 use Rattle.elab_parts.specs.PartViews.{joining_of}
 use Rattle.elab_items.specs.Joins.{port_joined_of, joining_seen}
 use Rattle.elab_items.proofs.Names.{joined-there, joined-new, seen-cond}

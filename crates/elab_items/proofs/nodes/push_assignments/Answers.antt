@@ -4,7 +4,7 @@ use Rattle.v_tree.specs.Views.{expression_of, target_of, assignment_of}
 use Rattle.v_tree.specs.declared.item.Assignment.{Assignment}
 use Rattle.v_elab.specs.Parts.{Part}
 use Rattle.v_elab.specs.Walk.{assign_part}
-use Rattle.name_faults.specs.Rows.{list-more}
+use Rattle.name_checks.specs.Rows.{list-more}
 use Rattle.elab_parts.specs.PartViews.{parts_of}
 use Rattle.elab_items.proofs.Rows.{list-done}
 use Rattle.elab_items.proofs.nodes.push_assignments.Goals as goal

@@ -2,7 +2,7 @@ use Rattle.std.proofs.Common.{List, map, flat_map, refl}
 use Rattle.v_tree.specs.Views.{wire_of}
 use Rattle.v_tree.specs.declared.item.Wire.{Wire}
 use Rattle.v_elab.specs.Walk.{wire_parts}
-use Rattle.name_faults.specs.Rows.{list-more}
+use Rattle.name_checks.specs.Rows.{list-more}
 use Rattle.elab_parts.specs.PartViews.{parts_of}
 use Rattle.elab_items.proofs.Rows.{list-done}
 use Rattle.elab_items.proofs.nodes.push_wire_values.Goals as goal

@@ -1,5 +1,5 @@
 use Rattle.std.proofs.Common.{map}
-use Rattle.elab_drivers.specs.DriveViews.{drive_keyed}
+use Rattle.elab_wires.specs.DriveViews.{drive_keyed}
 use Rattle.elab_objects.specs.Driven.{driving_keyed, PartHasOneDriver}
 use Rattle.elab_objects.proofs.Owners.{part-holds}
 use Rattle.elab_objects.proofs.parts.objects_of_parts.Goals as goal

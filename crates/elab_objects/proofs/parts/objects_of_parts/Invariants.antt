@@ -1,7 +1,7 @@
 use Rattle.std.proofs.Common.{◌≡◌, take, map}
 use Rattle.std.specs.Prelude.{flat_map}
 use Rattle.elab_parts.specs.PartViews.{part_of}
-use Rattle.elab_drivers.specs.DriveViews.{drive_keyed}
+use Rattle.elab_wires.specs.DriveViews.{drive_keyed}
 use Rattle.elab_objects.specs.ObjectViews.{held_objects}
 use Rattle.elab_objects.specs.Driven.{driving_keyed, part_objects_by}
 use Rattle.elab_objects.proofs.parts.objects_of_parts.Given as goal

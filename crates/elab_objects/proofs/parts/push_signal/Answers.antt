@@ -7,7 +7,7 @@ use Rattle.v_elab.specs.Objects as plain
 use Rattle.key_index.specs.Groups.{items_under}
 use Rattle.elab_parts.specs.PartViews.{signal_of}
 use Rattle.elab_wires.specs.SignalTables.{signal_borrowed}
-use Rattle.elab_drivers.specs.DriveViews.{drive_keyed}
+use Rattle.elab_wires.specs.DriveViews.{drive_keyed}
 use Rattle.elab_objects.specs.ObjectViews.{held_of, held_objects}
 use Rattle.elab_objects.specs.Driven.{driving_keyed, variable-is, net-is}
 use Rattle.elab_objects.specs.Found.{drives-found}

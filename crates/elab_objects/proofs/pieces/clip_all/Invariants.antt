@@ -1,7 +1,7 @@
 use Rattle.std.proofs.Common.{◌≡◌, ◌+◌, ◌≤◌, take, map}
 use Rattle.std.specs.Prelude.{All}
 use Rattle.v_ports.specs.Cuts.{drive_of}
-use Rattle.wire_laws.specs.Clipped.{clipped}
+use Rattle.elab_wires.specs.Clipped.{clipped}
 use Rattle.elab_objects.specs.ObjectViews.{run_drive}
 use Rattle.elab_objects.proofs.pieces.clip_all.Given as goal
 

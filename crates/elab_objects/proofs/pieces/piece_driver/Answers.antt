@@ -1,7 +1,7 @@
 use Rattle.std.proofs.Common.{◌≡◌, ℕ, Option, Some, None, map, refl, sym, ap, ◌∙◌, arith}
 use Rattle.std.specs.Prelude.{option_and_then}
 use Rattle.v_elab.specs.Objects as plain
-use Rattle.elab_drivers.specs.DriveViews.{object_drive_of}
+use Rattle.elab_wires.specs.DriveViews.{object_drive_of}
 use Rattle.elab_objects.specs.PieceLaws.{drive-at, drive-past}
 use Rattle.elab_objects.proofs.Places.{driver-none, driver-of}
 use Rattle.elab_objects.proofs.pieces.piece_driver.Goals as goal

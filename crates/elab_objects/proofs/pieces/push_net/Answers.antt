@@ -5,7 +5,7 @@ use Rattle.elab_parts.specs.PartViews.{signal_of}
 use Rattle.elab_objects.specs.ObjectViews.{held_of, held_objects}
 use Rattle.v_ports.specs.Cuts.{piece_of}
 use Rattle.v_elab.specs.Drivers.{run_of}
-use Rattle.elab_drivers.specs.DriveViews.{object_drive_of}
+use Rattle.elab_wires.specs.DriveViews.{object_drive_of}
 use Rattle.elab_objects.proofs.Places.{piece-ends, pieces-turn}
 use Rattle.elab_objects.proofs.pieces.push_net.Goals as goal
 

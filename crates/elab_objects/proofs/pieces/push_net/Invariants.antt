@@ -2,7 +2,7 @@ use Rattle.std.proofs.Common.{◌≡◌, ◌++◌, take, map}
 use Rattle.v_ports.specs.Cuts.{piece_of}
 use Rattle.v_elab.specs.Objects as plain
 use Rattle.elab_parts.specs.PartViews.{signal_of}
-use Rattle.elab_drivers.specs.DriveViews.{object_drive_of}
+use Rattle.elab_wires.specs.DriveViews.{object_drive_of}
 use Rattle.elab_objects.specs.ObjectViews.{held_objects}
 use Rattle.elab_objects.proofs.pieces.push_net.Given as goal
 

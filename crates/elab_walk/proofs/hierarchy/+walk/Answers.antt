@@ -16,9 +16,9 @@ use Rattle.v_elab.specs.Connections as plain
 use Rattle.v_elab.specs.ReadCounts.{some_reads_over, connections_reads}
 use Rattle.v_elab.specs.Connections.{open_parameters, given_faults, given_parameters, instance_faults, connections_parts}
 use Rattle.v_elab.specs.Walk.{Here, Walker, walked, walked_module, walked_items, walked_instance, walked_instances, walked_instance_item, not_port_faults, head_items, module_named, child_of, paths_of, entered, added}
-use Rattle.module_names.specs.Givens.{given_parameter}
-use Rattle.module_names.specs.declared.given.Given.{Given}
-use Rattle.instance_faults.specs.Offered.{AreFormals}
+use Rattle.module_scope.specs.Givens.{given_parameter}
+use Rattle.module_scope.specs.declared.given.Given.{Given}
+use Rattle.instance_checks.specs.Offered.{AreFormals}
 use Rattle.elab_parts.specs.PartViews.{part_of}
 use Rattle.elab_items.specs.Heres.{IsHere}
 use Rattle.elab_connections.specs.PathViews.{ArePaths}

@@ -1,7 +1,7 @@
 use Rattle.std.proofs.Common.{◌≡◌, ◌<◌, List, length, get_or, is_some, subst, sym, ap, ◌∙◌}
 use Rattle.v_tree.specs.Trees.{Identifier}
 use Rattle.v_tree.specs.declared.item.Module.{Module}
-use Rattle.module_names.specs.Kept.{kept}
+use Rattle.module_scope.specs.Kept.{kept}
 use Rattle.elab_walk.proofs.Named.{earlier-twice}
 use Rattle.elab_walk.proofs.modules.second_module.Goals as goal
 

@@ -1,7 +1,7 @@
 use Rattle.std.proofs.Common.{map, sym, ap, subst, ◌∙◌}
 use Rattle.elab_parts.specs.PartViews.{parts_of}
 use Rattle.elab_parts.specs.BehaviourViews.{node_of}
-use Rattle.elab_drivers.specs.DriveViews.{drive_keyed}
+use Rattle.elab_wires.specs.DriveViews.{drive_keyed}
 use Rattle.elab_objects.specs.Driven.{driving_keyed}
 use Rattle.elaborate.specs.ElabFaults.{refusal_of, IsTold}
 use Rattle.elaborate.proofs.Drives.{are-drives, two-by, driven-by, held-by}

@@ -5,7 +5,7 @@ use Rattle.elab_parts.specs.PartViews.{parts_of}
 use Rattle.elab_parts.specs.BehaviourViews.{node_of, process_in}
 use Rattle.elab_objects.specs.ObjectViews.{held_of, held_objects}
 use Rattle.v_design.specs.Plain as flats
-use Rattle.flat_nodes.specs.NodeOrder.{ordered_nodes}
+use Rattle.node_order.specs.NodeOrder.{ordered_nodes}
 use Rattle.elaborate.specs.ElabFaults.{refusal_of, IsRefusal}
 use Rattle.elaborate.specs.Elements.{AreMade}
 use Rattle.elaborate.specs.ElementLaws.{among-made, as-many, sorted-over, refused-over}

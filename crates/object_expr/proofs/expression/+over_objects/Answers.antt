@@ -4,9 +4,9 @@ use Rattle.v_design.specs.Trees.{Concatenation, Replication}
 use Rattle.v_design.specs.Plain.{expression_of}
 use Rattle.v_design.specs.PlainLemmas.{expression_of-Concatenation, expression_of-Replication}
 use Rattle.v_names.specs.SizedTrees.{over_objects, all_over_objects}
-use Rattle.sized_tree.specs.declared.expression.SizedExpr.{SizedExpr}
-use Rattle.sized_tree.specs.SizedViews.{sized_of, all_sized_of}
-use Rattle.sized_tree.specs.ViewLaws.{sized-concatenation, sized-replication}
+use Rattle.v_width.specs.declared.expression.SizedExpr.{SizedExpr}
+use Rattle.v_width.specs.SizedViews.{sized_of, all_sized_of}
+use Rattle.v_width.specs.ViewLaws.{sized-concatenation, sized-replication}
 use Rattle.object_expr.proofs.Rows.{seen_over, rows-same, one-more}
 use Rattle.object_expr.proofs.expression.+over_objects.Goals as goal
 

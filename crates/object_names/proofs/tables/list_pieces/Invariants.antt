@@ -1,5 +1,5 @@
 use Rattle.std.proofs.Common.{◌≡◌, take}
-use Rattle.wire_laws.specs.Held.{all_pieces}
+use Rattle.elab_wires.specs.Held.{all_pieces}
 use Rattle.elab_objects.specs.ObjectViews.{held_objects}
 use Rattle.object_names.specs.NameViews.{pieces_listed}
 use Rattle.object_names.proofs.tables.list_pieces.Given as goal

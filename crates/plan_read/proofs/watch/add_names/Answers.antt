@@ -2,7 +2,7 @@ use Rattle.std.proofs.Common.{◌≡◌, ◌<◌, ◌+◌, ◌++◌, ℕ, [], Op
 use Rattle.std.proofs.lemmas.List.{length-map}
 use Rattle.v_design.specs.Plain.{name_joined}
 use Rattle.v_design.specs.PlainDesigns.{design_of}
-use Rattle.site_names.specs.Stems.{stem, joined_key}
+use Rattle.plan_read.specs.Stems.{stem, joined_key}
 use Rattle.key_index.specs.Walks.{places_left}
 use Rattle.plan_read.specs.Plain.{watched_bits}
 use Rattle.plan_read.specs.Watched.{bits_in_joined}

@@ -1,6 +1,6 @@
 use Rattle.std.proofs.Common.{ℕ, length}
 use Rattle.v_design.specs.Plain.{name_joined}
-use Rattle.site_names.specs.Stems.{stem, joined_key}
+use Rattle.plan_read.specs.Stems.{stem, joined_key}
 use Rattle.key_index.specs.Walks.{places_left}
 use Rattle.plan_read.specs.Plain.{watched_bits}
 use Rattle.plan_read.specs.Watched.{bits_in_joined}

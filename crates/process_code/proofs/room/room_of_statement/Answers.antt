@@ -1,7 +1,7 @@
 use Rattle.std.proofs.Common.{◌≡◌, ◌+◌, sym, ap, ◌∙◌}
 use Rattle.v_design.specs.Plain.{expression_of, statement_of}
 use Rattle.v_design.specs.PlainLemmas.{items_of, statement_of-Case}
-use Rattle.operand_read.specs.Bounds.{reads_most, reads_most_items}
+use Rattle.process_operands.specs.Bounds.{reads_most, reads_most_items}
 use Rattle.process_code.specs.StatesOf.{most_operands}
 use Rattle.process_code.proofs.room.room_of_statement.Goals as goal
 

@@ -2,7 +2,7 @@ use Rattle.std.proofs.Common.{rules, ◌≡◌, ◌≤◌, ◌<◌, ◌+◌, ◌
 use Rattle.std.specs.Prelude.{option_map}
 use Rattle.std.specs.List.{slice_get}
 use Rattle.std.proofs.lemmas.Grind.{common_steps}
-use Rattle.operand_read.specs.PartReads.{length_none}
+use Rattle.process_operands.specs.PartReads.{length_none}
 use Rattle.v_design.specs.Plain.{statement_of, process_of, update_of}
 use Rattle.v_design.specs.Reads.{named_by}
 use Rattle.process_code.specs.Positions.{part_of_head}

@@ -2,7 +2,7 @@ use Rattle.std.proofs.Common.{◌≡◌, length, map, subst, sym}
 use Rattle.v_design.specs.Plain.{expression_of, statement_of, target_of}
 use Rattle.v_design.specs.Reads.{named_in, named_in_targets, named_by}
 use Rattle.expr_eval.specs.WidthLaws.{AllHold-left, AllHold-right}
-use Rattle.operand_read.specs.BoundsLaws.{AreBelow}
+use Rattle.process_operands.specs.BoundsLaws.{AreBelow}
 use Rattle.process_code.specs.Positions.{advance_part}
 use Rattle.process_code.specs.StatesOf.{IsGoodPart}
 use Rattle.process_code.proofs.stepping.step_advance.Goals as goal

@@ -8,8 +8,8 @@ use Rattle.v_design.specs.Sized.{IsSizedStatement, AreSizedItems}
 use Rattle.v_design.specs.Expressions.{width_of, sign_of}
 use Rattle.v_design.specs.Processes.{read_case}
 use Rattle.expr_eval.specs.WidthLaws.{AllHold-left, AllHold-right}
-use Rattle.operand_read.specs.Bounds.{reads_most, reads_most_items}
-use Rattle.operand_read.specs.BoundsLaws.{AreBelow}
+use Rattle.process_operands.specs.Bounds.{reads_most, reads_most_items}
+use Rattle.process_operands.specs.BoundsLaws.{AreBelow}
 use Rattle.process_code.specs.Points.{point_of, said_by}
 use Rattle.process_code.specs.Acts.{Acts, Chooses, ActsBy}
 use Rattle.process_code.specs.StatesOf.{most_operands}

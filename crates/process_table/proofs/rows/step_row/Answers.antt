@@ -3,7 +3,7 @@ use Rattle.vf_base.specs.Base.{process_number}
 use Rattle.v_design.specs.Designs.{FlatProcess}
 use Rattle.v_design.specs.Reads.{named_by}
 use Rattle.v_design.specs.States.{is_ready}
-use Rattle.operand_read.specs.BoundsLaws.{AreBelow}
+use Rattle.process_operands.specs.BoundsLaws.{AreBelow}
 use Rattle.process_code.specs.Points.{said_by}
 use Rattle.process_table.specs.declared.row.Row.{Row}
 use Rattle.process_table.specs.Rows.{RowState, IsGoodRow, row_states, state_at}

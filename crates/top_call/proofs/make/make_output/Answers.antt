@@ -8,4 +8,4 @@ pub returns-in-Soak-clause-gives : goal.returns-in-Soak-clause-gives
 returns-in-Soak-clause-gives g c =
     let held = g.S.Shelf.held c.args.shelf.now in
     let counts : ShelfCounts = record { faults = g.S.Shelf.faults c.args.shelf.now; reads = g.S.Shelf.reads c.args.shelf.now; long_answers = g.S.Shelf.long_answers c.args.shelf.now } in
-    subst (λ form. OutputGives (plain_form form) (files_for (plain_form form) held) counts counts c.soaked.result) (sym c.in-Soak.is) (c.soaked.ensures.gives counts counts)
+    subst (λ form. OutputGives (plain_form form) (files_for (plain_form form) held) counts counts c.soak_output.result) (sym c.in-Soak.is) (c.soak_output.ensures.gives counts counts)

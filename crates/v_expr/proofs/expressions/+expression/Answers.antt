@@ -5,10 +5,10 @@ use Rattle.v_tree.specs.declared.expression.Expr.TheBlock.{hidden-the_row-Expr-0
 use Rattle.v_tree.specs.Trees.{Concatenated, Replicated, parts_of}
 use Rattle.v_tree.specs.Views.{expression_of, expressions_of_row}
 use Rattle.vf_base.specs.Base.{source_place}
-use Rattle.v_read.specs.declared.class.Class.TheVariants as classes
-use Rattle.v_read.specs.Reading.{next_class, is_class}
-use Rattle.v_read.specs.Separated.{separated}
-use Rattle.v_read.specs.Reads.{element-next, element-fail, element-end}
+use Rattle.v_readers.specs.declared.class.Class.TheVariants as classes
+use Rattle.v_readers.specs.Reading.{next_class, is_class}
+use Rattle.v_readers.specs.Separated.{separated}
+use Rattle.v_readers.specs.Reads.{element-next, element-fail, element-end}
 use Rattle.v_expr.specs.Heights.{height_of, heights_of}
 use Rattle.v_expr.specs.Spelling.{rank_of}
 use Rattle.v_expr.specs.Expressions.{replication, concatenation, inner_of, operator_of, joining}

@@ -1,9 +1,9 @@
 -- Each call is of fewer levels, or of a reader further down on the same level.
 use Rattle.std.proofs.Common.{◌≡◌, ◌+◌, ◌*◌, ◌<◌, ◌≤◌, length, map, [], ◌∷◌}
 use Rattle.v_tree.specs.Views.{expression_of}
-use Rattle.v_read.specs.declared.class.Class.TheVariants as classes
-use Rattle.v_read.specs.Reading.{repeat}
-use Rattle.v_read.specs.Separated.{element_turn}
+use Rattle.v_readers.specs.declared.class.Class.TheVariants as classes
+use Rattle.v_readers.specs.Reading.{repeat}
+use Rattle.v_readers.specs.Separated.{element_turn}
 use Rattle.v_expr.specs.Heights.{height_of, heights_of}
 use Rattle.v_expr.specs.Expressions.{inner_of, operands, operand_turn}
 use Rattle.v_expr.proofs.expressions.+expression.Given as goal

@@ -1,9 +1,9 @@
 -- What comes of the selects so far is what comes of all.
 use Rattle.std.proofs.Common.{◌≡◌, ◌<◌, map, length}
 use Rattle.v_tree.specs.Views.{select_of}
-use Rattle.v_read.specs.declared.class.Class.TheVariants as classes
-use Rattle.v_read.specs.Reading.{repeat}
-use Rattle.v_read.specs.Separated.{separated, element_turn}
+use Rattle.v_readers.specs.declared.class.Class.TheVariants as classes
+use Rattle.v_readers.specs.Reading.{repeat}
+use Rattle.v_readers.specs.Separated.{separated, element_turn}
 use Rattle.v_expr.specs.Parts.{inner_select}
 use Rattle.v_expr.proofs.parts.selects.Given as goal
 

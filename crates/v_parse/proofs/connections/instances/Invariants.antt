@@ -1,9 +1,9 @@
 -- What comes of the elements so far is what comes of all.
 use Rattle.std.proofs.Common.{◌≡◌, ◌<◌, map, length}
 use Rattle.v_tree.specs.Views.{instance_of}
-use Rattle.v_read.specs.declared.class.Class.TheVariants as classes
-use Rattle.v_read.specs.Reading.{repeat}
-use Rattle.v_read.specs.Separated.{separated, element_turn}
+use Rattle.v_readers.specs.declared.class.Class.TheVariants as classes
+use Rattle.v_readers.specs.Reading.{repeat}
+use Rattle.v_readers.specs.Separated.{separated, element_turn}
 use Rattle.v_parse.specs.Items as read
 use Rattle.v_parse.proofs.connections.instances.Given as goal
 

@@ -3,10 +3,10 @@ use Rattle.std.proofs.lemmas.List.{map_push}
 use Rattle.std.proofs.lemmas.Result.{err_from_is_err_and}
 use Rattle.vf_base.specs.Base.{source_place}
 use Rattle.v_tree.specs.Views.{expression_in, connection_of}
-use Rattle.v_read.specs.declared.class.Class.TheVariants as classes
-use Rattle.v_read.specs.Reading.{followed, give, next_class, is_class, expect, repeat}
-use Rattle.v_read.specs.Reads.{Fails-followed}
-use Rattle.v_read.specs.Given.{Fails}
+use Rattle.v_readers.specs.declared.class.Class.TheVariants as classes
+use Rattle.v_readers.specs.Reading.{followed, give, next_class, is_class, expect, repeat}
+use Rattle.v_readers.specs.Reads.{Fails-followed}
+use Rattle.v_readers.specs.Given.{Fails}
 use Rattle.v_tree.specs.declared.item.Connection.{Connection}
 use Rattle.v_parse.specs.Items.{placed, placed_turn}
 use Rattle.v_parse.proofs.Turns.{to_closing, first-ended, position-ended, placed-next, placed-fail, placed-end, placed-begin, placed-begin_fail}

@@ -1,7 +1,7 @@
 -- What comes of the connections so far and of what stands behind the last comma is what comes of all.
 use Rattle.std.proofs.Common.{◌≡◌, ◌≤◌, true, map, length}
 use Rattle.v_tree.specs.Views.{expression_in, connection_of}
-use Rattle.v_read.specs.Reading.{followed, repeat, next_class}
+use Rattle.v_readers.specs.Reading.{followed, repeat, next_class}
 use Rattle.v_parse.specs.Items.{placed_turn, placed_connections}
 use Rattle.v_parse.proofs.Turns.{to_closing, is_ended}
 use Rattle.v_parse.proofs.connections.placed_connections.Given as goal

@@ -2,9 +2,9 @@ use Rattle.std.proofs.Common.{◌≡◌, true, ◌++◌, ◌∷◌, [], map, Ok,
 use Rattle.std.proofs.lemmas.List.{map_push}
 use Rattle.std.proofs.lemmas.Result.{err_from_is_err_and}
 use Rattle.v_tree.specs.Views.{reg_of}
-use Rattle.v_read.specs.declared.class.Class.TheVariants as classes
-use Rattle.v_read.specs.Reading.{next_class, is_class}
-use Rattle.v_read.specs.Reads.{element-next, element-fail, element-end}
+use Rattle.v_readers.specs.declared.class.Class.TheVariants as classes
+use Rattle.v_readers.specs.Reading.{next_class, is_class}
+use Rattle.v_readers.specs.Reads.{element-next, element-fail, element-end}
 use Rattle.v_parse.specs.Items as read
 use Rattle.v_parse.proofs.declarations.regs.Goals as goal
 

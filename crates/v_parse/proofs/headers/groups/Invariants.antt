@@ -1,7 +1,7 @@
 -- What comes of the groups so far is what comes of all.
 use Rattle.std.proofs.Common.{◌≡◌, ◌<◌, ◌++◌, ◌∷◌, [], map, length}
 use Rattle.v_tree.specs.Views.{parameters_of}
-use Rattle.v_read.specs.Reading.{repeat}
+use Rattle.v_readers.specs.Reading.{repeat}
 use Rattle.v_parse.specs.Items.{groups, groups_turn}
 use Rattle.v_parse.proofs.headers.groups.Given as goal
 

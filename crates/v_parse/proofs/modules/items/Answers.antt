@@ -3,8 +3,8 @@ use Rattle.std.proofs.lemmas.List.{map_push}
 use Rattle.std.proofs.lemmas.Result.{err_from_is_err_and}
 use Rattle.v_tree.specs.declared.item.Item.{Item}
 use Rattle.v_tree.specs.Views.{item_of}
-use Rattle.v_read.specs.declared.class.Class.TheVariants as classes
-use Rattle.v_read.specs.Reading.{next_class, is_class, repeat}
+use Rattle.v_readers.specs.declared.class.Class.TheVariants as classes
+use Rattle.v_readers.specs.Reading.{next_class, is_class, repeat}
 use Rattle.v_parse.specs.Items.{items_turn}
 use Rattle.v_parse.proofs.Turns.{items-next, items-fail, items-end}
 use Rattle.v_parse.proofs.modules.items.Goals as goal

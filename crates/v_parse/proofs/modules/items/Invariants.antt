@@ -1,7 +1,7 @@
 -- What comes of the items so far is what comes of all.
 use Rattle.std.proofs.Common.{◌≡◌, ◌≤◌, [], map, length}
 use Rattle.v_tree.specs.Views.{item_of}
-use Rattle.v_read.specs.Reading.{repeat}
+use Rattle.v_readers.specs.Reading.{repeat}
 use Rattle.v_parse.specs.Items.{items_turn}
 use Rattle.v_parse.proofs.modules.items.Given as goal
 

@@ -3,8 +3,8 @@ use Rattle.std.proofs.lemmas.List.{map_push}
 use Rattle.std.proofs.lemmas.Result.{err_from_is_err_and}
 use Rattle.v_tree.specs.declared.item.Module.{Module}
 use Rattle.v_tree.specs.Views.{module_of}
-use Rattle.v_read.specs.Reading.{repeat}
-use Rattle.v_read.specs.Given.{Fails}
+use Rattle.v_readers.specs.Reading.{repeat}
+use Rattle.v_readers.specs.Given.{Fails}
 use Rattle.v_parse.specs.Items.{modules_turn}
 use Rattle.v_parse.proofs.Turns.{modules-next, modules-fail, modules-end, unit-is, unit-fail, some-left, none-left}
 use Rattle.v_parse.proofs.modules.unit.Goals as goal

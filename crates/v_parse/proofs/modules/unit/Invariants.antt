@@ -1,7 +1,7 @@
 -- What comes of the modules so far is what comes of all.
 use Rattle.std.proofs.Common.{◌≡◌, [], map, length}
 use Rattle.v_tree.specs.Views.{module_of}
-use Rattle.v_read.specs.Reading.{repeat}
+use Rattle.v_readers.specs.Reading.{repeat}
 use Rattle.v_parse.specs.Items.{modules_turn}
 use Rattle.v_parse.proofs.modules.unit.Given as goal
 

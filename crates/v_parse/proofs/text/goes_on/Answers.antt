@@ -1,7 +1,7 @@
 use Rattle.std.proofs.Common.{◌≡◌, List, ◌++◌, ◌∷◌, [], sym, ◌∙◌, ap, subst}
 use Rattle.v_tree.specs.Tokens.{SourceToken}
 use Rattle.v_tree.specs.Views.{unit_of}
-use Rattle.v_read.specs.Given.{Fails}
+use Rattle.v_readers.specs.Given.{Fails}
 use Rattle.v_parse.specs.Items.{unit_reader}
 use Rattle.v_parse.proofs.Turns.{some-left, none-left}
 use Rattle.v_parse.proofs.Places.{found-goes, deep-goes, wrong-decides}

@@ -1,7 +1,7 @@
 use Rattle.std.proofs.Common.{sym, ◌∙◌, ap, subst, arith}
 use Rattle.v_tree.specs.Views.{unit_of}
-use Rattle.v_read.specs.Given.{Fails}
-use Rattle.v_read.specs.Reading.{Wrong, Deep}
+use Rattle.v_readers.specs.Given.{Fails}
+use Rattle.v_readers.specs.Reading.{Wrong, Deep}
 use Rattle.v_parse.specs.Items.{unit_reader}
 use Rattle.v_parse.specs.Judged.{unit-found, unit-wrong, unit-deep, unit-only, unit-no_stop, one-unit}
 use Rattle.v_parse.proofs.text.parse.Goals as goal

@@ -2,7 +2,7 @@ use Rattle.std.proofs.Common.{◌≡◌, ◌++◌, ◌∷◌, [], map, true, Ok,
 use Rattle.std.proofs.lemmas.List.{map_push}
 use Rattle.std.proofs.lemmas.Result.{err_from_is_err_and}
 use Rattle.v_tree.specs.Views.{entry_of}
-use Rattle.v_read.specs.Reading.{next_class}
+use Rattle.v_readers.specs.Reading.{next_class}
 use Rattle.v_stmt.specs.Statements.{separates}
 use Rattle.v_stmt.proofs.Loops.{entries-next, entries-fail, entries-end}
 use Rattle.v_stmt.proofs.parts.entry_row.Goals as goal

@@ -1,6 +1,6 @@
 use Rattle.std.proofs.Common.{◌≡◌, ◌<◌, map, length}
 use Rattle.v_tree.specs.Views.{entry_of}
-use Rattle.v_read.specs.Reading.{repeat}
+use Rattle.v_readers.specs.Reading.{repeat}
 use Rattle.v_stmt.specs.Statements as read
 use Rattle.v_stmt.proofs.parts.entry_row.Given as goal
 

@@ -1,8 +1,8 @@
 use Rattle.std.proofs.Common.{◌≡◌, ◌≤◌, map, length}
 use Rattle.v_tree.specs.Views.{expression_of}
-use Rattle.v_read.specs.declared.class.Class.TheVariants as classes
-use Rattle.v_read.specs.Reading.{repeat}
-use Rattle.v_read.specs.Separated.{element_turn, separated}
+use Rattle.v_readers.specs.declared.class.Class.TheVariants as classes
+use Rattle.v_readers.specs.Reading.{repeat}
+use Rattle.v_readers.specs.Separated.{element_turn, separated}
 use Rattle.v_expr.specs.Parts.{inner_expression}
 use Rattle.v_stmt.proofs.pieces.labels.Given as goal
 

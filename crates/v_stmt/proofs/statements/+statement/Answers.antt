@@ -3,8 +3,8 @@ use Rattle.std.proofs.lemmas.List.{map_push}
 use Rattle.std.proofs.lemmas.Result.{err_from_is_err_and}
 use Rattle.v_tree.specs.Views.{statement_of}
 use Rattle.v_tree.specs.CaseParts.{case_part_of}
-use Rattle.v_read.specs.declared.class.Class.TheVariants as classes
-use Rattle.v_read.specs.Reading.{next_class, is_class}
+use Rattle.v_readers.specs.declared.class.Class.TheVariants as classes
+use Rattle.v_readers.specs.Reading.{next_class, is_class}
 use Rattle.v_stmt.specs.Statements.{begins, below_of}
 use Rattle.v_stmt.proofs.Below.{body-next, body-fail, body-deep, body-end, items-next, items-fail, items-end}
 use Rattle.v_stmt.proofs.statements.+statement.Goals as goal

@@ -2,7 +2,7 @@
 use Rattle.std.proofs.Common.{◌≡◌, ◌+◌, ◌*◌, ◌<◌, ◌≤◌, length, map}
 use Rattle.v_tree.specs.Views.{statement_of}
 use Rattle.v_tree.specs.CaseParts.{case_part_of}
-use Rattle.v_read.specs.Reading.{repeat}
+use Rattle.v_readers.specs.Reading.{repeat}
 use Rattle.v_stmt.specs.Statements as read
 use Rattle.v_stmt.proofs.statements.+statement.Given as goal
 

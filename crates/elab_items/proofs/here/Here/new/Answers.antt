@@ -2,8 +2,8 @@ use Rattle.std.proofs.Common.{◌≡◌, List, sym, ap, subst, ◌∙◌}
 use Rattle.v_names.specs.Names.{names_declared, of_name}
 use Rattle.v_elab.specs.Connections.{PortJoined}
 use Rattle.v_elab.specs.Walk.{joining_of}
-use Rattle.module_names.specs.Declarations.{declarations_seen}
-use Rattle.module_names.specs.Settled.{AreApart}
+use Rattle.module_scope.specs.Declarations.{declarations_seen}
+use Rattle.module_scope.specs.Settled.{AreApart}
 use Rattle.elab_items.proofs.Parameters.{finds-parameters}
 use Rattle.elab_items.proofs.here.Here.new.Goals as goal
 

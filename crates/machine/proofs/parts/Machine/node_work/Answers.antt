@@ -21,7 +21,7 @@ use Rattle.value_change.specs.Changes.{change_seen, ended_by_changes}
 use Rattle.net_graph.specs.RuleLaws.{rules_of_node}
 use Rattle.net_settle.specs.NodeLaws.{at-list}
 use Rattle.net_state.specs.States.{nodes_in}
-use Rattle.phase_record.specs.Records.{object_count}
+use Rattle.slot_record.specs.Records.{object_count}
 use Rattle.process_table.specs.Tables.{is_woken}
 use Rattle.process_table.specs.Arranged.{table_of}
 use Rattle.process_table.specs.Noted.{AreNoted}

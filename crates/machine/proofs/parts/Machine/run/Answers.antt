@@ -5,7 +5,7 @@ use Rattle.v_design.specs.States.{State}
 use Rattle.v_design.specs.Runs.{most_steps}
 use Rattle.causal_monitor.specs.declared.slot.Turn.{Turn}
 use Rattle.causal_monitor.specs.declared.slot.SlotLog.{SlotLog}
-use Rattle.slot_laws.specs.SlotLoop.{QuietSlotsEnd}
+use Rattle.machine_laws.specs.SlotLoop.{QuietSlotsEnd}
 use Rattle.machine.specs.declared.moves.Made.{Made}
 use Rattle.machine.specs.declared.moves.Made.TheVariants.{Counted, Uncounted, Nothing}
 use Rattle.machine.specs.declared.parts.Machine.{Machine as Simulated}

@@ -1,8 +1,8 @@
 use Rattle.std.proofs.Common.{◌≡◌, ◌<◌, ◌≤◌, ◌+◌, length, map, subst, ap, arith}
 use Rattle.std.specs.Prelude.{option_map}
 use Rattle.v_design.specs.Plain.{expression_of, target_of, update_of}
-use Rattle.operand_read.specs.Bounds.{Bounds}
-use Rattle.operand_read.specs.BoundsLaws.{bounds-assignment}
+use Rattle.process_operands.specs.Bounds.{Bounds}
+use Rattle.process_operands.specs.BoundsLaws.{bounds-assignment}
 use Rattle.process_code.specs.Points.{Point}
 use Rattle.process_code.specs.StatesOf.{most_of_assignment}
 use Rattle.process_code.specs.UpdateLaws.{has_updates}

@@ -1,7 +1,7 @@
 use Rattle.std.proofs.Common.{◌<◌, ◌≤◌, length, subst, ap, arith}
 use Rattle.v_design.specs.Plain.{expression_of}
-use Rattle.operand_read.specs.Bounds.{Bounds, reads_most}
-use Rattle.operand_read.specs.BoundsLaws.{bounds-expression}
+use Rattle.process_operands.specs.Bounds.{Bounds, reads_most}
+use Rattle.process_operands.specs.BoundsLaws.{bounds-expression}
 use Rattle.process_code.proofs.state.ProcState.branch.Goals as goal
 
 pub read-requires-clause-there : goal.read-requires-clause-there

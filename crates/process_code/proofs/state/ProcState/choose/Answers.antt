@@ -2,8 +2,8 @@ use Rattle.std.proofs.Common.{◌<◌, ◌≤◌, ◌+◌, length, subst, ap, ar
 use Rattle.v_design.specs.Trees.{Null}
 use Rattle.v_design.specs.Plain.{expression_of}
 use Rattle.v_design.specs.PlainLemmas.{items_of}
-use Rattle.operand_read.specs.Bounds.{Bounds, reads_most, reads_most_items}
-use Rattle.operand_read.specs.BoundsLaws.{bounds-case}
+use Rattle.process_operands.specs.Bounds.{Bounds, reads_most, reads_most_items}
+use Rattle.process_operands.specs.BoundsLaws.{bounds-case}
 use Rattle.process_code.proofs.state.ProcState.choose.Goals as goal
 
 pub read-requires-clause-there : goal.read-requires-clause-there

@@ -7,7 +7,7 @@ use Rattle.v_design.specs.PlainDesigns.{design_of}
 use Rattle.v_design.specs.Reads.{named_by}
 use Rattle.v_design.specs.RulesHold.{rules_hold}
 use Rattle.v_design.specs.States.{ProcessState, is_ready}
-use Rattle.operand_read.specs.BoundsLaws.{AreBelow}
+use Rattle.process_operands.specs.BoundsLaws.{AreBelow}
 use Rattle.event_queue.specs.Queues.{held_at, holding_of}
 use Rattle.process_code.specs.Points.{said_by}
 use Rattle.process_table.specs.declared.row.Row.{Row}

@@ -1,6 +1,6 @@
 -- The phase begins with its number.
 use Rattle.std.proofs.Common.{◌≡◌, ◌+◌, ◌∙◌, ap, length}
-use Rattle.slot_record.proofs.RecordLaws.{renumbered}
+use Rattle.slot_record.proofs.SlotRecordLaws.{renumbered}
 use Rattle.slot_record.proofs.record.SlotRecord.begin_phase.Goals as goal
 
 pub returns : goal.returns

@@ -2,7 +2,7 @@
 use Rattle.std.proofs.Common.{List, refl, sym, ap, subst, map}
 use Rattle.causal_monitor.specs.declared.slot.Actor.{Actor}
 use Rattle.event_causes.specs.Causes.{AreCausesOf}
-use Rattle.phase_record.specs.Records.{event_of}
+use Rattle.slot_record.specs.Records.{event_of}
 use Rattle.slot_record.proofs.record.SlotRecord.begin_slot.Goals as goal
 
 pub returns-clause-begins : goal.returns-clause-begins

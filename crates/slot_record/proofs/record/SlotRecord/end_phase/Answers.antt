@@ -5,9 +5,9 @@ use Rattle.std.specs.Option.{option_map}
 use Rattle.v_design.specs.PhaseLogs.{noted_events, phase_race}
 use Rattle.v_design.specs.Grades.{race_of}
 use Rattle.event_causes.specs.Causes.{AreCausesOf}
-use Rattle.slot_laws.specs.SlotLoop.{or_race}
-use Rattle.phase_record.specs.Records.{same-record}
-use Rattle.phase_record.specs.SlotLogs.{slot_log-more}
+use Rattle.machine_laws.specs.SlotLoop.{or_race}
+use Rattle.slot_record.specs.Records.{same-record}
+use Rattle.slot_record.specs.SlotLogs.{slot_log-more}
 use Rattle.slot_record.proofs.record.SlotRecord.end_phase.Goals as goal
 
 pub returns : goal.returns

@@ -4,7 +4,7 @@ use Rattle.vf_base.specs.Base.{process_number}
 use Rattle.v_design.specs.States.{LaneStep}
 use Rattle.v_design.specs.PhaseLogs.{noted_events}
 use Rattle.slot_record.specs.SlotRecords.{one_more, state_in}
-use Rattle.slot_record.proofs.RecordLaws.{with-record, one-noted}
+use Rattle.slot_record.proofs.SlotRecordLaws.{with-record, one-noted}
 use Rattle.slot_record.proofs.record.SlotRecord.note_lane.Goals as goal
 
 pub returns : goal.returns

@@ -3,7 +3,7 @@ use Rattle.std.proofs.Common.{◌+◌, length, refl}
 use Rattle.vf_base.specs.Base.{node_number}
 use Rattle.v_design.specs.PhaseLogs.{noted_events}
 use Rattle.slot_record.specs.SlotRecords.{node_more, state_in}
-use Rattle.slot_record.proofs.RecordLaws.{with-record, node-noted}
+use Rattle.slot_record.proofs.SlotRecordLaws.{with-record, node-noted}
 use Rattle.slot_record.proofs.record.SlotRecord.note_node.Goals as goal
 
 pub returns : goal.returns

@@ -1,5 +1,0 @@
-pub mod Overlaid
-pub mod Running
-pub mod RunLaws
-pub mod WriteLaws
-pub mod Rooms

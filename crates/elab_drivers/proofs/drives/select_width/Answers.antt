@@ -1,6 +1,0 @@
-use Rattle.std.proofs.Common.{sym}
-use Rattle.elab_drivers.proofs.DriveTurns.{select_long}
-use Rattle.elab_drivers.proofs.drives.select_width.Goals as goal
-
-pub returns : goal.returns
-returns c = sym (select_long c.args.bits)

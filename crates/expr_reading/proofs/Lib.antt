@@ -1,4 +1,0 @@
-pub mod ReadingLaws
-pub mod NameLaws
-pub mod PartLaws
-pub mod ExprLaws

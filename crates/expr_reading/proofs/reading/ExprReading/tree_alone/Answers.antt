@@ -1,5 +1,0 @@
-use Rattle.expr_reading.proofs.ReadingLaws.{at-own}
-use Rattle.expr_reading.proofs.reading.ExprReading.tree_alone.Goals as goal
-
-pub returns : goal.returns
-returns c reading h = at-own reading c.args.self c.size_or_bit.result _ h c.size_or_bit.ensures c.at_size.ensures

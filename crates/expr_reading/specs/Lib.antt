@@ -1,5 +1,0 @@
-pub mod ExprReadings
-pub mod Bounds
-pub mod PartReadings
-pub mod WidthLaws
-pub mod Answers

@@ -1,0 +1,12 @@
+use Rattle.std.proofs.Common.{List, [], flat_map, ap, ◌∙◌, append-nil}
+use Rattle.v_tree.specs.Trees.{Identifier}
+use Rattle.v_tree.specs.declared.expression.Expr.{Expr}
+use Rattle.v_comb.specs.CombinationalForm.{each_once}
+use Rattle.v_comb.specs.Occurrences.{names_of_expr}
+use Rattle.v_elab.specs.ReadCounts.{reads_over}
+use Rattle.input_counts.proofs.counts.value_over.Goals as goal
+
+pub returns : goal.returns
+returns c =
+    c.in_ok-over.ensures ∙ ap (λ (es : List Expr). reads_over c.args.scope.now (each_once [] (flat_map names_of_expr es))) c.from_ref.ensures.value
+    ∙ ap (λ (ns : List Identifier). reads_over c.args.scope.now (each_once [] ns)) (append-nil (names_of_expr c.args.value.now))

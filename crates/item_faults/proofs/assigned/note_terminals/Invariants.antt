@@ -1,8 +1,0 @@
-use Rattle.std.proofs.Common.{◌≡◌, drop, map, flat_map}
-use Rattle.v_elab.specs.ItemFaults.{terminal_faults}
-use Rattle.v_tree.specs.Views.{expression_of}
-use Rattle.name_faults.specs.Noted.{noted}
-use Rattle.item_faults.proofs.assigned.note_terminals.Given as goal
-
-abbrev pub invariant-inputs : goal.invariant-inputs
-invariant-inputs l = noted l.first (flat_map (terminal_faults l.scope) (map expression_of (drop l.input-index l.inputs))) ≡ noted l.initial.first (flat_map (terminal_faults l.scope) (map expression_of l.inputs))

@@ -1,8 +1,0 @@
-use Rattle.std.proofs.Common.{◌≡◌, ◌++◌, drop, map, flat_map}
-use Rattle.module_names.specs.Declarations.{declarations_seen}
-use Rattle.v_names.specs.Names.{port_declarations}
-use Rattle.v_tree.specs.Views.{ports_of}
-use Rattle.module_names.proofs.declaration.push_port_groups.Given as goal
-
-abbrev pub invariant-groups : goal.invariant-groups
-invariant-groups l = declarations_seen l.list.items ++ flat_map port_declarations (map ports_of (drop l.group-index l.groups)) ≡ declarations_seen l.initial.list.items ++ flat_map port_declarations (map ports_of l.groups)

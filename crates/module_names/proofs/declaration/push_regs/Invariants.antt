@@ -1,9 +1,0 @@
-use Rattle.std.proofs.Common.{◌≡◌, ◌++◌, drop, map, flat_map}
-use Rattle.module_names.specs.Declarations.{declarations_seen}
-use Rattle.name_faults.specs.BoundViews.{bounds_seen}
-use Rattle.v_names.specs.Names.{reg_declarations}
-use Rattle.v_tree.specs.Views.{reg_of}
-use Rattle.module_names.proofs.declaration.push_regs.Given as goal
-
-abbrev pub invariant-regs : goal.invariant-regs
-invariant-regs l = declarations_seen l.list.items ++ reg_declarations l.signed (bounds_seen l.bounds) (map reg_of (drop l.reg-index l.regs)) ≡ declarations_seen l.initial.list.items ++ reg_declarations l.signed (bounds_seen l.bounds) (map reg_of l.regs)

@@ -1,8 +1,0 @@
-use Rattle.std.proofs.Common.{drop}
-use Rattle.module_names.specs.Declarations.{declarations_seen}
-use Rattle.module_names.specs.Kept.{kept}
-use Rattle.module_names.proofs.NamesOnce.{ArePushed}
-use Rattle.module_names.proofs.once.names_once.Given as goal
-
-abbrev pub invariant-all : goal.invariant-all
-invariant-all l = ArePushed (kept l.seen) (declarations_seen l.list.items) (declarations_seen l.all) (declarations_seen (drop l.declaration-index l.all))

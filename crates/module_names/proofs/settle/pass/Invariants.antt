@@ -1,8 +1,0 @@
-use Rattle.std.proofs.Common.{drop}
-use Rattle.module_names.specs.Declarations.{declarations_seen}
-use Rattle.module_names.specs.Givens.{given_seen}
-use Rattle.module_names.proofs.Passes.{IsUnderWay}
-use Rattle.module_names.proofs.settle.pass.Given as goal
-
-abbrev pub invariant-declared : goal.invariant-declared
-invariant-declared l = IsUnderWay (given_seen l.given) (declarations_seen l.declared) l.fn.scope l.scope l.changed (declarations_seen (drop l.declaration-index l.declared))

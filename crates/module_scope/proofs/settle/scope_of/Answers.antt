@@ -1,0 +1,14 @@
+use Rattle.std.proofs.Common.{◌∙◌}
+use Rattle.module_scope.specs.Givens.{given_seen}
+use Rattle.module_scope.specs.Declarations.{declarations_seen}
+use Rattle.module_scope.proofs.Settling.{settled-start}
+use Rattle.module_scope.proofs.Complete.{settled-scope}
+use Rattle.module_scope.proofs.settle.scope_of.Goals as goal
+
+pub settle_all-requires-clause-settled : goal.settle_all-requires-clause-settled
+settle_all-requires-clause-settled c = settled-start (given_seen c.args.given.now) (declarations_seen c.args.declared.now) c.in_ok-settled.settled c.requires c.in_ok-settled.ensures
+
+pub returns : goal.returns
+returns c =
+    c.in_ok-scope.ensures
+    ∙ settled-scope (given_seen c.args.given.now) (declarations_seen c.args.declared.now) c.settle_all.new.scope c.in_ok-settle_all.ensures.settled c.in_ok-settle_all.ensures.still

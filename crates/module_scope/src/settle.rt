@@ -1,0 +1,170 @@
+// The values of the parameters of a module.
+//
+// Passes over the declarations in text order, until one gives no parameter a value. Parameters that are declared before they are used need one
+// pass and one that changes nothing; each use before a declaration may need a pass more.
+
+ghost use Rattle.std.specs.Prelude.{◌≡◌, ◌+◌, ◌||◌, IfOk, OnOk, Some, option_map};
+ghost use Rattle.v_names.specs.Scopes.{is_waiting, looked_up};
+ghost use Rattle.v_names.specs.ScopeViews.{entry_of};
+ghost use Rattle.v_names.specs.Names.{waiting_entry, waiting_scope, meanings, scope_after, parameter_count};
+ghost use Rattle.v_names.specs.SizeViews.{signed_value};
+ghost use Rattle.module_scope.specs.Declarations.{declared_seen, declaration_seen, declarations_seen};
+ghost use Rattle.module_scope.specs.Givens.{given_seen};
+ghost use Rattle.module_scope.specs.Settled.{AreApart, AreStill, IsPassed, IsSettled, IsTurn};
+
+use crate::declaration::{Declaration, Declared};
+use crate::meaning::meaning_of;
+use crate::name_map::NameMap;
+use std::alloc::Global;
+use v_names::{Constant, Entry, Scope};
+use vf_base::{NoMemory, Text};
+
+/// What a name means before any parameter has a value: nets and the like mean nothing to a parameter.
+fn waiting_entry(declared: Declared<'_>) -> Entry
+    ensures { entry_of result ≡ waiting_entry (declared_seen declared.entry) }
+{
+    match declared {
+        Declared::Param { .. } => Entry::WaitingParam,
+        _ => Entry::Gate,
+    }
+}
+
+/// The scope in which no parameter has a value.
+fn waiting_scope<'m>(alloc: Global, declared: &[Declaration<'m>]) -> Result<Scope<'m>, NoMemory>
+    requires { AreApart (declarations_seen declared.now) }
+    ensures { IfOk result (λ scope. scope ≡ waiting_scope (declarations_seen declared.now)) }
+{
+    let mut scope = Scope::new(alloc);
+    'declared: for declaration in declared {
+        scope.declare(
+            declaration.name.as_bytes(),
+            waiting_entry(declaration.declared),
+        )?;
+    }
+    Ok(scope)
+}
+
+/// Whether this is a parameter that has no value.
+fn is_waiting_entry(entry: &Entry) -> bool
+    ensures { result ≡ is_waiting (Some (entry_of entry.now)) }
+{
+    match entry {
+        Entry::WaitingParam => true,
+        _ => false,
+    }
+}
+
+/// Whether a name is that of a parameter that has no value.
+fn is_waiting_name(scope: &Scope<'_>, name: &Text) -> bool
+    ensures { result ≡ is_waiting (looked_up scope.now name.now) }
+{
+    match scope.lookup(name) {
+        None => false,
+        Some(entry) => is_waiting_entry(&entry),
+    }
+}
+
+/// Gives a parameter its value if it has none and those that it names have theirs; answers whether it did.
+fn settle<'m>(
+    alloc: Global,
+    scope: &mut Scope<'m>,
+    declaration: Declaration<'m>,
+    given: Option<Constant>,
+) -> Result<bool, NoMemory>
+    ensures { IfOk result (λ changed. IsTurn (option_map signed_value given) (declaration_seen declaration.entry) scope.old scope.new changed) }
+{
+    if !is_waiting_name(scope, declaration.name) {
+        return Ok(false);
+    }
+    let entry = meaning_of(alloc, scope, given, declaration.declared)?;
+    if is_waiting_entry(&entry) {
+        return Ok(false);
+    }
+    scope.put(declaration.name.as_bytes(), entry)?;
+    Ok(true)
+}
+
+/// Whether one of two is true.
+fn either(one: bool, other: bool) -> bool
+    ensures { result ≡ (one || other) }
+{
+    one || other
+}
+
+/// Gives each parameter its value that has none and whose names have theirs, in text order; answers whether there was one.
+fn pass<'m>(
+    alloc: Global,
+    scope: &mut Scope<'m>,
+    declared: &[Declaration<'m>],
+    given: &NameMap<'_, Constant>,
+) -> Result<bool, NoMemory>
+    requires apart { AreApart (declarations_seen declared.now) }
+    requires settled { IsSettled (given_seen given.now) (declarations_seen declared.now) scope.old }
+    ensures { IfOk result (λ changed. IsPassed (given_seen given.now) (declarations_seen declared.now) scope.old scope.new changed) }
+{
+    let mut changed = false;
+    'declared: for declaration in declared {
+        let now = settle(
+            alloc,
+            scope,
+            *declaration,
+            given.get(declaration.name.as_bytes()),
+        )?;
+        changed = either(changed, now);
+    }
+    Ok(changed)
+}
+
+/// Gives each parameter its value that doesn't rest on itself.
+fn settle_all<'m>(
+    alloc: Global,
+    scope: &mut Scope<'m>,
+    declared: &[Declaration<'m>],
+    given: &NameMap<'_, Constant>,
+) -> Result<(), NoMemory>
+    requires apart { AreApart (declarations_seen declared.now) }
+    requires settled { IsSettled (given_seen given.now) (declarations_seen declared.now) scope.old }
+    ensures settled { OnOk result (IsSettled (given_seen given.now) (declarations_seen declared.now) scope.new) }
+    ensures still { OnOk result (AreStill (given_seen given.now) scope.new (declarations_seen declared.now)) }
+{
+    'passes: loop {
+        let changed = pass(alloc, scope, declared, given)?;
+        if !changed {
+            return Ok(());
+        }
+    }
+}
+
+/// The scope of what the declarations mean by the parameters of a scope.
+fn meanings<'m>(
+    alloc: Global,
+    settled: &Scope<'m>,
+    declared: &[Declaration<'m>],
+    given: &NameMap<'_, Constant>,
+) -> Result<Scope<'m>, NoMemory>
+    requires { AreApart (declarations_seen declared.now) }
+    ensures { IfOk result (λ scope. scope ≡ meanings settled.now (given_seen given.now) (declarations_seen declared.now)) }
+{
+    let mut scope = Scope::new(alloc);
+    'declared: for declaration in declared {
+        let value = given.get(declaration.name.as_bytes());
+        let entry = meaning_of(alloc, settled, value, declaration.declared)?;
+        scope.declare(declaration.name.as_bytes(), entry)?;
+    }
+    Ok(scope)
+}
+
+/// The scope of declared names, each once, by the values that an instance gives some parameters.
+pub fn scope_of<'m>(
+    alloc: Global,
+    declared: &[Declaration<'m>],
+    given: &NameMap<'_, Constant>,
+) -> Result<Scope<'m>, NoMemory>
+    requires { AreApart (declarations_seen declared.now) }
+    ensures { IfOk result (λ scope. scope ≡ scope_after (parameter_count (declarations_seen declared.now) + 1) (given_seen given.now) (declarations_seen declared.now)) }
+{
+    let mut settled = waiting_scope(alloc, declared)?;
+    settle_all(alloc, &mut settled, declared, given)?;
+    let scope = meanings(alloc, &settled, declared, given)?;
+    Ok(scope)
+}

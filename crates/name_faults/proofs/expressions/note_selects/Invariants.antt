@@ -1,8 +1,0 @@
-use Rattle.std.proofs.Common.{◌≡◌, drop, map, flat_map}
-use Rattle.v_tree.specs.Views.{select_of}
-use Rattle.v_names.specs.Constants.{select_faults}
-use Rattle.name_faults.specs.Noted.{noted}
-use Rattle.name_faults.proofs.expressions.note_selects.Given as goal
-
-abbrev pub invariant-selects : goal.invariant-selects
-invariant-selects l = noted l.first (flat_map (select_faults l.scope) (map select_of (drop l.select-index l.selects))) ≡ noted l.initial.first (flat_map (select_faults l.scope) (map select_of l.selects))

@@ -1,7 +1,0 @@
-use Rattle.std.proofs.Common.{◌≡◌, ◌+◌, drop, map}
-use Rattle.v_design.specs.Plain.{target_of}
-use Rattle.operand_read.specs.Bounds.{reads_most_targets}
-use Rattle.operand_read.proofs.room.most_assignment_reads.Given as goal
-
-abbrev pub invariant-targets : goal.invariant-targets
-invariant-targets l = l.indexes + reads_most_targets (map target_of (drop l.target-index l.targets)) ≡ reads_most_targets (map target_of l.targets)

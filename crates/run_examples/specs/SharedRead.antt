@@ -1,0 +1,27 @@
+-- reg s = 0, a = 0, b = 0; initial #20 b = a; initial #20 if (s) a = 1; -- the faulty machine's write races with a read that both machines make
+use Rattle.std.specs.Prelude.{◌≡◌, refl, true, false, [], ◌∷◌, Some, map}
+use Rattle.v_design.specs.Trees.{Null, If, Delay}
+use Rattle.v_design.specs.Designs.{FlatDesign, TestPlan}
+use Rattle.v_design.specs.Grades.{grade, Judged, Undetected}
+use Rattle.run_examples.specs.Build.{at, reg_bit, process, set_bit, number, bit_operand, plan, variable_fault, race}
+use Rattle.four_value.specs.declared.logic.Bit.TheVariants.{Zero}
+use Rattle.vf_base.specs.declared.finding.Side.TheVariants.{Faulty}
+use Rattle.vf_base.specs.declared.finding.AccessKind.TheVariants.{Read, Write}
+
+abbrev pub design : FlatDesign
+design = record {
+  objects = reg_bit Zero ∷ reg_bit Zero ∷ reg_bit Zero ∷ [];
+  joined = [];
+  nodes = [];
+  processes = process false 3 (Delay (at 3) 20 (set_bit 3 2 (bit_operand 1))) ∷ process false 4 (Delay (at 4) 20 (If (at 4) (bit_operand 0) (set_bit 4 1 (number 1 1)) Null)) ∷ [];
+}
+
+abbrev pub test_plan : TestPlan
+test_plan = plan 30 (2 ∷ []) (25 ∷ []) (variable_fault 0 0 true ∷ variable_fault 0 0 false ∷ [])
+
+-- the grades of the listed faults
+abbrev pub Grades : Type 0
+Grades = map (grade design test_plan) test_plan.faults ≡ Some (race Faulty 20 1 Read 1 0 3 Write 1 1 4) ∷ Some (Judged Undetected) ∷ []
+
+pub grades : Grades
+grades = refl

@@ -1,0 +1,19 @@
+//! Worked designs, on which the definitions of v_design are evaluated: small designs with their plans and the grades of their faults
+//! (specs/Examples and the file of each example), small runs of every statement, other legal orders than the first, and that the rules
+//! which every design keeps can be met.
+#![tactic(auto)]
+
+ghost use Rattle.run_examples.specs.Examples.{WorkedExamples};
+ghost use Rattle.run_examples.specs.Replays.{OtherOrders};
+
+/// The definitions of grades, evaluated on each worked example, give the grades that stand there.
+#[tactic(auto, using(crate::specs::Examples::worked_examples))]
+pub fn examples()
+    ensures { WorkedExamples }
+{}
+
+/// Other legal orders than the first: they come to the first order's end, or to another one where a glitch is seen or not.
+#[tactic(auto, using(crate::specs::Replays::other_orders))]
+pub fn other_orders()
+    ensures { OtherOrders }
+{}

@@ -1,8 +1,0 @@
-pub mod Apart
-pub mod Spelling
-pub mod Indexes
-pub mod NamedSignals
-pub mod ObjectBits
-pub mod GateNames
-pub mod Sites
-pub mod KeptRules

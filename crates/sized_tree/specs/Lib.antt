@@ -1,3 +1,0 @@
-pub mod SizedViews
-pub mod Resized
-pub mod ViewLaws

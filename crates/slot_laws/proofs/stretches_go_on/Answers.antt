@@ -1,9 +1,0 @@
--- The laws are proved in `Stretches`.
-use Rattle.slot_laws.proofs.Stretches.{events_go_on, stretches_go_on}
-use Rattle.slot_laws.proofs.stretches_go_on.Goals as goal
-
-pub returns-clause-event : goal.returns-clause-event
-returns-clause-event c = events_go_on c.slots.ensures
-
-pub returns-clause-stretch : goal.returns-clause-stretch
-returns-clause-stretch c = stretches_go_on c.slots.ensures

@@ -1,2 +1,0 @@
-pub mod TargetReadings
-pub mod Spelled

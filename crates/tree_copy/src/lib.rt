@@ -1,9 +1,0 @@
-//! Copies of syntax trees (IEEE 1364-2001, annex A).
-//!
-//! `copy_tree` gives a tree with the same plain view (`Views` of the trees' crate): the same modules, items, statements and expressions,
-//! each with its place. It answers nothing else than that tree or want of memory.
-#![tactic(auto)]
-
-mod copy_item;
-mod copy_statement;
-pub use copy_item::copy_tree;

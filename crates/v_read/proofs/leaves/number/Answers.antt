@@ -1,6 +1,0 @@
-use Rattle.std.proofs.Common.{◌∙◌}
-use Rattle.v_read.specs.ClassLaws.{number-kind}
-use Rattle.v_read.proofs.leaves.number.Goals as goal
-
-pub unreachable-requires : goal.unreachable-requires
-unreachable-requires c = c.in_default.not-Number _ _ (c.kind.ensures ∙ number-kind c.in_ok-token.token.now.kind c.in_ok-token.ensures.class)
