@@ -92,7 +92,8 @@ fn push_counted(
     requires objects { NameObjects (design_of design.now) (map noted_access accesses.now) }
     requires sized { vec_len totals.now ≡ length (design_of design.now).objects }
     requires totals { AreTotals (design_of design.now) (phase_changes (design_of design.now) log.now.log) totals.now.items }
-    ensures { IfOk result (λ _. Adds (length (design_of design.now).objects) (length log.now.log.events) list.old.items list.new.items (map (numbered_at event) (filter (counts (design_of design.now) (phase_changes (design_of design.now) log.now.log)) (map noted_access accesses.now)))) }
+    ensures { IfOk result (λ _. Adds (length (design_of design.now).objects) (length log.now.log.events) list.old.items list.new.items (map
+        (numbered_at event) (filter (counts (design_of design.now) (phase_changes (design_of design.now) log.now.log)) (map noted_access accesses.now)))) }
 {
     'accesses: for noted in accesses {
         let wanted = is_counted(design, log, totals, noted);
@@ -132,7 +133,8 @@ fn push_settlings(
 ) -> Result<(), NoMemory>
     requires event { event < length log.now.log.events }
     requires objects { All (λ net. object_number net < length (design_of design.now).objects) nets.now }
-    ensures { IfOk result (λ _. Adds (length (design_of design.now).objects) (length log.now.log.events) list.old.items list.new.items (map (numbered_at event) (map (settling_of (noted_access write.now)) (map object_number nets.now)))) }
+    ensures { IfOk result (λ _. Adds (length (design_of design.now).objects) (length log.now.log.events) list.old.items list.new.items (map
+        (numbered_at event) (map (settling_of (noted_access write.now)) (map object_number nets.now)))) }
 {
     'nets: for net in nets {
         list.push(Numbered {
@@ -157,8 +159,10 @@ fn push_settled(
     requires object { object_number noted.now.access.object < length (design_of design.now).objects }
     requires sized { vec_len settled.now ≡ length (design_of design.now).objects }
     requires settled { AreSettled (design_of design.now) (phase_changes (design_of design.now) log.now.log) settled.now.items }
-    requires changed { (object : ℕ) → has (change_of (design_of design.now) (noted_access noted.now).act (noted_access noted.now).object) object ≡ true → has (phase_changes (design_of design.now) log.now.log) object ≡ true }
-    ensures { IfOk result (λ _. Adds (length (design_of design.now).objects) (length log.now.log.events) list.old.items list.new.items (map (numbered_at event) (settles_of (design_of design.now) (phase_changes (design_of design.now) log.now.log) (noted_access noted.now)))) }
+    requires changed { (object : ℕ) → has (change_of (design_of design.now) (noted_access noted.now).act (noted_access noted.now).object) object ≡ true →
+        has (phase_changes (design_of design.now) log.now.log) object ≡ true }
+    ensures { IfOk result (λ _. Adds (length (design_of design.now).objects) (length log.now.log.events) list.old.items list.new.items (map
+        (numbered_at event) (settles_of (design_of design.now) (phase_changes (design_of design.now) log.now.log) (noted_access noted.now)))) }
 {
     let Some(object) = changed_object(design, noted) else {
         return Ok(());
@@ -183,7 +187,8 @@ fn push_all_settled(
     requires sized { vec_len settled.now ≡ length (design_of design.now).objects }
     requires settled { AreSettled (design_of design.now) (phase_changes (design_of design.now) log.now.log) settled.now.items }
     requires changed { (object : ℕ) → has (changes_of (design_of design.now) (map noted_access accesses.now)) object ≡ true → has (phase_changes (design_of design.now) log.now.log) object ≡ true }
-    ensures { IfOk result (λ _. Adds (length (design_of design.now).objects) (length log.now.log.events) list.old.items list.new.items (map (numbered_at event) (joined (map (settles_of (design_of design.now) (phase_changes (design_of design.now) log.now.log)) (map noted_access accesses.now))))) }
+    ensures { IfOk result (λ _. Adds (length (design_of design.now).objects) (length log.now.log.events) list.old.items list.new.items (map
+        (numbered_at event) (joined (map (settles_of (design_of design.now) (phase_changes (design_of design.now) log.now.log)) (map noted_access accesses.now))))) }
 {
     'accesses: for noted in accesses {
         push_settled(design, log, settled, event, noted, list)?;
@@ -199,7 +204,9 @@ fn push_event(source: &Source, event: u64, list: &mut Vec<Numbered>) -> Result<(
     requires totals { AreTotals (design_of source.now.design.now) (phase_changes (design_of source.now.design.now) source.now.log.now.log) source.now.totals.now.items }
     requires settled_sized { vec_len source.now.settled.now ≡ length (design_of source.now.design.now).objects }
     requires settled { AreSettled (design_of source.now.design.now) (phase_changes (design_of source.now.design.now) source.now.log.now.log) source.now.settled.now.items }
-    ensures { IfOk result (λ _. Adds (length (design_of source.now.design.now).objects) (length source.now.log.now.log.events) list.old.items list.new.items (map (numbered_at event) (counted_accesses (design_of source.now.design.now) (phase_changes (design_of source.now.design.now) source.now.log.now.log) (accesses_at source.now.log.now.log event)))) }
+    ensures { IfOk result (λ _. Adds (length (design_of source.now.design.now).objects) (length source.now.log.now.log.events) list.old.items list.new.items
+        (map (numbered_at event) (counted_accesses (design_of source.now.design.now) (phase_changes (design_of source.now.design.now) source.now.log.now.log)
+        (accesses_at source.now.log.now.log event)))) }
 {
     let accesses = source.log.accesses_of(event);
     push_counted(

@@ -57,7 +57,8 @@ fn keeps_value(write: &Noted) -> bool
 fn written_object(design: &Design, write: &Noted) -> Option<ObjectId>
     requires values { HasValues write.now.old write.now.new }
     requires object { object_number write.now.access.object < length (design_of design.now).objects }
-    ensures { option_to_list (option_map object_number result) ≡ change_of (design_of design.now) (Writing (value_or_none write.now.old) (value_or_none write.now.new)) (object_number write.now.access.object) }
+    ensures { option_to_list (option_map object_number result) ≡ change_of (design_of design.now) (Writing (value_or_none write.now.old)
+        (value_or_none write.now.new)) (object_number write.now.access.object) }
 {
     if keeps_value(write) || is_net_piece(design, write.access.object) {
         None
@@ -99,7 +100,8 @@ fn count_access(design: &Design, noted: &Noted, counts: &mut Vec<u8>)
     requires noted { IsNoted noted.now }
     requires object { object_number noted.now.access.object < length (design_of design.now).objects }
     requires sized { vec_len counts.old ≡ length (design_of design.now).objects }
-    ensures counted { (changes : List ℕ) → CountChanges changes counts.old.items → CountChanges (changes ++ change_of (design_of design.now) (noted_access noted.now).act (noted_access noted.now).object) counts.new.items }
+    ensures counted { (changes : List ℕ) → CountChanges changes counts.old.items →
+        CountChanges (changes ++ change_of (design_of design.now) (noted_access noted.now).act (noted_access noted.now).object) counts.new.items }
     ensures same { vec_len counts.new ≡ vec_len counts.old }
 {
     if let Some(object) = changed_object(design, noted) {

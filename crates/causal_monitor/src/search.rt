@@ -68,7 +68,11 @@ fn least_places(
 ) -> Option<(usize, usize)>
     requires indexed { IsIndexed log.now.log index.now }
     requires room { vec_len chained.old ≡ length index.now.accesses.items }
-    ensures pair { option_map (λ places. (access_at (indexed_accesses index.now) places.0, access_at (indexed_accesses index.now) places.1)) result ≡ least_pair_from log.now.log [] (indexed_accesses index.now) }
+    ensures pair { option_map (λ places. (
+      access_at (indexed_accesses index.now) places.0,
+      access_at
+          (indexed_accesses index.now) places.1,
+    )) result ≡ least_pair_from log.now.log [] (indexed_accesses index.now) }
     ensures first { ForSome result (λ places. places.0 < length index.now.accesses.items) }
     ensures second { ForSome result (λ places. places.1 < length index.now.accesses.items) }
     ensures room { vec_len chained.new ≡ vec_len chained.old }

@@ -57,7 +57,8 @@ fn fill_reached<'d>(
     nets: &mut Vec<ObjectId>,
 ) -> Result<(), NoMemory>
     requires from { object_number from < length (design_of graph.now.design.now).objects }
-    requires wild { map object_number wild.now ≡ filter (is_wild (design_of graph.now.design.now) (phase_changes (design_of graph.now.design.now) log.now.log)) (net_pieces (design_of graph.now.design.now)) }
+    requires wild { map object_number wild.now ≡ filter (is_wild (design_of graph.now.design.now) (phase_changes
+        (design_of graph.now.design.now) log.now.log)) (net_pieces (design_of graph.now.design.now)) }
     requires belongs { marks.old.design.now ≡ graph.now.design.now }
     ensures nets { OnOk result (map object_number nets.new.items ≡ settled_nets (design_of graph.now.design.now) (phase_changes (design_of graph.now.design.now) log.now.log) (object_number from)) }
     ensures belongs { marks.new.design.now ≡ graph.now.design.now }
@@ -82,10 +83,12 @@ fn fill_reached_if<'d>(
     nets: &mut Vec<ObjectId>,
 ) -> Result<(), NoMemory>
     requires from { object_number from < length (design_of graph.now.design.now).objects }
-    requires wild { map object_number wild.now ≡ filter (is_wild (design_of graph.now.design.now) (phase_changes (design_of graph.now.design.now) log.now.log)) (net_pieces (design_of graph.now.design.now)) }
+    requires wild { map object_number wild.now ≡ filter (is_wild (design_of graph.now.design.now) (phase_changes
+        (design_of graph.now.design.now) log.now.log)) (net_pieces (design_of graph.now.design.now)) }
     requires belongs { marks.old.design.now ≡ graph.now.design.now }
     requires reaches { reaches ≡ false → ReachesNone (design_of graph.now.design.now) (object_number from) (map object_number wild.now) }
-    ensures nets { OnOk result (0 < count → map object_number nets.new.items ≡ settled_nets (design_of graph.now.design.now) (phase_changes (design_of graph.now.design.now) log.now.log) (object_number from)) }
+    ensures nets { OnOk result (0 < count → map object_number nets.new.items ≡ settled_nets (design_of graph.now.design.now) (phase_changes
+        (design_of graph.now.design.now) log.now.log) (object_number from)) }
     ensures belongs { marks.new.design.now ≡ graph.now.design.now }
 {
     if count == 0 {
@@ -132,7 +135,8 @@ fn settle_each<'d>(
 ) -> Result<(), NoMemory>
     requires counts { CountChanges (phase_changes (design_of graph.now.design.now) log.now.log) counts.now.items }
     requires counts_sized { vec_len counts.now ≡ length (design_of graph.now.design.now).objects }
-    requires wild { map object_number wild.now ≡ filter (is_wild (design_of graph.now.design.now) (phase_changes (design_of graph.now.design.now) log.now.log)) (net_pieces (design_of graph.now.design.now)) }
+    requires wild { map object_number wild.now ≡ filter (is_wild (design_of graph.now.design.now) (phase_changes
+        (design_of graph.now.design.now) log.now.log)) (net_pieces (design_of graph.now.design.now)) }
     requires reaching_sized { length reaching.now ≡ length (design_of graph.now.design.now).objects }
     requires reaching { ReachSome (design_of graph.now.design.now) (map object_number wild.now) reaching.now }
     requires belongs { marks.old.design.now ≡ graph.now.design.now }

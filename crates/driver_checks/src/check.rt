@@ -73,8 +73,10 @@ fn check_selects(
     variables: &[&Signal],
     selects: &[ObjectDrive],
 ) -> Result<(), DriverFault>
-    ensures ok { OnOk result (second_driver (taken_bits (range_width (signal_of signal.now).range) (by_depth (map signal_borrowed variables.now))) (map run_of (map object_drive_of selects.now)) ≡ None) }
-    ensures err { IfErr result (FaultGives (refusal_of (second_driver (taken_bits (range_width (signal_of signal.now).range) (by_depth (map signal_borrowed variables.now))) (map run_of (map object_drive_of selects.now))))) }
+    ensures ok { OnOk result (second_driver (taken_bits (range_width (signal_of signal.now).range) (by_depth (map signal_borrowed variables.now))) (map run_of
+        (map object_drive_of selects.now)) ≡ None) }
+    ensures err { IfErr result (FaultGives (refusal_of (second_driver (taken_bits (range_width (signal_of signal.now).range) (by_depth
+        (map signal_borrowed variables.now))) (map run_of (map object_drive_of selects.now))))) }
 {
     let mut taken = taken_bits(alloc, signal, variables)?;
     match second_driver(&mut taken, selects)? {

@@ -33,8 +33,10 @@ fn push_block<'p, 'u>(
     behaviours: &mut Behaviours<'p, 'u>,
 ) -> Result<(), NoMemory>
     requires { IsWiring wiring.now }
-    ensures nodes { OnOk result (all_nodes_of behaviours.new ≡ all_nodes_of behaviours.old ++ plain.nodes_of (plain.process_behaviour (parts_of wiring.now.parts.now) number (process_of process.now) (Some targets.now) ∷ [])) }
-    ensures processes { OnOk result (all_processes_of behaviours.new ≡ all_processes_of behaviours.old ++ plain.processes_of (plain.process_behaviour (parts_of wiring.now.parts.now) number (process_of process.now) (Some targets.now) ∷ [])) }
+    ensures nodes { OnOk result (all_nodes_of behaviours.new ≡ all_nodes_of behaviours.old ++ plain.nodes_of (plain.process_behaviour
+        (parts_of wiring.now.parts.now) number (process_of process.now) (Some targets.now) ∷ [])) }
+    ensures processes { OnOk result (all_processes_of behaviours.new ≡ all_processes_of behaviours.old ++ plain.processes_of (plain.process_behaviour
+        (parts_of wiring.now.parts.now) number (process_of process.now) (Some targets.now) ∷ [])) }
 {
     let is_node = is_block_node(alloc, wiring, number, process, targets)?;
     if is_node {
@@ -59,8 +61,10 @@ fn push_process<'p, 'u>(
     behaviours: &mut Behaviours<'p, 'u>,
 ) -> Result<(), NoMemory>
     requires { IsWiring wiring.now }
-    ensures nodes { OnOk result (all_nodes_of behaviours.new ≡ all_nodes_of behaviours.old ++ plain.nodes_of (plain.process_behaviour (parts_of wiring.now.parts.now) number (process_of process.now) process.now.targets ∷ [])) }
-    ensures processes { OnOk result (all_processes_of behaviours.new ≡ all_processes_of behaviours.old ++ plain.processes_of (plain.process_behaviour (parts_of wiring.now.parts.now) number (process_of process.now) process.now.targets ∷ [])) }
+    ensures nodes { OnOk result (all_nodes_of behaviours.new ≡ all_nodes_of behaviours.old ++ plain.nodes_of (plain.process_behaviour
+        (parts_of wiring.now.parts.now) number (process_of process.now) process.now.targets ∷ [])) }
+    ensures processes { OnOk result (all_processes_of behaviours.new ≡ all_processes_of behaviours.old ++ plain.processes_of (plain.process_behaviour
+        (parts_of wiring.now.parts.now) number (process_of process.now) process.now.targets ∷ [])) }
 {
     match &process.targets {
         None => {
@@ -91,7 +95,8 @@ fn push_part<'p, 'u>(
 ) -> Result<(), NoMemory>
     requires { IsWiring wiring.now }
     ensures nodes { OnOk result (all_nodes_of behaviours.new ≡ all_nodes_of behaviours.old ++ plain.nodes_of (plain.part_behaviour (parts_of wiring.now.parts.now) number (part_of part.now))) }
-    ensures processes { OnOk result (all_processes_of behaviours.new ≡ all_processes_of behaviours.old ++ plain.processes_of (plain.part_behaviour (parts_of wiring.now.parts.now) number (part_of part.now))) }
+    ensures processes { OnOk result (all_processes_of behaviours.new ≡ all_processes_of behaviours.old ++ plain.processes_of (plain.part_behaviour
+        (parts_of wiring.now.parts.now) number (part_of part.now))) }
 {
     match part {
         Part::Assign { drives, value } => {
@@ -149,7 +154,8 @@ pub fn behaviours_of<'p, 'u>(
 
 /// What there are too many of: nodes, or else processes.
 pub fn too_many_behaviours(behaviours: &Behaviours<'_, '_>) -> Option<What>
-    ensures { (all : List plain.Behaviour) → plain.nodes_of all ≡ all_nodes_of behaviours.now → plain.processes_of all ≡ all_processes_of behaviours.now → too_many_behaviours all ≡ option_map (λ what. TooMany what (most_parts + 1)) result }
+    ensures { (all : List plain.Behaviour) → plain.nodes_of all ≡ all_nodes_of behaviours.now → plain.processes_of all ≡ all_processes_of behaviours.now →
+        too_many_behaviours all ≡ option_map (λ what. TooMany what (most_parts + 1)) result }
 {
     if behaviours.nodes.len() as u64 > MAX_OBJECTS {
         return Some(What::Nodes);

@@ -28,7 +28,8 @@ fn push_output<'u>(
     expr: &Expr,
     parts: &mut Vec<Part<'u>>,
 ) -> Result<(), NoMemory>
-    ensures { OnOk result ((c : plain.Child) → IsChild c child.entry → (p : plain.Paths) → ArePaths p paths.now → parts_of parts.new.items ≡ parts_of parts.old.items ++ output_parts c p port.now (expression_of expr.now) (target_spelled (expression_of expr.now))) }
+    ensures { OnOk result ((c : plain.Child) → IsChild c child.entry → (p : plain.Paths) → ArePaths p paths.now →
+        parts_of parts.new.items ≡ parts_of parts.old.items ++ output_parts c p port.now (expression_of expr.now) (target_spelled (expression_of expr.now))) }
 {
     match target_of(alloc, expr)? {
         None => Ok(()),
@@ -48,7 +49,9 @@ fn push_actual<'u>(
     expr: &Expr,
     parts: &mut Vec<Part<'u>>,
 ) -> Result<(), NoMemory>
-    ensures { OnOk result ((c : plain.Child) → IsChild c child.entry → (p : plain.Paths) → ArePaths p paths.now → parts_of parts.new.items ≡ parts_of parts.old.items ++ actual_parts c p port.now (expression_of expr.now) (joined_name c port.now (expression_of expr.now)) (port_direction c.inner port.now)) }
+    ensures { OnOk result ((c : plain.Child) → IsChild c child.entry → (p : plain.Paths) → ArePaths p paths.now →
+        parts_of parts.new.items ≡ parts_of parts.old.items ++ actual_parts c p port.now (expression_of expr.now) (joined_name c port.now
+        (expression_of expr.now)) (port_direction c.inner port.now)) }
 {
     if child.joined_name(port, expr).is_some() {
         return Ok(());
@@ -75,7 +78,8 @@ fn push_connection<'u>(
     connection: &Connection,
     parts: &mut Vec<Part<'u>>,
 ) -> Result<(), NoMemory>
-    ensures { OnOk result ((c : plain.Child) → IsChild c child.entry → (p : plain.Paths) → ArePaths p paths.now → parts_of parts.new.items ≡ parts_of parts.old.items ++ connection_parts c p (option_map name_seen port.entry) (expression_in connection.now.actual)) }
+    ensures { OnOk result ((c : plain.Child) → IsChild c child.entry → (p : plain.Paths) → ArePaths p paths.now →
+        parts_of parts.new.items ≡ parts_of parts.old.items ++ connection_parts c p (option_map name_seen port.entry) (expression_in connection.now.actual)) }
 {
     let Some(port) = port else {
         return Ok(());
@@ -97,7 +101,8 @@ pub fn push_connection_parts<'u>(
     connections: &'u [Connection],
     parts: &mut Vec<Part<'u>>,
 ) -> Result<(), NoMemory>
-    ensures { OnOk result ((c : plain.Child) → IsChild c child.entry → (p : plain.Paths) → ArePaths p paths.now → parts_of parts.new.items ≡ parts_of parts.old.items ++ connections_parts c p 0 (map connection_of connections.now)) }
+    ensures { OnOk result ((c : plain.Child) → IsChild c child.entry → (p : plain.Paths) → ArePaths p paths.now →
+        parts_of parts.new.items ≡ parts_of parts.old.items ++ connections_parts c p 0 (map connection_of connections.now)) }
 {
     'connections: for (position, connection) in connections.iter().enumerate() {
         let port = child.formals.ports().connected(position, connection);

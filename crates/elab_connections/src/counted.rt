@@ -30,7 +30,8 @@ fn target_nodes(target: &Option<Target>) -> u64
 
 /// How many assignments an output stands for, by its actual.
 fn output_nodes(alloc: Global, expr: &Expr) -> Result<u64, NoMemory>
-    ensures counts { IfOk result (λ nodes. (c : plain.Child) (p : plain.Paths) (port : Identifier) (e : SourceExpression) → CountsNodes (output_parts c p port e (target_spelled (expression_of expr.now))) nodes) }
+    ensures counts { IfOk result (λ nodes. (c : plain.Child) (p : plain.Paths) (port : Identifier) (e : SourceExpression) →
+        CountsNodes (output_parts c p port e (target_spelled (expression_of expr.now))) nodes) }
     ensures most { IfOk result (λ nodes. nodes ≤ 1) }
 {
     let target = target_of(alloc, expr)?;
@@ -44,7 +45,8 @@ fn actual_nodes(
     port: &Text,
     expr: &Expr,
 ) -> Result<u64, NoMemory>
-    ensures counts { IfOk result (λ nodes. (c : plain.Child) → IsChild c child.entry → (p : plain.Paths) → CountsNodes (actual_parts c p port.now (expression_of expr.now) (joined_name c port.now (expression_of expr.now)) (port_direction c.inner port.now)) nodes) }
+    ensures counts { IfOk result (λ nodes. (c : plain.Child) → IsChild c child.entry → (p : plain.Paths) →
+        CountsNodes (actual_parts c p port.now (expression_of expr.now) (joined_name c port.now (expression_of expr.now)) (port_direction c.inner port.now)) nodes) }
     ensures most { IfOk result (λ nodes. nodes ≤ 1) }
 {
     if child.joined_name(port, expr).is_some() {
@@ -67,7 +69,8 @@ fn connected_nodes(
     port: Option<&Text>,
     connection: &Connection,
 ) -> Result<u64, NoMemory>
-    ensures counts { IfOk result (λ nodes. (c : plain.Child) → IsChild c child.entry → (p : plain.Paths) → CountsNodes (connection_parts c p (option_map name_seen port.entry) (expression_in connection.now.actual)) nodes) }
+    ensures counts { IfOk result (λ nodes. (c : plain.Child) → IsChild c child.entry → (p : plain.Paths) →
+        CountsNodes (connection_parts c p (option_map name_seen port.entry) (expression_in connection.now.actual)) nodes) }
     ensures most { IfOk result (λ nodes. nodes ≤ 1) }
 {
     let Some(port) = port else {

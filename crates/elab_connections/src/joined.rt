@@ -51,7 +51,9 @@ fn push_joined(
     expr: &Expr,
     joins: &mut Vec<PortJoined>,
 ) -> Result<(), NoMemory>
-    ensures { OnOk result ((c : plain.Child) → IsChild c child.entry → (p : plain.Paths) → ArePaths p paths.now → map port_joined_of joins.new.items ≡ map port_joined_of joins.old.items ++ port_joined p port.now (place_of_expression (expression_of expr.now)) (joined_name c port.now (expression_of expr.now)) (port_direction c.inner port.now)) }
+    ensures { OnOk result ((c : plain.Child) → IsChild c child.entry → (p : plain.Paths) → ArePaths p paths.now →
+        map port_joined_of joins.new.items ≡ map port_joined_of joins.old.items ++ port_joined p port.now (place_of_expression (expression_of expr.now))
+        (joined_name c port.now (expression_of expr.now)) (port_direction c.inner port.now)) }
 {
     let Some(name) = child.joined_name(port, expr) else {
         return Ok(());
@@ -75,7 +77,8 @@ fn push_connected(
     connection: &Connection,
     joins: &mut Vec<PortJoined>,
 ) -> Result<(), NoMemory>
-    ensures { OnOk result ((c : plain.Child) → IsChild c child.entry → (p : plain.Paths) → ArePaths p paths.now → map port_joined_of joins.new.items ≡ map port_joined_of joins.old.items ++ source_joins c p (option_map name_seen port.entry) (expression_in connection.now.actual)) }
+    ensures { OnOk result ((c : plain.Child) → IsChild c child.entry → (p : plain.Paths) → ArePaths p paths.now →
+        map port_joined_of joins.new.items ≡ map port_joined_of joins.old.items ++ source_joins c p (option_map name_seen port.entry) (expression_in connection.now.actual)) }
 {
     let Some(port) = port else {
         return Ok(());
@@ -96,7 +99,8 @@ pub fn connection_joins<'u>(
     paths: &Paths,
     connections: &'u [Connection],
 ) -> Result<Vec<PortJoined>, NoMemory>
-    ensures { IfOk result (λ joins. (c : plain.Child) → IsChild c child.entry → (p : plain.Paths) → ArePaths p paths.now → map port_joined_of joins.items ≡ connections_joins c p 0 (map connection_of connections.now)) }
+    ensures { IfOk result (λ joins. (c : plain.Child) → IsChild c child.entry → (p : plain.Paths) → ArePaths p paths.now →
+        map port_joined_of joins.items ≡ connections_joins c p 0 (map connection_of connections.now)) }
 {
     let mut joins = Vec::new(alloc);
     'connections: for (position, connection) in connections.iter().enumerate() {

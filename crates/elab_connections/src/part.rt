@@ -117,7 +117,8 @@ pub fn output_part<'u>(
     expr: &Expr,
     target: &Target,
 ) -> Result<Part<'u>, NoMemory>
-    ensures { IfOk result (λ part. (c : plain.Child) → IsChild c child.entry → (p : plain.Paths) → ArePaths p paths.now → part_of part ≡ output_part c p port.now (expression_of expr.now) (views.target_of target.now)) }
+    ensures { IfOk result (λ part. (c : plain.Child) → IsChild c child.entry → (p : plain.Paths) → ArePaths p paths.now →
+        part_of part ≡ output_part c p port.now (expression_of expr.now) (views.target_of target.now)) }
 {
     let alone = name_alone(alloc, place_of_expr(expr), port)?;
     let width = target_width_in(alloc, Writer::Node, target, child.outer)?;

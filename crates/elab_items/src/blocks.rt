@@ -92,14 +92,16 @@ fn is_parameter(scope: &Scope<'_>, name: &Text) -> bool
 
 /// Whether a name is waited for, or is that of a parameter, which never changes.
 fn is_waited_for(scope: &Scope<'_>, waited: &NameMap<'_, Place>, name: &Text) -> bool
-    ensures { FindsParameters scope.now → (names : List (List ℕ)) → ((other : List ℕ) → is_some (kept waited.now other) ≡ has_name names other) → result ≡ has_name (names ++ parameter_names scope.now) name.now }
+    ensures { FindsParameters scope.now → (names : List (List ℕ)) → ((other : List ℕ) → is_some (kept waited.now other) ≡ has_name names other) →
+        result ≡ has_name (names ++ parameter_names scope.now) name.now }
 {
     waited.get(name.as_bytes()).is_some() || is_parameter(scope, name)
 }
 
 /// Whether each of some names is waited for, or is that of a parameter.
 fn are_waited_for(scope: &Scope<'_>, waited: &NameMap<'_, Place>, reads: &[Text]) -> bool
-    ensures { FindsParameters scope.now → (names : List (List ℕ)) → ((name : List ℕ) → is_some (kept waited.now name) ≡ has_name names name) → result ≡ list_all (has_name (names ++ parameter_names scope.now)) reads.now }
+    ensures { FindsParameters scope.now → (names : List (List ℕ)) → ((name : List ℕ) → is_some (kept waited.now name) ≡ has_name names name) →
+        result ≡ list_all (has_name (names ++ parameter_names scope.now)) reads.now }
 {
     'reads: for name in reads {
         if !is_waited_for(scope, waited, name) {
@@ -111,7 +113,8 @@ fn are_waited_for(scope: &Scope<'_>, waited: &NameMap<'_, Place>, reads: &[Text]
 
 /// The form of a block that waits for these names and parameters, by its form where it waits for all that it reads.
 fn waiting_form(scope: &Scope<'_>, waited: &NameMap<'_, Place>, form: Form) -> Form
-    ensures { FindsParameters scope.now → (names : List (List ℕ)) → ((name : List ℕ) → is_some (kept waited.now name) ≡ has_name names name) → form_of result ≡ waiting_form (names ++ parameter_names scope.now) (form_of form) }
+    ensures { FindsParameters scope.now → (names : List (List ℕ)) → ((name : List ℕ) → is_some (kept waited.now name) ≡ has_name names name) →
+        form_of result ≡ waiting_form (names ++ parameter_names scope.now) (form_of form) }
 {
     match form {
         Form::Process => Form::Process,
@@ -172,7 +175,8 @@ fn waiting_targets(
     waits: &Waits,
     body: &Stmt,
 ) -> Result<Option<Seq<Text>>, NoMemory>
-    ensures { IfOk result (λ targets. FindsParameters scope.now → targets ≡ option_and_then (λ names. net_targets scope.now (block_form (statement_of body.now) names)) (block_waits scope.now (waits_of waits.now))) }
+    ensures { IfOk result (λ targets. FindsParameters scope.now →
+        targets ≡ option_and_then (λ names. net_targets scope.now (block_form (statement_of body.now) names)) (block_waits scope.now (waits_of waits.now))) }
 {
     match waits {
         Waits::AnyRead => {

@@ -163,7 +163,8 @@ fn push_own<'u>(
     place: Place,
     parts: &mut Vec<Part<'u>>,
 ) -> Result<(), NoMemory>
-    ensures { OnOk result ((h : plain.Here) (d : source.Declaration) → IsHere h here.now → d.name ≡ name.now → d.place ≡ source_place place → parts_of parts.new.items ≡ parts_of parts.old.items ++ parts_of_own h (names_declared h.instance.inner) d) }
+    ensures { OnOk result ((h : plain.Here) (d : source.Declaration) → IsHere h here.now → d.name ≡ name.now → d.place ≡ source_place place →
+        parts_of parts.new.items ≡ parts_of parts.old.items ++ parts_of_own h (names_declared h.instance.inner) d) }
 {
     match here.declared.get(name.as_bytes()) {
         None => Ok(()),
@@ -184,7 +185,8 @@ pub fn push_names<'u>(
     names: &'u [Name],
     parts: &mut Vec<Part<'u>>,
 ) -> Result<(), NoMemory>
-    ensures { OnOk result ((h : plain.Here) (declared : source.Declared) → IsHere h here.now → parts_of parts.new.items ≡ parts_of parts.old.items ++ flat_map (parts_of_own h (names_declared h.instance.inner)) (map (name_declared declared) (map name_of names.now))) }
+    ensures { OnOk result ((h : plain.Here) (declared : source.Declared) → IsHere h here.now →
+        parts_of parts.new.items ≡ parts_of parts.old.items ++ flat_map (parts_of_own h (names_declared h.instance.inner)) (map (name_declared declared) (map name_of names.now))) }
 {
     'names: for name in names {
         push_own(alloc, here, &name.name, name.place, parts)?;
@@ -199,7 +201,8 @@ pub fn push_nets<'u>(
     wires: &'u [Wire],
     parts: &mut Vec<Part<'u>>,
 ) -> Result<(), NoMemory>
-    ensures { OnOk result ((h : plain.Here) (signed : _) (bounds : Bounds) → IsHere h here.now → parts_of parts.new.items ≡ parts_of parts.old.items ++ flat_map (parts_of_own h (names_declared h.instance.inner)) (wire_declarations signed bounds (map wire_of wires.now))) }
+    ensures { OnOk result ((h : plain.Here) (signed : _) (bounds : Bounds) → IsHere h here.now →
+        parts_of parts.new.items ≡ parts_of parts.old.items ++ flat_map (parts_of_own h (names_declared h.instance.inner)) (wire_declarations signed bounds (map wire_of wires.now))) }
 {
     'wires: for wire in wires {
         push_own(alloc, here, &wire.name, wire.place, parts)?;
@@ -214,7 +217,8 @@ pub fn push_regs<'u>(
     regs: &'u [Reg],
     parts: &mut Vec<Part<'u>>,
 ) -> Result<(), NoMemory>
-    ensures { OnOk result ((h : plain.Here) (signed : _) (bounds : Bounds) → IsHere h here.now → parts_of parts.new.items ≡ parts_of parts.old.items ++ flat_map (parts_of_own h (names_declared h.instance.inner)) (reg_declarations signed bounds (map reg_of regs.now))) }
+    ensures { OnOk result ((h : plain.Here) (signed : _) (bounds : Bounds) → IsHere h here.now →
+        parts_of parts.new.items ≡ parts_of parts.old.items ++ flat_map (parts_of_own h (names_declared h.instance.inner)) (reg_declarations signed bounds (map reg_of regs.now))) }
 {
     'regs: for reg in regs {
         push_own(alloc, here, &reg.name, reg.place, parts)?;

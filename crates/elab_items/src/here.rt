@@ -40,7 +40,9 @@ impl<'h, 'u> Here<'h, 'u> {
         joins: &'h [PortJoined],
         module: &'u Module,
     ) -> Result<Here<'h, 'u>, NoMemory>
-        ensures here { IfOk result (λ here. (h : plain.Here) → h.mode ≡ mode → h.instance.path ≡ path.value → h.instance.depth ≡ depth → h.scope ≡ scope.entry.value → h.instance.joins ≡ map port_joined_of joins.now → h.instance.inner ≡ module_of «module».now → names h.instance.inner h.instance.given ≡ Ok h.scope → IsHere h here) }
+        ensures here { IfOk result (λ here. (h : plain.Here) → h.mode ≡ mode → h.instance.path ≡ path.value → h.instance.depth ≡ depth →
+            h.scope ≡ scope.entry.value → h.instance.joins ≡ map port_joined_of joins.now → h.instance.inner ≡ module_of «module».now →
+            names h.instance.inner h.instance.given ≡ Ok h.scope → IsHere h here) }
         ensures mode { IfOk result (λ here. here.mode ≡ mode) }
         ensures path { IfOk result (λ here. here.path.value ≡ path.value) }
         ensures depth { IfOk result (λ here. here.depth ≡ depth) }

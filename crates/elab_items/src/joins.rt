@@ -25,7 +25,8 @@ fn keep_first<'h>(
     joined: &'h PortJoined,
     joins: &mut NameMap<'h, &'h Joining>,
 ) -> Result<(), NoMemory>
-    ensures { OnOk result ((name : List ℕ) → option_map joining_seen (kept joins.new name) ≡ option_or (option_map joining_seen (kept joins.old name)) (found_joining (port_joined_of joined.now ∷ []) name)) }
+    ensures { OnOk result ((name : List ℕ) → option_map joining_seen (kept joins.new name) ≡ option_or (option_map joining_seen (kept joins.old name))
+        (found_joining (port_joined_of joined.now ∷ []) name)) }
 {
     match joins.get(joined.port.as_bytes()) {
         Some(_) => Ok(()),

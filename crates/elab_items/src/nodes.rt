@@ -96,7 +96,8 @@ pub fn push_assignments<'u>(
     assignments: &[Assignment],
     parts: &mut Vec<Part<'u>>,
 ) -> Result<(), NoMemory>
-    ensures { OnOk result ((h : plain.Here) → IsHere h here.now → parts_of parts.new.items ≡ parts_of parts.old.items ++ map (λ (a : SourceAssignment). assign_part h a.target a.value) (map assignment_of assignments.now)) }
+    ensures { OnOk result ((h : plain.Here) → IsHere h here.now →
+        parts_of parts.new.items ≡ parts_of parts.old.items ++ map (λ (a : SourceAssignment). assign_part h a.target a.value) (map assignment_of assignments.now)) }
 {
     'assignments: for assignment in assignments {
         let part = assign_part(alloc, here, &assignment.target, &assignment.value)?;

@@ -45,7 +45,8 @@ fn assign_kind(
     outputs: &[NodeOutput],
     value: &ValueIn,
 ) -> Result<NodeKind, NoMemory>
-    ensures { IfOk result (λ kind. (parts : List Part) (objects : List HeldObject) → IsBasis parts objects basis.entry → node_kind_of kind ≡ plain.node_kind parts objects (map output_of outputs.now) (AssignFunction (walked.value_of value.now))) }
+    ensures { IfOk result (λ kind. (parts : List Part) (objects : List HeldObject) → IsBasis parts objects basis.entry →
+        node_kind_of kind ≡ plain.node_kind parts objects (map output_of outputs.now) (AssignFunction (walked.value_of value.now))) }
 {
     let names = InstanceNames {
         names: basis.names,
@@ -64,7 +65,8 @@ fn gate_kind(
     path: &Text,
     terminals: &[SizedExpr],
 ) -> Result<NodeKind, NoMemory>
-    ensures { IfOk result (λ made. (parts : List Part) (objects : List HeldObject) (outputs : List plain.NodeOutput) → IsBasis parts objects basis.entry → node_kind_of made ≡ plain.node_kind parts objects outputs (GateFunction kind path.now (all_sized_of terminals.now))) }
+    ensures { IfOk result (λ made. (parts : List Part) (objects : List HeldObject) (outputs : List plain.NodeOutput) → IsBasis parts objects basis.entry →
+        node_kind_of made ≡ plain.node_kind parts objects outputs (GateFunction kind path.now (all_sized_of terminals.now))) }
 {
     let names = InstanceNames {
         names: basis.names,
@@ -90,7 +92,8 @@ fn block_kind(
     basis: Basis<'_>,
     process: &WalkedProcess<'_>,
 ) -> Result<NodeKind, NoMemory>
-    ensures { IfOk result (λ kind. (parts : List Part) (objects : List HeldObject) (outputs : List plain.NodeOutput) → IsBasis parts objects basis.entry → node_kind_of kind ≡ plain.node_kind parts objects outputs (BlockFunction (walked.process_of process.now))) }
+    ensures { IfOk result (λ kind. (parts : List Part) (objects : List HeldObject) (outputs : List plain.NodeOutput) → IsBasis parts objects basis.entry →
+        node_kind_of kind ≡ plain.node_kind parts objects outputs (BlockFunction (walked.process_of process.now))) }
 {
     let meaning = meaning_of(basis, process);
     let statement = statement_over(alloc, meaning, block_body(process.body))?;
@@ -104,7 +107,8 @@ pub fn node_kind(
     outputs: &[NodeOutput],
     function: &NodeFunction<'_, '_>,
 ) -> Result<NodeKind, NoMemory>
-    ensures { IfOk result (λ kind. (parts : List Part) (objects : List HeldObject) → IsBasis parts objects basis.entry → node_kind_of kind ≡ plain.node_kind parts objects (map output_of outputs.now) (function_of function.now)) }
+    ensures { IfOk result (λ kind. (parts : List Part) (objects : List HeldObject) → IsBasis parts objects basis.entry →
+        node_kind_of kind ≡ plain.node_kind parts objects (map output_of outputs.now) (function_of function.now)) }
 {
     match function {
         NodeFunction::Assign(value) => {

@@ -55,7 +55,8 @@ fn flat_node(
     node: &WalkedNode<'_, '_>,
 ) -> Result<Node, NoMemory>
     requires { length basis.widths.now ≤ most_parts }
-    ensures { IfOk result (λ flat. (parts : List Part) (objects : List HeldObject) → IsBasis parts objects basis.entry → node_of flat ≡ node_by parts objects (map output_of outputs.now) (walked.node_of node.now)) }
+    ensures { IfOk result (λ flat. (parts : List Part) (objects : List HeldObject) → IsBasis parts objects basis.entry →
+        node_of flat ≡ node_by parts objects (map output_of outputs.now) (walked.node_of node.now)) }
 {
     let kind = node_kind(alloc, basis, outputs, &node.function)?;
     let inputs = node_inputs(alloc, &kind, outputs, basis.widths.len() as u32)?;
@@ -69,7 +70,8 @@ fn flat_node(
 
 /// The outputs of the node of a number.
 fn outputs_at(outputs: &[Vec<NodeOutput>], number: usize) -> &[NodeOutput]
-    ensures { (objects : List HeldObject) (count : ℕ) → output_lists outputs.now ≡ map (plain.outputs_of objects) (up_from 0 count) → number < count → map output_of result.now ≡ plain.outputs_of objects number }
+    ensures { (objects : List HeldObject) (count : ℕ) → output_lists outputs.now ≡ map (plain.outputs_of objects) (up_from 0 count) → number < count →
+        map output_of result.now ≡ plain.outputs_of objects number }
 {
     match outputs.get(number) {
         Some(own) => own,

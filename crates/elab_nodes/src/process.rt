@@ -38,7 +38,8 @@ fn flat_process(
     basis: Basis<'_>,
     process: &WalkedProcess<'_>,
 ) -> Result<Process, NoMemory>
-    ensures { IfOk result (λ flat. (parts : List Part) (objects : List HeldObject) → IsBasis parts objects basis.entry → process_of flat ≡ plain.flat_process parts objects (walked.process_of process.now)) }
+    ensures { IfOk result (λ flat. (parts : List Part) (objects : List HeldObject) → IsBasis parts objects basis.entry →
+        process_of flat ≡ plain.flat_process parts objects (walked.process_of process.now)) }
 {
     let body = statement_over(alloc, meaning_of(basis, process), process.body)?;
     Ok(Process {
@@ -58,7 +59,8 @@ pub fn flat_processes(
     basis: Basis<'_>,
     processes: &[ProcessPart<'_, '_>],
 ) -> Result<Vec<Process>, NoMemory>
-    ensures { IfOk result (λ flats. (parts : List Part) (objects : List HeldObject) → IsBasis parts objects basis.entry → map process_of flats.items ≡ map (plain.flat_process parts objects) (map process_in processes.now)) }
+    ensures { IfOk result (λ flats. (parts : List Part) (objects : List HeldObject) → IsBasis parts objects basis.entry →
+        map process_of flats.items ≡ map (plain.flat_process parts objects) (map process_in processes.now)) }
 {
     let mut flats = Vec::new(alloc);
     'processes: for process in processes {

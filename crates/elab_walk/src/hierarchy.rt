@@ -68,7 +68,9 @@ fn walk_inside<'u>(
     walked: &mut Walked<'u>,
 ) -> Result<(), WalkFault>
     requires { site.here.now.depth + levels ≤ 64 }
-    ensures { (h : plain.Here) (m : SourceModule) (given : List GivenParameter) → IsSite h site.entry → IsInner h m given inner.entry → ArePaths (paths_of h (instance_of instance.now)) paths.now → (before : List parts.Part) → AreCounts before walked.old.counts → Leaves before (plain.walked h.modules h.mode levels (entered h m given (instance_of instance.now)) before) result walked.old walked.new }
+    ensures { (h : plain.Here) (m : SourceModule) (given : List GivenParameter) → IsSite h site.entry → IsInner h m given inner.entry →
+        ArePaths (paths_of h (instance_of instance.now)) paths.now → (before : List parts.Part) → AreCounts before walked.old.counts →
+        Leaves before (plain.walked h.modules h.mode levels (entered h m given (instance_of instance.now)) before) result walked.old walked.new }
 {
     let connections = instance.connections.as_slice();
     let joins = connection_joins(alloc, inner.child, paths, connections)?;
@@ -102,7 +104,9 @@ fn walk_instance<'u>(
     walked: &mut Walked<'u>,
 ) -> Result<(), WalkFault>
     requires { site.here.now.depth + levels ≤ 64 }
-    ensures { (h : plain.Here) (m : SourceModule) (given : List GivenParameter) → IsSite h site.entry → IsInner h m given inner.entry → (before : List parts.Part) → AreCounts before walked.old.counts → Leaves before (walked_instance (plain.walked h.modules h.mode levels) h m given (instance_of instance.now) before) result walked.old walked.new }
+    ensures { (h : plain.Here) (m : SourceModule) (given : List GivenParameter) → IsSite h site.entry → IsInner h m given inner.entry →
+        (before : List parts.Part) → AreCounts before walked.old.counts →
+        Leaves before (walked_instance (plain.walked h.modules h.mode levels) h m given (instance_of instance.now) before) result walked.old walked.new }
 {
     let connections = instance.connections.as_slice();
     refuse_reads(connection_reads_over(alloc, inner.child, connections)?)?;
@@ -130,7 +134,9 @@ fn walk_instances<'u>(
     walked: &mut Walked<'u>,
 ) -> Result<(), WalkFault>
     requires { site.here.now.depth + levels ≤ 64 }
-    ensures { (h : plain.Here) (m : SourceModule) (given : List GivenParameter) → IsSite h site.entry → IsInner h m given inner.entry → (before : List parts.Part) → AreCounts before walked.old.counts → Leaves before (walked_instances (plain.walked h.modules h.mode levels) h m given (map instance_of instances.now) before) result walked.old walked.new }
+    ensures { (h : plain.Here) (m : SourceModule) (given : List GivenParameter) → IsSite h site.entry → IsInner h m given inner.entry →
+        (before : List parts.Part) → AreCounts before walked.old.counts →
+        Leaves before (walked_instances (plain.walked h.modules h.mode levels) h m given (map instance_of instances.now) before) result walked.old walked.new }
 {
     'instances: for instance in instances {
         walk_instance(alloc, site, levels, inner, instance, walked)?;
@@ -150,7 +156,9 @@ fn walk_instance_item<'u>(
     walked: &mut Walked<'u>,
 ) -> Result<(), WalkFault>
     requires { site.here.now.depth + levels ≤ 64 }
-    ensures { (h : plain.Here) → IsSite h site.entry → (before : List parts.Part) (place : SourcePlace) → AreCounts before walked.old.counts → Leaves before (walked_instance_item (plain.walked h.modules h.mode levels) h (Some (module_of «module».now)) place (map connection_of parameters.now) (map instance_of instances.now) before) result walked.old walked.new }
+    ensures { (h : plain.Here) → IsSite h site.entry → (before : List parts.Part) (place : SourcePlace) → AreCounts before walked.old.counts →
+        Leaves before (walked_instance_item (plain.walked h.modules h.mode levels) h (Some (module_of «module».now)) place (map connection_of parameters.now)
+        (map instance_of instances.now) before) result walked.old walked.new }
 {
     let formals = Formals::of(alloc, module)?;
     let given = given_parameters(alloc, &site.here.scope, &formals, parameters)?;
@@ -181,7 +189,8 @@ fn walk_item<'u>(
     walked: &mut Walked<'u>,
 ) -> Result<(), WalkFault>
     requires { site.here.now.depth + levels ≤ 64 }
-    ensures { (h : plain.Here) → IsSite h site.entry → (before : List parts.Part) → AreCounts before walked.old.counts → Leaves before (walked_item (plain.walked h.modules h.mode levels) h gates (item_of item.now) before) result walked.old walked.new }
+    ensures { (h : plain.Here) → IsSite h site.entry → (before : List parts.Part) → AreCounts before walked.old.counts →
+        Leaves before (walked_item (plain.walked h.modules h.mode levels) h gates (item_of item.now) before) result walked.old walked.new }
 {
     match item {
         Item::Instance {
@@ -214,7 +223,8 @@ fn walk_items<'u>(
     walked: &mut Walked<'u>,
 ) -> Result<(), WalkFault>
     requires { site.here.now.depth + levels ≤ 64 }
-    ensures { (h : plain.Here) → IsSite h site.entry → (before : List parts.Part) → AreCounts before walked.old.counts → Leaves before (walked_items (plain.walked h.modules h.mode levels) h 0 (map item_of items.now) before) result walked.old walked.new }
+    ensures { (h : plain.Here) → IsSite h site.entry → (before : List parts.Part) → AreCounts before walked.old.counts →
+        Leaves before (walked_items (plain.walked h.modules h.mode levels) h 0 (map item_of items.now) before) result walked.old walked.new }
 {
     let mut gates = 0;
     'items: for item in items {
@@ -235,7 +245,9 @@ fn walk_module<'u>(
     walked: &mut Walked<'u>,
 ) -> Result<(), WalkFault>
     requires { site.here.now.depth + levels ≤ 64 }
-    ensures { (h : plain.Here) → IsSite h site.entry → AreFormals (module_of «module».now) formals.now → (before : List parts.Part) → AreCounts before walked.old.counts → Leaves before (walked_module (plain.walked h.modules h.mode levels) h (module_of «module».now) before) result walked.old walked.new }
+    ensures { (h : plain.Here) → IsSite h site.entry → AreFormals (module_of «module».now) formals.now → (before : List parts.Part) →
+        AreCounts before walked.old.counts →
+        Leaves before (walked_module (plain.walked h.modules h.mode levels) h (module_of «module».now) before) result walked.old walked.new }
 {
     walk_param_groups(alloc, site, module.params.as_slice(), walked)?;
     refuse(not_port_fault(formals, &module.ports))?;
@@ -254,7 +266,8 @@ fn enter<'u>(
     walked: &mut Walked<'u>,
 ) -> Result<(), WalkFault>
     requires { entrance.depth + levels ≤ 65 }
-    ensures { (all : List SourceModule) (e : plain.Entered) → AreModules all modules.now → IsEntrance e entrance.entry → (before : List parts.Part) → AreCounts before walked.old.counts → Leaves before (plain.walked all mode levels e before) result walked.old walked.new }
+    ensures { (all : List SourceModule) (e : plain.Entered) → AreModules all modules.now → IsEntrance e entrance.entry → (before : List parts.Part) →
+        AreCounts before walked.old.counts → Leaves before (plain.walked all mode levels e before) result walked.old walked.new }
 {
     if levels == 0 {
         return Ok(());
@@ -291,7 +304,8 @@ pub fn walked_from<'u>(
     mode: Mode,
     top: &'u Module,
 ) -> Result<Vec<Part<'u>>, WalkFault>
-    ensures { (all : List SourceModule) → AreModules all modules.now → MatchResult result (λ parts. walked_from all mode (module_of top.now) ≡ Ok (parts_of parts.items)) (λ fault. IsWalkFault (walked_from all mode (module_of top.now)) fault) }
+    ensures { (all : List SourceModule) → AreModules all modules.now →
+        MatchResult result (λ parts. walked_from all mode (module_of top.now) ≡ Ok (parts_of parts.items)) (λ fault. IsWalkFault (walked_from all mode (module_of top.now)) fault) }
 {
     let formals = Formals::of(alloc, top)?;
     let entrance = Entrance {

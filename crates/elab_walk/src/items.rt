@@ -27,7 +27,8 @@ fn walk_params<'u>(
     group: &'u Params,
     walked: &mut Walked<'u>,
 ) -> Result<(), WalkFault>
-    ensures { (h : plain.Here) (walker : Walker) → IsSite h site.entry → (before : List parts.Part) → AreCounts before walked.old.counts → Leaves before (walked_item walker h 0 (ParameterItem (parameters_of group.now)) before) result walked.old walked.new }
+    ensures { (h : plain.Here) (walker : Walker) → IsSite h site.entry → (before : List parts.Part) → AreCounts before walked.old.counts →
+        Leaves before (walked_item walker h 0 (ParameterItem (parameters_of group.now)) before) result walked.old walked.new }
 {
     refuse(params_fault(alloc, &site.here.scope, group)?)?;
     let start = walked.parts.len();
@@ -42,7 +43,8 @@ pub fn walk_param_groups<'u>(
     groups: &'u [Params],
     walked: &mut Walked<'u>,
 ) -> Result<(), WalkFault>
-    ensures { (h : plain.Here) (walker : Walker) → IsSite h site.entry → (before : List parts.Part) → AreCounts before walked.old.counts → Leaves before (walked_items walker h 0 (map ParameterItem (map parameters_of groups.now)) before) result walked.old walked.new }
+    ensures { (h : plain.Here) (walker : Walker) → IsSite h site.entry → (before : List parts.Part) → AreCounts before walked.old.counts →
+        Leaves before (walked_items walker h 0 (map ParameterItem (map parameters_of groups.now)) before) result walked.old walked.new }
 {
     'groups: for group in groups {
         walk_params(alloc, site, group, walked)?;
@@ -57,7 +59,8 @@ fn walk_ports<'u>(
     group: &'u Ports,
     walked: &mut Walked<'u>,
 ) -> Result<(), WalkFault>
-    ensures { (h : plain.Here) (walker : Walker) → IsSite h site.entry → (before : List parts.Part) → AreCounts before walked.old.counts → Leaves before (walked_item walker h 0 (PortItem (ports_of group.now)) before) result walked.old walked.new }
+    ensures { (h : plain.Here) (walker : Walker) → IsSite h site.entry → (before : List parts.Part) → AreCounts before walked.old.counts →
+        Leaves before (walked_item walker h 0 (PortItem (ports_of group.now)) before) result walked.old walked.new }
 {
     refuse(ports_fault(alloc, &site.here.scope, group)?)?;
     let start = walked.parts.len();
@@ -73,7 +76,8 @@ fn walk_port_groups<'u>(
     groups: &'u [Ports],
     walked: &mut Walked<'u>,
 ) -> Result<(), WalkFault>
-    ensures { (h : plain.Here) (walker : Walker) → IsSite h site.entry → (before : List parts.Part) → AreCounts before walked.old.counts → Leaves before (walked_items walker h 0 (map PortItem (map ports_of groups.now)) before) result walked.old walked.new }
+    ensures { (h : plain.Here) (walker : Walker) → IsSite h site.entry → (before : List parts.Part) → AreCounts before walked.old.counts →
+        Leaves before (walked_items walker h 0 (map PortItem (map ports_of groups.now)) before) result walked.old walked.new }
 {
     'groups: for group in groups {
         walk_ports(alloc, site, group, walked)?;
@@ -88,7 +92,8 @@ pub fn walk_heads<'u>(
     heads: &'u Heads,
     walked: &mut Walked<'u>,
 ) -> Result<(), WalkFault>
-    ensures { (h : plain.Here) (walker : Walker) → IsSite h site.entry → (before : List parts.Part) → AreCounts before walked.old.counts → Leaves before (walked_items walker h 0 (head_items (heads_of heads.now)) before) result walked.old walked.new }
+    ensures { (h : plain.Here) (walker : Walker) → IsSite h site.entry → (before : List parts.Part) → AreCounts before walked.old.counts →
+        Leaves before (walked_items walker h 0 (head_items (heads_of heads.now)) before) result walked.old walked.new }
 {
     match heads {
         Heads::Plain(_) => Ok(()),
@@ -101,7 +106,9 @@ pub fn walk_heads<'u>(
 
 /// Refuses what is wrong with an item that is no instance, and then a node of it that reads too many objects.
 fn refuse_item(alloc: Global, site: Site<'_, '_, '_, '_>, item: &Item) -> Result<(), WalkFault>
-    ensures { (h : plain.Here) → IsSite h site.entry → (gates : ℕ) → MatchResult result (λ done. checked_item h gates (item_of item.now) ≡ Ok (item_parts h gates (item_of item.now))) (λ fault. IsWalkFault (checked_item h gates (item_of item.now)) fault) }
+    ensures { (h : plain.Here) → IsSite h site.entry → (gates : ℕ) →
+        MatchResult result (λ done. checked_item h gates (item_of item.now) ≡ Ok (item_parts h gates (item_of item.now)))
+        (λ fault. IsWalkFault (checked_item h gates (item_of item.now)) fault) }
 {
     let here = site.here;
     refuse(item_fault(alloc, &here.scope, item)?)?;
@@ -117,7 +124,8 @@ pub fn walk_plain_item<'u>(
     item: &'u Item,
     walked: &mut Walked<'u>,
 ) -> Result<(), WalkFault>
-    ensures { (h : plain.Here) → IsSite h site.entry → (before : List parts.Part) → AreCounts before walked.old.counts → Leaves before (plain_item h gates (item_of item.now) before) result walked.old walked.new }
+    ensures { (h : plain.Here) → IsSite h site.entry → (before : List parts.Part) → AreCounts before walked.old.counts →
+        Leaves before (plain_item h gates (item_of item.now) before) result walked.old walked.new }
 {
     refuse_item(alloc, site, item)?;
     let start = walked.parts.len();

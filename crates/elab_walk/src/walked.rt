@@ -35,7 +35,8 @@ impl<'u> Walked<'u> {
 
     /// Refuses the first count that passes its limit.
     fn few(&self) -> Result<(), WalkFault>
-        ensures { (all : List plain.Part) → AreCounts all self.now.counts → MatchResult result (λ done. too_many_parts all ≡ None) (λ fault. IsWalkFault (unless_refused (too_many_parts all) all) fault) }
+        ensures { (all : List plain.Part) → AreCounts all self.now.counts →
+            MatchResult result (λ done. too_many_parts all ≡ None) (λ fault. IsWalkFault (unless_refused (too_many_parts all) all) fault) }
     {
         match self.counts.too_many() {
             None => Ok(()),

@@ -121,8 +121,12 @@ impl Causes {
     /// The cause of the next evaluation or update of a node with these inputs: the latest change of one of them.
     pub fn cause_of_node(&self, inputs: &[ObjectId]) -> Option<u64>
         requires { All (λ object. object_number object < length self.now.changes.items) inputs.now }
-        ensures evaluation { (machine : Machine) (earlier : List NotedEvent) (number : ℕ) (node : FlatNode) → AreCausesOf machine earlier self.now → slice_get machine.design.nodes number ≡ Some node → node.inputs ≡ map object_number inputs.now → result ≡ cause_of machine earlier (Evaluation number) }
-        ensures update { (machine : Machine) (earlier : List NotedEvent) (number : ℕ) (node : FlatNode) → AreCausesOf machine earlier self.now → slice_get machine.design.nodes number ≡ Some node → node.inputs ≡ map object_number inputs.now → result ≡ cause_of machine earlier (NetUpdate number) }
+        ensures evaluation { (machine : Machine) (earlier : List NotedEvent) (number : ℕ) (node : FlatNode) → AreCausesOf machine earlier self.now →
+            slice_get machine.design.nodes number ≡ Some node → node.inputs ≡ map object_number inputs.now →
+            result ≡ cause_of machine earlier (Evaluation number) }
+        ensures update { (machine : Machine) (earlier : List NotedEvent) (number : ℕ) (node : FlatNode) → AreCausesOf machine earlier self.now →
+            slice_get machine.design.nodes number ≡ Some node → node.inputs ≡ map object_number inputs.now →
+            result ≡ cause_of machine earlier (NetUpdate number) }
     {
         let mut latest = 0;
         'inputs: for input in inputs {
@@ -177,7 +181,8 @@ impl Causes {
         requires changed { All (λ object. object_number object < length self.old.changes.items) changed.now }
         requires ended { All (λ process. process_number process < length self.old.steps.items) ended.now }
         ensures sized { IfOk result (λ _. SameSizes self.old self.new) }
-        ensures notes { IfOk result (λ _. Notes (Step (process_number process)) (record { process = process_number process; line = line }) (map object_number changed.now) (map process_number ended.now) self.old self.new) }
+        ensures notes { IfOk result (λ _. Notes (Step (process_number process)) (record { process = process_number process; line = line })
+            (map object_number changed.now) (map process_number ended.now) self.old self.new) }
     {
         let number = self.begin_event(Writer { process, line })?;
         self.steps[process.0 as usize] = number;
@@ -202,7 +207,8 @@ impl Causes {
         requires changed { All (λ object. object_number object < length self.old.changes.items) changed.now }
         requires ended { All (λ process. process_number process < length self.old.steps.items) ended.now }
         ensures sized { IfOk result (λ _. SameSizes self.old self.new) }
-        ensures notes { IfOk result (λ _. Notes (LaneStep (process_number process)) (record { process = process_number process; line = line }) (map object_number changed.now) (map process_number ended.now) self.old self.new) }
+        ensures notes { IfOk result (λ _. Notes (LaneStep (process_number process)) (record { process = process_number process; line = line })
+            (map object_number changed.now) (map process_number ended.now) self.old self.new) }
     {
         let number = self.begin_event(Writer { process, line })?;
         self.lanes[process.0 as usize] = number;

@@ -146,7 +146,8 @@ fn word_reading(
     signed: bool,
     index: ExprReading,
 ) -> Result<ExprReading, NoMemory>
-    ensures { IfOk result (λ read. (at : Reading) → IsReading at index → IsReading (sized_reading (source_place place) (span high low) signed at.complete (alone_faults at) (λ w whole. SizedWord w whole name.now (tree_alone at))) read) }
+    ensures { IfOk result (λ read. (at : Reading) → IsReading at index →
+        IsReading (sized_reading (source_place place) (span high low) signed at.complete (alone_faults at) (λ w whole. SizedWord w whole name.now (tree_alone at))) read) }
 {
     let size = size_within(span(high, low), signed);
     let inside = apart(index.faults);

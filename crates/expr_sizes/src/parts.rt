@@ -60,7 +60,8 @@ pub(crate) fn add_part(
     place: Place,
     part: ExprReading,
 ) -> Result<ReadParts, NoMemory>
-    ensures { IfOk result (λ after. (whole rest : PartsReading) (reading : Reading) → IsReading reading part → AreReadSo whole (part_before unsized_number (source_place place) reading rest) parts → AreReadSo whole rest after) }
+    ensures { IfOk result (λ after. (whole rest : PartsReading) (reading : Reading) → IsReading reading part →
+        AreReadSo whole (part_before unsized_number (source_place place) reading rest) parts → AreReadSo whole rest after) }
 {
     let size = part_size(unsized_number, part.size);
     let total = wider(parts.total, size);
@@ -100,7 +101,8 @@ pub(crate) fn replication_reading(
     times: Faults,
     parts: ReadParts,
 ) -> ExprReading
-    ensures { (read : PartsReading) (counted : Reading) → ArePartsRead read parts → AreFaults counted.here counted.inside times → IsReading (replication_reading (source_place place) count read.width read.complete (read.inside ++ alone_faults counted) read.trees) result }
+    ensures { (read : PartsReading) (counted : Reading) → ArePartsRead read parts → AreFaults counted.here counted.inside times →
+        IsReading (replication_reading (source_place place) count read.width read.complete (read.inside ++ alone_faults counted) read.trees) result }
 {
     let inner = apart(times);
     let faults = together(parts.faults, inner);

@@ -163,7 +163,9 @@ pub(crate) fn sized(
     inside: Faults,
     tree: SizedExpr,
 ) -> ExprReading
-    ensures { (width : ℕ) (signed complete : Bool) (faults : List Fault) (at : ℕ → Bool → SizedExpression) → option_map size_of size ≡ size_within width signed → AreFaults [] faults inside → IsTree at tree → IsReading (sized_reading (source_place place) width signed complete faults at) result }
+    ensures { (width : ℕ) (signed complete : Bool) (faults : List Fault) (at : ℕ → Bool → SizedExpression) →
+        option_map size_of size ≡ size_within width signed → AreFaults [] faults inside → IsTree at tree →
+        IsReading (sized_reading (source_place place) width signed complete faults at) result }
 {
     match size {
         Some(_) => ExprReading {

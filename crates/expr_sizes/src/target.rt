@@ -185,7 +185,8 @@ fn width_or_zero(width: Option<u8>) -> u8
 
 /// The first thing that is wrong with a target and its value, which are sized together.
 pub fn first_assignment_fault(target: TargetReading, value: OwnReading) -> Option<Found>
-    ensures { (reading : plain.TargetReading) (of_value : Reading) → IsTargetReading reading target → IsOwnReading of_value value → found_fault result ≡ first_fault (assignment_faults reading of_value) }
+    ensures { (reading : plain.TargetReading) (of_value : Reading) → IsTargetReading reading target → IsOwnReading of_value value →
+        found_fault result ≡ first_fault (assignment_faults reading of_value) }
 {
     first_fault(together(target.faults, value.faults))
 }

@@ -102,7 +102,9 @@ fn finish<L: Ledger>(
 ) -> Result<End, NoMemory>
     requires reached { (time : ℕ) → last_before race end ≡ Some time → IsReached time machine.old }
     requires limit { (time : ℕ) → last_before race end ≡ Some time → time ≤ 2 ^ 63 }
-    ensures { IfOk result (λ ended. (design : FlatDesign) (plan : TestPlan) (fault : StuckAt) → plan.end ≡ end → IsGradingAt design plan fault machine.old [] grader.now → good_stop design plan ≡ race_if race → StopsWithin plan.end (race_if race) → grade design plan fault ≡ Some (grade_of ended)) }
+    ensures { IfOk result (λ ended. (design : FlatDesign) (plan : TestPlan) (fault : StuckAt) → plan.end ≡ end →
+        IsGradingAt design plan fault machine.old [] grader.now → good_stop design plan ≡ race_if race → StopsWithin plan.end (race_if race) →
+        grade design plan fault ≡ Some (grade_of ended)) }
 {
     if let Some(stop) = advance_to(log, machine, last_time(race, end), steps)? {
         return Ok(end_by_faulty(stop));

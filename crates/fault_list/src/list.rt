@@ -58,7 +58,8 @@ fn add_variables(faults: &mut Vec<Fault>, objects: &[Object]) -> Result<(), NoMe
 
 /// The outputs of a node, in ascending order: of a design whose net pieces they are, those pieces that the node drives.
 fn outputs_in_order(alloc: Global, node: &Node) -> Result<Vec<u32>, NoMemory>
-    ensures { IfOk result (λ outputs. (design : FlatDesign) → AllHold (λ object. IsTrue (has (net_pieces design) object)) (node_of node.now).outputs → outputs.items ≡ filter (has (node_of node.now).outputs) (net_pieces design)) }
+    ensures { IfOk result (λ outputs. (design : FlatDesign) → AllHold (λ object. IsTrue (has (net_pieces design) object)) (node_of node.now).outputs →
+        outputs.items ≡ filter (has (node_of node.now).outputs) (net_pieces design)) }
 {
     let mut outputs = Vec::new(alloc);
     for object in node.outputs.as_slice() {

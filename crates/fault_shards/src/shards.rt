@@ -67,7 +67,8 @@ impl Shards {
     pub fn in_list_order(&self, alloc: Global, found: &[Finding]) -> Result<Vec<Finding>, NoMemory>
         requires listed { All (λ (finding : Finding). fault_number finding.fault < fault_count self.now) found.now }
         ensures order { IfOk result (λ findings. AreInOrder (fault_count self.now) findings.items) }
-        ensures grades { IfOk result (λ findings. (design : FlatDesign) (plan : TestPlan) → KeepsRules design → AreShardsOf design plan.faults self.now → AreFound design plan found.now → AreGrades design plan (grades_of findings.items)) }
+        ensures grades { IfOk result (λ findings. (design : FlatDesign) (plan : TestPlan) → KeepsRules design → AreShardsOf design plan.faults self.now →
+            AreFound design plan found.now → AreGrades design plan (grades_of findings.items)) }
     {
         one_class();
         let ends = self.ends_found(alloc, found)?;

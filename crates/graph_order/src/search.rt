@@ -18,7 +18,8 @@ fn add_need(
 ) -> Result<(), NoMemory>
     requires need { need < vec_len placed.now }
     requires alike { vec_len seen.old ≡ vec_len placed.now }
-    ensures search { OnOk result ((vertex : ℕ) → (need ≡ vertex → ⊥) → IsSearch (vec_len placed.now) vertex seen.old.items found.old.items → IsSearch (vec_len placed.now) vertex seen.new.items found.new.items) }
+    ensures search { OnOk result ((vertex : ℕ) → (need ≡ vertex → ⊥) → IsSearch (vec_len placed.now) vertex seen.old.items found.old.items →
+        IsSearch (vec_len placed.now) vertex seen.new.items found.new.items) }
     ensures adds { OnOk result ((vertex : ℕ) (own before : List ℕ) → (need ≡ vertex → ⊥) → IsSearch (vec_len placed.now) vertex seen.old.items found.old.items →
         AddsNeeds placed.now.items vertex own before found.old.items → AddsNeeds placed.now.items vertex (own ++ need ∷ []) before found.new.items) }
     ensures same { OnOk result (vec_len seen.new ≡ vec_len placed.now) }

@@ -38,7 +38,9 @@ fn waiting_reads_over(
     block: &Stmt,
     inner: &Stmt,
 ) -> Result<bool, NoMemory>
-    ensures { IfOk result (λ over. FindsParameters scope.now → (place : SourcePlace) (waits : SourceWaits) → statement_of block.now ≡ EventStatement place waits (statement_of inner.now) → over ≡ some_reads_over scope.now (reads_beside (block_targets scope.now (statement_of block.now)) (statement_of inner.now))) }
+    ensures { IfOk result (λ over. FindsParameters scope.now → (place : SourcePlace) (waits : SourceWaits) →
+        statement_of block.now ≡ EventStatement place waits (statement_of inner.now) →
+        over ≡ some_reads_over scope.now (reads_beside (block_targets scope.now (statement_of block.now)) (statement_of inner.now))) }
 {
     let form = comb_form(alloc, inner, &Waits::Star)?;
     let over = form_reads_over(scope, &form);

@@ -21,7 +21,8 @@ fn actual_reads_over(
     port: &Text,
     expr: &Expr,
 ) -> Result<bool, NoMemory>
-    ensures { IfOk result (λ over. (c : plain.Child) → IsChild c child.entry → over ≡ some_reads_over c.outer_scope (actual_reads (expression_of expr.now) (joined_name c port.now (expression_of expr.now)) (port_direction c.inner port.now))) }
+    ensures { IfOk result (λ over. (c : plain.Child) → IsChild c child.entry →
+        over ≡ some_reads_over c.outer_scope (actual_reads (expression_of expr.now) (joined_name c port.now (expression_of expr.now)) (port_direction c.inner port.now))) }
 {
     if child.joined_name(port, expr).is_some() {
         return Ok(false);
@@ -43,7 +44,8 @@ fn connected_reads_over(
     port: Option<&Text>,
     connection: &Connection,
 ) -> Result<bool, NoMemory>
-    ensures { IfOk result (λ over. (c : plain.Child) → IsChild c child.entry → over ≡ some_reads_over c.outer_scope (connection_reads c (option_map name_seen port.entry) (expression_in connection.now.actual))) }
+    ensures { IfOk result (λ over. (c : plain.Child) → IsChild c child.entry →
+        over ≡ some_reads_over c.outer_scope (connection_reads c (option_map name_seen port.entry) (expression_in connection.now.actual))) }
 {
     let Some(port) = port else {
         return Ok(false);

@@ -125,7 +125,8 @@ pub fn note_actual(
     expr: &Expr,
     first: &mut FirstFault,
 ) -> Result<(), NoMemory>
-    ensures { OnOk result ((c : plain.Child) → IsChild c child.entry → first.new ≡ noted first.old (actual_faults_by c.outer_scope (joined_name c port.now (expression_of expr.now)) (port_direction c.inner port.now) (expression_of expr.now))) }
+    ensures { OnOk result ((c : plain.Child) → IsChild c child.entry →
+        first.new ≡ noted first.old (actual_faults_by c.outer_scope (joined_name c port.now (expression_of expr.now)) (port_direction c.inner port.now) (expression_of expr.now))) }
 {
     if is_joined(child, port, expr) {
         note_size(alloc, child.outer, expr, first)?;

@@ -36,7 +36,9 @@ fn note_optional_actual(
     connection: &Connection,
     first: &mut FirstFault,
 ) -> Result<(), NoMemory>
-    ensures { OnOk result ((c : plain.Child) → IsChild c child.entry → first.new ≡ noted first.old (optional_faults (λ e. actual_faults_by c.outer_scope (joined_name c port.now e) (port_direction c.inner port.now) e) (expression_in connection.now.actual))) }
+    ensures { OnOk result ((c : plain.Child) → IsChild c child.entry →
+        first.new ≡ noted first.old (optional_faults (λ e. actual_faults_by c.outer_scope (joined_name c port.now e) (port_direction c.inner port.now) e)
+        (expression_in connection.now.actual))) }
 {
     match &connection.actual {
         None => Ok(()),
@@ -56,8 +58,10 @@ fn note_connection<'m>(
     earlier: &mut NameMap<'m, Place>,
     first: &mut FirstFault,
 ) -> Result<(), NoMemory>
-    ensures noted { OnOk result ((c : plain.Child) (names : List Identifier) → IsChild c child.entry → ((other : Identifier) → is_some (kept earlier.old other) ≡ has_name names other) → first.new ≡ noted first.old (port_faults c names (connection_of connection.now) (option_map name_seen port.entry))) }
-    ensures earlier { OnOk result ((names : List Identifier) → ((other : Identifier) → is_some (kept earlier.old other) ≡ has_name names other) → (other : Identifier) → is_some (kept earlier.new other) ≡ has_name (name_before (option_map name_seen port.entry) names) other) }
+    ensures noted { OnOk result ((c : plain.Child) (names : List Identifier) → IsChild c child.entry → ((other : Identifier) →
+        is_some (kept earlier.old other) ≡ has_name names other) → first.new ≡ noted first.old (port_faults c names (connection_of connection.now) (option_map name_seen port.entry))) }
+    ensures earlier { OnOk result ((names : List Identifier) → ((other : Identifier) → is_some (kept earlier.old other) ≡ has_name names other) →
+        (other : Identifier) → is_some (kept earlier.new other) ≡ has_name (name_before (option_map name_seen port.entry) names) other) }
 {
     match port {
         None => {

@@ -42,8 +42,10 @@ fn note_given_name<'m>(
     earlier: &mut NameMap<'m, Place>,
     first: &mut FirstFault,
 ) -> Result<(), NoMemory>
-    ensures noted { OnOk result ((names : List Identifier) → ((other : Identifier) → is_some (kept earlier.old other) ≡ has_name names other) → first.new ≡ noted first.old (given_fault names (connection_of connection.now) (option_map name_seen name.entry))) }
-    ensures earlier { OnOk result ((names : List Identifier) → ((other : Identifier) → is_some (kept earlier.old other) ≡ has_name names other) → (other : Identifier) → is_some (kept earlier.new other) ≡ has_name (name_before (option_map name_seen name.entry) names) other) }
+    ensures noted { OnOk result ((names : List Identifier) → ((other : Identifier) → is_some (kept earlier.old other) ≡ has_name names other) →
+        first.new ≡ noted first.old (given_fault names (connection_of connection.now) (option_map name_seen name.entry))) }
+    ensures earlier { OnOk result ((names : List Identifier) → ((other : Identifier) → is_some (kept earlier.old other) ≡ has_name names other) →
+        (other : Identifier) → is_some (kept earlier.new other) ≡ has_name (name_before (option_map name_seen name.entry) names) other) }
 {
     match name {
         None => {

@@ -64,7 +64,9 @@ pub fn instance_fault<'m>(
     parameters: &'m [Connection],
     instances: &'m [Instance],
 ) -> Result<Option<Found>, NoMemory>
-    ensures { IfOk result (λ found. (c : plain.Child) → IsChild c child.entry → option_map fault_of found ≡ first_fault (given_faults c.outer_scope (open_parameters c.inner) 0 [] (map connection_of parameters.now) ++ flat_map (instance_faults c depth) (map instance_of instances.now))) }
+    ensures { IfOk result (λ found. (c : plain.Child) → IsChild c child.entry →
+        option_map fault_of found ≡ first_fault (given_faults c.outer_scope (open_parameters c.inner) 0 [] (map connection_of parameters.now) ++ flat_map
+        (instance_faults c depth) (map instance_of instances.now))) }
 {
     let mut first = FirstFault::new();
     note_given(alloc, child.outer, child.formals, parameters, &mut first)?;

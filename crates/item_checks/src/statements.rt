@@ -28,7 +28,8 @@ fn note_process_assignment(
     value: &Expr,
     first: &mut FirstFault,
 ) -> Result<(), NoMemory>
-    ensures { OnOk result (first.new ≡ noted first.old (assigned_faults ByProcess scope.now (target_of target.now) (expression_of value.now) ++ optional_faults (size_faults scope.now) (expression_in delay.now))) }
+    ensures { OnOk result (first.new ≡ noted first.old (assigned_faults ByProcess scope.now (target_of target.now)
+        (expression_of value.now) ++ optional_faults (size_faults scope.now) (expression_in delay.now))) }
 {
     note_assigned(alloc, Writer::Process, scope, target, value, first)?;
     note_optional_size(alloc, scope, delay, first)?;

@@ -29,7 +29,8 @@ pub(crate) fn note_step(
     requires stands { IsRecord record.old.phase }
     requires process { process_number process < process_count record.old.phase }
     requires fits { FitsRecord record.old.phase told.now }
-    ensures { OnOk result (AddsStep (Step (process_number process)) line (map noted_access told.now.accesses.items) (map object_number told.now.changed.items) (map process_number told.now.ended.items) record.old record.new) }
+    ensures { OnOk result (AddsStep (Step (process_number process)) line (map noted_access told.now.accesses.items) (map object_number told.now.changed.items)
+        (map process_number told.now.ended.items) record.old record.new) }
 {
     record.note_step(process, line, &told.accesses, &told.changed, &told.ended)?;
     Ok(())
@@ -49,7 +50,8 @@ pub(crate) fn note_lane(
     requires stands { IsRecord record.old.phase }
     requires process { process_number process < process_count record.old.phase }
     requires fits { FitsRecord record.old.phase told.now }
-    ensures { OnOk result (AddsStep (LaneStep (process_number process)) line (map noted_access told.now.accesses.items) (map object_number told.now.changed.items) (map process_number told.now.ended.items) record.old record.new) }
+    ensures { OnOk result (AddsStep (LaneStep (process_number process)) line (map noted_access told.now.accesses.items)
+        (map object_number told.now.changed.items) (map process_number told.now.ended.items) record.old record.new) }
 {
     record.note_lane(process, line, &told.accesses, &told.changed, &told.ended)?;
     Ok(())
@@ -72,7 +74,8 @@ pub(crate) fn note_node(
     requires changed { All (λ change. object_number change.object < object_count record.old.phase) changes.now.items }
     requires widths { All (λ change. length change.old ≡ length change.new) changes.now.items }
     requires fits { FitsRecord record.old.phase told.now }
-    ensures { OnOk result (AddsNode (node_number number) (map object_number node.now.inputs) changes.now.items (map noted_access told.now.accesses.items) (map process_number told.now.ended.items) record.old record.new) }
+    ensures { OnOk result (AddsNode (node_number number) (map object_number node.now.inputs) changes.now.items (map noted_access told.now.accesses.items)
+        (map process_number told.now.ended.items) record.old record.new) }
 {
     record.note_node(
         number,

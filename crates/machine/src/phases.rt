@@ -75,7 +75,8 @@ pub(crate) fn turn_to_slot(stage: Stage, table: &mut ProcessTable) -> Result<Tur
     requires quiet { stage ≡ Stage.Between → some_in has_event (table_of table.old).processes ≡ false }
     ensures turn { IfOk result (λ turn. turn ≡ first_turn stage) }
     ensures kept { IfOk result (λ _. IsKept table.new) }
-    ensures begins { IfOk result (λ _. (machine : Machine) (state begins : State) → IsTableOf machine state (table_of table.old) → begins_at stage state ≡ Some begins → IsTableOf machine begins (table_of table.new)) }
+    ensures begins { IfOk result (λ _. (machine : Machine) (state begins : State) → IsTableOf machine state (table_of table.old) →
+        begins_at stage state ≡ Some begins → IsTableOf machine begins (table_of table.new)) }
 {
     match stage {
         Stage::Start => Ok(Turn::Start),

@@ -56,7 +56,8 @@ fn tell_read(
 ) -> Result<(), NoMemory>
     requires kept { IsKept table.now }
     requires object { object_number object < length (table_of table.now).design.objects }
-    ensures tells { OnOk result (TellsQuiet (process_number process) line (Some (object_number object)) (waiting_entries (process_in (table_of table.now) (process_number process)).activity) told.new) }
+    ensures tells { OnOk result (TellsQuiet (process_number process) line (Some (object_number object)) (waiting_entries (process_in (table_of table.now)
+        (process_number process)).activity) told.new) }
     ensures fits { OnOk result (FitsDesign (table_of table.now).design told.new) }
 {
     let old: Option<Vec4> = None;

@@ -46,8 +46,10 @@ fn write_of(change: &Change, process: ProcId, line: u32) -> Noted
 /// Puts the object of a change behind those that are listed, where its value is another.
 fn note_changed(changed: &mut Vec<ObjectId>, change: &Change) -> Result<(), NoMemory>
     requires { length change.now.old ≡ length change.now.new }
-    ensures changed { OnOk result (map object_number changed.new.items ≡ map object_number changed.old.items ++ object_if (same_value change.now.old change.now.new) (object_number change.now.object)) }
-    ensures there { OnOk result ((count : ℕ) → object_number change.now.object < count → All (λ object. object_number object < count) changed.old.items → All (λ object. object_number object < count) changed.new.items) }
+    ensures changed { OnOk result (map object_number changed.new.items ≡ map object_number changed.old.items ++ object_if
+        (same_value change.now.old change.now.new) (object_number change.now.object)) }
+    ensures there { OnOk result ((count : ℕ) → object_number change.now.object < count → All (λ object. object_number object < count) changed.old.items →
+        All (λ object. object_number object < count) changed.new.items) }
 {
     if !change.old.same(change.new) {
         changed.push(change.object)?;

@@ -73,7 +73,8 @@ fn push_each_param<'m>(
     params: &'m [Param],
     list: &mut Vec<Declaration<'m>>,
 ) -> Result<(), NoMemory>
-    ensures { OnOk result (declarations_seen list.new.items ≡ declarations_seen list.old.items ++ map (param_declared group.now.is_local group.now.signed (bounds_seen bounds.entry)) (map parameter_of params.now)) }
+    ensures { OnOk result (declarations_seen list.new.items ≡ declarations_seen list.old.items ++ map (param_declared group.now.is_local group.now.signed
+        (bounds_seen bounds.entry)) (map parameter_of params.now)) }
 {
     'params: for param in params {
         let declared = Declared::Param {

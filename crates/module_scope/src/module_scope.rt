@@ -49,7 +49,9 @@ fn module_fault(
     module: &Module,
     declarations: &[Declaration<'_>],
 ) -> Result<Option<Found>, NoMemory>
-    ensures { IfOk result (λ found. option_map fault_of found ≡ first_fault (twice_faults scope.now [] (declarations_seen declarations.now) ++ (flat_map (parameters_faults scope.now) (map parameters_of «module».now.params) ++ (heads_faults scope.now (heads_of «module».now.ports) ++ flat_map (item_name_faults scope.now) (map item_of «module».now.items))))) }
+    ensures { IfOk result (λ found. option_map fault_of found ≡ first_fault (twice_faults scope.now [] (declarations_seen declarations.now) ++ (flat_map
+        (parameters_faults scope.now) (map parameters_of «module».now.params) ++ (heads_faults scope.now (heads_of «module».now.ports) ++ flat_map
+        (item_name_faults scope.now) (map item_of «module».now.items))))) }
 {
     let mut first = FirstFault::new();
     note_all_twice(alloc, scope, declarations, &mut first)?;
@@ -65,7 +67,8 @@ fn module_fault(
 /// must stand, each name must be a parameter's, and the value must be one of its place. A parameter that rests on itself has no value. The
 /// names of other modules, and those before a connection's expression, aren't looked at.
 pub fn names<'m>(alloc: Global, module: &'m Module, given: &[Given]) -> Result<Scope<'m>, NameFault>
-    ensures { MatchResult result (λ scope. names (module_of «module».now) (map given_parameter given.now) ≡ Ok scope) (λ fault. IsNameFault (names (module_of «module».now) (map given_parameter given.now)) fault) }
+    ensures { MatchResult result (λ scope. names (module_of «module».now) (map given_parameter given.now) ≡ Ok scope)
+        (λ fault. IsNameFault (names (module_of «module».now) (map given_parameter given.now)) fault) }
 {
     let values = given_values(alloc, given)?;
     let declarations = declarations_of(alloc, module)?;

@@ -103,7 +103,8 @@ fn keep_plain<'m>(
     declaration: Declaration<'m>,
     plains: &mut NameMap<'m, Declaration<'m>>,
 ) -> Result<(), NoMemory>
-    ensures { OnOk result ((name : List ℕ) → option_map declaration_seen (kept plains.new name) ≡ or_first (option_map declaration_seen (kept plains.old name)) (plain_of_name name (declaration_seen declaration.entry ∷ []))) }
+    ensures { OnOk result ((name : List ℕ) → option_map declaration_seen (kept plains.new name) ≡ or_first (option_map declaration_seen
+        (kept plains.old name)) (plain_of_name name (declaration_seen declaration.entry ∷ []))) }
 {
     if !is_plain(declaration.declared) {
         return Ok(());
@@ -139,7 +140,8 @@ fn push_once<'m>(
     list: &mut Vec<Declaration<'m>>,
 ) -> Result<(), NoMemory>
     ensures seen { OnOk result ((name : List ℕ) → is_some (kept seen.new name) ≡ (same_name declaration.entry.name.now name || is_some (kept seen.old name))) }
-    ensures pushed { OnOk result (declarations_seen list.new.items ≡ declarations_seen list.old.items ++ unless_there (is_some (kept seen.old declaration.entry.name.now)) (joined_by (declaration_seen declaration.entry) (option_map declaration_seen (kept plains.now declaration.entry.name.now)))) }
+    ensures pushed { OnOk result (declarations_seen list.new.items ≡ declarations_seen list.old.items ++ unless_there (is_some
+        (kept seen.old declaration.entry.name.now)) (joined_by (declaration_seen declaration.entry) (option_map declaration_seen (kept plains.now declaration.entry.name.now)))) }
 {
     match seen.get(declaration.name.as_bytes()) {
         Some(_) => Ok(()),

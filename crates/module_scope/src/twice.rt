@@ -101,7 +101,8 @@ fn note_twice<'m>(
     first: &mut FirstFault,
 ) -> Result<(), NoMemory>
     ensures noted { OnOk result (first.new ≡ noted first.old (twice_fault_of scope.now (option_map earlier_seen (kept earlier.old declaration.entry.name.now)) (declaration_seen declaration.entry))) }
-    ensures earlier { OnOk result ((name : List ℕ) → option_map earlier_seen (kept earlier.new name) ≡ cond (same_name declaration.entry.name.now name) (Some (earlier_with (option_map earlier_seen (kept earlier.old declaration.entry.name.now)) (declaration_seen declaration.entry))) (option_map earlier_seen (kept earlier.old name))) }
+    ensures earlier { OnOk result ((name : List ℕ) → option_map earlier_seen (kept earlier.new name) ≡ cond (same_name declaration.entry.name.now name) (Some
+        (earlier_with (option_map earlier_seen (kept earlier.old declaration.entry.name.now)) (declaration_seen declaration.entry))) (option_map earlier_seen (kept earlier.old name))) }
 {
     let before = earlier.get(declaration.name.as_bytes());
     let may = may_follow(alloc, scope, before, declaration)?;

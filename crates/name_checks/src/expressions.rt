@@ -38,7 +38,8 @@ fn note_part_bounds(
     to: &Expr,
     first: &mut FirstFault,
 ) -> Result<(), NoMemory>
-    ensures { OnOk result (first.new ≡ noted first.old (constant_faults scope.now (BoundUpTo most_bound) (expression_of from.now) ++ constant_faults scope.now (BoundUpTo most_bound) (expression_of to.now))) }
+    ensures { OnOk result (first.new ≡ noted first.old (constant_faults scope.now (BoundUpTo most_bound) (expression_of from.now) ++ constant_faults scope.now
+        (BoundUpTo most_bound) (expression_of to.now))) }
 {
     note_constant(
         alloc,

@@ -138,7 +138,8 @@ fn note_assignments(
     assignments: &[Assignment],
     first: &mut FirstFault,
 ) -> Result<(), NoMemory>
-    ensures { OnOk result (first.new ≡ noted first.old (flat_map (λ (a : SourceAssignment). fixed_target_faults scope.now a.target ++ name_faults scope.now a.value) (map assignment_of assignments.now))) }
+    ensures { OnOk result (first.new ≡ noted first.old (flat_map
+        (λ (a : SourceAssignment). fixed_target_faults scope.now a.target ++ name_faults scope.now a.value) (map assignment_of assignments.now))) }
 {
     'assignments: for assignment in assignments {
         note_fixed_target(alloc, scope, &assignment.target, first)?;

@@ -57,7 +57,8 @@ fn note_assignment(
     value: &Expr,
     first: &mut FirstFault,
 ) -> Result<(), NoMemory>
-    ensures { OnOk result (first.new ≡ noted first.old (target_faults scope.now (target_of target.now) ++ (optional_faults (constant_faults scope.now DelayValue) (expression_in delay.now) ++ name_faults scope.now (expression_of value.now)))) }
+    ensures { OnOk result (first.new ≡ noted first.old (target_faults scope.now (target_of target.now) ++ (optional_faults
+        (constant_faults scope.now DelayValue) (expression_in delay.now) ++ name_faults scope.now (expression_of value.now)))) }
 {
     note_target(alloc, scope, target, first)?;
     note_optional_constant(alloc, scope, ConstantPlace::DelayValue, delay, first)?;

@@ -42,7 +42,8 @@ fn mark_node(node: &Node, marked: &mut Vec<bool>)
     requires inputs { All (λ input. object_number input < vec_len marked.old) node.now.inputs }
     requires outputs { All (λ output. object_number output < vec_len marked.old) node.now.outputs }
     ensures same { vec_len marked.new ≡ vec_len marked.old }
-    ensures marked { list_any (λ object. get_or marked.old.items object false) (map object_number node.now.outputs) ≡ true → Marks (map object_number node.now.inputs) marked.old.items marked.new.items }
+    ensures marked { list_any (λ object. get_or marked.old.items object false) (map object_number node.now.outputs) ≡ true →
+        Marks (map object_number node.now.inputs) marked.old.items marked.new.items }
     ensures kept { list_any (λ object. get_or marked.old.items object false) (map object_number node.now.outputs) ≡ false → marked.new.items ≡ marked.old.items }
 {
     let inputs = node.inputs.as_slice();

@@ -106,8 +106,10 @@ fn add_input(
     requires is_seen { object_number object < vec_len seen.old }
     requires is_object { object_number object < vec_len readers.old }
     ensures marked { IfOk result (λ _. seen.new.items ≡ slice_set seen.old.items (object_number object) (node_number node + 1)) }
-    ensures taken { IfOk result (λ _. map object_number once.new.items ≡ map object_number once.old.items ++ fresh_only (nat_eq (get_or seen.old.items (object_number object) 0) (node_number node + 1)) (object_number object) []) }
-    ensures listed { IfOk result (λ _. node_lists readers.new.items ≡ slice_set (node_lists readers.old.items) (object_number object) (get_or (node_lists readers.old.items) (object_number object) [] ++ fresh_only (nat_eq (get_or seen.old.items (object_number object) 0) (node_number node + 1)) (node_number node) [])) }
+    ensures taken { IfOk result (λ _. map object_number once.new.items ≡ map object_number once.old.items ++ fresh_only (nat_eq (get_or seen.old.items
+        (object_number object) 0) (node_number node + 1)) (object_number object) []) }
+    ensures listed { IfOk result (λ _. node_lists readers.new.items ≡ slice_set (node_lists readers.old.items) (object_number object) (get_or
+        (node_lists readers.old.items) (object_number object) [] ++ fresh_only (nat_eq (get_or seen.old.items (object_number object) 0) (node_number node + 1)) (node_number node) [])) }
     ensures same { IfOk result (λ _. vec_len readers.new ≡ vec_len readers.old) }
 {
     let at = object.0 as usize;
@@ -132,7 +134,8 @@ fn add_inputs(
     requires are_objects { All (λ input. object_number input < vec_len seen.old) inputs.now }
     requires alike { vec_len seen.old ≡ vec_len readers.old }
     requires unseen { (o : ℕ) → o < length seen.old.items → get_or seen.old.items o 0 ≤ node_number node }
-    ensures added { IfOk result (λ once. InputsAdded (node_number node) (map object_number inputs.now) (node_lists readers.old.items) seen.new.items (map object_number once.items) (node_lists readers.new.items)) }
+    ensures added { IfOk result (λ once. InputsAdded (node_number node) (map object_number inputs.now) (node_lists readers.old.items) seen.new.items
+        (map object_number once.items) (node_lists readers.new.items)) }
     ensures same { IfOk result (λ _. vec_len seen.new ≡ vec_len seen.old) }
     ensures same_readers { IfOk result (λ _. vec_len readers.new ≡ vec_len readers.old) }
 {

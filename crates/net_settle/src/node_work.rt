@@ -161,7 +161,8 @@ pub fn evaluate<V: Values>(view: &View, node: NodeId, values: &V, room: &mut Nod
     requires values { AreValuesOf (design_of view.now.design.now) (V.values values.now) }
     requires made { IsMadeFor (design_of view.now.design.now) room.old }
     ensures made { IsMadeFor (design_of view.now.design.now) room.new }
-    ensures outputs { (flat : FlatNode) → slice_get (design_of view.now.design.now).nodes (node_number node) ≡ Some flat → values_put room.new ≡ node_outputs (machine_of view.now) (node_number node) flat (V.values values.now) }
+    ensures outputs { (flat : FlatNode) → slice_get (design_of view.now.design.now).nodes (node_number node) ≡ Some flat →
+        values_put room.new ≡ node_outputs (machine_of view.now) (node_number node) flat (V.values values.now) }
 {
     let own = &view.design.nodes.as_slice()[node.0 as usize];
     let outputs = own.outputs.as_slice();

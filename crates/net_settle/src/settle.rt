@@ -164,7 +164,8 @@ impl<'d> Settle<'d> {
     /// Takes away the least mark and gives its node; none where no node is marked.
     pub fn work(&mut self) -> Option<NodeId>
         ensures belongs { self.new.graph.now ≡ self.old.graph.now }
-        ensures least { MatchOption result (NoneMarked self.old.marks.items × (self.new.marks.items ≡ self.old.marks.items)) (λ node. TakesLeast (node_number node) self.old.marks.items self.new.marks.items) }
+        ensures least { MatchOption result (NoneMarked self.old.marks.items ×
+            (self.new.marks.items ≡ self.old.marks.items)) (λ node. TakesLeast (node_number node) self.old.marks.items self.new.marks.items) }
     {
         let found = first_marked(&self.marks, self.least, self.past);
         if found == self.past {

@@ -121,8 +121,10 @@ impl<'d> NetState<'d> {
     pub fn work(&mut self, node: NodeId, changes: &mut Vec<Change>) -> Result<(), NoMemory>
         requires { node_number node < length (nodes_in self.old) }
         ensures machine { IfOk result (λ _. machine_in self.new ≡ machine_in self.old) }
-        ensures after { IfOk result (λ _. (state : State) → AreNetsOf self.old state → AreNetsOf self.new (after (machine_in self.old) (after (machine_in self.old) state (Evaluation (node_number node))) (NetUpdate (node_number node)))) }
-        ensures changes { IfOk result (λ _. (flat : FlatNode) → slice_get (machine_in self.old).design.nodes (node_number node) ≡ Some flat → map change_seen changes.new.items ≡ net_changes (machine_in self.old).design flat.outputs (values_in self.old) (values_in self.new)) }
+        ensures after { IfOk result (λ _. (state : State) → AreNetsOf self.old state →
+            AreNetsOf self.new (after (machine_in self.old) (after (machine_in self.old) state (Evaluation (node_number node))) (NetUpdate (node_number node)))) }
+        ensures changes { IfOk result (λ _. (flat : FlatNode) → slice_get (machine_in self.old).design.nodes (node_number node) ≡ Some flat →
+            map change_seen changes.new.items ≡ net_changes (machine_in self.old).design flat.outputs (values_in self.old) (values_in self.new)) }
         ensures objects { IfOk result (λ _. AllHold (λ (change : Change). object_number change.object < length (machine_in self.old).design.objects) changes.new.items) }
         ensures widths { IfOk result (λ _. All (λ (change : Change). length change.old ≡ length change.new) changes.new.items) }
     {

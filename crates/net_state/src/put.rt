@@ -65,7 +65,8 @@ impl<'d> Objects<'d> {
         ensures old { result.old ≡ value_at self.old.values.items (object_number object) }
         ensures new { result.new ≡ new }
         ensures values { self.new.values.items ≡ slice_set self.old.values.items (object_number object) new }
-        ensures holds { (machine : Machine) (state : State) → machine.design ≡ design_of self.old.settle.graph.now.design.now → Holds self.old state → Holds self.new (with_value machine (object_number object) new state) }
+        ensures holds { (machine : Machine) (state : State) → machine.design ≡ design_of self.old.settle.graph.now.design.now → Holds self.old state →
+            Holds self.new (with_value machine (object_number object) new state) }
     {
         let at = object.0 as usize;
         let old = self.values[at];
@@ -90,10 +91,12 @@ impl<'d> Objects<'d> {
         requires widths { HaveWidths (design_of self.old.settle.graph.now.design.now) (map object_number outputs.now) values.now }
         requires empty { changes.old.items ≡ [] }
         ensures belongs { self.new.settle.graph.now ≡ self.old.settle.graph.now }
-        ensures changes { IfOk result (λ _. map change_seen changes.new.items ≡ net_changes (design_of self.old.settle.graph.now.design.now) (map object_number outputs.now) self.old.values.items self.new.values.items) }
+        ensures changes { IfOk result (λ _. map change_seen changes.new.items ≡ net_changes (design_of self.old.settle.graph.now.design.now)
+            (map object_number outputs.now) self.old.values.items self.new.values.items) }
         ensures objects { IfOk result (λ _. AllHold (λ (change : Change). object_number change.object < length (design_of self.old.settle.graph.now.design.now).objects) changes.new.items) }
         ensures widths { IfOk result (λ _. All (λ (change : Change). length change.old ≡ length change.new) changes.new.items) }
-        ensures holds { IfOk result (λ _. (machine : Machine) (state : State) → machine.design ≡ design_of self.old.settle.graph.now.design.now → Holds self.old state → Holds self.new (with_values machine (map object_number outputs.now) values.now state)) }
+        ensures holds { IfOk result (λ _. (machine : Machine) (state : State) → machine.design ≡ design_of self.old.settle.graph.now.design.now →
+            Holds self.old state → Holds self.new (with_values machine (map object_number outputs.now) values.now state)) }
     {
         'outputs: for at in 0..outputs.len() {
             let change = self.put(outputs[at], values[at]);

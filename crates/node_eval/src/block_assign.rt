@@ -67,7 +67,8 @@ pub(crate) fn find_updates<V: Values>(
 fn write_update<V: Values>(update: &Option<Update>, frame: &Frame<'_, V>, held: &mut [Vec4])
     requires alike { length frame.now.outputs.now ≤ length held.old }
     requires among { IsAmong (map object_number frame.now.outputs.now) (option_map update_of update.now) }
-    ensures { overlaid frame.now.outputs.now held.new (V.values frame.now.values.now) ≡ updated (overlaid frame.now.outputs.now held.old (V.values frame.now.values.now)) (option_map update_of update.now) }
+    ensures { overlaid frame.now.outputs.now held.new (V.values frame.now.values.now) ≡ updated (overlaid frame.now.outputs.now held.old
+        (V.values frame.now.values.now)) (option_map update_of update.now) }
 {
     match update {
         None => {}
@@ -86,7 +87,8 @@ pub(crate) fn write_updates<V: Values>(
 )
     requires alike { length frame.now.outputs.now ≤ length held.old }
     requires among { AllHold (IsAmong (map object_number frame.now.outputs.now)) (map (option_map update_of) updates.now) }
-    ensures { overlaid frame.now.outputs.now held.new (V.values frame.now.values.now) ≡ fold updated (overlaid frame.now.outputs.now held.old (V.values frame.now.values.now)) (map (option_map update_of) updates.now) }
+    ensures { overlaid frame.now.outputs.now held.new (V.values frame.now.values.now) ≡ fold updated (overlaid frame.now.outputs.now held.old
+        (V.values frame.now.values.now)) (map (option_map update_of) updates.now) }
 {
     'updates: for update in updates {
         write_update(update, frame, held);

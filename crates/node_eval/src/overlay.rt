@@ -23,7 +23,8 @@ pub(crate) struct Frame<'v, V: Values> {
 impl<'v, V: Values> Frame<'v, V> {
     /// The place of an object among the outputs; none where it isn't one.
     pub fn place_of(&self, object: ObjectId) -> Option<usize>
-        ensures { MatchOption result (IsNone (map object_number self.now.outputs.now) (object_number object)) (λ k. (k < length self.now.outputs.now) × (get_or (map object_number self.now.outputs.now) k 0 ≡ object_number object)) }
+        ensures { MatchOption result (IsNone (map object_number self.now.outputs.now) (object_number object)) (λ k. (k < length self.now.outputs.now) ×
+            (get_or (map object_number self.now.outputs.now) k 0 ≡ object_number object)) }
     {
         let at = object.0 as usize;
         if at < self.places.len() {

@@ -70,7 +70,9 @@ fn find_item<V: Values>(
     requires there { AreThere (V.values values.now) (named_by_items (items_of items.now)) }
     requires levels { levels_of_items (items_of items.now) ≤ stack.old.depth }
     ensures within { IfSome result (λ number. number < length items.now) }
-    ensures chosen { (default : Statement) → run_items kind value (items_of items.now) (V.values values.now) (run_statement default (V.values values.now)) ≡ run_statement (chosen_by (items_of items.now) default result) (V.values values.now) }
+    ensures chosen { (default : Statement) →
+        run_items kind value (items_of items.now) (V.values values.now) (run_statement default (V.values values.now)) ≡ run_statement (chosen_by
+        (items_of items.now) default result) (V.values values.now) }
     ensures levels { stack.new.depth ≡ stack.old.depth }
 {
     'items: for (number, item) in items.iter().enumerate() {
@@ -108,9 +110,12 @@ fn choose<V: Values>(
     tools: &mut Tools,
 ) -> Option<usize>
     requires alike { length frame.now.outputs.now ≤ length held.now }
-    requires may { (place : SourcePlace) × (default : Statement) × MayRun (overlaid frame.now.outputs.now held.now (V.values frame.now.values.now)) frame.now.outputs.now (Case place kind (expression_of value.now) (items_of items.now) default) }
+    requires may { (place : SourcePlace) × (default : Statement) ×
+        MayRun (overlaid frame.now.outputs.now held.now (V.values frame.now.values.now)) frame.now.outputs.now (Case place kind (expression_of value.now) (items_of items.now) default) }
     ensures within { IfSome result (λ number. number < length items.now) }
-    ensures chosen { (place : SourcePlace) (default : Statement) → run_statement (Case place kind (expression_of value.now) (items_of items.now) default) (overlaid frame.now.outputs.now held.now (V.values frame.now.values.now)) ≡ run_statement (chosen_by (items_of items.now) default result) (overlaid frame.now.outputs.now held.now (V.values frame.now.values.now)) }
+    ensures chosen { (place : SourcePlace) (default : Statement) →
+        run_statement (Case place kind (expression_of value.now) (items_of items.now) default) (overlaid frame.now.outputs.now held.now
+        (V.values frame.now.values.now)) ≡ run_statement (chosen_by (items_of items.now) default result) (overlaid frame.now.outputs.now held.now (V.values frame.now.values.now)) }
 {
     let bits = eval_over(value, frame, held, tools);
     let overlay = Overlay { frame, held };
@@ -132,7 +137,8 @@ fn assign<V: Values>(
     requires value_there { AreThere (overlaid frame.now.outputs.now held.old (V.values frame.now.values.now)) (named_in (expression_of value.now)) }
     requires written { (object : ℕ) → has (targets_objects (map target_of targets.now)) object ≡ true → has (map object_number frame.now.outputs.now) object ≡ true }
     requires levels { levels_of_assignment (map target_of targets.now) (expression_of value.now) ≤ 256 }
-    ensures { overlaid frame.now.outputs.now held.new (V.values frame.now.values.now) ≡ assigned place.line (overlaid frame.now.outputs.now held.old (V.values frame.now.values.now)) (map target_of targets.now) (expression_of value.now) }
+    ensures { overlaid frame.now.outputs.now held.new (V.values frame.now.values.now) ≡ assigned place.line (overlaid frame.now.outputs.now held.old
+        (V.values frame.now.values.now)) (map target_of targets.now) (expression_of value.now) }
 {
     let bits = eval_over(value, frame, held, tools);
     tools.updates.clear();
@@ -155,7 +161,8 @@ fn find_over<V: Values>(
     requires there { AreThere (overlaid frame.now.outputs.now held.now (V.values frame.now.values.now)) (named_in_targets (map target_of targets.now)) }
     requires levels { levels_of_targets (map target_of targets.now) ≤ 256 }
     requires empty { tools.old.updates.items ≡ [] }
-    ensures { map (option_map update_of) tools.new.updates.items ≡ target_updates line (map target_of targets.now) (map (index_value (overlaid frame.now.outputs.now held.now (V.values frame.now.values.now))) (map target_of targets.now)) bits }
+    ensures { map (option_map update_of) tools.new.updates.items ≡ target_updates line (map target_of targets.now) (map (index_value
+        (overlaid frame.now.outputs.now held.now (V.values frame.now.values.now))) (map target_of targets.now)) bits }
 {
     let overlay = Overlay { frame, held };
     find_updates(
@@ -180,7 +187,8 @@ pub(crate) fn run<V: Values>(
 )
     requires alike { length frame.now.outputs.now ≤ length held.old }
     requires may { MayRun (overlaid frame.now.outputs.now held.old (V.values frame.now.values.now)) frame.now.outputs.now (statement_of statement.now) }
-    ensures { overlaid frame.now.outputs.now held.new (V.values frame.now.values.now) ≡ run_statement (statement_of statement.now) (overlaid frame.now.outputs.now held.old (V.values frame.now.values.now)) }
+    ensures { overlaid frame.now.outputs.now held.new (V.values frame.now.values.now) ≡ run_statement (statement_of statement.now)
+        (overlaid frame.now.outputs.now held.old (V.values frame.now.values.now)) }
 {
     match statement {
         FlatStmt::Null => {}
@@ -235,7 +243,8 @@ fn run_all<V: Values>(
 )
     requires alike { length frame.now.outputs.now ≤ length held.old }
     requires may { MayRun (overlaid frame.now.outputs.now held.old (V.values frame.now.values.now)) frame.now.outputs.now (Block (statements_of statements.now)) }
-    ensures { overlaid frame.now.outputs.now held.new (V.values frame.now.values.now) ≡ run_statements (statements_of statements.now) (overlaid frame.now.outputs.now held.old (V.values frame.now.values.now)) }
+    ensures { overlaid frame.now.outputs.now held.new (V.values frame.now.values.now) ≡ run_statements (statements_of statements.now)
+        (overlaid frame.now.outputs.now held.old (V.values frame.now.values.now)) }
 {
     'statements: for statement in statements {
         run(statement, frame, held, tools);

@@ -50,7 +50,8 @@ fn indexed_target(
     name: &Text,
     index: &Expr,
 ) -> Result<FlatTarget, NoMemory>
-    ensures { IfOk result (λ flat. (meaning : Meaning) → IsMeaning meaning scope.now names.entry → target_of flat ≡ indexed_target (is_memory (looked_up scope.now name.now)) meaning name.now (views.expression_of index.now)) }
+    ensures { IfOk result (λ flat. (meaning : Meaning) → IsMeaning meaning scope.now names.entry →
+        target_of flat ≡ indexed_target (is_memory (looked_up scope.now name.now)) meaning name.now (views.expression_of index.now)) }
 {
     let index = expr_alone(alloc, scope, names, index)?;
     if is_memory(scope, name) {

@@ -37,7 +37,8 @@ pub fn expr_assigned(
     target: &Target,
     expr: &Expr,
 ) -> Result<FlatExpr, NoMemory>
-    ensures { IfOk result (λ flat. (meaning : Meaning) → IsMeaning meaning scope.now names.entry → expression_of flat ≡ assigned_expression meaning (views.target_of target.now) (views.expression_of expr.now)) }
+    ensures { IfOk result (λ flat. (meaning : Meaning) → IsMeaning meaning scope.now names.entry →
+        expression_of flat ≡ assigned_expression meaning (views.target_of target.now) (views.expression_of expr.now)) }
 {
     let width = target_width_in(alloc, Writer::Process, target, scope)?;
     let tree = read_expr(alloc, expr, scope)?.tree_in(width);

@@ -57,7 +57,8 @@ pub fn names_joined(
     names: &ObjectNames<'_>,
     parts: &[Part<'_>],
 ) -> Result<Vec<JoinedName>, NoMemory>
-    ensures { IfOk result (λ joined. (objects : List PlainObject) → AreNamesOf (parts_of parts.now) objects names.now → map name_joined joined.items ≡ names_joined (signals_of (parts_of parts.now)) objects) }
+    ensures { IfOk result (λ joined. (objects : List PlainObject) → AreNamesOf (parts_of parts.now) objects names.now →
+        map name_joined joined.items ≡ names_joined (signals_of (parts_of parts.now)) objects) }
 {
     let mut joined = Vec::new(alloc);
     'parts: for part in parts {

@@ -103,7 +103,8 @@ pub fn expr_at(
     expr: &Expr,
     size: Option<Size>,
 ) -> Result<FlatExpr, NoMemory>
-    ensures { IfOk result (λ flat. (plain : PlainMeaning) → IsMeaning plain meaning.entry → expression_of flat ≡ over_objects plain.holders (tree_at (reading_of plain.scope (source.expression_of expr.now)) (option_map size_of size))) }
+    ensures { IfOk result (λ flat. (plain : PlainMeaning) → IsMeaning plain meaning.entry →
+        expression_of flat ≡ over_objects plain.holders (tree_at (reading_of plain.scope (source.expression_of expr.now)) (option_map size_of size))) }
 {
     let tree = read_expr(alloc, expr, meaning.scope)?.tree_at(size);
     let flat = over_objects(alloc, meaning.names, &tree)?;
@@ -117,7 +118,8 @@ pub fn labels_over(
     labels: &[Expr],
     size: Option<Size>,
 ) -> Result<Vec<FlatExpr>, NoMemory>
-    ensures { IfOk result (λ flats. (plain : PlainMeaning) → IsMeaning plain meaning.entry → expressions_of flats.items ≡ label_expressions plain (option_map size_of size) (source.expressions_of labels.now)) }
+    ensures { IfOk result (λ flats. (plain : PlainMeaning) → IsMeaning plain meaning.entry →
+        expressions_of flats.items ≡ label_expressions plain (option_map size_of size) (source.expressions_of labels.now)) }
 {
     let mut flats = Vec::new(alloc);
     'labels: for label in labels {

@@ -42,7 +42,8 @@ pub fn expr_assigned(
     target: &Target,
     expr: &Expr,
 ) -> Result<FlatExpr, NoMemory>
-    ensures { IfOk result (λ flat. (plain : PlainMeaning) → IsMeaning plain meaning.entry → expression_of flat ≡ assigned_expression plain (source.target_of target.now) (source.expression_of expr.now)) }
+    ensures { IfOk result (λ flat. (plain : PlainMeaning) → IsMeaning plain meaning.entry →
+        expression_of flat ≡ assigned_expression plain (source.target_of target.now) (source.expression_of expr.now)) }
 {
     let flat = object_expr::expr_assigned(alloc, meaning.scope, meaning.names, target, expr)?;
     Ok(flat)

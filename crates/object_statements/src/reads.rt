@@ -65,7 +65,8 @@ fn add_expr(
     expr: &Expr,
     objects: &mut Vec<ObjectId>,
 ) -> Result<(), NoMemory>
-    ensures { IfOk result (λ _. (plain : PlainMeaning) → IsMeaning plain meaning.entry → map object_number objects.new.items ≡ map object_number objects.old.items ++ expression_in_text plain (source.expression_of expr.now)) }
+    ensures { IfOk result (λ _. (plain : PlainMeaning) → IsMeaning plain meaning.entry →
+        map object_number objects.new.items ≡ map object_number objects.old.items ++ expression_in_text plain (source.expression_of expr.now)) }
 {
     let flat = expr_alone(alloc, meaning, expr)?;
     add_flat(alloc, &flat, objects)?;
@@ -80,7 +81,8 @@ fn add_assignment(
     value: &Expr,
     objects: &mut Vec<ObjectId>,
 ) -> Result<(), NoMemory>
-    ensures { IfOk result (λ _. (plain : PlainMeaning) → IsMeaning plain meaning.entry → map object_number objects.new.items ≡ map object_number objects.old.items ++ assignment_in_text plain (source.target_of target.now) (source.expression_of value.now)) }
+    ensures { IfOk result (λ _. (plain : PlainMeaning) → IsMeaning plain meaning.entry →
+        map object_number objects.new.items ≡ map object_number objects.old.items ++ assignment_in_text plain (source.target_of target.now) (source.expression_of value.now)) }
 {
     let targets = targets_over(alloc, meaning, target)?;
     add_indexes(alloc, &targets, objects)?;
@@ -95,7 +97,8 @@ fn add_labels(
     labels: &[Expr],
     objects: &mut Vec<ObjectId>,
 ) -> Result<(), NoMemory>
-    ensures { IfOk result (λ _. (plain : PlainMeaning) → IsMeaning plain meaning.entry → map object_number objects.new.items ≡ map object_number objects.old.items ++ labels_in_text plain (source.expressions_of labels.now)) }
+    ensures { IfOk result (λ _. (plain : PlainMeaning) → IsMeaning plain meaning.entry →
+        map object_number objects.new.items ≡ map object_number objects.old.items ++ labels_in_text plain (source.expressions_of labels.now)) }
 {
     'labels: for label in labels {
         add_expr(alloc, meaning, label, objects)?;
@@ -111,7 +114,8 @@ fn add_statement(
     statement: &Stmt,
     objects: &mut Vec<ObjectId>,
 ) -> Result<(), NoMemory>
-    ensures { IfOk result (λ _. (plain : PlainMeaning) → IsMeaning plain meaning.entry → map object_number objects.new.items ≡ map object_number objects.old.items ++ read_in_text plain (source.statement_of statement.now)) }
+    ensures { IfOk result (λ _. (plain : PlainMeaning) → IsMeaning plain meaning.entry →
+        map object_number objects.new.items ≡ map object_number objects.old.items ++ read_in_text plain (source.statement_of statement.now)) }
 {
     match statement {
         Stmt::Null { .. } | Stmt::IgnoredTask { .. } | Stmt::Finish { .. } => Ok(()),
@@ -204,7 +208,8 @@ fn add_statements(
     statements: &[Stmt],
     objects: &mut Vec<ObjectId>,
 ) -> Result<(), NoMemory>
-    ensures { IfOk result (λ _. (plain : PlainMeaning) → IsMeaning plain meaning.entry → map object_number objects.new.items ≡ map object_number objects.old.items ++ all_read_in_text plain (source.statements_of statements.now)) }
+    ensures { IfOk result (λ _. (plain : PlainMeaning) → IsMeaning plain meaning.entry →
+        map object_number objects.new.items ≡ map object_number objects.old.items ++ all_read_in_text plain (source.statements_of statements.now)) }
 {
     'statements: for statement in statements {
         add_statement(alloc, meaning, statement, objects)?;
@@ -220,7 +225,8 @@ fn add_items(
     items: &[CaseItem],
     objects: &mut Vec<ObjectId>,
 ) -> Result<(), NoMemory>
-    ensures { IfOk result (λ _. (plain : PlainMeaning) → IsMeaning plain meaning.entry → map object_number objects.new.items ≡ map object_number objects.old.items ++ items_read_in_text plain (source.case_items_of items.now)) }
+    ensures { IfOk result (λ _. (plain : PlainMeaning) → IsMeaning plain meaning.entry →
+        map object_number objects.new.items ≡ map object_number objects.old.items ++ items_read_in_text plain (source.case_items_of items.now)) }
 {
     'items: for item in items {
         add_item(alloc, meaning, item, objects)?;
@@ -236,7 +242,8 @@ fn add_item(
     item: &CaseItem,
     objects: &mut Vec<ObjectId>,
 ) -> Result<(), NoMemory>
-    ensures { IfOk result (λ _. (plain : PlainMeaning) → IsMeaning plain meaning.entry → map object_number objects.new.items ≡ map object_number objects.old.items ++ item_read_in_text plain item.now) }
+    ensures { IfOk result (λ _. (plain : PlainMeaning) → IsMeaning plain meaning.entry →
+        map object_number objects.new.items ≡ map object_number objects.old.items ++ item_read_in_text plain item.now) }
 {
     match item {
         CaseItem::Labelled { labels, statement } => {

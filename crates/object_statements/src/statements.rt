@@ -253,7 +253,8 @@ fn push_item(
     size: Option<Size>,
     flats: &mut Vec<FlatItem>,
 ) -> Result<(), NoMemory>
-    ensures { IfOk result (λ _. (plain : PlainMeaning) → IsMeaning plain meaning.entry → (rest : CaseItems) → then_items (items_of flats.new.items) rest ≡ then_items (items_of flats.old.items) (item_over plain (option_map size_of size) item.now rest)) }
+    ensures { IfOk result (λ _. (plain : PlainMeaning) → IsMeaning plain meaning.entry → (rest : CaseItems) →
+        then_items (items_of flats.new.items) rest ≡ then_items (items_of flats.old.items) (item_over plain (option_map size_of size) item.now rest)) }
 {
     match item {
         CaseItem::Labelled { labels, statement } => {

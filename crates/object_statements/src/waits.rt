@@ -105,7 +105,8 @@ pub fn wait_entries(
     waits: &Waits,
     body: &Stmt,
 ) -> Result<Vec<WaitEntry>, NoMemory>
-    ensures { IfOk result (λ entries. (plain : PlainMeaning) → IsMeaning plain meaning.entry → map entry_of entries.items ≡ wait_entries plain (source.waits_of waits.now) (source.statement_of body.now)) }
+    ensures { IfOk result (λ entries. (plain : PlainMeaning) → IsMeaning plain meaning.entry →
+        map entry_of entries.items ≡ wait_entries plain (source.waits_of waits.now) (source.statement_of body.now)) }
 {
     match waits {
         Waits::AnyRead => {

@@ -94,7 +94,8 @@ pub fn entries_of_select(
     bits: SelectedBits,
     vector: &VectorRef,
 ) -> Result<Vec<WaitEntry>, NoMemory>
-    ensures { IfOk result (λ entries. map entry_of entries.items ≡ entries_on edge (places_by_edge edge (run_places bits.outside_below bits.low bits.width bits.outside_above)) 0 (map piece_of vector.now.pieces)) }
+    ensures { IfOk result (λ entries. map entry_of entries.items ≡ entries_on edge (places_by_edge edge
+        (run_places bits.outside_below bits.low bits.width bits.outside_above)) 0 (map piece_of vector.now.pieces)) }
 {
     let width = width_by_edge(edge, bits.outside_below, bits.width);
     let entries = entries_of_run(alloc, edge, bits.low, width, vector.pieces.as_slice())?;

@@ -19,7 +19,8 @@ impl ProcState {
     pub fn same(&self, other: &ProcState) -> bool
         ensures point { IsTrue result ↔ IsSamePoint (point_of self.now) (point_of other.now) }
         ensures activity { IsTrue result → (code : Code) → activity_of code self.now ≡ activity_of code other.now }
-        ensures equal { (code : Code) → PlacesDiffer (statement_of code.process.now.body) → IsCodeOf code.process.now code → IsStateOf code self.now → IsStateOf code other.now → activity_of code self.now ≡ activity_of code other.now → IsTrue result }
+        ensures equal { (code : Code) → PlacesDiffer (statement_of code.process.now.body) → IsCodeOf code.process.now code → IsStateOf code self.now →
+            IsStateOf code other.now → activity_of code self.now ≡ activity_of code other.now → IsTrue result }
     {
         self.stands_alike(other)
     }

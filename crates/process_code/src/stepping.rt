@@ -83,7 +83,8 @@ impl ProcState {
         requires sized { IsSized (expression_of condition.now) }
         requires there { AreBelow (length (V.values values.now)) (named_in (expression_of condition.now)) }
         requires space { reads_most (expression_of condition.now) ≤ vec_capacity self.old.operands }
-        ensures acts { Acts (V.values values.now) (read_expression (expression_of condition.now) self.old.operands.items) (Branches (point_of self.old) inner other) (point_of self.old) (point_of self.new) (said_by result) }
+        ensures acts { Acts (V.values values.now) (read_expression (expression_of condition.now) self.old.operands.items) (Branches
+            (point_of self.old) inner other) (point_of self.old) (point_of self.new) (said_by result) }
         ensures room { KeepsRoom self.old self.new }
     {
         let mut used = 0;
@@ -109,7 +110,9 @@ impl ProcState {
         requires labels { AreSizedItems (width_of (expression_of value.now)) (sign_of (expression_of value.now)) (items_of items.now) }
         requires there { AreBelow (length (V.values values.now)) (named_in (expression_of value.now)) × AreBelow (length (V.values values.now)) (named_by_items (items_of items.now)) }
         requires space { reads_most (expression_of value.now) + reads_most_items (items_of items.now) ≤ vec_capacity self.old.operands }
-        ensures acts { (default : Statement) → Acts (V.values values.now) (read_case kind (expression_of value.now) (items_of items.now) default self.old.operands.items) (Chooses (items_of items.now) default ways.now.items.items ways.now.other (point_of self.old)) (point_of self.old) (point_of self.new) (said_by result) }
+        ensures acts { (default : Statement) →
+            Acts (V.values values.now) (read_case kind (expression_of value.now) (items_of items.now) default self.old.operands.items) (Chooses
+            (items_of items.now) default ways.now.items.items ways.now.other (point_of self.old)) (point_of self.old) (point_of self.new) (said_by result) }
         ensures room { KeepsRoom self.old self.new }
     {
         let mut used = 0;
@@ -125,7 +128,8 @@ impl ProcState {
         requires there { AreBelow (length (V.values values.now)) (named_in (expression_of count.now)) }
         requires space { reads_most (expression_of count.now) ≤ vec_capacity self.old.operands }
         requires number { number < length self.old.counts.items }
-        ensures acts { Acts (V.values values.now) (read_expression (expression_of count.now) self.old.operands.items) (Counts (point_of self.old) number inner (sign_of (expression_of count.now))) (point_of self.old) (point_of self.new) (said_by result) }
+        ensures acts { Acts (V.values values.now) (read_expression (expression_of count.now) self.old.operands.items) (Counts (point_of self.old) number inner
+            (sign_of (expression_of count.now))) (point_of self.old) (point_of self.new) (said_by result) }
         ensures room { KeepsRoom self.old self.new }
     {
         let mut used = 0;
@@ -146,7 +150,8 @@ impl ProcState {
         requires sized { IsSized (expression_of condition.now) }
         requires there { AreBelow (length (V.values values.now)) (named_in (expression_of condition.now)) }
         requires space { reads_most (expression_of condition.now) ≤ vec_capacity self.old.operands }
-        ensures acts { Acts (V.values values.now) (read_expression (expression_of condition.now) self.old.operands.items) (λ value. WaitsUnless (point_of self.old) inner (is_true value)) (point_of self.old) (point_of self.new) (said_by result) }
+        ensures acts { Acts (V.values values.now) (read_expression (expression_of condition.now) self.old.operands.items)
+            (λ value. WaitsUnless (point_of self.old) inner (is_true value)) (point_of self.old) (point_of self.new) (said_by result) }
         ensures room { KeepsRoom self.old self.new }
     {
         let mut used = 0;
@@ -175,9 +180,12 @@ impl ProcState {
         requires sized { IsSizedAssignment (map target_of targets.now) (expression_of value.now) }
         requires empty { self.old.updates.items ≡ [] }
         requires space { length targets.now ≤ vec_capacity self.old.updates }
-        ensures has { OnOk result ((left : List LogicValue) × (read_assignment place.line (map target_of targets.now) (expression_of value.now) self.old.operands.items ≡ Has (point_of self.new).updates left)) }
+        ensures has { OnOk result ((left : List LogicValue) × (read_assignment place.line (map target_of targets.now)
+            (expression_of value.now) self.old.operands.items ≡ Has (point_of self.new).updates left)) }
         ensures point { OnOk result (point_of self.new ≡ filled (point_of self.old) (source_place place) delay next (point_of self.new).updates) }
-        ensures needs { IfErr result (λ object. (read_assignment place.line (map target_of targets.now) (expression_of value.now) self.old.operands.items ≡ Needs (object_number object)) × (point_of self.new ≡ point_of self.old) × (vec_capacity self.new.operands ≡ vec_capacity self.old.operands)) }
+        ensures needs { IfErr result (λ object. (read_assignment place.line (map target_of targets.now)
+            (expression_of value.now) self.old.operands.items ≡ Needs (object_number object)) × (point_of self.new ≡ point_of self.old) ×
+            (vec_capacity self.new.operands ≡ vec_capacity self.old.operands)) }
         ensures room { KeepsRoom self.old self.new }
     {
         let mut used = 0;
@@ -218,7 +226,8 @@ impl ProcState {
         requires space { (most_of_assignment (map target_of targets.now) (expression_of value.now) ≤ vec_capacity self.old.operands) × (length targets.now ≤ vec_capacity self.old.updates) }
         requires empty { self.old.updates.items ≡ [] }
         requires now { now ≤ 2 ^ 63 }
-        ensures acts { Acts (V.values values.now) (read_assignment place.line (map target_of targets.now) (expression_of value.now) self.old.operands.items) (Assigns now (point_of self.old) (source_place place) delay next) (point_of self.old) (point_of self.new) (said_by result) }
+        ensures acts { Acts (V.values values.now) (read_assignment place.line (map target_of targets.now) (expression_of value.now) self.old.operands.items)
+            (Assigns now (point_of self.old) (source_place place) delay next) (point_of self.old) (point_of self.new) (said_by result) }
         ensures room { KeepsRoom self.old self.new }
     {
         match self.fill(place, targets, value, None, next) {
@@ -246,7 +255,8 @@ impl ProcState {
         requires space { (most_of_assignment (map target_of targets.now) (expression_of value.now) ≤ vec_capacity self.old.operands) × (length targets.now ≤ vec_capacity self.old.updates) }
         requires empty { self.old.updates.items ≡ [] }
         requires now { now ≤ 2 ^ 63 }
-        ensures acts { Acts (V.values values.now) (read_assignment place.line (map target_of targets.now) (expression_of value.now) self.old.operands.items) (λ updates. TakesUpdate now (filled (point_of self.old) (source_place place) (Some delay) next updates)) (point_of self.old) (point_of self.new) (said_by result) }
+        ensures acts { Acts (V.values values.now) (read_assignment place.line (map target_of targets.now) (expression_of value.now) self.old.operands.items)
+            (λ updates. TakesUpdate now (filled (point_of self.old) (source_place place) (Some delay) next updates)) (point_of self.old) (point_of self.new) (said_by result) }
         ensures room { KeepsRoom self.old self.new }
     {
         match self.fill(place, targets, value, Some(delay), next) {

@@ -31,7 +31,8 @@ fn push_once(
     entries: &mut Vec<WaitEntry>,
 ) -> Result<(), NoMemory>
     ensures seen { IfOk result (λ _. (object : ℕ) → contains nat_eq seen.new object ≡ (nat_eq (object_number piece.object) object || contains nat_eq seen.old object)) }
-    ensures entries { IfOk result (λ _. map entry_of entries.new.items ≡ map entry_of entries.old.items ++ map change_entry (piece_unless (contains nat_eq seen.old (object_number piece.object)) (piece_of piece) [])) }
+    ensures entries { IfOk result (λ _. map entry_of entries.new.items ≡ map entry_of entries.old.items ++ map change_entry (piece_unless
+        (contains nat_eq seen.old (object_number piece.object)) (piece_of piece) [])) }
 {
     let Ok(is_new) = seen.insert(piece.object.0) else {
         return Err(NoMemory);

@@ -31,7 +31,8 @@ pub fn read_choice(
 ) -> Result<Option<usize>, ObjectId>
     requires value { IsSized (expression_of value.now) }
     requires labels { AreSizedItems (width_of (expression_of value.now)) (sign_of (expression_of value.now)) (items_of items.now) }
-    ensures has { IfOk result (λ choice. (default : Statement) → read_case kind (expression_of value.now) (items_of items.now) default (drop used.old operands.now) ≡ Has (chosen_by (items_of items.now) default choice) (drop used.new operands.now)) }
+    ensures has { IfOk result (λ choice. (default : Statement) →
+        read_case kind (expression_of value.now) (items_of items.now) default (drop used.old operands.now) ≡ Has (chosen_by (items_of items.now) default choice) (drop used.new operands.now)) }
     ensures needs { IfErr result (λ object. (default : Statement) → read_case kind (expression_of value.now) (items_of items.now) default (drop used.old operands.now) ≡ Needs (object_number object)) }
 {
     let bits = read_value(value, operands, used)?;
@@ -48,7 +49,8 @@ fn read_item(
     used: &mut usize,
 ) -> Result<Option<usize>, ObjectId>
     requires { (signed : Bool) × AreSizedItems (length value) signed (items_of items.now) }
-    ensures has { IfOk result (λ choice. (default : Statement) → read_items kind value (items_of items.now) default (drop used.old operands.now) ≡ Has (chosen_by (items_of items.now) default choice) (drop used.new operands.now)) }
+    ensures has { IfOk result (λ choice. (default : Statement) →
+        read_items kind value (items_of items.now) default (drop used.old operands.now) ≡ Has (chosen_by (items_of items.now) default choice) (drop used.new operands.now)) }
     ensures needs { IfErr result (λ object. (default : Statement) → read_items kind value (items_of items.now) default (drop used.old operands.now) ≡ Needs (object_number object)) }
 {
     let mut choice: Option<usize> = None;

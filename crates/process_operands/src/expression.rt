@@ -163,8 +163,11 @@ fn read_bit(
     used: &mut usize,
 ) -> Result<Bit, ObjectId>
     requires { IsSized (expression_of index.now) }
-    ensures has { IfOk result (λ bit. (width : ℕ) (signed : Bool) → read_expression (BitSelect width signed (vector_of vector.now) (expression_of index.now)) (drop used.old operands.now) ≡ Has (resized signed width (bit ∷ [])) (drop used.new operands.now)) }
-    ensures needs { IfErr result (λ object. (width : ℕ) (signed : Bool) → read_expression (BitSelect width signed (vector_of vector.now) (expression_of index.now)) (drop used.old operands.now) ≡ Needs (object_number object)) }
+    ensures has { IfOk result (λ bit. (width : ℕ) (signed : Bool) →
+        read_expression (BitSelect width signed (vector_of vector.now) (expression_of index.now)) (drop used.old operands.now) ≡ Has (resized signed width
+        (bit ∷ [])) (drop used.new operands.now)) }
+    ensures needs { IfErr result (λ object. (width : ℕ) (signed : Bool) →
+        read_expression (BitSelect width signed (vector_of vector.now) (expression_of index.now)) (drop used.old operands.now) ≡ Needs (object_number object)) }
 {
     if names_nothing(index) {
         let number = read_value(index, operands, used)?.as_natural(is_signed(index));

@@ -118,8 +118,10 @@ fn read_bit_of_part(
     used: &mut usize,
 ) -> Result<Bit, ObjectId>
     requires { part_width from to ≤ 128 }
-    ensures has { IfOk result (λ bit. got (λ bits. bit_at_place bits place) (read_slices (slices_at (part_places vector.now.high vector.now.low from to) 0 (map piece_of vector.now.pieces)) (drop used.old operands.now)) ≡ Has bit (drop used.new operands.now)) }
-    ensures needs { IfErr result (λ object. read_slices (slices_at (part_places vector.now.high vector.now.low from to) 0 (map piece_of vector.now.pieces)) (drop used.old operands.now) ≡ Needs (object_number object)) }
+    ensures has { IfOk result (λ bit. got (λ bits. bit_at_place bits place) (read_slices (slices_at (part_places vector.now.high vector.now.low from to) 0
+        (map piece_of vector.now.pieces)) (drop used.old operands.now)) ≡ Has bit (drop used.new operands.now)) }
+    ensures needs { IfErr result (λ object. read_slices (slices_at (part_places vector.now.high vector.now.low from to) 0 (map piece_of vector.now.pieces))
+        (drop used.old operands.now) ≡ Needs (object_number object)) }
 {
     let mut sought = Sought::at(place);
     let mut low: u128 = 0;
@@ -148,8 +150,10 @@ pub(crate) fn read_part(
 ) -> Result<Vec4, ObjectId>
     requires some { 1 ≤ part_width from to }
     requires few { part_width from to ≤ 128 }
-    ensures has { IfOk result (λ part. got (λ bits. map (bit_at_place bits) (part_places vector.now.high vector.now.low from to)) (read_slices (slices_at (part_places vector.now.high vector.now.low from to) 0 (map piece_of vector.now.pieces)) (drop used.old operands.now)) ≡ Has part (drop used.new operands.now)) }
-    ensures needs { IfErr result (λ object. read_slices (slices_at (part_places vector.now.high vector.now.low from to) 0 (map piece_of vector.now.pieces)) (drop used.old operands.now) ≡ Needs (object_number object)) }
+    ensures has { IfOk result (λ part. got (λ bits. map (bit_at_place bits) (part_places vector.now.high vector.now.low from to)) (read_slices (slices_at
+        (part_places vector.now.high vector.now.low from to) 0 (map piece_of vector.now.pieces)) (drop used.old operands.now)) ≡ Has part (drop used.new operands.now)) }
+    ensures needs { IfErr result (λ object. read_slices (slices_at (part_places vector.now.high vector.now.low from to) 0 (map piece_of vector.now.pieces))
+        (drop used.old operands.now) ≡ Needs (object_number object)) }
 {
     let first = *used;
     let mut part: Option<Vec4> = None;
@@ -192,8 +196,10 @@ pub(crate) fn read_constant_bit(
     operands: &[Vec4],
     used: &mut usize,
 ) -> Result<Bit, ObjectId>
-    ensures has { IfOk result (λ bit. got (λ bits. bit_at_place bits (place_of_number vector.now.high vector.now.low index)) (read_slices (slices_at (place_of_number vector.now.high vector.now.low index ∷ []) 0 (map piece_of vector.now.pieces)) (drop used.old operands.now)) ≡ Has bit (drop used.new operands.now)) }
-    ensures needs { IfErr result (λ object. read_slices (slices_at (place_of_number vector.now.high vector.now.low index ∷ []) 0 (map piece_of vector.now.pieces)) (drop used.old operands.now) ≡ Needs (object_number object)) }
+    ensures has { IfOk result (λ bit. got (λ bits. bit_at_place bits (place_of_number vector.now.high vector.now.low index)) (read_slices (slices_at
+        (place_of_number vector.now.high vector.now.low index ∷ []) 0 (map piece_of vector.now.pieces)) (drop used.old operands.now)) ≡ Has bit (drop used.new operands.now)) }
+    ensures needs { IfErr result (λ object. read_slices (slices_at (place_of_number vector.now.high vector.now.low index ∷ []) 0
+        (map piece_of vector.now.pieces)) (drop used.old operands.now) ≡ Needs (object_number object)) }
 {
     match index {
         None => Ok(Bit::X),
@@ -211,8 +217,10 @@ fn read_known_bit(
     operands: &[Vec4],
     used: &mut usize,
 ) -> Result<Bit, ObjectId>
-    ensures has { IfOk result (λ bit. got (λ bits. bit_at_place bits (place_of vector.now.high vector.now.low index)) (read_slices (slices_at (place_of vector.now.high vector.now.low index ∷ []) 0 (map piece_of vector.now.pieces)) (drop used.old operands.now)) ≡ Has bit (drop used.new operands.now)) }
-    ensures needs { IfErr result (λ object. read_slices (slices_at (place_of vector.now.high vector.now.low index ∷ []) 0 (map piece_of vector.now.pieces)) (drop used.old operands.now) ≡ Needs (object_number object)) }
+    ensures has { IfOk result (λ bit. got (λ bits. bit_at_place bits (place_of vector.now.high vector.now.low index)) (read_slices (slices_at
+        (place_of vector.now.high vector.now.low index ∷ []) 0 (map piece_of vector.now.pieces)) (drop used.old operands.now)) ≡ Has bit (drop used.new operands.now)) }
+    ensures needs { IfErr result (λ object. read_slices (slices_at (place_of vector.now.high vector.now.low index ∷ []) 0 (map piece_of vector.now.pieces))
+        (drop used.old operands.now) ≡ Needs (object_number object)) }
 {
     match index_within(vector, index) {
         None => Ok(Bit::X),

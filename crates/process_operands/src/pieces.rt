@@ -60,7 +60,8 @@ fn push_part(
     pieces: &mut Vec<PieceRef>,
 ) -> Result<(), NoMemory>
     requires { part_width from to ≤ 128 }
-    ensures { IfOk result (λ _. map piece_of pieces.new.items ≡ map piece_of pieces.old.items ++ slice_pieces (slices_at (part_places vector.now.high vector.now.low from to) 0 (map piece_of vector.now.pieces))) }
+    ensures { IfOk result (λ _. map piece_of pieces.new.items ≡ map piece_of pieces.old.items ++ slice_pieces (slices_at
+        (part_places vector.now.high vector.now.low from to) 0 (map piece_of vector.now.pieces))) }
 {
     let mut low: u128 = 0;
     let own = vector.pieces.as_slice();
@@ -80,7 +81,8 @@ fn push_bit(
     index: Option<u128>,
     pieces: &mut Vec<PieceRef>,
 ) -> Result<(), NoMemory>
-    ensures { IfOk result (λ _. map piece_of pieces.new.items ≡ map piece_of pieces.old.items ++ slice_pieces (slices_at (place_of_number vector.now.high vector.now.low index ∷ []) 0 (map piece_of vector.now.pieces))) }
+    ensures { IfOk result (λ _. map piece_of pieces.new.items ≡ map piece_of pieces.old.items ++ slice_pieces (slices_at
+        (place_of_number vector.now.high vector.now.low index ∷ []) 0 (map piece_of vector.now.pieces))) }
 {
     match index {
         None => Ok(()),
@@ -101,7 +103,8 @@ fn push_select(
     pieces: &mut Vec<PieceRef>,
 ) -> Result<(), NoMemory>
     requires { IsSized (expression_of index.now) }
-    ensures { IfOk result (λ _. map piece_of pieces.new.items ≡ map piece_of pieces.old.items ++ slice_pieces (bit_slices (is_constant (expression_of index.now)) (vector_of vector.now) (index_number no_values (expression_of index.now)))) }
+    ensures { IfOk result (λ _. map piece_of pieces.new.items ≡ map piece_of pieces.old.items ++ slice_pieces (bit_slices (is_constant
+        (expression_of index.now)) (vector_of vector.now) (index_number no_values (expression_of index.now)))) }
 {
     if names_nothing(index) {
         let mut used = 0;

@@ -159,7 +159,8 @@ fn read_targets(
     requires few { targets_width (map target_of targets.now) ≤ 128 }
     requires empty { updates.old.items ≡ [] }
     requires space { length targets.now ≤ vec_capacity updates.old }
-    ensures has { OnOk result (got (λ indexes. target_updates line (map target_of targets.now) indexes bits) (read_indexes (map target_of targets.now) (drop used.old operands.now)) ≡ Has (map (option_map update_of) updates.new.items) (drop used.new operands.now)) }
+    ensures has { OnOk result (got (λ indexes. target_updates line (map target_of targets.now) indexes bits) (read_indexes (map target_of targets.now)
+        (drop used.old operands.now)) ≡ Has (map (option_map update_of) updates.new.items) (drop used.new operands.now)) }
     ensures needs { IfErr result (λ object. read_indexes (map target_of targets.now) (drop used.old operands.now) ≡ Needs (object_number object)) }
     ensures room { vec_capacity updates.old ≤ vec_capacity updates.new }
 {
@@ -190,7 +191,8 @@ pub fn read_updates(
     requires sized { IsSizedAssignment (map target_of targets.now) (expression_of value.now) }
     requires empty { updates.old.items ≡ [] }
     requires space { length targets.now ≤ vec_capacity updates.old }
-    ensures has { OnOk result (read_assignment line (map target_of targets.now) (expression_of value.now) (drop used.old operands.now) ≡ Has (map (option_map update_of) updates.new.items) (drop used.new operands.now)) }
+    ensures has { OnOk result (read_assignment line (map target_of targets.now) (expression_of value.now) (drop used.old operands.now) ≡ Has (map
+        (option_map update_of) updates.new.items) (drop used.new operands.now)) }
     ensures needs { IfErr result (λ object. read_assignment line (map target_of targets.now) (expression_of value.now) (drop used.old operands.now) ≡ Needs (object_number object)) }
     ensures empty { OnErr result (updates.new.items ≡ []) }
     ensures room { vec_capacity updates.old ≤ vec_capacity updates.new }

@@ -93,7 +93,8 @@ impl<'d> ProcessTable<'d> {
         requires ready { is_ready (process_in (table_of self.old) (process_number process)).activity ≡ true }
         requires values { length (V.values values.now) ≡ length (table_of self.old).design.objects }
         requires time { (table_of self.old).time ≤ 2 ^ 63 }
-        ensures step { IfOk result (λ stepped. (machine : Machine) (state : State) → IsTableOf machine state (table_of self.old) → state.values ≡ V.values values.now → IsStepOf machine state (process_number process) stepped (table_of self.new)) }
+        ensures step { IfOk result (λ stepped. (machine : Machine) (state : State) → IsTableOf machine state (table_of self.old) →
+            state.values ≡ V.values values.now → IsStepOf machine state (process_number process) stepped (table_of self.new)) }
         ensures ticks { steps.new ≡ raised steps.old }
         ensures kept { IfOk result (λ _. IsKept self.new) }
     {

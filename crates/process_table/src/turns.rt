@@ -59,7 +59,8 @@ impl<'d> ProcessTable<'d> {
         requires kept { IsKept self.old }
         requires quiet { some_in has_event (table_of self.old).processes ≡ false }
         ensures kind { IfOk result (λ turn. (machine : Machine) (state : State) → IsTableOf machine state (table_of self.old) → option_map turn_kind turn ≡ turn_of state) }
-        ensures turned { IfOk result (λ _. (machine : Machine) (state : State) → IsTableOf machine state (table_of self.old) → IsTableOf machine (turned_by (turn_of state) state) (table_of self.new)) }
+        ensures turned { IfOk result (λ _. (machine : Machine) (state : State) → IsTableOf machine state (table_of self.old) →
+            IsTableOf machine (turned_by (turn_of state) state) (table_of self.new)) }
         ensures kept { IfOk result (λ _. IsKept self.new) }
     {
         let turn = self.next_turn();

@@ -28,7 +28,8 @@ fn hold_row(
 ) -> Result<(), NoMemory>
     requires good { IsGoodRow row.now }
     requires entries { AllHold (IsEntryIn (design_of design.now)) (waiting_entries (row_state row.now).activity) }
-    ensures accesses { OnOk result (map noted_access accesses.new.items ≡ map noted_access accesses.old.items ++ held_by (design_of design.now) (process_number process) (with_held (row_state row.now) nothing_held)) }
+    ensures accesses { OnOk result (map noted_access accesses.new.items ≡ map noted_access accesses.old.items ++ held_by (design_of design.now)
+        (process_number process) (with_held (row_state row.now) nothing_held)) }
     ensures held { OnOk result (AreHeld (design_of design.now) accesses.old.items → AreHeld (design_of design.now) accesses.new.items) }
 {
     let entries = row.state.waits(&row.code);
@@ -51,7 +52,8 @@ impl<'d> ProcessTable<'d> {
         accesses: &mut Vec<Noted>,
     ) -> Result<(), NoMemory>
         requires kept { IsKept self.now }
-        ensures accesses { OnOk result (map noted_access accesses.new.items ≡ map noted_access accesses.old.items ++ await_accesses (process_number process) line (process_in (table_of self.now) (process_number process)).activity) }
+        ensures accesses { OnOk result (map noted_access accesses.new.items ≡ map noted_access accesses.old.items ++ await_accesses
+            (process_number process) line (process_in (table_of self.now) (process_number process)).activity) }
         ensures noted { OnOk result (AreNoted (table_of self.now).design accesses.old.items → AreNoted (table_of self.now).design accesses.new.items) }
     {
         if process.0 as usize >= self.rows.len() {
@@ -70,7 +72,8 @@ impl<'d> ProcessTable<'d> {
     /// Want of memory.
     pub fn note_held(&self, accesses: &mut Vec<Noted>) -> Result<(), NoMemory>
         requires kept { IsKept self.now }
-        ensures accesses { OnOk result (map noted_access accesses.new.items ≡ map noted_access accesses.old.items ++ joined (map_numbered (held_by (table_of self.now).design) 0 (table_of self.now).processes)) }
+        ensures accesses { OnOk result (map noted_access accesses.new.items ≡ map noted_access accesses.old.items ++ joined (map_numbered (held_by
+            (table_of self.now).design) 0 (table_of self.now).processes)) }
         ensures held { OnOk result (AreHeld (table_of self.now).design accesses.old.items → AreHeld (table_of self.now).design accesses.new.items) }
     {
         'rows: for (number, row) in self.rows.iter().enumerate() {

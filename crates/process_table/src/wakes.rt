@@ -35,7 +35,8 @@ fn note_ended(
     requires number { process_number process < length rows.now.items }
     requires good { AllHold IsGoodRow rows.now.items }
     requires widths { AllHold (λ (entry : Entry). IsWidth entry.width) (waiting_entries (state_at (row_states rows.now.items) (process_number process)).activity) }
-    ensures { IfOk result (λ told. EndsWait (map change_seen changes.now) (process_number process) (state_at (row_states rows.now.items) (process_number process)).activity told accesses.old.items accesses.new.items) }
+    ensures { IfOk result (λ told. EndsWait (map change_seen changes.now) (process_number process) (state_at (row_states rows.now.items)
+        (process_number process)).activity told accesses.old.items accesses.new.items) }
 {
     let row = &rows[process.0 as usize];
     let entries = row.state.waits(&row.code);
@@ -104,7 +105,8 @@ impl<'d> ProcessTable<'d> {
         ended: &mut Vec<ProcId>,
     ) -> Result<(), NoMemory>
         requires kept { IsKept self.old }
-        ensures woken { OnOk result (IsWokenAt (map change_seen changes.now) (table_of self.old) (table_of self.new) (map noted_access accesses.old.items) (map noted_access accesses.new.items) (map process_number ended.old.items) (map process_number ended.new.items) (process_number process)) }
+        ensures woken { OnOk result (IsWokenAt (map change_seen changes.now) (table_of self.old) (table_of self.new) (map noted_access accesses.old.items)
+            (map noted_access accesses.new.items) (map process_number ended.old.items) (map process_number ended.new.items) (process_number process)) }
         ensures noted { OnOk result (AreNoted (table_of self.old).design accesses.old.items → AreNoted (table_of self.old).design accesses.new.items) }
         ensures kept { OnOk result (IsKept self.new) }
     {
@@ -134,9 +136,11 @@ impl<'d> ProcessTable<'d> {
     ) -> Result<(), NoMemory>
         requires kept { IsKept self.old }
         requires objects { All (λ change. object_number change.object < length (table_of self.old).design.objects) changes.now }
-        ensures woken { OnOk result (IsWoken (map change_seen changes.now) (table_of self.old) (table_of self.new) (map noted_access accesses.old.items) (map noted_access accesses.new.items) (map process_number ended.old.items) (map process_number ended.new.items)) }
+        ensures woken { OnOk result (IsWoken (map change_seen changes.now) (table_of self.old) (table_of self.new) (map noted_access accesses.old.items)
+            (map noted_access accesses.new.items) (map process_number ended.old.items) (map process_number ended.new.items)) }
         ensures noted { OnOk result (AreNoted (table_of self.old).design accesses.old.items → AreNoted (table_of self.old).design accesses.new.items) }
-        ensures ended { OnOk result (All (λ process. process_number process < length (table_of self.old).processes) ended.old.items → All (λ process. process_number process < length (table_of self.old).processes) ended.new.items) }
+        ensures ended { OnOk result (All (λ process. process_number process < length (table_of self.old).processes) ended.old.items →
+            All (λ process. process_number process < length (table_of self.old).processes) ended.new.items) }
         ensures kept { OnOk result (IsKept self.new) }
     {
         let mut candidates = mem::replace(&mut self.candidates, Vec::new(self.alloc));
@@ -157,7 +161,8 @@ impl<'d> ProcessTable<'d> {
         requires kept { IsKept self.old }
         requires climbs { Climbs candidates.now }
         requires all { HasWoken (map change_seen changes.now) (table_of self.old).processes candidates.now }
-        ensures woken { OnOk result (IsWoken (map change_seen changes.now) (table_of self.old) (table_of self.new) (map noted_access accesses.old.items) (map noted_access accesses.new.items) (map process_number ended.old.items) (map process_number ended.new.items)) }
+        ensures woken { OnOk result (IsWoken (map change_seen changes.now) (table_of self.old) (table_of self.new) (map noted_access accesses.old.items)
+            (map noted_access accesses.new.items) (map process_number ended.old.items) (map process_number ended.new.items)) }
         ensures noted { OnOk result (AreNoted (table_of self.old).design accesses.old.items → AreNoted (table_of self.old).design accesses.new.items) }
         ensures kept { OnOk result (IsKept self.new) }
     {

@@ -336,7 +336,9 @@ impl PhaseRecord {
     /// Want of memory.
     pub fn conflict(&mut self, graph: &Graph) -> Result<Option<Pair>, NoMemory>
         requires { IsLogOf (design_of graph.now.design.now) self.old.log.log }
-        ensures pair { IfOk result (λ pair. (machine : Machine) (number : ℕ) (begins : State) (events : List Event) → machine.design ≡ design_of graph.now.design.now → IsRecordOf machine number begins (noted_events machine begins events) self.old → option_map reported_pair pair ≡ option_map (race_of begins.time number) (phase_race machine begins events)) }
+        ensures pair { IfOk result (λ pair. (machine : Machine) (number : ℕ) (begins : State) (events : List Event) →
+            machine.design ≡ design_of graph.now.design.now → IsRecordOf machine number begins (noted_events machine begins events) self.old →
+            option_map reported_pair pair ≡ option_map (race_of begins.time number) (phase_race machine begins events)) }
         ensures same { SameRecord self.old self.new }
     {
         self.index.fill(&self.log, graph)?;

@@ -50,7 +50,9 @@ fn race_or(
     graph: &Graph,
 ) -> Result<Option<Pair>, NoMemory>
     requires { IsLogOf (design_of graph.now.design.now) phase.old.log.log }
-    ensures race { IfOk result (λ found. (machine : Machine) (number : ℕ) (begins : State) (events : List Event) → machine.design ≡ design_of graph.now.design.now → IsRecordOf machine number begins (noted_events machine begins events) phase.old → option_map reported_pair found ≡ or_race (option_map reported_pair race) (option_map (race_of begins.time number) (phase_race machine begins events))) }
+    ensures race { IfOk result (λ found. (machine : Machine) (number : ℕ) (begins : State) (events : List Event) →
+        machine.design ≡ design_of graph.now.design.now → IsRecordOf machine number begins (noted_events machine begins events) phase.old →
+        option_map reported_pair found ≡ or_race (option_map reported_pair race) (option_map (race_of begins.time number) (phase_race machine begins events))) }
     ensures same { SameRecord phase.old phase.new }
 {
     match race {

@@ -63,7 +63,8 @@ impl<'w> Grader<'w> {
 
         // Each first time stays, and else this strobe's comes.
         ensures state { self.new ≡ shown_at time (samples self.old.watched (A.values good.now)) (samples self.old.watched (B.values faulty.now)) self.old }
-        ensures shown { (g f : Samples) (strobes : List ℕ) → IsShown g f strobes self.old → samples self.old.watched (A.values good.now) ≡ g time → samples self.old.watched (B.values faulty.now) ≡ f time → IsShown g f (strobes ++ time ∷ []) self.new }
+        ensures shown { (g f : Samples) (strobes : List ℕ) → IsShown g f strobes self.old → samples self.old.watched (A.values good.now) ≡ g time →
+            samples self.old.watched (B.values faulty.now) ≡ f time → IsShown g f (strobes ++ time ∷ []) self.new }
         ensures stands { IsTrue result ↔ IsSome self.new.hard }
     {
         let shown = compare(self.watched, good, faulty);

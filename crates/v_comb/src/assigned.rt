@@ -229,7 +229,8 @@ fn after_assignment(
     target: &Target,
     value: &Expr,
 ) -> Result<Option<Vec<bool>>, NoMemory>
-    ensures { IfOk result (λ after. flags_in after ≡ flags_where (all_flagged targets.now flags.items (names_needed (target_of target.now) (expression_of value.now))) (Some (flag_names targets.now flags.items (whole_names (target_of target.now))))) }
+    ensures { IfOk result (λ after. flags_in after ≡ flags_where (all_flagged targets.now flags.items (names_needed (target_of target.now)
+        (expression_of value.now))) (Some (flag_names targets.now flags.items (whole_names (target_of target.now))))) }
 {
     let mut flags = flags;
     if !assignment_is_flagged(alloc, targets, &flags, target, value)? {

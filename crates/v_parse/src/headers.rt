@@ -88,7 +88,8 @@ fn next_group<'t>(
     levels: u32,
 ) -> Result<(Row<Params>, &'t [Lexeme<'t>]), Stop<'t>>
     requires { levels < 256 }
-    ensures reads { Gives (λ x. (Some (map parameters_of x.0.before.items ++ parameters_of x.0.last ∷ []), x.1.now)) result (by_class (read.group_by levels (map parameters_of row.before.items ++ parameters_of row.last ∷ [])) tokens.now) }
+    ensures reads { Gives (λ x. (Some (map parameters_of x.0.before.items ++ parameters_of x.0.last ∷ []), x.1.now)) result (by_class (read.group_by levels
+        (map parameters_of row.before.items ++ parameters_of row.last ∷ [])) tokens.now) }
     ensures shorter { IfOk result (λ x. length x.1.now < length tokens.now) }
 {
     let Row { mut before, last } = row;
@@ -206,7 +207,8 @@ fn another_port<'t>(
     levels: u32,
 ) -> Result<(Row<Ports>, &'t [Lexeme<'t>]), Stop<'t>>
     requires { levels < 256 }
-    ensures reads { Gives (λ x. (Some (map ports_of x.0.before.items ++ ports_of x.0.last ∷ []), x.1.now)) result (read.another_port levels (map ports_of row.before.items ++ ports_of row.last ∷ []) direction tokens.now) }
+    ensures reads { Gives (λ x. (Some (map ports_of x.0.before.items ++ ports_of x.0.last ∷ []), x.1.now)) result (read.another_port levels
+        (map ports_of row.before.items ++ ports_of row.last ∷ []) direction tokens.now) }
     ensures shorter { IfOk result (λ x. length x.1.now < length tokens.now) }
 {
     let Row { mut before, last } = row;
@@ -224,7 +226,8 @@ fn next_port<'t>(
     levels: u32,
 ) -> Result<(Row<Ports>, &'t [Lexeme<'t>]), Stop<'t>>
     requires { levels < 256 }
-    ensures reads { Gives (λ x. (Some (map ports_of x.0.before.items ++ ports_of x.0.last ∷ []), x.1.now)) result (by_class (read.port_by levels (map ports_of row.before.items ++ ports_of row.last ∷ [])) tokens.now) }
+    ensures reads { Gives (λ x. (Some (map ports_of x.0.before.items ++ ports_of x.0.last ∷ []), x.1.now)) result (by_class (read.port_by levels
+        (map ports_of row.before.items ++ ports_of row.last ∷ [])) tokens.now) }
     ensures shorter { IfOk result (λ x. length x.1.now < length tokens.now) }
 {
     match next_class(tokens) {

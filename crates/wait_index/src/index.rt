@@ -80,7 +80,9 @@ fn add_waiter(
 ) -> Result<(), NoMemory>
     requires is_process { process_number process + 1 < 2 ^ 32 }
     requires alike { vec_len seen.old ≡ vec_len waiters.old }
-    ensures added { IfOk result (λ _. (taken : List ℕ) (before : List (List ℕ)) → WaitersAdded (process_number process) taken before seen.old.items (process_lists waiters.old.items) → WaitersAdded (process_number process) (taken ++ object_number object ∷ []) before seen.new.items (process_lists waiters.new.items)) }
+    ensures added { IfOk result (λ _. (taken : List ℕ) (before : List (List ℕ)) →
+        WaitersAdded (process_number process) taken before seen.old.items (process_lists waiters.old.items) →
+        WaitersAdded (process_number process) (taken ++ object_number object ∷ []) before seen.new.items (process_lists waiters.new.items)) }
     ensures alike { IfOk result (λ _. vec_len seen.new ≡ vec_len waiters.new) }
 {
     let at = object.0 as usize;
@@ -105,7 +107,9 @@ fn add_waiters(
 ) -> Result<(), NoMemory>
     requires is_process { process_number process + 1 < 2 ^ 32 }
     requires alike { vec_len seen.old ≡ vec_len waiters.old }
-    ensures added { IfOk result (λ _. (before : List (List ℕ)) → WaitersAdded (process_number process) [] before seen.old.items (process_lists waiters.old.items) → WaitersAdded (process_number process) (map object_number objects.now) before seen.new.items (process_lists waiters.new.items)) }
+    ensures added { IfOk result (λ _. (before : List (List ℕ)) →
+        WaitersAdded (process_number process) [] before seen.old.items (process_lists waiters.old.items) →
+        WaitersAdded (process_number process) (map object_number objects.now) before seen.new.items (process_lists waiters.new.items)) }
     ensures alike { IfOk result (λ _. vec_len seen.new ≡ vec_len waiters.new) }
 {
     'objects: for object in objects {
