@@ -21,7 +21,7 @@ use Rattle.v_elab.specs.Flat.{flat_process, flat_node, walked_nodes, loop_of_obj
 use Rattle.flat_laws.specs.Made.{refusal_or-none, over_limit-none, nodes_in, processes_in, objects_in, flat_nodes_in, IsMadeOf}
 use Rattle.flat_laws.specs.Lists.{same_some, AllHold-from, AllHold-permutation}
 use Rattle.flat_laws.specs.Numbered.{length-numbered, at-numbered, AllHold-up_from, AllHold-filter, AllHold-each}
-use Rattle.flat_laws.specs.Ranks.{AreAcyclic, by_rank-permutation, by_rank-below, by_rank-sorted}
+use Rattle.flat_laws.specs.Drivers.Ranks.{AreAcyclic, by_rank-permutation, by_rank-below, by_rank-sorted}
 
 -- Inputs
 

@@ -16,15 +16,15 @@ use Rattle.v_elab.specs.Flat.{flat}
 use Rattle.flat_laws.specs.Made.{nodes_in, objects_in, flat_nodes_in, IsMadeOf, flat-made}
 use Rattle.flat_laws.specs.Lists.{AllHold-from}
 use Rattle.flat_laws.specs.Limits.{design-objects, nodes-permutation, each-node, objects-few, nodes-few, processes-few, node-inputs-few, node-inputs-there, nodes-below, nodes-by_rank}
-use Rattle.flat_laws.specs.Drivers.{outputs-once, node-outputs, one-driver, outputs-nets}
-use Rattle.flat_laws.specs.Hierarchy.{IsHierarchy, part_name}
+use Rattle.flat_laws.specs.Drivers.OneDriver.{outputs-once, node-outputs, one-driver, outputs-nets}
+use Rattle.flat_laws.specs.Hierarchy.Given.{IsHierarchy, part_name}
 use Rattle.flat_laws.specs.Source.{IsSourceUnit}
-use Rattle.flat_laws.specs.Visits.{IsAt}
-use Rattle.flat_laws.specs.Complete.{IsSettled}
-use Rattle.flat_laws.specs.Levelled.{named-module, parts-levelled, node-levels, process-levels}
+use Rattle.flat_laws.specs.Hierarchy.Visits.{IsAt}
+use Rattle.flat_laws.specs.Sizes.Complete.{IsSettled}
+use Rattle.flat_laws.specs.Hierarchy.Levelled.{named-module, parts-levelled, node-levels, process-levels}
 use Rattle.graph_order.specs.ListLaws.{AllHold-slice_get}
-use Rattle.flat_laws.specs.Held.{part-in-signals}
-use Rattle.flat_laws.specs.Signals.{IsSignalPart, parts-signals}
+use Rattle.flat_laws.specs.Drivers.Held.{part-in-signals}
+use Rattle.flat_laws.specs.Hierarchy.Signals.{IsSignalPart, parts-signals}
 
 -- Limits, order and drivers
 

@@ -7,8 +7,8 @@ use Rattle.v_design.specs.WellFormed.{TerminalsFit}
 use Rattle.v_tree.specs.Trees.{SourceExpression, Concatenated, no_parts, SourceWire, SourceAssignment, SourceGate, SourceConnection, SourceInstance, SourceItem, ParameterItem, PortItem, WireItem, RegItem, IntegerItem, AssignItem, GateItem, InstanceItem, InitialItem, AlwaysItem, SourceModule}
 use Rattle.v_expr.specs.Heights.{height_of}
 use Rattle.v_stmt.specs.Heights.{statement_height}
-use Rattle.flat_laws.specs.Statements.{HasSelects, HaveSelects}
-use Rattle.flat_laws.specs.Walks.{IsOf}
+use Rattle.flat_laws.specs.Sizes.Statements.{HasSelects, HaveSelects}
+use Rattle.flat_laws.specs.Hierarchy.Walks.{IsOf}
 
 -- the most levels below the outermost one
 abbrev pub most_height : ℕ

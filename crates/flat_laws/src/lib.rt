@@ -6,7 +6,7 @@
 #![tactic(auto)]
 
 ghost use Rattle.flat_laws.specs.Rules.{FlatDesignsAreOrdered, FlatDesignsAreLow};
-ghost use Rattle.flat_laws.specs.NamedUnits.{NamedDesignsAreSized, NamedDesignsAreWritten};
+ghost use Rattle.flat_laws.specs.Names.NamedUnits.{NamedDesignsAreSized, NamedDesignsAreWritten};
 
 /// Each flat design is within its limits. Its nodes are acyclic and stand by rank, write net pieces alone, and no two of them write one piece.
 pub fn ordered()

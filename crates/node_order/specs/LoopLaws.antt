@@ -14,7 +14,7 @@ use Rattle.net_graph.specs.Loops.{IsStep, IsPath, IsLooping, IsLeastLooping, Are
 use Rattle.net_graph.specs.WiringLaws.{looping_among}
 use Rattle.v_elab.specs.Ranks.{outputs_reading, reached, reaches_itself, first_of, least_loop}
 use Rattle.flat_laws.specs.Lists.{same_some, at-filter}
-use Rattle.flat_laws.specs.Ranks.{any-at, any-has, path-reached}
+use Rattle.flat_laws.specs.Drivers.Ranks.{any-at, any-has, path-reached}
 
 -- What is reached
 

@@ -14,7 +14,7 @@ use Rattle.v_elab.specs.Drivers.{signals_of}
 use Rattle.v_elab.specs.Objects.{HeldObject, names_joined}
 use Rattle.v_elab.specs.Flat.{flat_process, loop_of_object, loop_at, loop_in, inputs_over, some_inputs_over, design_with, over_nodes}
 use Rattle.flat_laws.specs.Lists.{same_some}
-use Rattle.flat_laws.specs.Ranks.{rank-below}
+use Rattle.flat_laws.specs.Drivers.Ranks.{rank-below}
 use Rattle.net_graph.specs.Loops.{IsLooping, IsLeastLooping, AreAmong}
 use Rattle.node_order.specs.NodeOrder.{loop_of, loop_of_number, loop_among, ordered_nodes}
 use Rattle.node_order.specs.LoopLaws.{least-found, none-found}

@@ -14,9 +14,9 @@ use Rattle.v_elab.specs.Statements.{Meaning, statement_over}
 use Rattle.v_elab.specs.Flat.{meaning_in, flat_process, flat}
 use Rattle.flat_laws.specs.Numbered.{AllHold-each, AllHold-map}
 use Rattle.flat_laws.specs.Limits.{design-processes}
-use Rattle.flat_laws.specs.Levelled.{named-module}
+use Rattle.flat_laws.specs.Hierarchy.Levelled.{named-module}
 use Rattle.flat_laws.specs.Made.{processes_in, objects_in, flat-made}
-use Rattle.flat_laws.specs.Processes.{behaviours-of, among-processes}
+use Rattle.flat_laws.specs.Hierarchy.Processes.{behaviours-of, among-processes}
 use Rattle.process_code.specs.Places.{places_in, PlacesDiffer}
 use Rattle.source_laws.specs.InOrder.{IsInOrder, stand-in-order}
 use Rattle.source_laws.specs.Ascending.{ComesBefore, tokens-ascend}

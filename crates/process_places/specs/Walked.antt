@@ -16,9 +16,9 @@ use Rattle.v_elab.specs.Parts.{WalkedProcess, Part}
 use Rattle.v_elab.specs.Connections.{Child, Paths, joined_name, port_direction, actual_parts, output_parts, connection_parts, connections_parts, connected_name, head_names}
 use Rattle.v_elab.specs.Walk.{Here, part_by_entry, parts_of_own, declared_parts, assign_part, wire_parts, gate_parts, item_parts, child_of, paths_of, walked_from}
 use Rattle.flat_laws.specs.Numbered.{AllHold-append, AllHold-flat_map, AllHold-map, AllHold-all}
-use Rattle.flat_laws.specs.Processes.{OfPart}
-use Rattle.flat_laws.specs.Walks.{IsOf, IsHere, walk-holds}
-use Rattle.flat_laws.specs.Levelled.{IsModule, enters-module}
+use Rattle.flat_laws.specs.Hierarchy.Processes.{OfPart}
+use Rattle.flat_laws.specs.Hierarchy.Walks.{IsOf, IsHere, walk-holds}
+use Rattle.flat_laws.specs.Hierarchy.Levelled.{IsModule, enters-module}
 
 -- what holds of the body of each process that stands in a unit
 pub record HoldsOfBodies (Q : SourceStatement → Type 0) (modules : List SourceModule) : Type 0 where

@@ -13,13 +13,13 @@ use Rattle.v_elab.specs.Walk.{walked_from}
 use Rattle.v_elab.specs.Drivers.{signals_of, NodeFunction, AssignFunction, GateFunction, BlockFunction, WalkedNode, Behaviour, IsNode, IsProcess, block_or_process, process_behaviour, part_behaviour, nodes_of}
 use Rattle.v_elab.specs.Objects.{HeldObject}
 use Rattle.v_elab.specs.Flat.{NodeOutput, node_kind, outputs_of, flat_node}
-use Rattle.flat_laws.specs.Hierarchy.{name-same}
+use Rattle.flat_laws.specs.Hierarchy.Given.{name-same}
 use Rattle.flat_laws.specs.Limits.{nodes-permutation}
 use Rattle.flat_laws.specs.Lists.{two-counted}
 use Rattle.flat_laws.specs.Made.{nodes_in, objects_in, flat_nodes_in, IsMadeOf}
-use Rattle.flat_laws.specs.Once.{label, is_named, count_named, labels-few}
-use Rattle.flat_laws.specs.OnceDeclared.{IsNamedUnit}
-use Rattle.flat_laws.specs.Spelled.{one_if}
+use Rattle.flat_laws.specs.Names.Once.{label, is_named, count_named, labels-few}
+use Rattle.flat_laws.specs.Names.OnceDeclared.{IsNamedUnit}
+use Rattle.flat_laws.specs.Names.Spelled.{one_if}
 use Rattle.source_laws.specs.SitesApart.{AllApart, apart-from}
 
 -- two nodes with terminals have two names

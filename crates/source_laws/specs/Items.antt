@@ -15,7 +15,7 @@ use Rattle.v_expr.specs.Spelling.{SpellsExpression}
 use Rattle.v_expr.specs.Heights.{height_of}
 use Rattle.v_parse.specs.Spelling.{SpellsWire, SpellsAssignment, has_one_input, SpellsGate, SpellsActual, SpellsConnections, SpellsPlacedConnections, SpellsNamedConnection, SpellsInstance, SpellsItem}
 use Rattle.v_parse.specs.Heights.{greatest, height_if_there, wire_height, assignment_height, gate_height, connection_height, instance_height, item_height}
-use Rattle.flat_laws.specs.Statements.{HasSelects}
+use Rattle.flat_laws.specs.Sizes.Statements.{HasSelects}
 use Rattle.flat_laws.specs.Source.{most_height, IsLowIfThere, HoldsParts, IsSourceItem}
 use Rattle.source_laws.specs.Targets.{target-has, statement-has, list-hold, list-long}
 

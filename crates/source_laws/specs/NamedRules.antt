@@ -12,18 +12,18 @@ use Rattle.v_tree.specs.Trees.{Identifier, SourceUnit}
 use Rattle.v_elab.specs.declared.Mode.{Mode}
 use Rattle.v_elab.specs.Flat.{flat}
 use Rattle.graph_order.specs.ListLaws.{AllHold-slice_get}
-use Rattle.flat_laws.specs.Levelled.{named-module}
+use Rattle.flat_laws.specs.Hierarchy.Levelled.{named-module}
 use Rattle.flat_laws.specs.Limits.{design-objects}
 use Rattle.flat_laws.specs.Lists.{AllHold-from}
 use Rattle.flat_laws.specs.Made.{nodes_in, flat-made}
-use Rattle.flat_laws.specs.Meant.{IsProcessSized}
-use Rattle.flat_laws.specs.NamedUnits.{named-sized, named-written}
-use Rattle.flat_laws.specs.Once.{names-once}
-use Rattle.flat_laws.specs.OnceDeclared.{IsNamedUnit}
-use Rattle.flat_laws.specs.Processes.{IsNamed}
+use Rattle.flat_laws.specs.Sizes.Meant.{IsProcessSized}
+use Rattle.flat_laws.specs.Names.NamedUnits.{named-sized, named-written}
+use Rattle.flat_laws.specs.Names.Once.{names-once}
+use Rattle.flat_laws.specs.Names.OnceDeclared.{IsNamedUnit}
+use Rattle.flat_laws.specs.Hierarchy.Processes.{IsNamed}
 use Rattle.flat_laws.specs.Rules.{flat-ordered, flat-low}
 use Rattle.flat_laws.specs.Source.{IsSourceUnit}
-use Rattle.flat_laws.specs.Written.{WritesVariables}
+use Rattle.flat_laws.specs.Blocks.Written.{WritesVariables}
 use Rattle.source_laws.specs.GateNames.{gates-apart}
 use Rattle.source_laws.specs.NamedSignals.{parts-named}
 use Rattle.source_laws.specs.ObjectBits.{parts-tell-bits}

@@ -19,15 +19,15 @@ use Rattle.v_elab.specs.Walk.{Entered, Here, part_by_entry, parts_of_own, declar
 use Rattle.graph_order.specs.ListLaws.{AllHold-slice_get}
 use Rattle.flat_laws.specs.Lists.{same_some}
 use Rattle.flat_laws.specs.Numbered.{AllHold-append, AllHold-filter, AllHold-flat_map, AllHold-map, AllHold-all, AllHold-each}
-use Rattle.flat_laws.specs.Declared.{items-declare}
-use Rattle.flat_laws.specs.Levelled.{IsModule, enters-module}
-use Rattle.flat_laws.specs.Meanings.{found, in-meanings}
-use Rattle.flat_laws.specs.OnceDeclared.{IsNamedUnit}
-use Rattle.flat_laws.specs.Placed.{is-parameter, at-flat}
-use Rattle.flat_laws.specs.Processes.{unless_faulty-ok}
-use Rattle.flat_laws.specs.Rounds.{scope-fixed}
-use Rattle.flat_laws.specs.Spelled.{IsSpelled}
-use Rattle.flat_laws.specs.Walks.{items_of, IsHere, IsInstance, walk-holds}
+use Rattle.flat_laws.specs.Names.Declared.{items-declare}
+use Rattle.flat_laws.specs.Hierarchy.Levelled.{IsModule, enters-module}
+use Rattle.flat_laws.specs.Names.Meanings.{found, in-meanings}
+use Rattle.flat_laws.specs.Names.OnceDeclared.{IsNamedUnit}
+use Rattle.flat_laws.specs.Names.Placed.{is-parameter, at-flat}
+use Rattle.flat_laws.specs.Hierarchy.Processes.{unless_faulty-ok}
+use Rattle.flat_laws.specs.Names.Rounds.{scope-fixed}
+use Rattle.flat_laws.specs.Names.Spelled.{IsSpelled}
+use Rattle.flat_laws.specs.Hierarchy.Walks.{items_of, IsHere, IsInstance, walk-holds}
 use Rattle.source_laws.specs.Indexes.{IsDeclaredRange}
 use Rattle.source_laws.specs.Spelling.{IsPlainName, EndsInDot, IsObjectName, own-plain}
 

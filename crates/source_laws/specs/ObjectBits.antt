@@ -14,8 +14,8 @@ use Rattle.v_elab.specs.Drivers.{signals_of, is_unjoined, WalkedNode, driving_va
 use Rattle.v_elab.specs.Objects.{HeldObject, index_at, variable_object, piece_object, pieces_or_variable, signal_objects, word_object, word_objects, part_objects, objects_of_parts}
 use Rattle.graph_order.specs.ListLaws.{AllHold-slice_get}
 use Rattle.flat_laws.specs.Numbered.{AllHold-each, AllHold-flat_map, AllHold-map, AllHold-all}
-use Rattle.flat_laws.specs.Hierarchy.{part_name}
-use Rattle.flat_laws.specs.Pieces.{Tile, pieces-tile, pieces-within}
+use Rattle.flat_laws.specs.Hierarchy.Given.{part_name}
+use Rattle.flat_laws.specs.Drivers.Pieces.{Tile, pieces-tile, pieces-within}
 use Rattle.source_laws.specs.SitesApart.{AllApart, Across, across-from, apart-from, apart-at, apart-map, apart-flat_map}
 use Rattle.source_laws.specs.Indexes.{index-small, index-apart, variable-index, piece-index}
 use Rattle.source_laws.specs.NamedSignals.{IsNamedSignal, IsNamedPart}

@@ -9,7 +9,7 @@ use Rattle.std.specs.Str.Parse.{AllDigits}
 use Rattle.vf_base.specs.Lists.{AllHold}
 use Rattle.v_design.specs.Sites.{index_text}
 use Rattle.flat_laws.specs.Numbered.{AllHold-each, AllHold-append}
-use Rattle.flat_laws.specs.Spelled.{IsSpelled}
+use Rattle.flat_laws.specs.Names.Spelled.{IsSpelled}
 
 -- Digits
 

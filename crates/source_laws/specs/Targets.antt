@@ -9,7 +9,7 @@ use Rattle.v_readers.specs.Separated.{SpellsList, SpellsBehind}
 use Rattle.v_expr.specs.Spelling.{SpellsTarget}
 use Rattle.v_stmt.specs.Spelling.{SpellsStatement, SpellsBody, SpellsItems}
 use Rattle.v_parse.specs.Heights.{greatest}
-use Rattle.flat_laws.specs.Statements.{HasSelects, HaveSelects, AllHaveSelects, ItemsHaveSelects}
+use Rattle.flat_laws.specs.Sizes.Statements.{HasSelects, HaveSelects, AllHaveSelects, ItemsHaveSelects}
 
 -- Targets
 

@@ -11,7 +11,7 @@ use Rattle.v_scan.specs.Texts.{AreTokens}
 use Rattle.v_parse.specs.Spelling.{SpellsUnit}
 use Rattle.v_parse.specs.Heights.{unit_height}
 use Rattle.flat_laws.specs.Source.{IsSourceItem, IsSourceUnit}
-use Rattle.flat_laws.specs.OnceDeclared.{IsNamedUnit}
+use Rattle.flat_laws.specs.Names.OnceDeclared.{IsNamedUnit}
 use Rattle.source_laws.specs.InOrder.{stand-long, stand-hold, hold-map, IsInOrder, stand-in-order, in-order-at}
 use Rattle.source_laws.specs.Ascending.{ComesBefore, never-before, tokens-ascend}
 use Rattle.source_laws.specs.Words.{HasSpelledKind, tokens-spelled, tokens-few}

@@ -12,7 +12,7 @@ use Rattle.v_elab.specs.Walk.{head_items}
 use Rattle.graph_order.specs.ListLaws.{AllHold-slice_get}
 use Rattle.flat_laws.specs.Lists.{same_some, AllHold-from}
 use Rattle.flat_laws.specs.Numbered.{AllHold-append, AllHold-map, AllHold-all}
-use Rattle.flat_laws.specs.Walks.{items_of, IsOf}
+use Rattle.flat_laws.specs.Hierarchy.Walks.{items_of, IsOf}
 use Rattle.source_laws.specs.InOrder.{StandsIn, all-stand, front-stands, back-stands, stand-trans}
 
 -- Elements one behind the other

@@ -13,7 +13,7 @@ use Rattle.v_scan.specs.Bytes.{is_letter, is_digit, goes_in_name, each, begins_a
 use Rattle.v_scan.specs.Numbers.{value_of, Written}
 use Rattle.v_scan.specs.Words.{Word, Named, System, Quoted, Marked, Numeral, word_bytes, IsWord, kind_of, number_kind}
 use Rattle.v_scan.specs.Texts.{Piece, Blank, LineComment, BlockComment, Timescale, Token, piece_bytes, spelled, ArePieces, leads_behind, place_behind, start, tokens_from, AreTokens}
-use Rattle.flat_laws.specs.Spelled.{IsSpelled}
+use Rattle.flat_laws.specs.Names.Spelled.{IsSpelled}
 use Rattle.source_laws.specs.Ascending.{word-some}
 
 -- Bytes of names

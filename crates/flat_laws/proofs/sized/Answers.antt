@@ -1,4 +1,4 @@
-use Rattle.flat_laws.specs.NamedUnits.{named-sized}
+use Rattle.flat_laws.specs.Names.NamedUnits.{named-sized}
 use Rattle.flat_laws.proofs.sized.Goals as goal
 
 pub returns : goal.returns

@@ -1,4 +1,4 @@
-use Rattle.flat_laws.specs.NamedUnits.{named-written}
+use Rattle.flat_laws.specs.Names.NamedUnits.{named-written}
 use Rattle.flat_laws.proofs.written.Goals as goal
 
 pub returns : goal.returns
