@@ -1,8 +1,10 @@
 //! Laws of the flat design of a source text: it keeps the rules of every flat design (IEEE 1364-2001, clause 12 for the hierarchy, clauses 4, 6, 7 and
 //! 9 for what stands in it).
 //!
-//! `specs/Made` has what a flat design is made of, `specs/Walks` how a fact of each item is one of all parts of the walk, `specs/Hierarchy` what names
-//! and joined ports must keep, and `specs/Rules` and `specs/NamedUnits` the laws that the functions here state. They do nothing when they run: their contracts are the laws.
+//! `specs/Made` has what a flat design is made of, `specs/Hierarchy` the walk and how a fact of each item is one of all its parts, `specs/Names` scopes,
+//! constants and names, `specs/Sizes` the sizes of what stands in a design, `specs/Drivers` who writes its objects and the order of its nodes, and `specs/Blocks`
+//! what blocks and processes name and write. `specs/Rules` and `specs/Names/NamedUnits` have the laws that the functions here state. They do nothing when they
+//! run: their contracts are the laws.
 #![tactic(auto)]
 
 ghost use Rattle.flat_laws.specs.Rules.{FlatDesignsAreOrdered, FlatDesignsAreLow};
@@ -18,7 +20,8 @@ pub fn low()
     ensures { FlatDesignsAreLow }
 {}
 
-/// In a unit whose names are spelled as a text spells them, objects and joined names have the bits that their bounds span, gates have terminals of one bit, blocks and processes are sized, and waits are on bits of objects.
+/// In a unit whose names are spelled as a text spells them, objects and joined names have the bits that their bounds span, gates have terminals of one bit,
+/// blocks and processes are sized, and waits are on bits of objects.
 pub fn sized()
     ensures { NamedDesignsAreSized }
 {}
