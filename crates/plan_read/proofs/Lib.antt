@@ -11,3 +11,4 @@ pub mod Grown
 pub mod FormLemmas
 pub mod PlanOf
 pub mod Walking
+pub mod Reversed

@@ -19,8 +19,9 @@ use Rattle.fault_list.specs.Spelled.{bit_spelled, piece_bit, place_spelled, site
 use Rattle.fault_list.specs.Members.{In, here, there, in-cons, up-in, find-sound, contains-in, width-at}
 use Rattle.fault_list.specs.ListedSites.{spelled-listed}
 use Rattle.plan_read.specs.Forms.{PlanLine, Empty, Ends, Watches, Strobes, Lists, ListsAll, Formless}
-use Rattle.plan_read.specs.Watched.{bit_of, object_bits, pieces_bits, bit_if, held_if, all_or_one, bits_by_kind, bits_in_object, bits_in_joined, bits_spelled}
+use Rattle.plan_read.specs.Watched.{bit_of, object_bits, pieces_bits, bit_if, held_if, all_or_one, bits_by_kind, bits_in_object, bits_in_joined, bits_upwards, bits_spelled}
 use Rattle.plan_read.specs.Spelled.{bits_on, fault_at, faults_on, bits_of, listed_faults, plan_lines, Spells}
+use Rattle.plan_read.proofs.Reversed.{all-reverse}
 
 all-append : {A : Type 0} (P : A → Type 0) (xs ys : List A) → AllHold P xs → AllHold P ys → AllHold P (xs ++ ys)
 all-append P [] ys one other = other
@@ -154,14 +155,18 @@ module _ (design : FlatDesign) (rules : KeepsRules design) where
   names-there word (name ∷ names) sized =
       all-append (λ (w : WatchedBit). w.bit < width_in design w.object) (bits_in_joined word name) (joined (map (bits_in_joined word) names)) (name-there word name sized.0) (names-there word names sized.1)
 
-  spelled-there : (word : List ℕ) → AllHold (λ (w : WatchedBit). w.bit < width_in design w.object) (bits_spelled design word)
-  unfolding bits_spelled
-  spelled-there word =
+  upwards-there : (word : List ℕ) → AllHold (λ (w : WatchedBit). w.bit < width_in design w.object) (bits_upwards design word)
+  unfolding bits_upwards
+  upwards-there word =
       all-append (λ (w : WatchedBit). w.bit < width_in design w.object) (joined (map_numbered (bits_in_object word) 0 design.objects)) (joined (map (bits_in_joined word) design.joined))
       (all-joined (λ (w : WatchedBit). w.bit < width_in design w.object) (map_numbered (bits_in_object word) 0 design.objects)
       (all-numbered (λ l. AllHold (λ (w : WatchedBit). w.bit < width_in design w.object) l) (bits_in_object word) 0 design.objects
       (λ i object at. let e : i ≡ 0 + i = omega arith in subst (λ k. AllHold (λ (w : WatchedBit). w.bit < width_in design w.object) (bits_in_object word k object)) e (object-there word i object at))))
       (names-there word design.joined rules.joined)
+
+  spelled-there : (word : List ℕ) → AllHold (λ (w : WatchedBit). w.bit < width_in design w.object) (bits_spelled design word)
+  unfolding bits_spelled
+  spelled-there word = all-reverse (λ (w : WatchedBit). w.bit < width_in design w.object) (bits_upwards design word) (upwards-there word)
 
   line-there : (line : PlanLine) → AllHold (λ (w : WatchedBit). w.bit < width_in design w.object) (bits_on design line)
   line-there Empty = tt

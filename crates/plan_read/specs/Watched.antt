@@ -1,5 +1,5 @@
 -- The bits that a word spells for watching: all bits of a name, or one bit (the forms of names are this program's own).
-use Rattle.std.specs.Prelude.{ℕ, Bool, true, false, List, [], ◌∷◌, ◌++◌, map, Option, Some, None}
+use Rattle.std.specs.Prelude.{ℕ, Bool, true, false, List, [], ◌∷◌, ◌++◌, map, reverse, Option, Some, None}
 use Rattle.std.specs.Option.{option_and_then}
 use Rattle.std.specs.Str.{bytes_eq}
 use Rattle.vf_base.specs.Base.{WatchedBit}
@@ -54,6 +54,10 @@ abbrev pub bits_in_joined : List ℕ → NameJoined → List WatchedBit
 bits_in_joined word name =
     all_or_one (bytes_eq name.name word) (pieces_bits name.vector.pieces) (held_if (option_and_then (piece_bit name.vector.pieces) (place_spelled name word)))
 
--- the bits that a word spells: of variables and nets by object, then of joined names, each from the least significant
+-- the bits that a word spells, each name's from the least significant: of variables and nets by object, whose pieces stand from the lowest, then of joined names
+unfoldable pub bits_upwards : FlatDesign → List ℕ → List WatchedBit
+bits_upwards design word = joined (map_numbered (bits_in_object word) 0 design.objects) ++ joined (map (bits_in_joined word) design.joined)
+
+-- the bits that a word spells, from the most significant down
 unfoldable pub bits_spelled : FlatDesign → List ℕ → List WatchedBit
-bits_spelled design word = joined (map_numbered (bits_in_object word) 0 design.objects) ++ joined (map (bits_in_joined word) design.joined)
+bits_spelled design word = reverse (bits_upwards design word)

@@ -8,7 +8,7 @@ ghost use Rattle.v_design.specs.Plain.{object_of, name_joined, piece_of};
 ghost use Rattle.v_design.specs.PlainDesigns.{design_of};
 ghost use Rattle.fault_list.specs.Spelled.{bit_spelled, place_spelled, piece_bit};
 ghost use Rattle.plan_read.specs.Plain.{watched_bits};
-ghost use Rattle.plan_read.specs.Watched.{bit_of, object_bits, pieces_bits, bit_if, held_if, bits_in_object, bits_in_joined, bits_spelled};
+ghost use Rattle.plan_read.specs.Watched.{bit_of, object_bits, pieces_bits, bit_if, held_if, bits_in_object, bits_in_joined, bits_upwards, bits_spelled};
 
 use crate::SiteNames;
 use fault_list::{bit_spelled, joined_place, piece_bit};
@@ -138,13 +138,27 @@ fn add_names(bits: &mut Vec<WatchBit>, names: &SiteNames<'_>, word: &[u8]) -> Re
     Ok(())
 }
 
-/// The bits that a word spells: NAME for all bits of a variable, a net or a joined name, NAME[INDEX] for one of them; none where it spells none.
-#[tactic(auto, unfolding(crate::specs::Watched::bits_spelled))]
-pub fn bits_of(alloc: Global, names: &SiteNames<'_>, word: &[u8]) -> Result<Vec<WatchBit>, NoMemory>
-    ensures { IfOk result (λ bits. watched_bits bits.items ≡ bits_spelled (design_of names.now.design.now) word.now) }
+/// The bits that a word spells, each name's from the least significant.
+#[tactic(auto, unfolding(crate::specs::Watched::bits_upwards))]
+fn bits_upwards_of(
+    alloc: Global,
+    names: &SiteNames<'_>,
+    word: &[u8],
+) -> Result<Vec<WatchBit>, NoMemory>
+    ensures { IfOk result (λ bits. watched_bits bits.items ≡ bits_upwards (design_of names.now.design.now) word.now) }
 {
     let mut bits = Vec::new(alloc);
     add_objects(&mut bits, names, word)?;
     add_names(&mut bits, names, word)?;
+    Ok(bits)
+}
+
+/// The bits that a word spells, from the most significant down: NAME for all bits of a variable, a net or a joined name, NAME[INDEX] for one of them; none where
+/// it spells none.
+pub fn bits_of(alloc: Global, names: &SiteNames<'_>, word: &[u8]) -> Result<Vec<WatchBit>, NoMemory>
+    ensures { IfOk result (λ bits. watched_bits bits.items ≡ bits_spelled (design_of names.now.design.now) word.now) }
+{
+    let mut bits = bits_upwards_of(alloc, names, word)?;
+    bits.reverse();
     Ok(bits)
 }
