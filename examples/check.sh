@@ -1,8 +1,14 @@
 #!/bin/sh
 # Runs the built program over the examples and compares what it writes: examples/check.sh [PROGRAM]
 # PROGRAM is that of the repository unless it is given. Where it isn't built, nothing is run.
-# The last line is 'examples: N passed, M failed'; the status is 0 where none failed.
+# The last line is 'examples: N passed, M failed'; the status is 0 where none failed. First it looks whether the cases that the gate
+# runs are those of the examples, where python3 is there.
 here=$(cd "$(dirname "$0")" && pwd)
+if command -v python3 > /dev/null; then
+    python3 "$here/cases.py" --check || exit 1
+else
+    echo "examples: no python3, so the cases of the gate aren't compared" >&2
+fi
 program=${1:-$here/../crates/vfault/out/vfault}
 if [ ! -x "$program" ]; then
     echo "examples: skipped, no program at $program" >&2
