@@ -47,6 +47,8 @@ small_rules = record {
   joined = tt;
   nodes = (node_rules, tt);
   processes = tt;
+  places = tt;
+  words = record { objects = ((refl, tt), ((refl, tt), ((refl, tt), ((refl, tt), ((refl, tt), tt))))); joined = tt; nodes = (tt, tt) };
   one_driver = λ low high node other e f h. let a : high ≡ 0 = (only_node high small_node other f).0 in absurd (omega (arith, a, h));
   ranked = λ low high reader driver e f h object i.
       subst (λ (node : FlatNode). has node.inputs object ≡ false) (only_node low small_node reader e).1

@@ -11,9 +11,9 @@ use Rattle.v_design.specs.Plain.{statement_of}
 use Rattle.v_design.specs.Assignments.{ValueUpdate}
 use Rattle.v_design.specs.Processes.{Task, Run, Turns, Writes, Appends, Activity}
 use Rattle.v_design.specs.Processes as activities
+use Rattle.v_design.specs.Places.{PlacesDiffer}
 use Rattle.process_code.specs.Rests.{Part, Runs, TurnsLeft, tasks_of}
 use Rattle.process_code.specs.Positions.{part_of_head, rests_of, StandsAt}
-use Rattle.process_code.specs.Places.{PlacesDiffer}
 use Rattle.process_code.specs.Marks.{Mark, mark_of, mark_of_spot, mark_of_statement, whole_mark, turns_mark}
 use Rattle.process_code.specs.Points.{Point, point_of, HasUpdates, updates_left, tasks_at, wait_place, activity_by, activity_of}
 use Rattle.process_code.specs.Reached.{HasNoTurns, CountsOnly, BeginsWait, StopsWith, IsReached}

@@ -5,7 +5,7 @@ use Rattle.std.proofs.lemmas.Bool.{eqb-true, eq-eqb}
 use Rattle.std.proofs.lemmas.Option.{slice_get-map}
 use Rattle.vf_base.specs.Base.{SourcePlace}
 use Rattle.v_design.specs.Trees.{Statement, Null, Block, If, Case, For, While, Repeat, Forever, Delay, EventControl, Wait, Blocking, Nonblocking, Finish, Statements, no_statements, more_statements, CaseItems, no_items, more_items}
-use Rattle.process_code.specs.Places.{same_place, places_in, places_in_all, places_in_items, PlacesDiffer}
+use Rattle.v_design.specs.Places.{same_place, places_in, places_in_all, places_in_items, PlacesDiffer}
 use Rattle.process_code.specs.Marks.{Form, Whole, Loop, Assignment, TurnsOf, Mark, mark_of_spot, marks_at, marks_of, marks_of_all, marks_of_items}
 use Rattle.process_code.specs.declared.code.Spot.{Spot}
 use Rattle.process_code.proofs.Equalities.{and-left, and-right}

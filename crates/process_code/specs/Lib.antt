@@ -1,7 +1,6 @@
 pub mod Rests
 pub mod RestsLaws
 pub mod Positions
-pub mod Places
 pub mod Marks
 pub mod Layouts
 pub mod Compiling

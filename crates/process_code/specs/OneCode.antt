@@ -2,7 +2,7 @@
 use Rattle.std.specs.Prelude.{◌≡◌, ◌↔◌, ℕ, List}
 use Rattle.four_value.specs.Values.{LogicValue}
 use Rattle.v_design.specs.Plain.{statement_of, process_of}
-use Rattle.process_code.specs.Places.{PlacesDiffer}
+use Rattle.v_design.specs.Places.{PlacesDiffer}
 use Rattle.process_code.specs.Codes.{IsCodeOf, rests_in_code}
 use Rattle.process_code.specs.Points.{point_of, activity_of, said_by}
 use Rattle.process_code.specs.RunEnds.{told_by}

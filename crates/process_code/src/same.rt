@@ -1,10 +1,10 @@
 // Whether two states are equal.
 
 ghost use Rattle.std.specs.Prelude.{◌≡◌, ◌↔◌, IsTrue, length, map, option_map};
+ghost use Rattle.v_design.specs.Places.{PlacesDiffer};
 ghost use Rattle.v_design.specs.Plain.{statement_of, update_of};
 ghost use Rattle.process_code.specs.Points.{point_of, activity_of};
 ghost use Rattle.process_code.specs.Sameness.{StandsWith, IsSamePoint};
-ghost use Rattle.process_code.specs.Places.{PlacesDiffer};
 ghost use Rattle.process_code.specs.Codes.{IsCodeOf};
 ghost use Rattle.process_code.specs.StatesOf.{IsStateOf};
 ghost use Rattle.process_code.specs.declared.code.Code.{Code};
@@ -15,12 +15,12 @@ use v_design::Update;
 
 impl ProcState {
     /// Whether both states are equal: both are done, or stand at one position, with the same operands, counts and updates left, and are ready or stopped alike.
-    /// Where no two statements of the process stand at one place, it is true exactly where both states of its code do the same.
+    /// Where no two statements of the process stand at one place, as in each design that keeps its rules, it is true exactly where both states of its code do the same.
     pub fn same(&self, other: &ProcState) -> bool
         ensures point { IsTrue result ↔ IsSamePoint (point_of self.now) (point_of other.now) }
         ensures activity { IsTrue result → (code : Code) → activity_of code self.now ≡ activity_of code other.now }
         ensures equal { (code : Code) → PlacesDiffer (statement_of code.process.now.body) → IsCodeOf code.process.now code → IsStateOf code self.now →
-            IsStateOf code other.now → activity_of code self.now ≡ activity_of code other.now → IsTrue result }
+            IsStateOf code other.now → (IsTrue result ↔ activity_of code self.now ≡ activity_of code other.now) }
     {
         self.stands_alike(other)
     }

@@ -1,12 +1,15 @@
 -- The design of the tests keeps the rules of every design.
 use Rattle.std.proofs.Common.{◌≡◌, ◌<◌, ℕ, List, [], ◌∷◌, true, false, map, refl, sym, ap, subst, arith}
 use Rattle.std.specs.Prelude.{get_or, codes}
+use Rattle.std.specs.List.{IsDistinct}
+use Rattle.vf_base.specs.Lists.{AllHold}
 use Rattle.v_design.specs.Designs.{FlatObject, FlatProcess}
 use Rattle.v_design.specs.Trees.{Null, Delay}
 use Rattle.v_design.specs.declared.plan.Object.{Object}
 use Rattle.v_design.specs.declared.plan.JoinedName.{JoinedName}
 use Rattle.v_design.specs.declared.plan.Node.{Node}
 use Rattle.v_design.specs.declared.plan.Process.{Process}
+use Rattle.v_design.specs.Places.{PlacesDiffer}
 use Rattle.v_design.specs.Plain.{object_of, name_joined, node_of, process_of, flat_design}
 use Rattle.v_design.specs.WellFormed.{KeepsRules, IsProcessOf}
 use Rattle.process_table.specs.SmallDesign.{small_design, small_objects, small_processes, small_process, small_place, on_both, sets_a}
@@ -35,6 +38,11 @@ set_rules = record {
   levels = omega arith;
 }
 
+-- its statements stand at places of their own
+apart : AllHold (λ (process : FlatProcess). PlacesDiffer process.body) small_design.processes
+unfolding IsDistinct
+apart = ((tt, tt), ((tt, tt), ((tt, tt), ((tt, tt), tt))))
+
 -- the rules of the design
 pub small_rules : KeepsRules small_design
 small_rules = record {
@@ -42,6 +50,8 @@ small_rules = record {
   joined = tt;
   nodes = tt;
   processes = (both_rules, (delay_rules 0 (omega arith), (delay_rules 5 (omega arith), (set_rules, tt))));
+  places = apart;
+  words = record { objects = ((refl, tt), ((refl, tt), tt)); joined = tt; nodes = tt };
   one_driver = λ low high node other e f h. absurd (cc);
   ranked = λ low high reader driver e f h object i. absurd (cc);
   by_rank = λ low high one other e f h. absurd (cc);

@@ -1,6 +1,7 @@
 -- The rules that the laws take as premises are met by a design with a combinational block, and a phase begins at its start.
 use Rattle.std.proofs.Common.{◌≡◌, ℕ, zero, suc, ◌≤◌, List, [], ◌∷◌, Bool, true, false, ◌||◌, refl, sym, ap, subst, ◌⊎◌, inl, inr, arith}
 use Rattle.std.specs.Prelude.{Some, get_or, slice_get, IsTrue, nat_eq, map}
+use Rattle.std.specs.List.{IsDistinct}
 use Rattle.std.proofs.lemmas.Bool.{eqb-true}
 use Rattle.vf_base.specs.Lists.{has, AllHold}
 use Rattle.v_design.specs.Assignments.{AreSettled, value_at, node_outputs}
@@ -8,6 +9,7 @@ use Rattle.v_design.specs.Trees.{Null, Delay}
 use Rattle.v_design.specs.Designs.{BlockNode, FlatObject, FlatNode, FlatProcess, FlatDesign, good_machine}
 use Rattle.v_design.specs.States.{process_at, found_or, start}
 use Rattle.v_design.specs.Paths.{net_pieces}
+use Rattle.v_design.specs.Places.{PlacesDiffer}
 use Rattle.v_design.specs.Writers.{process_objects, WriteVariables}
 use Rattle.v_design.specs.WellFormed.{KeepsRules, IsPlan, IsPlanOf, IsNodeOf, IsProcessOf, rank_of}
 use Rattle.v_design.specs.Laws.{BeginsPhase}
@@ -22,8 +24,8 @@ abbrev design : FlatDesign
 design = record {
   objects = named 97 (reg_bit Zero) ∷ named 98 (reg_bit Zero) ∷ named 121 wire_bit ∷ [];
   joined = [];
-  nodes = node (BlockNode (set_bit 4 2 (and_of (bit_operand 0) (bit_operand 1)))) (0 ∷ 1 ∷ []) (2 ∷ []) ∷ [];
-  processes = process false 3 (Delay (at 3) 5 (block (set_bit 3 0 (number 1 1) ∷ set_bit 3 1 (number 1 1) ∷ []))) ∷ [];
+  nodes = node (BlockNode (set_bit 6 2 (and_of (bit_operand 0) (bit_operand 1)))) (0 ∷ 1 ∷ []) (2 ∷ []) ∷ [];
+  processes = process false 3 (Delay (at 3) 5 (block (set_bit 4 0 (number 1 1) ∷ set_bit 5 1 (number 1 1) ∷ []))) ∷ [];
 }
 
 or-step : (b c : Bool) → (b || c) ≡ true → (b ≡ true) ⊎ (c ≡ true)
@@ -74,12 +76,19 @@ process_rules = record {
   levels = omega arith;
 }
 
+-- its statements stand at places of their own
+apart : AllHold (λ (process : FlatProcess). PlacesDiffer process.body) design.processes
+unfolding IsDistinct
+apart = (((refl, (refl, tt)), ((refl, tt), (tt, tt))), tt)
+
 pub rules : KeepsRules design
 rules = record {
   objects = ((refl, refl, omega arith), ((refl, refl, omega arith), ((refl, refl, omega arith), tt)));
   joined = tt;
   nodes = (node_rules, tt);
   processes = (process_rules, tt);
+  places = apart;
+  words = record { objects = ((refl, tt), ((refl, tt), ((refl, tt), tt))); joined = tt; nodes = (tt, tt) };
   one_driver = λ low high node other e f h.
       let a : high ≡ 0 = (only_node high (the_node) other f).0 in absurd (omega (arith, a, h));
   ranked = λ low high reader driver e f h object i.

@@ -48,6 +48,8 @@ empty_rules = record {
   joined = tt;
   nodes = tt;
   processes = tt;
+  places = tt;
+  words = record { objects = tt; joined = tt; nodes = tt };
   one_driver = λ low high node other e f h. cc;
   ranked = λ low high reader driver e f h object i. cc;
   by_rank = λ low high one other e f h. cc;

@@ -10,6 +10,7 @@ use Rattle.v_parse.specs.Heights.{unit_height}
 use Rattle.v_elab.specs.declared.Mode.{Mode}
 use Rattle.v_elab.specs.Flat.{flat}
 use Rattle.source_laws.specs.NamedRules.{named-keep}
+use Rattle.source_laws.specs.Apart.{text-apart}
 use Rattle.source_laws.specs.Texts.{text-source, text-named}
 
 -- each flat design of the unit that a text spells within its levels keeps all rules
@@ -18,4 +19,4 @@ TextsKeepRules = (text : List ℕ) (tokens : List SourceToken) (u : SourceUnit) 
     flat u top mode ≡ Ok design → KeepsRules design
 
 pub text-keeps : TextsKeepRules
-text-keeps text tokens u top mode design are spelled low e = named-keep u top mode design (text-source text tokens u are spelled low) (text-named text tokens u are spelled) e
+text-keeps text tokens u top mode design are spelled low e = named-keep u top mode design (text-source text tokens u are spelled low) (text-named text tokens u are spelled) e (text-apart text tokens u top mode design are spelled e)

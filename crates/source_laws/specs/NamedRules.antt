@@ -6,8 +6,9 @@ use Rattle.vf_base.specs.Lists.{has, without_repeats, AllHold}
 use Rattle.v_design.specs.CombinationalForm.{WritesOutputs}
 use Rattle.v_design.specs.Designs.{FlatNode, FlatProcess, FlatDesign}
 use Rattle.v_design.specs.Paths.{net_pieces}
+use Rattle.v_design.specs.Places.{PlacesDiffer}
 use Rattle.v_design.specs.Sized.{levels_of_statement}
-use Rattle.v_design.specs.WellFormed.{most_levels, most_inputs, levels_of_node, IsSizedNode, IsNodeOf, IsProcessOf, KeepsRules}
+use Rattle.v_design.specs.WellFormed.{most_levels, most_inputs, levels_of_node, IsSizedNode, IsNodeOf, IsProcessOf, HasNamesOfOneWord, KeepsRules}
 use Rattle.v_tree.specs.Trees.{Identifier, SourceUnit}
 use Rattle.v_elab.specs.declared.Mode.{Mode}
 use Rattle.v_elab.specs.Flat.{flat}
@@ -24,6 +25,7 @@ use Rattle.flat_laws.specs.Hierarchy.Processes.{IsNamed}
 use Rattle.flat_laws.specs.Rules.{flat-ordered, flat-low}
 use Rattle.flat_laws.specs.Source.{IsSourceUnit}
 use Rattle.flat_laws.specs.Blocks.Written.{WritesVariables}
+use Rattle.source_laws.specs.DesignWords.{design-words}
 use Rattle.source_laws.specs.GateNames.{gates-apart}
 use Rattle.source_laws.specs.NamedSignals.{parts-named}
 use Rattle.source_laws.specs.ObjectBits.{parts-tell-bits}
@@ -43,12 +45,20 @@ named-sites unit top mode design source named e =
       one_driver = (flat-ordered unit top mode design e).one_driver;
     }
 
--- each flat design of a unit that is read from a text keeps all rules
+-- each name of such a design is one word
+named-words : (unit : SourceUnit) (top : Identifier) (mode : Mode) (design : FlatDesign) → IsNamedUnit unit.modules → flat unit top mode ≡ Ok design → HasNamesOfOneWord design
+named-words unit top mode design named e =
+    let is = flat-made unit top mode design e in
+    let found = named-module unit.modules is.name is.top is.found in
+    design-words is.parts design is.made (parts-named unit.modules named mode is.top found.0 found.1 is.parts is.walk)
+
+-- each flat design of a unit that is read from a text keeps all rules, where no two statements of a process stand at one place
 abbrev pub NamedDesignsKeepRules : Type 0
-NamedDesignsKeepRules = (unit : SourceUnit) (top : Identifier) (mode : Mode) (design : FlatDesign) → IsSourceUnit unit.modules → IsNamedUnit unit.modules → flat unit top mode ≡ Ok design → KeepsRules design
+NamedDesignsKeepRules = (unit : SourceUnit) (top : Identifier) (mode : Mode) (design : FlatDesign) → IsSourceUnit unit.modules → IsNamedUnit unit.modules → flat unit top mode ≡ Ok design →
+    AllHold (λ (process : FlatProcess). PlacesDiffer process.body) design.processes → KeepsRules design
 
 pub named-keep : NamedDesignsKeepRules
-named-keep unit top mode design source named e =
+named-keep unit top mode design source named e apart =
     let ordered = flat-ordered unit top mode design e in
     let low = flat-low unit top mode design source e in
     let sized = named-sized unit top mode design source named e in
@@ -83,6 +93,8 @@ named-keep unit top mode design source named e =
             sized = own.sized;
             levels = AllHold-slice_get (λ (p : FlatProcess). levels_of_statement p.body ≤ most_levels) design.processes i process low.processes at;
           });
+      places = apart;
+      words = named-words unit top mode design named e;
       one_driver = ordered.one_driver;
       ranked = ordered.ranked;
       by_rank = ordered.by_rank;

@@ -1,23 +1,25 @@
--- The nets and variables of a walk: each has a declared name behind its instance's path, and bounds of few bits (IEEE 1364-2001, clause 12.4 for names, clause 3.3 for bounds).
+-- The nets and variables of a walk: each has a declared name behind its instance's path, and bounds of few bits; and each name of a walk is one word (IEEE 1364-2001, clause 12.4 for
+-- names, clause 3.3 for bounds).
 use Rattle.std.proofs.Common.{◌≡◌, ℕ, zero, suc, ◌+◌, ◌≤◌, Bool, true, false, List, [], ◌∷◌, ◌++◌, map, Option, Some, None, Ok, option_map, refl, sym, ap, ◌∙◌, subst, inl, inr, arith}
-use Rattle.std.specs.Prelude.{slice_get, filter, flat_map, codes, nat_lt, if◌then◌else◌}
+use Rattle.std.specs.Prelude.{slice_get, filter, flat_map, codes, decimal, nat_lt, if◌then◌else◌}
 use Rattle.four_value.specs.declared.operator.GateKind.{GateKind}
 use Rattle.std.proofs.lemmas.Bool.{ltb-false}
 use Rattle.vf_base.specs.Lists.{AllHold}
+use Rattle.v_design.specs.WellFormed.{IsOneWord}
 use Rattle.v_tree.specs.declared.item.Direction.{Direction}
 use Rattle.v_tree.specs.declared.item.Direction.TheVariants.{Input, Output}
-use Rattle.v_tree.specs.Trees.{Identifier, SourceExpression, SourceTarget, SourceWire, SourceAssignment, SourceGate, SourceConnection, SourceInstance, SourceItem, ParameterItem, PortItem, WireItem, RegItem, IntegerItem, AssignItem, GateItem, InstanceItem, InitialItem, AlwaysItem, SourceModule, same_name}
+use Rattle.v_tree.specs.Trees.{Identifier, NamedPlace, SourceExpression, SourceTarget, SourceWire, SourceAssignment, SourceGate, SourceConnection, SourceInstance, SourceItem, ParameterItem, PortItem, WireItem, RegItem, IntegerItem, AssignItem, GateItem, InstanceItem, InitialItem, AlwaysItem, SourceModule, same_name}
 use Rattle.v_names.specs.Faults.{same_place}
 use Rattle.v_names.specs.Readings.{is_empty}
 use Rattle.v_names.specs.Scopes.{ScopeEntry, ParameterEntry, RefusedParameter, WaitingParameter, NetEntry, RegEntry, MemoryEntry, GateEntry, InstanceEntry, Scope, looked_up, is_parameter}
-use Rattle.v_names.specs.Names.{Bounds, Unbounded, IntegerBounds, RangeBounds, Declared, DeclaredParameter, DeclaredPort, DeclaredNet, DeclaredReg, DeclaredMemory, DeclaredGate, DeclaredInstance, Declaration, declarations_of, item_declarations, of_name, joined_declaration, first_of_name, first_declarations, names_declared, GivenParameter, parameter_of, range_of, most_kept, kept_bound, kept_range, meaning_of, given_of, scope_of, module_name_faults, names}
+use Rattle.v_names.specs.Names.{Bounds, Unbounded, IntegerBounds, RangeBounds, Declared, DeclaredParameter, DeclaredPort, DeclaredNet, DeclaredReg, DeclaredMemory, DeclaredGate, DeclaredInstance, Declaration, declarations_of, gate_declarations, item_declarations, of_name, joined_declaration, first_of_name, first_declarations, names_declared, GivenParameter, parameter_of, range_of, most_kept, kept_bound, kept_range, meaning_of, given_of, scope_of, module_name_faults, names}
 use Rattle.v_width.specs.Targets.{target_of}
 use Rattle.v_elab.specs.declared.Mode.{Mode}
-use Rattle.v_elab.specs.Parts.{Signal, Part, SignalPart}
+use Rattle.v_elab.specs.Parts.{Signal, Part, SignalPart, MemoryPart, GatePart}
 use Rattle.v_elab.specs.Connections.{Child, Paths, joined_name, port_direction, actual_parts, output_parts, connection_parts, connections_parts, connected_name, head_names}
-use Rattle.v_elab.specs.Walk.{Entered, Here, part_by_entry, parts_of_own, declared_parts, assign_part, wire_parts, gate_parts, item_parts, child_of, paths_of, entered, walked_from}
+use Rattle.v_elab.specs.Walk.{Entered, Here, part_by_entry, parts_of_own, declared_parts, assign_part, wire_parts, gate_name, gate_parts, item_parts, child_of, paths_of, entered, walked_from}
 use Rattle.graph_order.specs.ListLaws.{AllHold-slice_get}
-use Rattle.flat_laws.specs.Lists.{same_some}
+use Rattle.flat_laws.specs.Lists.{same_some, AllHold-from}
 use Rattle.flat_laws.specs.Numbered.{AllHold-append, AllHold-filter, AllHold-flat_map, AllHold-map, AllHold-all, AllHold-each}
 use Rattle.flat_laws.specs.Names.Declared.{items-declare}
 use Rattle.flat_laws.specs.Hierarchy.Levelled.{IsModule, enters-module}
@@ -26,10 +28,11 @@ use Rattle.flat_laws.specs.Names.OnceDeclared.{IsNamedUnit}
 use Rattle.flat_laws.specs.Names.Placed.{is-parameter, at-flat}
 use Rattle.flat_laws.specs.Hierarchy.Processes.{unless_faulty-ok}
 use Rattle.flat_laws.specs.Names.Rounds.{scope-fixed}
-use Rattle.flat_laws.specs.Names.Spelled.{IsSpelled}
-use Rattle.flat_laws.specs.Hierarchy.Walks.{items_of, IsHere, IsInstance, walk-holds}
+use Rattle.flat_laws.specs.Names.Spelled.{IsSpelled, spelled-word}
+use Rattle.flat_laws.specs.Hierarchy.Walks.{items_of, IsOf, IsHere, IsInstance, walk-holds}
 use Rattle.source_laws.specs.Indexes.{IsDeclaredRange}
 use Rattle.source_laws.specs.Spelling.{IsPlainName, EndsInDot, IsObjectName, own-plain}
+use Rattle.source_laws.specs.WordLaws.{decimal-word, words-append}
 
 -- Bounds
 
@@ -110,24 +113,34 @@ map-there f (y ∷ xs) (suc i) x at = map-there f xs i x at
 abbrev instance_declaration : SourceInstance → Declaration
 instance_declaration i = record { name = i.name; place = i.place; declared = DeclaredInstance }
 
--- and so are those of its instances
+-- and so are those of its items
+item-spelled : (modules : List SourceModule) → IsNamedUnit modules → (here : Here) → IsModule modules here.instance → (item : SourceItem) → IsOf here.instance.inner item → AllHold IsSpelledDeclaration (item_declarations item)
+item-spelled modules unit here in_unit item of =
+    let m = here.instance.inner in
+    AllHold-from IsSpelledDeclaration (item_declarations item)
+    (λ i d at.
+    let there = at-flat item_declarations (items_of m) of.0 item i d of.1 at in
+    let declared : slice_get (declarations_of m) there.0 ≡ Some d = ap (λ l. slice_get l there.0) (sym (items-declare m)) ∙ there.1 in
+    AllHold-slice_get IsSpelledDeclaration (declarations_of m) there.0 d (unit.spelled in_unit.0 m in_unit.1) declared)
+
+-- and of its instances
 instance-spelled : (modules : List SourceModule) → IsNamedUnit modules → (here : Here) → IsModule modules here.instance → (inner : SourceModule) (given : List GivenParameter) (i : SourceInstance) → IsInstance here inner given i → IsSpelled i.name
 instance-spelled modules unit here in_unit inner given i of =
-    let m = here.instance.inner in
     let item = InstanceItem of.place of.module_name of.parameters of.instances in
     let own = map-there instance_declaration of.instances of.number i of.at in
-    let there = at-flat item_declarations (items_of m) of.is.0 item of.number (instance_declaration i) of.is.1 own in
-    let declared : slice_get (declarations_of m) there.0 ≡ Some (instance_declaration i) = ap (λ l. slice_get l there.0) (sym (items-declare m)) ∙ there.1 in
-    AllHold-slice_get IsSpelledDeclaration (declarations_of m) there.0 (instance_declaration i) (unit.spelled in_unit.0 m in_unit.1) declared
+    AllHold-slice_get IsSpelledDeclaration (item_declarations item) of.number (instance_declaration i) (item-spelled modules unit here in_unit item of.is) own
 
 -- Nets and variables
 
 pub record IsNamedSignal (signal : Signal) : Type 0 where
   pub name : IsObjectName signal.name
+  pub word : IsOneWord signal.name
   pub range : IsDeclaredRange signal.range
 
 abbrev pub IsNamedPart : Part → Type 0
 IsNamedPart (SignalPart signal) = IsNamedSignal signal
+IsNamedPart (MemoryPart memory) = IsOneWord memory.name
+IsNamedPart (GatePart name kind drives path terminals) = IsOneWord name
 IsNamedPart _ = Unit {0}
 
 -- an instance of a unit, with its path
@@ -135,16 +148,27 @@ record IsNamedInstance (modules : List SourceModule) (instance : Entered) : Type
   in_unit : IsModule modules instance
   ends : EndsInDot instance.path
   plain : IsPlainName instance.path
+  word : IsOneWord instance.path
 
 signal-named : (path own : Identifier) → EndsInDot path → IsPlainName path → IsSpelled own → IsObjectName (path ++ own)
 signal-named path own ends plain spelled = record { path = path; own = own; is = refl; ends = ends; plain = plain; spelled = spelled }
 
+-- a declared name behind a path
+own-word : (path own : Identifier) → IsOneWord path → IsSpelled own → IsOneWord (path ++ own)
+own-word path own word spelled = words-append path own word (spelled-word own spelled)
+
+-- the name of a gate, or its number
+gate-word : (number : ℕ) (gate : SourceGate) (name : Option NamedPlace) (rest : List SourceGate) → AllHold IsSpelledDeclaration (gate_declarations (record gate { name = name } ∷ rest)) →
+    IsOneWord (gate_name number name) × AllHold IsSpelledDeclaration (gate_declarations rest)
+gate-word number gate None rest h = (words-append (codes "$g") (decimal number) (refl, (refl, tt)) (decimal-word number), h)
+gate-word number gate (Some n) rest h = (spelled-word n.name h.0, h.1)
+
 module _ (modules : List SourceModule) (unit : IsNamedUnit modules) (mode : Mode) where
   entry-named : (here : Here) → IsNamedInstance modules here.instance → (d : Declaration) → IsSpelled d.name → (entry : Option ScopeEntry) → IsDeclaredEntry entry → AllHold IsNamedPart (part_by_entry here d entry)
   entry-named here is d spelled None h = tt
-  entry-named here is d spelled (Some (NetEntry range signed)) h = (record { name = signal-named here.instance.path d.name is.ends is.plain spelled; range = h }, tt)
-  entry-named here is d spelled (Some (RegEntry range signed)) h = (record { name = signal-named here.instance.path d.name is.ends is.plain spelled; range = h }, tt)
-  entry-named here is d spelled (Some (MemoryEntry range first last signed)) h = (tt, tt)
+  entry-named here is d spelled (Some (NetEntry range signed)) h = (record { name = signal-named here.instance.path d.name is.ends is.plain spelled; word = own-word here.instance.path d.name is.word spelled; range = h }, tt)
+  entry-named here is d spelled (Some (RegEntry range signed)) h = (record { name = signal-named here.instance.path d.name is.ends is.plain spelled; word = own-word here.instance.path d.name is.word spelled; range = h }, tt)
+  entry-named here is d spelled (Some (MemoryEntry range first last signed)) h = (own-word here.instance.path d.name is.word spelled, tt)
   entry-named here is d spelled (Some (ParameterEntry value signed)) h = tt
   entry-named here is d spelled (Some RefusedParameter) h = tt
   entry-named here is d spelled (Some WaitingParameter) h = tt
@@ -169,24 +193,26 @@ module _ (modules : List SourceModule) (unit : IsNamedUnit modules) (mode : Mode
   wire-named here wire None = tt
   wire-named here wire (Some value) = (tt, tt)
 
-  gates-named : (here : Here) (kind : GateKind) (number : ℕ) (gates : List SourceGate) → AllHold IsNamedPart (gate_parts here kind number gates)
-  gates-named here kind number [] = tt
-  gates-named here kind number (gate ∷ rest) = (tt, gates-named here kind (number + 1) rest)
+  gates-named : (here : Here) → IsOneWord here.instance.path → (kind : GateKind) (number : ℕ) (gates : List SourceGate) → AllHold IsSpelledDeclaration (gate_declarations gates) → AllHold IsNamedPart (gate_parts here kind number gates)
+  gates-named here word kind number [] spelled = tt
+  gates-named here word kind number (gate ∷ rest) spelled =
+      let own = gate-word number gate gate.name rest spelled in
+      (words-append here.instance.path (gate_name number gate.name) word own.0, gates-named here word kind (number + 1) rest own.1)
 
-  item-named : (here : Here) → IsHere (IsNamedInstance modules) modules mode here → (gates : ℕ) (item : SourceItem) → AllHold IsNamedPart (item_parts here gates item)
-  item-named here is gates (ParameterItem group) = tt
-  item-named here is gates (PortItem group) = declared-named here is (PortItem group)
-  item-named here is gates (WireItem place signed range wires) =
+  item-named : (here : Here) → IsHere (IsNamedInstance modules) modules mode here → (gates : ℕ) (item : SourceItem) → IsOf here.instance.inner item → AllHold IsNamedPart (item_parts here gates item)
+  item-named here is gates (ParameterItem group) of = tt
+  item-named here is gates (PortItem group) of = declared-named here is (PortItem group)
+  item-named here is gates (WireItem place signed range wires) of =
       AllHold-append IsNamedPart (declared_parts here (WireItem place signed range wires)) (flat_map (wire_parts here) wires) (declared-named here is (WireItem place signed range wires))
       (AllHold-flat_map IsNamedPart (wire_parts here) wires (AllHold-all (λ w. AllHold IsNamedPart (wire_parts here w)) wires (λ (w : SourceWire). wire-named here w w.value)))
-  item-named here is gates (RegItem place signed range regs) = declared-named here is (RegItem place signed range regs)
-  item-named here is gates (IntegerItem place regs) = declared-named here is (IntegerItem place regs)
-  item-named here is gates (AssignItem place assignments) =
+  item-named here is gates (RegItem place signed range regs) of = declared-named here is (RegItem place signed range regs)
+  item-named here is gates (IntegerItem place regs) of = declared-named here is (IntegerItem place regs)
+  item-named here is gates (AssignItem place assignments) of =
       AllHold-map IsNamedPart (λ (a : SourceAssignment). assign_part here a.target a.value) assignments (AllHold-all (λ (a : SourceAssignment). IsNamedPart (assign_part here a.target a.value)) assignments (λ a. tt))
-  item-named here is gates (GateItem place kind all) = gates-named here kind (gates + 1) all
-  item-named here is gates (InstanceItem place module_name parameters instances) = tt
-  item-named here is gates (InitialItem place body) = (tt, tt)
-  item-named here is gates (AlwaysItem place body) = (tt, tt)
+  item-named here is gates (GateItem place kind all) of = gates-named here is.entered.word kind (gates + 1) all (item-spelled modules unit here is.entered.in_unit (GateItem place kind all) of)
+  item-named here is gates (InstanceItem place module_name parameters instances) of = tt
+  item-named here is gates (InitialItem place body) of = (tt, tt)
+  item-named here is gates (AlwaysItem place body) of = (tt, tt)
 
   port-named : (child : Child) (paths : Paths) (port : Identifier) (e : SourceExpression) (target : Option SourceTarget) → AllHold IsNamedPart (output_parts child paths port e target)
   port-named child paths port e None = tt
@@ -218,6 +244,7 @@ module _ (modules : List SourceModule) (unit : IsNamedUnit modules) (mode : Mode
         plain =
             AllHold-append (λ (byte : ℕ). byte ≡ 91 → ⊥) (here.instance.path ++ i.name) (codes ".") (AllHold-append (λ (byte : ℕ). byte ≡ 91 → ⊥) here.instance.path i.name is.entered.plain (own-plain i.name own))
             (λ e. omega (arith, e), tt);
+        word = words-append (here.instance.path ++ i.name) (codes ".") (own-word here.instance.path i.name is.entered.word own) (refl, tt);
       }
 
   -- the nets and variables of a walk
@@ -225,8 +252,8 @@ module _ (modules : List SourceModule) (unit : IsNamedUnit modules) (mode : Mode
   parts-named top k at parts e =
       walk-holds IsNamedPart (IsNamedInstance modules) modules mode
       (record {
-        of_item = λ here is gates item of none. item-named here is gates item;
+        of_item = λ here is gates item of none. item-named here is gates item of;
         of_connections = λ here is inner given i of. connections-named (child_of here inner given) (paths_of here i) 0 i.connections;
         of_instance = tt;
         enters = child-named;
-      }) top (record { in_unit = (k, at); ends = inl refl; plain = tt }) parts e
+      }) top (record { in_unit = (k, at); ends = inl refl; plain = tt; word = tt }) parts e

@@ -9,7 +9,7 @@ use Rattle.std.specs.Str.Parse.{AllDigits}
 use Rattle.vf_base.specs.Lists.{AllHold}
 use Rattle.v_design.specs.Sites.{index_text}
 use Rattle.flat_laws.specs.Numbered.{AllHold-each, AllHold-append}
-use Rattle.flat_laws.specs.Names.Spelled.{IsSpelled}
+use Rattle.flat_laws.specs.Names.Spelled.{IsNameByte, IsSpelled}
 
 -- Digits
 
@@ -131,8 +131,8 @@ pub record IsObjectName (name : List ℕ) : Type 0 where
   pub plain : IsPlainName path
   pub spelled : IsSpelled own
 
-spelled-plain : (name : List ℕ) → AllHold (λ (byte : ℕ). (byte ≡ 46 → ⊥) × (byte ≡ 91 → ⊥)) name → IsPlainName name
-spelled-plain name h = AllHold-each (λ (byte : ℕ). (byte ≡ 46 → ⊥) × (byte ≡ 91 → ⊥)) (λ (byte : ℕ). byte ≡ 91 → ⊥) name (λ byte k. k.1) h
+spelled-plain : (name : List ℕ) → AllHold IsNameByte name → IsPlainName name
+spelled-plain name h = AllHold-each IsNameByte (λ (byte : ℕ). byte ≡ 91 → ⊥) name (λ byte k. k.no_bracket) h
 
 pub own-plain : (name : List ℕ) → IsSpelled name → IsPlainName name
 own-plain [] h = absurd h
@@ -140,7 +140,7 @@ own-plain (first ∷ rest) h = spelled-plain (first ∷ rest) h.1
 
 own-dotless : (name : List ℕ) → IsSpelled name → HasNoDot name
 own-dotless [] h = absurd h
-own-dotless (first ∷ rest) h = AllHold-each (λ (byte : ℕ). (byte ≡ 46 → ⊥) × (byte ≡ 91 → ⊥)) (λ (byte : ℕ). byte ≡ 46 → ⊥) (first ∷ rest) (λ byte k. k.0) h.1
+own-dotless (first ∷ rest) h = AllHold-each IsNameByte (λ (byte : ℕ). byte ≡ 46 → ⊥) (first ∷ rest) (λ byte k. k.no_dot) h.1
 
 pub object-plain : (name : List ℕ) → IsObjectName name → IsPlainName name
 object-plain name h = subst IsPlainName h.is (AllHold-append (λ (byte : ℕ). byte ≡ 91 → ⊥) h.path h.own h.plain (own-plain h.own h.spelled))

@@ -13,7 +13,7 @@ use Rattle.v_scan.specs.Bytes.{is_letter, is_digit, goes_in_name, each, begins_a
 use Rattle.v_scan.specs.Numbers.{value_of, Written}
 use Rattle.v_scan.specs.Words.{Word, Named, System, Quoted, Marked, Numeral, word_bytes, IsWord, kind_of, number_kind}
 use Rattle.v_scan.specs.Texts.{Piece, Blank, LineComment, BlockComment, Timescale, Token, piece_bytes, spelled, ArePieces, leads_behind, place_behind, start, tokens_from, AreTokens}
-use Rattle.flat_laws.specs.Names.Spelled.{IsSpelled}
+use Rattle.flat_laws.specs.Names.Spelled.{no-word-end, IsNameByte, IsSpelled}
 use Rattle.source_laws.specs.Ascending.{word-some}
 
 -- Bytes of names
@@ -30,13 +30,17 @@ letter-high b h =
       | inr mark ↦ let is : b ≡ 95 = eqb-true b 95 mark in omega arith
     ]
 
-name-byte : (b : ℕ) → goes_in_name b ≡ true → (b ≡ 46 → ⊥) × (b ≡ 91 → ⊥)
-name-byte b h = (never 46 refl, never 91 refl)
+name-byte : (b : ℕ) → goes_in_name b ≡ true → IsNameByte b
+name-byte b h = record {
+  no_dot = never 46 refl;
+  no_bracket = never 91 refl;
+  in_word = no-word-end b (never 9 refl) (never 10 refl) (never 13 refl) (never 32 refl);
+}
   where
     never : (mark : ℕ) → goes_in_name mark ≡ false → b ≡ mark → ⊥
     never mark d e = let p : true ≡ false = sym h ∙ (ap goes_in_name e ∙ d) in absurd (cc)
 
-names-bytes : (bytes : List ℕ) → each goes_in_name bytes ≡ true → AllHold (λ (b : ℕ). (b ≡ 46 → ⊥) × (b ≡ 91 → ⊥)) bytes
+names-bytes : (bytes : List ℕ) → each goes_in_name bytes ≡ true → AllHold IsNameByte bytes
 names-bytes [] h = tt
 names-bytes (b ∷ bytes) h = (name-byte b (and-left (goes_in_name b) (each goes_in_name bytes) h), names-bytes bytes (and-right (goes_in_name b) (each goes_in_name bytes) h))
 

@@ -26,7 +26,8 @@ pub fn kept()
     ensures { TextsKeepRules }
 {}
 
-/// The flat design of a unit whose items are those of a text, and whose names are spelled as a text spells them, keeps the rules of flat designs.
+/// The flat design of a unit whose items are those of a text, and whose names are spelled as a text spells them, keeps the rules of flat designs, if no two
+/// statements of one of its processes stand at one place, as `source_laws` proves of each text's.
 pub fn named_kept()
     ensures { NamedDesignsKeepRules }
 {}

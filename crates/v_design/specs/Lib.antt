@@ -3,6 +3,7 @@ pub mod Expressions
 pub mod Designs
 pub mod Assignments
 pub mod Processes
+pub mod Places
 pub mod States
 pub mod Runs
 pub mod Paths

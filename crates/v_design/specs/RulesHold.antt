@@ -1,18 +1,19 @@
 -- The rules that a design or a plan keeps are facts with one proof, so they may be taken out of what a value carries (nothing of the language).
 use Rattle.std.specs.Prelude.{◌≡◌, ◌≢◌, ℕ, ◌+◌, ◌≤◌, ◌<◌, Bool, false, List, [], ◌∷◌, length, map, Option, Some, None, IsTrue}
 use Rattle.std.specs.Coded.{×_prop, Unit-prop}
-use Rattle.std.specs.List.{AllZip}
+use Rattle.std.specs.List.{AllZip, IsDistinct-prop}
 use Rattle.std.proofs.Math.Logic.{∥∥₁_elim}
 use Rattle.std.proofs.Props.{props}
 use Rattle.vf_base.specs.Lists.{has, AllHold}
 use Rattle.v_design.specs.Trees.{Expression, Constant, Name, BitSelect, PartSelect, WordSelect, Unary, Binary, Conditional, Concatenation, Replication, Expressions, no_expressions, more_expressions, Target, WholeTarget, BitTarget, PartTarget, WordTarget, Statement, Null, Block, If, Case, For, While, Repeat, Forever, Delay, EventControl, Wait, Blocking, Nonblocking, Finish, Statements, no_statements, more_statements, CaseItems, no_items, more_items}
 use Rattle.v_design.specs.Expressions.{width_of, sign_of}
-use Rattle.v_design.specs.Designs.{FlatNodeKind, AssignNode, GateNode, BlockNode, FlatNode, FlatProcess, FlatDesign, width_in, TestPlan}
+use Rattle.v_design.specs.Designs.{FlatObject, NameJoined, FlatNodeKind, AssignNode, GateNode, BlockNode, FlatNode, FlatProcess, FlatDesign, width_in, TestPlan}
 use Rattle.v_design.specs.Paths.{net_pieces}
+use Rattle.v_design.specs.Places.{same_place, places_in, PlacesDiffer}
 use Rattle.v_design.specs.Reads.{written_objects, entries_in}
 use Rattle.v_design.specs.CombinationalForm.{WritesOutputs}
 use Rattle.v_design.specs.Sites.{AllDiffer, expressions_count, site_name, sites_of}
-use Rattle.v_design.specs.WellFormed.{TerminalsFit, AreTerminals, IsSizedNode, IsSizedObject, IsSizedName, IsEntryOf, IsNodeOf, IsProcessOf, KeepsRules, IsAscending, IsPlan}
+use Rattle.v_design.specs.WellFormed.{TerminalsFit, AreTerminals, IsSizedNode, IsSizedObject, IsSizedName, IsEntryOf, ends_word, IsOneWord, HasNamesOfOneWord, IsNodeOf, IsProcessOf, KeepsRules, IsAscending, IsPlan}
 use Rattle.four_value.specs.declared.operator.GateKind.{GateKind}
 use Rattle.four_value.specs.declared.operator.GateKind.TheVariants.{And, Nand, Or, Nor, Xor, Xnor, Buf, Not}
 use Rattle.v_design.specs.Sized.{UnarySizing, OperandWithWhole, OperandAlone, UnaryAgrees, BinarySizing, BothWithWhole, LeftWithWhole, BothTogether, EachAlone, BinaryAgrees, IsSized, AreSizedAlone, IsSizedTarget, IsSizedAssignment, IsSizedEntry, AreLabels, IsDelayIf, IsSizedStatement, AreSizedStatements, AreSizedItems}
@@ -156,6 +157,20 @@ is_process_of-prop design process =
       AllHold-prop (λ object. has (net_pieces design) object ≡ false) (written_objects process.body) (λ object. hlevel props),
     )
 
+-- Names
+
+is_one_word-prop : (name : List ℕ) → IsProp (IsOneWord name)
+is_one_word-prop name = AllHold-prop (λ byte. ends_word byte ≡ false) name (λ byte. hlevel props)
+
+has_names_of_one_word-prop : (design : FlatDesign) → IsProp (HasNamesOfOneWord design)
+has_names_of_one_word-prop design =
+    hlevel (
+      props,
+      AllHold-prop (λ (object : FlatObject). IsOneWord object.name) design.objects (λ object. is_one_word-prop object.name),
+      AllHold-prop (λ (name : NameJoined). IsOneWord name.name) design.joined (λ name. is_one_word-prop name.name),
+      AllHold-prop (λ (node : FlatNode). IsOneWord node.name) design.nodes (λ node. is_one_word-prop node.name),
+    )
+
 -- The rules of a design
 
 keeps_rules-prop : (design : FlatDesign) → IsProp (KeepsRules design)
@@ -166,6 +181,8 @@ keeps_rules-prop design =
       AllHold-prop (IsSizedName design) design.joined (λ name. hlevel props),
       AllHold-prop (IsNodeOf design) design.nodes (is_node_of-prop design),
       AllHold-prop (IsProcessOf design) design.processes (is_process_of-prop design),
+      AllHold-prop (λ (process : FlatProcess). PlacesDiffer process.body) design.processes (λ process. IsDistinct-prop same_place (places_in process.body)),
+      has_names_of_one_word-prop design,
       all_differ-prop (map (site_name design) (sites_of design)),
     )
 

@@ -1,5 +1,5 @@
 -- What every flat design keeps (IEEE 1364-2001, clause 4 for expressions, clause 6 for assignments, clause 7 for gates, clause 9 for processes).
-use Rattle.std.specs.Prelude.{◌≡◌, ℕ, ◌+◌, ◌<◌, ◌≤◌, Bool, false, List, [], ◌∷◌, filter, length, Option, Some, None, IsTrue, slice_get, map, nat_eq, suc, zero}
+use Rattle.std.specs.Prelude.{◌≡◌, ℕ, ◌+◌, ◌<◌, ◌≤◌, Bool, false, ◌||◌, List, [], ◌∷◌, filter, length, Option, Some, None, IsTrue, slice_get, map, nat_eq, suc, zero}
 use Rattle.std.specs.List.{list_all, list_any, AllZip, Contains}
 use Rattle.vf_base.specs.Base.{WatchedBit}
 use Rattle.vf_base.specs.Lists.{has, without_repeats, AllHold, greatest}
@@ -8,6 +8,7 @@ use Rattle.v_design.specs.Trees.{Piece, Expressions, no_expressions, more_expres
 use Rattle.v_design.specs.Expressions.{width_of}
 use Rattle.v_design.specs.Designs.{FlatObject, NameJoined, FlatNodeKind, AssignNode, GateNode, BlockNode, FlatNode, FlatProcess, FlatDesign, width_in, StuckAt, TestPlan}
 use Rattle.v_design.specs.Paths.{net_pieces}
+use Rattle.v_design.specs.Places.{PlacesDiffer}
 use Rattle.v_design.specs.Reads.{node_reads, written_objects, entries_in, named_by, named_by_node}
 use Rattle.v_design.specs.CombinationalForm.{WritesOutputs}
 use Rattle.v_design.specs.Sized.{most_bits, span, pieces_width, IsSized, IsSizedAlone, IsSizedStatement, levels_of, levels_of_parts, levels_of_statement}
@@ -84,6 +85,22 @@ IsSizedObject object = (length object.first ≡ object.width) × (object.width �
 abbrev pub IsSizedName : FlatDesign → NameJoined → Type 0
 IsSizedName design name = IsTrue (have_widths design name.vector.pieces) × (pieces_width name.vector.pieces ≡ span name.vector.high name.vector.low)
 
+-- Names
+
+-- a tab, a line feed, a carriage return or a space ends a word
+abbrev pub ends_word : ℕ → Bool
+ends_word byte = nat_eq byte 9 || nat_eq byte 10 || nat_eq byte 13 || nat_eq byte 32
+
+-- a name that can be read back from a line of words
+abbrev pub IsOneWord : List ℕ → Type 0
+IsOneWord name = AllHold (λ (byte : ℕ). ends_word byte ≡ false) name
+
+-- the names of objects, of joined names and of nodes are words
+pub record HasNamesOfOneWord (design : FlatDesign) : Type 0 where
+  pub objects : AllHold (λ (object : FlatObject). IsOneWord object.name) design.objects
+  pub joined : AllHold (λ (name : NameJoined). IsOneWord name.name) design.joined
+  pub nodes : AllHold (λ (node : FlatNode). IsOneWord node.name) design.nodes
+
 -- Ranks
 
 -- whether an output of one node is an input of another
@@ -143,6 +160,10 @@ pub record KeepsRules (design : FlatDesign) : Type 0 where
   pub joined : AllHold (IsSizedName design) design.joined
   pub nodes : AllHold (IsNodeOf design) design.nodes
   pub processes : AllHold (IsProcessOf design) design.processes
+  -- no two statements of a process that take steps stand at one place
+  pub places : AllHold (λ (process : FlatProcess). PlacesDiffer process.body) design.processes
+  -- each name is one word
+  pub words : HasNamesOfOneWord design
   -- each net piece has at most one node that writes it
   pub one_driver : (low high : ℕ) (node other : FlatNode) → slice_get design.nodes low ≡ Some node → slice_get design.nodes high ≡ Some other → low < high →
       (object : ℕ) → IsTrue (has node.outputs object) → has other.outputs object ≡ false

@@ -1,12 +1,15 @@
 -- The design of the tests keeps the rules of every design.
 use Rattle.std.proofs.Common.{◌≡◌, ℕ, List, [], ◌∷◌, true, false, map, refl, sym, ap, subst, arith}
 use Rattle.std.specs.Prelude.{get_or, codes}
+use Rattle.std.specs.List.{IsDistinct}
+use Rattle.vf_base.specs.Lists.{AllHold}
 use Rattle.v_design.specs.Designs.{FlatObject, FlatProcess}
 use Rattle.v_design.specs.Trees.{Null}
 use Rattle.v_design.specs.declared.plan.Object.{Object}
 use Rattle.v_design.specs.declared.plan.JoinedName.{JoinedName}
 use Rattle.v_design.specs.declared.plan.Node.{Node}
 use Rattle.v_design.specs.declared.plan.Process.{Process}
+use Rattle.v_design.specs.Places.{PlacesDiffer}
 use Rattle.v_design.specs.Plain.{object_of, name_joined, node_of, process_of, flat_design}
 use Rattle.v_design.specs.WellFormed.{KeepsRules, IsProcessOf}
 use Rattle.wait_index.specs.WaitingDesign.{waiting_design, waiting_objects, waiting_processes, waiting_process, on_two, on_one}
@@ -35,6 +38,11 @@ one_rules = record {
   levels = omega arith;
 }
 
+-- its statements stand at places of their own
+apart : AllHold (λ (process : FlatProcess). PlacesDiffer process.body) waiting_design.processes
+unfolding IsDistinct
+apart = ((tt, tt), (tt, (((refl, tt), (tt, tt)), tt)))
+
 -- the rules of the design
 pub waiting_rules : KeepsRules waiting_design
 waiting_rules = record {
@@ -42,6 +50,8 @@ waiting_rules = record {
   joined = tt;
   nodes = tt;
   processes = (two_rules, (null_rules, (one_rules, tt)));
+  places = apart;
+  words = record { objects = ((refl, tt), ((refl, tt), ((refl, tt), tt))); joined = tt; nodes = tt };
   one_driver = λ low high node other e f h. absurd (cc);
   ranked = λ low high reader driver e f h object i. absurd (cc);
   by_rank = λ low high one other e f h. absurd (cc);

@@ -8,9 +8,13 @@ use Rattle.v_design.specs.Trees.{Expression, Name, Entry, Statement, Null, Event
 use Rattle.v_design.specs.Designs.{FlatObject, FlatProcess, FlatDesign}
 use Rattle.v_design.specs.declared.logic.ObjectKind.TheVariants.{Var}
 
--- where all stands
+-- where all stands but the statement that has another in it
 abbrev pub waiting_place : SourcePlace
 waiting_place = record { line = 2; column = 1 }
+
+-- where that stands
+abbrev pub outer_place : SourcePlace
+outer_place = record { line = 3; column = 1 }
 
 -- a variable of one bit
 abbrev pub waiting_object : List ℕ → FlatObject
@@ -34,7 +38,7 @@ on_two = EventControl waiting_place (bit_entry 0 Pos ∷ bit_entry 1 Any ∷ [])
 
 -- wait (b) @(negedge b) ;
 abbrev pub on_one : Statement
-on_one = Wait waiting_place value_b (EventControl waiting_place (bit_entry 1 Neg ∷ []) Null)
+on_one = Wait outer_place value_b (EventControl waiting_place (bit_entry 1 Neg ∷ []) Null)
 
 abbrev pub waiting_process : Bool → Statement → FlatProcess
 waiting_process always body = record { always = always; body = body; place = waiting_place }

@@ -1,12 +1,13 @@
 -- How names of a hierarchy are spelled: those of its instances, each with a `.` behind it, and then a declared name, in which there is none (IEEE 1364-2001, clause 2.7 for names,
 -- clause 12.4 for those of a hierarchy; that an instance path is a text is own).
 use Rattle.std.proofs.Common.{◌≡◌, ℕ, zero, suc, ◌+◌, ◌<◌, ◌≤◌, Bool, true, false, List, [], ◌∷◌, ◌++◌, Option, Some, None, refl, sym, ap, ◌∙◌, arith}
-use Rattle.std.specs.Prelude.{nat_eq, slice_get, sum_by, codes}
+use Rattle.std.specs.Prelude.{nat_eq, ◌||◌, slice_get, sum_by, codes}
 use Rattle.std.proofs.lemmas.Bool.{eq-eqb, ne_eqb, eqb-true}
 use Rattle.std.proofs.lemmas.List.{append_assoc}
 use Rattle.std.proofs.lemmas.List.Sums.{sum_by-cons}
 use Rattle.vf_base.specs.Lists.{AllHold}
 use Rattle.v_design.specs.Expressions.{up_from}
+use Rattle.v_design.specs.WellFormed.{ends_word, IsOneWord}
 use Rattle.v_tree.specs.Trees.{Identifier, same_name}
 use Rattle.graph_order.specs.ListLaws.{sum_by-none}
 use Rattle.flat_laws.specs.Hierarchy.Given.{equal-name}
@@ -16,18 +17,40 @@ use Rattle.flat_laws.specs.Hierarchy.Given.{equal-name}
 abbrev pub IsDotless : Identifier → Type 0
 IsDotless name = AllHold (λ (byte : ℕ). byte ≡ 46 → ⊥) name
 
--- a declared name begins behind the digits and `$`, and has no `.` and no `[`
+-- which bytes end no word
+pub no-word-end : (byte : ℕ) → (byte ≡ 9 → ⊥) → (byte ≡ 10 → ⊥) → (byte ≡ 13 → ⊥) → (byte ≡ 32 → ⊥) → ends_word byte ≡ false
+no-word-end byte tab feed return space =
+    ap (λ b. b || nat_eq byte 10 || nat_eq byte 13 || nat_eq byte 32) (ne_eqb byte 9 tab)
+    ∙ ap (λ b. b || nat_eq byte 13 || nat_eq byte 32) (ne_eqb byte 10 feed)
+    ∙ ap (λ b. b || nat_eq byte 32) (ne_eqb byte 13 return)
+    ∙ ne_eqb byte 32 space
+
+-- a byte that is no `.`, no `[`, and ends no word
+pub record IsNameByte (byte : ℕ) : Type 0 where
+  pub no_dot : byte ≡ 46 → ⊥
+  pub no_bracket : byte ≡ 91 → ⊥
+  pub in_word : ends_word byte ≡ false
+
+-- a declared name begins behind the digits and `$`, and has no `.`, no `[` and no blank
 abbrev pub IsSpelled : Identifier → Type 0
 IsSpelled [] = ⊥
-IsSpelled (first ∷ rest) = (57 < first) × AllHold (λ (byte : ℕ). (byte ≡ 46 → ⊥) × (byte ≡ 91 → ⊥)) (first ∷ rest)
+IsSpelled (first ∷ rest) = (57 < first) × AllHold IsNameByte (first ∷ rest)
 
-bytes-dotless : (name : Identifier) → AllHold (λ (byte : ℕ). (byte ≡ 46 → ⊥) × (byte ≡ 91 → ⊥)) name → IsDotless name
+bytes-dotless : (name : Identifier) → AllHold IsNameByte name → IsDotless name
 bytes-dotless [] h = tt
-bytes-dotless (byte ∷ rest) h = (h.0.0, bytes-dotless rest h.1)
+bytes-dotless (byte ∷ rest) h = (h.0.no_dot, bytes-dotless rest h.1)
 
 pub spelled-dotless : (name : Identifier) → IsSpelled name → IsDotless name
 spelled-dotless [] h = absurd h
 spelled-dotless (first ∷ rest) h = bytes-dotless (first ∷ rest) h.1
+
+bytes-word : (name : Identifier) → AllHold IsNameByte name → IsOneWord name
+bytes-word [] h = tt
+bytes-word (byte ∷ rest) h = (h.0.in_word, bytes-word rest h.1)
+
+pub spelled-word : (name : Identifier) → IsSpelled name → IsOneWord name
+spelled-word [] h = absurd h
+spelled-word (first ∷ rest) h = bytes-word (first ∷ rest) h.1
 
 -- Names behind a path
 

@@ -1,6 +1,7 @@
 -- Each statement of a body over objects stands at the first token of its spelling, so no two stand at one place (IEEE 1364-2001, clause 9, annex A.6).
 use Rattle.std.proofs.Common.{◌≡◌, ◌+◌, ◌≤◌, List, [], ◌∷◌, ◌++◌, Option, ap, arith}
 use Rattle.vf_base.specs.Base.{SourcePlace}
+use Rattle.v_design.specs.Places.{same_place, places_in, places_in_all, places_in_items}
 use Rattle.v_tree.specs.Tokens.{SourceToken}
 use Rattle.v_tree.specs.Trees.{SourceTarget, OneSelect, JoinedSelects, place_of_target, SourceStatement, NullStatement, BlockStatement, IfStatement, IfElseStatement, CaseStatement, ForStatement, WhileStatement, RepeatStatement, ForeverStatement, WaitStatement, EventStatement, DelayStatement, BlockingStatement, NonblockingStatement, IgnoredTask, FinishTask, SourceStatements, no_source_statements, more_source_statements, SourceCaseItems, no_source_items, labelled, otherwise}
 use Rattle.v_readers.specs.declared.class.Class.TheVariants as classes
@@ -10,8 +11,7 @@ use Rattle.v_names.specs.Readings.{Size, reading_of}
 use Rattle.v_expr.specs.Spelling.{SpellsTarget}
 use Rattle.v_stmt.specs.Spelling.{SpellsStatement, SpellsBody, SpellsItems}
 use Rattle.v_elab.specs.Statements.{Meaning, items_size, statement_over, statements_over, items_over, default_over}
-use Rattle.process_code.specs.Places.{same_place, places_in, places_in_all, places_in_items}
-use Rattle.process_places.specs.Counted.{one_if, times, times-append, standing, standing-append}
+use Rattle.source_laws.specs.Counted.{one_if, times, times-append, standing, standing-append}
 
 -- Fronts
 

@@ -2,6 +2,7 @@
 use Rattle.std.proofs.Common.{◌≡◌, ℕ, List, Ok, subst, arith}
 use Rattle.vf_base.specs.Lists.{AllHold}
 use Rattle.v_design.specs.Designs.{FlatProcess, FlatDesign}
+use Rattle.v_design.specs.Places.{places_in, PlacesDiffer}
 use Rattle.v_tree.specs.Tokens.{SourceToken}
 use Rattle.v_tree.specs.Trees.{Identifier, SourceStatement, SourceItem, InitialItem, AlwaysItem, SourceUnit}
 use Rattle.v_scan.specs.Texts.{AreTokens}
@@ -17,13 +18,12 @@ use Rattle.flat_laws.specs.Limits.{design-processes}
 use Rattle.flat_laws.specs.Hierarchy.Levelled.{named-module}
 use Rattle.flat_laws.specs.Made.{processes_in, objects_in, flat-made}
 use Rattle.flat_laws.specs.Hierarchy.Processes.{behaviours-of, among-processes}
-use Rattle.process_code.specs.Places.{places_in, PlacesDiffer}
 use Rattle.source_laws.specs.InOrder.{IsInOrder, stand-in-order}
 use Rattle.source_laws.specs.Ascending.{ComesBefore, tokens-ascend}
 use Rattle.source_laws.specs.Units.{unit-items}
-use Rattle.process_places.specs.Counted.{once-distinct, one-standing}
-use Rattle.process_places.specs.Bodies.{statement-stands}
-use Rattle.process_places.specs.Walked.{HoldsOfBodies, walked-bodies}
+use Rattle.source_laws.specs.Counted.{once-distinct, one-standing}
+use Rattle.source_laws.specs.Bodies.{statement-stands}
+use Rattle.source_laws.specs.Walked.{HoldsOfBodies, walked-bodies}
 
 -- a statement that is spelled by tokens in the order of a text
 pub record IsTextStatement (s : SourceStatement) : Type 0 where

@@ -5,9 +5,9 @@ use Rattle.std.specs.List.{AllByRecursion, IsDistinct}
 use Rattle.std.proofs.lemmas.Bool.{eqb-true, eq-eqb}
 use Rattle.vf_base.specs.Base.{SourcePlace, source_place}
 use Rattle.vf_base.specs.Lists.{AllHold}
+use Rattle.v_design.specs.Places.{same_place}
 use Rattle.v_tree.specs.Tokens.{SourceToken}
 use Rattle.v_names.specs.SizedLaws.{and-left, and-right}
-use Rattle.process_code.specs.Places.{same_place}
 use Rattle.source_laws.specs.InOrder.{IsInOrder}
 use Rattle.source_laws.specs.Ascending.{ComesBefore, never-before}
 

@@ -1,4 +1,0 @@
-pub mod Counted
-pub mod Bodies
-pub mod Walked
-pub mod Apart
