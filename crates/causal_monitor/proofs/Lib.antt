@@ -4,5 +4,4 @@ pub mod LinkLaws
 pub mod ChangeLaws
 pub mod TotalLaws
 pub mod AddLaws
-pub mod SmallRules
 pub mod LogLaws

@@ -6,4 +6,3 @@ pub mod Counted
 pub mod Links
 pub mod Index
 pub mod Changes
-pub mod SmallDesign

@@ -18,5 +18,4 @@ pub mod OneCode
 pub mod UpdateLaws
 pub mod WithinLaws
 pub mod Waits
-pub mod SmallParts
 pub mod Lines

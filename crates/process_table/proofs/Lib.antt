@@ -15,5 +15,3 @@ pub mod NotedLaws
 pub mod WaitCalls
 pub mod EachChanged
 pub mod TurnedLaws
-pub mod SmallRules
-pub mod SmallTables

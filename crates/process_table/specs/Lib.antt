@@ -8,4 +8,3 @@ pub mod Arranged
 pub mod Wakes
 pub mod Noted
 pub mod Turned
-pub mod SmallDesign

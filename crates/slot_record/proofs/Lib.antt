@@ -1,4 +1,2 @@
 pub mod RecordLaws
-pub mod LaneLaws
 pub mod SlotRecordLaws
-pub mod IdleLaws
