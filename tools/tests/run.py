@@ -24,7 +24,7 @@ class Told(unittest.TextTestResult):
 def main():
     sys.path.insert(0, HERE)
     names = sys.argv[1:] or [os.path.basename(it)[:-3] for it in sorted(glob.glob(f"{HERE}/*_test.py"))]
-    names = [it if it.endswith("_test") else f"{it}_test" for it in names]
+    names = [it if "_test" in it else f"{it}_test" for it in names]
     tests = unittest.defaultTestLoader.loadTestsFromNames(names)
     told = unittest.TextTestRunner(stream=sys.stdout, resultclass=Told, verbosity=0).run(tests)
     failed = len(told.failures) + len(told.errors)
