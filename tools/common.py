@@ -136,13 +136,46 @@ def read_report(name):
     return report_of(read_text(name), name)
 
 
-def split_plan(text):
-    """The lines of a plan that list faults, as (number, words), and all other lines as they stand."""
-    faults, others = [], []
-    for number, line in enumerate(text.split("\n"), 1):
-        words = re.split(r"[ \t\r]+", line.split("#")[0].strip(" \t\r"))
-        if words[0] in ("fault", "faults"):
-            faults.append((number, words))
-        else:
-            others.append(line)
-    return faults, "\n".join(others).rstrip("\n") + "\n"
+
+# What two accesses are called together, and what to do about them: by their kinds in the order of the alphabet.
+ADVICE = {
+    ("read", "write"): "The reader sees the old or the new value. Write what clocked blocks share with `<=`, or part the two in time.",
+    ("write", "write"): "Either value may stay. Let one process write the object.",
+    ("await", "write"): "The change may come before the wait begins, and is then missed. Give the object its first content in its declaration, and change it after time 0.",
+    ("ended", "write"): "Of two edges at one time one may be missed. Let the edges come at different times.",
+    ("held", "settle"): "The net may have a short pulse, or none. Wait for the clock and test the enable inside, or change the enable where the clock is quiet.",
+    ("await", "settle"): "The net may have a short pulse, or none. Wait for the clock and test the enable inside, or change the enable where the clock is quiet.",
+    ("read", "settle"): "The reader may see the net half way. Sample at another time than that at which the inputs change.",
+}
+OTHER_ADVICE = "The order of the two is free. Part them in time, or let one wait for the other."
+
+Cause = namedtuple("Cause", "side first second time phase faults")
+
+
+def pair_of(cause):
+    """The kinds of the two accesses of a race, in the order of the alphabet."""
+    return tuple(sorted((cause.first.kind, cause.second.kind)))
+
+
+def causes_of(faults):
+    """The races by cause: one machine and one pair of accesses, with its first time and the faults that it left without a verdict. The earliest first."""
+    found = {}
+    for fault in faults:
+        if fault.verdict == "race":
+            found.setdefault((fault.side, fault.first, fault.second), []).append(fault)
+    causes = [Cause(*key, *min((it.time, it.phase) for it in members), members) for key, members in found.items()]
+    return sorted(causes, key=lambda it: (it.time, it.phase, -len(it.faults)))
+
+
+class Sources:
+    """The files of a design in the order in which they were joined: which file and line a line of the design is."""
+
+    def __init__(self, names):
+        self.lines = []
+        for name in names:
+            lines = read_text(name).split("\n")
+            self.lines += [(name, number, line) for number, line in enumerate(lines[:-1] if lines[-1] == "" else lines, 1)]
+
+    def place(self, line):
+        """File, line and text of a line of the design, or None where it has no such line."""
+        return self.lines[line - 1] if 1 <= line <= len(self.lines) else None
