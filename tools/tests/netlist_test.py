@@ -122,7 +122,7 @@ class FlattenText(Tools):
         first = self.file("first.v", "\ufeff`timescale 1ns/1ps\nmodule first(input \\i[0] , output o);\n(* keep *) assign o = \\i[0] ; // `define (* no *)\nendmodule")
         second = self.file("second.v", "`timescale 1ns / 1ps\nmodule top; reg c; always @(*) c = 0; always @( * ) $display(\"(* no *)\"); endmodule\n")
         status, out, said = self.run_tool("flatten-text", first, second)
-        wanted = "`timescale 1ns/1ps\n\nmodule first(input i_0 , output o);\n  assign o = i_0 ; // `define (* no *)\nendmodule\n\n"
+        wanted = "`timescale 1ns/1ps\nmodule first(input i_0 , output o);\n  assign o = i_0 ; // `define (* no *)\nendmodule\n\n"
         self.assertEqual((status, out), (0, wanted + read(second).split("\n", 1)[1]))
         for it in ("first.v:1: byte order mark dropped", "first.v:2: the name \\i[0] is written i_0", "first.v:3: attribute dropped: (* keep *)", "second.v:1: dropped: `timescale"):
             self.assertIn(it, said)
@@ -136,6 +136,12 @@ class FlattenText(Tools):
         self.assertIn("reg [4-1:0] q;", out)
         place = 1 + [it.strip() for it in out.split("\n")].index("reg [4-1:0] q;")
         self.assertIn(f"line {place} of the written text: attribute dropped: (* x *)", said)
+
+    def test_time_scale_behind_words(self):
+        first, second = self.file("first.v", "module first; endmodule\n"), self.file("second.v", "// a comment\n`timescale 1ns / 1ps // more\nmodule second; endmodule")
+        status, out, said = self.run_tool("flatten-text", first, second)
+        self.assertEqual((status, out), (0, "`timescale 1ns/1ps\nmodule first; endmodule\n// a comment\n\nmodule second; endmodule\n"))
+        self.assertIn("second.v:2: put to the front", said)
 
     def test_refused(self):
         first, second = self.file("first.v", "`timescale 1ns/1ps\n"), self.file("second.v", "`timescale 1ps/1ps\n")
