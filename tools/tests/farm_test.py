@@ -1,0 +1,133 @@
+"""Tests of tools/farm, tools/merge and examples/farm."""
+import os
+import subprocess
+
+from helper import EXAMPLES, Tools, needs, program, read
+
+PIPELINE = os.path.join(EXAMPLES, "pipeline")
+WORDS = [os.path.join(PIPELINE, "design.v"), os.path.join(PIPELINE, "plan.txt"), "top"]
+REPORT = read(PIPELINE, "report.txt")
+# Stands for ssh: leaves out the options and the host, and runs the words on this machine.
+SSH = """#!/bin/sh
+while [ $# -gt 0 ]; do
+    case $1 in
+        -l | -o | -p | -S | -i) shift 2 ;;
+        -*) shift ;;
+        *) break ;;
+    esac
+done
+echo "$1" >> "$HOSTS"
+shift
+[ "$1" != -- ] || shift
+exec sh -c "$*"
+"""
+# Runs vfault, but the first time that it is given part 3 it is killed on the way, with half a report written.
+KILLED = """#!/bin/sh
+case "$*" in
+    *part-0003.plan*)
+        if [ ! -e "$MARK" ]; then
+            touch "$MARK"
+            printf 'vfault 1\\nclk sa0 pos'
+            kill -9 $$
+        fi ;;
+esac
+echo "$*" >> "$RUNS"
+exec PROGRAM "$@"
+"""
+
+
+class Farm(Tools):
+    def setUp(self):
+        super().setUp()
+        # what GNU parallel keeps goes to the test's folder
+        self.place = {"HOME": self.folder, "RUNS": os.path.join(self.folder, "runs"), "MARK": os.path.join(self.folder, "mark"), "HOSTS": os.path.join(self.folder, "hosts")}
+
+    def script(self, name, text):
+        path = self.file(name, text)
+        os.chmod(path, 0o755)
+        return path
+
+    def farm(self, *words, **more):
+        return self.good("farm", *words, *WORDS, environment={**self.place, **more})
+
+    @needs("vfault", "parallel")
+    def test_killed_part_is_run_again(self):
+        killed = self.script("killed", KILLED.replace("PROGRAM", program()))
+        self.assertEqual(self.farm("--program", killed, "-parts", "8", "-jobs", "2"), REPORT)
+        self.assertTrue(os.path.exists(self.place["MARK"]))
+        self.assertEqual(sum("grade" in it for it in read(self.place["RUNS"]).split("\n")), 8)
+
+    @needs("vfault", "parallel")
+    def test_goes_on(self):
+        counted = self.script("counted", KILLED.replace("PROGRAM", program()))
+        self.file("mark", "")
+        folder = os.path.join(self.folder, "parts")
+        words = ["--program", counted, "--folder", folder, "-parts", "4", "-jobs", "2"]
+        self.assertEqual(self.farm(*words), REPORT)
+        os.remove(os.path.join(folder, "part-0002.report"))
+        self.assertEqual(self.farm(*words), REPORT)
+        self.assertEqual(sum("grade" in it for it in read(self.place["RUNS"]).split("\n")), 5)
+        self.file("parts/part-0004.report", "vfault 1\nclk sa0 pos")
+        self.bad(1, "cut short", "farm", *words, *WORDS, environment=self.place)
+        self.bad(1, "parts of another run", "farm", "--folder", folder, "-parts", "5", "--program", counted, *WORDS, environment=self.place)
+
+    @needs("vfault", "parallel", "rsync", "perl")
+    def test_other_machines(self):
+        ssh = self.script("ssh", SSH)
+        got = self.farm("-parts", "4", "--sshlogin", "first", "--sshlogin", "second", "-jobs", "1", PARALLEL_SSH=ssh)
+        self.assertEqual(got, REPORT)
+        self.assertLessEqual({"first", "second"}, set(read(self.place["HOSTS"]).split("\n")))
+
+    @needs("vfault", "parallel")
+    def test_slurm_array(self):
+        os.mkdir(os.path.join(self.folder, "bin"))
+        os.symlink(program(), os.path.join(self.folder, "bin", "vfault"))
+        folder = os.path.join(self.folder, "parts")
+        self.farm("--cut", "--folder", folder, "-parts", "8")
+        for task in range(1, 9):
+            place = {**os.environ, "SLURM_ARRAY_TASK_ID": str(task), "PATH": f"{self.folder}/bin:{os.environ['PATH']}"}
+            subprocess.run([os.path.join(EXAMPLES, "farm", "part.sbatch"), folder, "top"], env=place, check=True)
+        reports = [os.path.join(folder, f"part-{task:04d}.report") for task in range(1, 9)]
+        self.assertEqual(self.good("merge", *reports), REPORT)
+        self.assertEqual(self.farm("--folder", folder, "-parts", "8"), REPORT)
+
+    @needs("vfault", "parallel")
+    def test_lists(self):
+        design = self.file("design.v", "module top; reg a = 0; reg [1:0] q = 0; initial begin #10 a = 1; q = 1; end endmodule\n")
+        plan = self.file("plan", "# a comment\nend 20\nwatch a # all of it\n\nfault q[1] 1\nwatch q\nfaults all\nfault a 0\nfault a 0\nstrobe 15\n")
+        whole = subprocess.run([program(), "grade", design, plan, "top", "1"], stdout=subprocess.PIPE, encoding="utf-8", check=True).stdout
+        for parts in ("1", "3", "9", "50"):
+            self.assertEqual(self.good("farm", "-parts", parts, "-jobs", "2", design, plan, "top", environment=self.place), whole)
+        none = self.file("none", "end 20\nwatch a\nstrobe 15")
+        self.assertEqual(self.good("farm", design, none, "top", environment=self.place), "vfault 1\ntotal 0 detected 0 possible 0 undetected 0 race 0 hyper 0\n")
+
+    @needs("vfault", "parallel")
+    def test_refused(self):
+        design = self.file("design.v", "module top; reg a = 0; reg b = 0; endmodule\n")
+        plan = self.file("plan", "end 20\nfaults all\nwatch a\nfault a 0\nfault c 1\n")
+        self.bad(1, "farm: vfault: plan 5: unknown name", "farm", "-parts", "3", "-jobs", "1", design, plan, "top", environment=self.place)
+        self.bad(1, "no module of that name", "farm", design, plan, "other", environment=self.place)
+        self.bad(3, "cannot read", "farm", design, "nowhere", "top")
+        self.bad(2, "no number from 1", "farm", "-parts", "0", design, plan, "top")
+        self.bad(3, "no program at /nowhere", "farm", "--program", "/nowhere", design, plan, "top")
+
+
+class Merge(Tools):
+    def test_merge(self):
+        lines = REPORT.split("\n")[1:-2]
+        parts = []
+        for number, (start, end) in enumerate(((0, 1), (1, 1), (1, 20), (20, len(lines)))):
+            mine = lines[start:end]
+            totals = [sum(f" {kind}" in it for it in mine) for kind in ("detected", "possible", "undetected", "race", "hyper")]
+            total = f"total {len(mine)} detected {totals[0]} possible {totals[1]} undetected {totals[2]} race {totals[3]} hyper {totals[4]}"
+            parts.append(self.file(f"part{number}", "\n".join(["vfault 1", *mine, total, ""])))
+        self.assertEqual(self.good("merge", *parts), REPORT)
+
+    def test_refused(self):
+        short = self.file("short", REPORT[:-30])
+        other = self.file("other", REPORT.replace("vfault 1", "vfault 2", 1))
+        wrong = self.file("wrong", REPORT.replace("detected 38\n", "possible 38\n", 1))
+        bad = self.file("bad", REPORT.replace("sa0", "sa2", 1))
+        for words, name in (("cut short", short), ("no report of vfault", other), ("don't count its lines", wrong), ("bad line 2: no line of a report", bad)):
+            self.bad(1, words, "merge", os.path.join(PIPELINE, "report.txt"), name)
+        self.bad(3, "cannot read nowhere", "merge", "nowhere")
