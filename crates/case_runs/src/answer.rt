@@ -4,11 +4,36 @@ ghost use Rattle.std.specs.Prelude.{◌≡◌};
 
 use crate::case::Answer;
 use std::alloc::{AllocError, Global};
+use std::marker::Brand;
 use std::sync::ledger::{Blank, Ledger};
 use std::thread::Threads;
 use top_call::{COUNTERS, counters, vfault};
 use vf_base::{MemShelf, MemSink, OpenGate};
 use vf_status::{Status, code, line};
+
+/// The status and the output of a run over a shelf of these files.
+fn answered<L: Ledger + Send + Sync, R: Threads + Sync>(
+    rt: &R,
+    alloc: Global,
+    blank: Blank,
+    words: &[String],
+    files: Vec<(String, Vec<u8>)>,
+) -> Result<(Status, Vec<u8>), AllocError>
+    requires name { blank.name ≡ L.name }
+    requires parts { blank.parts ≡ L.parts }
+    requires counters { blank.parts ≡ COUNTERS }
+{
+    let (_book, share) = blank.open::<L>();
+    let Ok(mut steps) = counters(alloc, share) else {
+        return Ok((Status::NoMemory, Vec::new(alloc)));
+    };
+    let mut shelf = MemShelf::new(files, Vec::new(alloc));
+    let mut sink = MemSink::new(alloc, None);
+    let status = vfault(
+        rt, alloc, words, &mut shelf, &mut sink, &OpenGate, &mut steps,
+    );
+    Ok((status, Vec::from_slice(alloc, sink.held())?))
+}
 
 /// The line of a status with its line feed; nothing where all went well.
 fn message_of(alloc: Global, status: &Status) -> Result<Vec<u8>, AllocError> {
@@ -24,28 +49,16 @@ fn message_of(alloc: Global, status: &Status) -> Result<Vec<u8>, AllocError> {
 }
 
 /// What the call answers to the words over a shelf of these files.
-pub fn answer_of<L: Ledger + Send + Sync, R: Threads + Sync>(
+pub fn answer_of<R: Threads + Sync>(
     rt: &R,
     alloc: Global,
-    blank: Blank,
     words: &[String],
     files: Vec<(String, Vec<u8>)>,
-) -> Result<Answer, AllocError>
-    requires name { blank.name ≡ L.name }
-    requires parts { blank.parts ≡ L.parts }
-    requires counters { blank.parts ≡ COUNTERS }
-{
-    let mut shelf = MemShelf::new(files, Vec::new(alloc));
-    let mut sink = MemSink::new(alloc, None);
-    let (_book, share) = blank.open::<L>();
-    let status = match counters(alloc, share) {
-        Ok(mut steps) => vfault(
-            rt, alloc, words, &mut shelf, &mut sink, &OpenGate, &mut steps,
-        ),
-        Err(_) => Status::NoMemory,
-    };
+) -> Result<Answer, AllocError> {
+    let blank = Blank::new(COUNTERS);
+    let (status, output) = answered::<Brand, R>(rt, alloc, blank, words, files)?;
     Ok(Answer {
-        output: Vec::from_slice(alloc, sink.held())?,
+        output,
         message: message_of(alloc, &status)?,
         status: code(&status),
     })

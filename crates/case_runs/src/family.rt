@@ -5,12 +5,9 @@ use crate::case::{Case, LineFault, read_case};
 use crate::compare::print_difference;
 use crate::tally::Tally;
 use std::alloc::Global;
-use std::marker::Brand;
 use std::rt::Files;
-use std::sync::ledger::Blank;
 use std::thread::Threads;
 use std::{fs, io};
-use top_call::COUNTERS;
 
 /// Runs a case, and prints it where it differs; whether it passed.
 fn passes<R: Threads + Sync + Print>(rt: &R, alloc: Global, case: Case) -> io::Result<bool> {
@@ -20,7 +17,7 @@ fn passes<R: Threads + Sync + Print>(rt: &R, alloc: Global, case: Case) -> io::R
         files,
         wanted,
     } = case;
-    let got = answer_of::<Brand, R>(rt, alloc, Blank::new(COUNTERS), &words, files)?;
+    let got = answer_of(rt, alloc, &words, files)?;
     let passed = got == wanted;
     if !passed {
         print_difference(rt, alloc, name.as_str(), &words, &wanted, &got)?;

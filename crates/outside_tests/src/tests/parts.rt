@@ -1,13 +1,20 @@
 // Calls that no run of the program makes, with answers that were worked out by hand.
 
+ghost use Rattle.std.specs.Prelude.{◌≡◌};
+
 use copy_state::FaultCopy;
+use expr_sizes::size_expr;
 use four_value::Vec4;
 use soak_text::{design_text, plan_text};
 use std::test::Fail;
 use v_copy::copy_tree;
+use v_names::Scope;
 use v_parse::parse;
+use v_ports::{PortFault, PortUse, join_ports};
 use v_scan::scan;
-use vf_base::{FaultId, ObjectId};
+use v_tree::{Expr, NumberForm};
+use v_width::SizedExpr;
+use vf_base::{FaultId, ObjectId, Place};
 use window_index::{Occurrence, WindowIndex};
 
 /// Number 0 at 3 and 9, number 2 at 1, 3 and 3, number 1 never.
@@ -144,5 +151,43 @@ fn generated_texts(rt: HostRuntime) -> Result<(), Fail> {
         let plan = plan_text(alloc, size)?;
         assert_eq!(rt; (plan.len(), sum_of(&plan)), (length, sum), "size {size}");
     }
+    Ok(())
+}
+
+/// Where the only part of a text stands.
+const HERE: Place = Place { line: 1, column: 7 };
+
+/// A port that is joined into an object, or into nothing.
+fn port(formal: u32, actual: Option<u32>) -> PortUse
+    ensures { result.formal ≡ formal }
+{
+    PortUse {
+        formal,
+        actual,
+        place: HERE,
+    }
+}
+
+#[test]
+fn ports_are_joined(rt: HostRuntime) -> Result<(), Fail> {
+    let chain = [port(2, Some(1)), port(3, None), port(1, Some(0))];
+    let joined = join_ports(rt.alloc(), 4, &chain)?;
+    assert_eq!(rt; joined.as_slice(), [0, 0, 0, 3].as_slice());
+    let twice = [port(1, None), port(1, Some(0))];
+    let fault = join_ports(rt.alloc(), 2, &twice).err();
+    assert_eq!(rt; fault, Some(PortFault::PortMismatch(HERE)));
+    Ok(())
+}
+
+#[test]
+fn a_number_takes_the_size_of_its_context(rt: HostRuntime) -> Result<(), Fail> {
+    let five = Expr::Number {
+        place: HERE,
+        form: NumberForm::Plain,
+        value: Vec4::from_number(5, 32),
+    };
+    let scope = Scope::new(rt.alloc());
+    let sized = size_expr(rt.alloc(), &five, &scope, 40, true)?;
+    assert!(rt; matches!(&sized, SizedExpr::Constant { value, .. } if value.width() == 40));
     Ok(())
 }
