@@ -1,3 +1,4 @@
 pub mod Loops
 pub mod Below
 pub mod Rows
+pub mod Groups

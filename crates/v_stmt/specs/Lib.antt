@@ -2,6 +2,7 @@ pub mod Spelling
 pub mod Heights
 pub mod Statements
 pub mod LoopKinds
+pub mod Groups
 pub mod PartExact
 pub mod StatementExact
 pub mod PartReads

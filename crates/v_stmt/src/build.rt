@@ -1,19 +1,20 @@
 // Statements made of their parts.
 
-ghost use Rattle.std.specs.Prelude.{◌≡◌, map, true, IfOk};
+ghost use Rattle.std.specs.Prelude.{◌≡◌, map};
 ghost use Rattle.vf_base.specs.Base.{source_place};
 ghost use Rattle.v_tree.specs.Trees.{BlockStatement, CaseStatement, IfStatement, IfElseStatement};
 ghost use Rattle.v_tree.specs.Views.{expression_of, statement_of};
 ghost use Rattle.v_tree.specs.CaseParts.{case_part_of};
 ghost use Rattle.v_stmt.specs.Spelling.{is_unfinished};
 ghost use Rattle.v_stmt.specs.LoopKinds.{looping_of};
+ghost use Rattle.v_stmt.specs.Groups.{for_statement, for_head_of};
 ghost use Rattle.v_stmt.specs.Statements.{statements_list, items_list};
 
+use crate::parts::{ForHead, ForSteps};
 use crate::pieces::LoopKind;
 use four_value::CaseKind;
-use std::alloc::Global;
 use v_tree::{CaseItem, Expr, Stmt};
-use vf_base::{NoMemory, Place};
+use vf_base::Place;
 
 /// A block of these statements.
 pub fn block_of(place: Place, statements: Vec<Stmt>) -> Stmt
@@ -35,50 +36,36 @@ pub fn case_of(place: Place, kind: CaseKind, value: Expr, items: Vec<CaseItem>) 
 }
 
 /// An `if` without `else`.
-pub fn if_of(alloc: Global, place: Place, condition: Expr, first: Stmt) -> Result<Stmt, NoMemory>
-    ensures { IfOk result (λ stmt. statement_of stmt ≡ IfStatement (source_place place) (expression_of condition) (statement_of first)) }
+pub fn if_of(place: Place, condition: Expr, first: Box<Stmt>) -> Stmt
+    ensures { statement_of result ≡ IfStatement (source_place place) (expression_of condition) (statement_of first.value) }
 {
-    Ok(Stmt::If {
-        place,
-        condition,
-        first: Box::new(alloc, first)?,
-        second: None,
-    })
-}
-
-/// An `if` with its `else`.
-pub fn if_else_of(
-    alloc: Global,
-    place: Place,
-    condition: Expr,
-    first: Stmt,
-    second: Stmt,
-) -> Result<Stmt, NoMemory>
-    ensures { IfOk result (λ stmt. statement_of stmt ≡ IfElseStatement (source_place place) (expression_of condition) (statement_of first) (statement_of second)) }
-{
-    let first = Box::new(alloc, first)?;
-    let second = Box::new(alloc, second)?;
-    Ok(Stmt::If {
+    Stmt::If {
         place,
         condition,
         first,
-        second: Some(second),
-    })
+        second: None,
+    }
+}
+
+/// An `if` with its `else`.
+pub fn if_else_of(place: Place, condition: Expr, first: Box<Stmt>, second: Box<Stmt>) -> Stmt
+    ensures { statement_of result ≡ IfElseStatement (source_place place) (expression_of condition) (statement_of first.value) (statement_of second.value) }
+{
+    let second = Some(second);
+    Stmt::If {
+        place,
+        condition,
+        first,
+        second,
+    }
 }
 
 /// A statement of this kind with a condition and a body.
-pub fn looping(
-    alloc: Global,
-    kind: LoopKind,
-    place: Place,
-    condition: Expr,
-    body: Stmt,
-) -> Result<Stmt, NoMemory>
-    ensures made { IfOk result (λ stmt. statement_of stmt ≡ looping_of kind (source_place place) (expression_of condition) (statement_of body)) }
-    ensures unfinished { IfOk result (λ stmt. is_unfinished (statement_of stmt) ≡ is_unfinished (statement_of body)) }
+pub fn looping(kind: LoopKind, place: Place, condition: Expr, body: Box<Stmt>) -> Stmt
+    ensures made { statement_of result ≡ looping_of kind (source_place place) (expression_of condition) (statement_of body.value) }
+    ensures unfinished { is_unfinished (statement_of result) ≡ is_unfinished (statement_of body.value) }
 {
-    let body = Box::new(alloc, body)?;
-    Ok(match kind {
+    match kind {
         LoopKind::While => Stmt::While {
             place,
             condition,
@@ -94,5 +81,23 @@ pub fn looping(
             condition,
             body,
         },
-    })
+    }
+}
+
+/// A `for` of this head and this body.
+pub fn for_of(place: Place, head: ForHead, body: Box<Stmt>) -> Stmt
+    ensures made { statement_of result ≡ for_statement (source_place place) (for_head_of head) (statement_of body.value) }
+    ensures unfinished { is_unfinished (statement_of result) ≡ is_unfinished (statement_of body.value) }
+{
+    let ForHead { first, steps } = head;
+    let ForSteps { condition, next } = steps;
+    Stmt::For {
+        place,
+        first_target: first.target,
+        first: first.value,
+        condition,
+        next_target: next.target,
+        next: next.value,
+        body,
+    }
 }

@@ -7,6 +7,7 @@ ghost use Rattle.v_tree.specs.Views.{expression_of, expression_in, target_of, en
 ghost use Rattle.v_readers.specs.Given.{Gives};
 ghost use Rattle.v_readers.specs.Reading.{by_class, next_class};
 ghost use Rattle.v_stmt.specs.Statements as read;
+ghost use Rattle.v_stmt.specs.Groups as group;
 ghost use Rattle.v_stmt.specs.Spelling.{name_entry, is_unfinished};
 
 use four_value::Edge;
@@ -229,8 +230,26 @@ fn assigned_delay<'t>(
     }
 }
 
+/// An expression, and a token of this class.
+#[tactic(auto, unfolding(crate::specs::Groups::ended))]
+fn ended<'t>(
+    alloc: Global,
+    tokens: &'t [Lexeme<'t>],
+    class: Class,
+    levels: u32,
+) -> Result<(Expr, &'t [Lexeme<'t>]), Stop<'t>>
+    requires few { levels < 256 }
+    requires some { 0 < levels }
+    ensures reads { Gives (λ x. (expression_of x.0, x.1.now)) result (group.ended class levels tokens.now) }
+    ensures shorter { IfOk result (λ x. length x.1.now < length tokens.now) }
+{
+    let (expr, rest) = inner_expression(alloc, tokens, levels)?;
+    let (_, rest) = expect(rest, class)?;
+    Ok((expr, rest))
+}
+
 /// An expression in the parentheses of a statement.
-#[tactic(auto, unfolding(crate::specs::Statements::condition))]
+#[tactic(auto, unfolding(crate::specs::Statements::condition, crate::specs::Groups::ended))]
 pub fn condition<'t>(
     alloc: Global,
     tokens: &'t [Lexeme<'t>],
@@ -242,9 +261,7 @@ pub fn condition<'t>(
     ensures shorter { IfOk result (λ x. length x.1.now < length tokens.now) }
 {
     let (_, rest) = expect(tokens, Class::LeftParen)?;
-    let (expr, rest) = inner_expression(alloc, rest, levels)?;
-    let (_, rest) = expect(rest, Class::RightParen)?;
-    Ok((expr, rest))
+    ended(alloc, rest, Class::RightParen, levels)
 }
 
 /// An assignment in the head of a `for`.
@@ -254,9 +271,25 @@ pub struct Head {
     pub value: Expr,
 }
 
+/// The sign and the value of an assignment in the head of a `for`.
+#[tactic(auto, unfolding(crate::specs::Groups::valued))]
+fn valued<'t>(
+    alloc: Global,
+    tokens: &'t [Lexeme<'t>],
+    levels: u32,
+) -> Result<(Expr, &'t [Lexeme<'t>]), Stop<'t>>
+    requires few { levels < 256 }
+    requires some { 0 < levels }
+    ensures reads { Gives (λ x. (expression_of x.0, x.1.now)) result (group.valued levels tokens.now) }
+    ensures shorter { IfOk result (λ x. length x.1.now < length tokens.now) }
+{
+    let (_, rest) = expect(tokens, Class::Assign)?;
+    inner_expression(alloc, rest, levels)
+}
+
 /// What is assigned in the head of a `for`.
-#[tactic(auto, unfolding(crate::specs::Statements::head_assignment))]
-pub fn head_assignment<'t>(
+#[tactic(auto, using(crate::proofs::Groups::head_assignment_is))]
+fn head_assignment<'t>(
     alloc: Global,
     tokens: &'t [Lexeme<'t>],
     levels: u32,
@@ -267,9 +300,75 @@ pub fn head_assignment<'t>(
     ensures shorter { IfOk result (λ x. length x.1.now < length tokens.now) }
 {
     let (target, rest) = inner_target(alloc, tokens, levels)?;
-    let (_, rest) = expect(rest, Class::Assign)?;
-    let (value, rest) = inner_expression(alloc, rest, levels)?;
+    let (value, rest) = valued(alloc, rest, levels)?;
     Ok((Head { target, value }, rest))
+}
+
+/// An assignment in the head of a `for`, and a token of this class.
+#[tactic(auto, unfolding(crate::specs::Groups::head_ended))]
+fn head_ended<'t>(
+    alloc: Global,
+    tokens: &'t [Lexeme<'t>],
+    class: Class,
+    levels: u32,
+) -> Result<(Head, &'t [Lexeme<'t>]), Stop<'t>>
+    requires few { levels < 256 }
+    requires some { 0 < levels }
+    ensures reads { Gives (λ x. ((target_of x.0.target, expression_of x.0.value), x.1.now)) result (group.head_ended class levels tokens.now) }
+    ensures shorter { IfOk result (λ x. length x.1.now < length tokens.now) }
+{
+    let (head, rest) = head_assignment(alloc, tokens, levels)?;
+    let (_, rest) = expect(rest, class)?;
+    Ok((head, rest))
+}
+
+/// The condition and the second assignment in the head of a `for`.
+#[derive(Drop)]
+pub struct ForSteps {
+    pub condition: Expr,
+    pub next: Head,
+}
+
+/// The condition and the second assignment in the head of a `for`, and its end.
+#[tactic(auto, unfolding(crate::specs::Groups::for_steps))]
+fn for_steps<'t>(
+    alloc: Global,
+    tokens: &'t [Lexeme<'t>],
+    levels: u32,
+) -> Result<(ForSteps, &'t [Lexeme<'t>]), Stop<'t>>
+    requires few { levels < 256 }
+    requires some { 0 < levels }
+    ensures reads { Gives (λ x. ((expression_of x.0.condition, (target_of x.0.next.target, expression_of x.0.next.value)), x.1.now)) result (group.for_steps levels tokens.now) }
+    ensures shorter { IfOk result (λ x. length x.1.now < length tokens.now) }
+{
+    let (condition, rest) = ended(alloc, tokens, Class::Semicolon, levels)?;
+    let (next, rest) = head_ended(alloc, rest, Class::RightParen, levels)?;
+    Ok((ForSteps { condition, next }, rest))
+}
+
+/// The head of a `for`.
+#[derive(Drop)]
+pub struct ForHead {
+    pub first: Head,
+    pub steps: ForSteps,
+}
+
+/// The head of a `for`, in its parentheses.
+#[tactic(auto, unfolding(crate::specs::Groups::for_head))]
+pub fn for_head<'t>(
+    alloc: Global,
+    tokens: &'t [Lexeme<'t>],
+    levels: u32,
+) -> Result<(ForHead, &'t [Lexeme<'t>]), Stop<'t>>
+    requires few { levels < 256 }
+    requires some { 0 < levels }
+    ensures reads { Gives (λ x. (group.for_head_of x.0, x.1.now)) result (group.for_head levels tokens.now) }
+    ensures shorter { IfOk result (λ x. length x.1.now < length tokens.now) }
+{
+    let (_, rest) = expect(tokens, Class::LeftParen)?;
+    let (first, rest) = head_ended(alloc, rest, Class::Semicolon, levels)?;
+    let (steps, rest) = for_steps(alloc, rest, levels)?;
+    Ok((ForHead { first, steps }, rest))
 }
 
 /// How many parentheses are open behind a token of this class, or none where it closes the outermost one.
@@ -331,6 +430,32 @@ pub fn task<'t>(
     Ok((place, rest))
 }
 
+/// Whether an assignment is blocking.
+#[derive(Clone, Copy)]
+pub enum AssignmentKind {
+    Blocking,
+    Nonblocking,
+}
+
+/// The sign of an assignment.
+#[tactic(auto, unfolding(crate::specs::Groups::sign))]
+fn sign<'t>(tokens: &'t [Lexeme<'t>]) -> Result<(AssignmentKind, &'t [Lexeme<'t>]), Stop<'t>>
+    ensures reads { Gives (λ x. (x.0, x.1.now)) result (group.sign tokens.now) }
+    ensures shorter { IfOk result (λ x. length x.1.now < length tokens.now) }
+{
+    match next_class(tokens) {
+        Some(Class::Assign) => {
+            let (_, rest) = step(tokens)?;
+            Ok((AssignmentKind::Blocking, rest))
+        }
+        Some(Class::LessEqual) => {
+            let (_, rest) = step(tokens)?;
+            Ok((AssignmentKind::Nonblocking, rest))
+        }
+        _ => Err(Stop::Wrong(tokens)),
+    }
+}
+
 /// The delay and the value of an assignment.
 #[derive(Drop)]
 struct RightSide {
@@ -339,7 +464,7 @@ struct RightSide {
 }
 
 /// What stands behind the sign of an assignment.
-#[tactic(auto, unfolding(crate::specs::Statements::assigned))]
+#[tactic(auto, using(crate::proofs::Groups::assigned_is))]
 fn assigned<'t>(
     alloc: Global,
     tokens: &'t [Lexeme<'t>],
@@ -351,9 +476,32 @@ fn assigned<'t>(
     ensures shorter { IfOk result (λ x. length x.1.now < length tokens.now) }
 {
     let (delay, rest) = assigned_delay(alloc, tokens, levels)?;
-    let (value, rest) = inner_expression(alloc, rest, levels)?;
-    let (_, rest) = expect(rest, Class::Semicolon)?;
+    let (value, rest) = ended(alloc, rest, Class::Semicolon, levels)?;
     Ok((RightSide { delay, value }, rest))
+}
+
+/// The kind of an assignment, and what is assigned.
+#[derive(Drop)]
+struct SignedSide {
+    kind: AssignmentKind,
+    side: RightSide,
+}
+
+/// The sign of an assignment, and what stands behind it.
+#[tactic(auto, unfolding(crate::specs::Groups::signed_side))]
+fn signed_side<'t>(
+    alloc: Global,
+    tokens: &'t [Lexeme<'t>],
+    levels: u32,
+) -> Result<(SignedSide, &'t [Lexeme<'t>]), Stop<'t>>
+    requires few { levels < 256 }
+    requires some { 0 < levels }
+    ensures reads { Gives (λ x. ((x.0.kind, (expression_in x.0.side.delay, expression_of x.0.side.value)), x.1.now)) result (group.signed_side levels tokens.now) }
+    ensures shorter { IfOk result (λ x. length x.1.now < length tokens.now) }
+{
+    let (kind, rest) = sign(tokens)?;
+    let (side, rest) = assigned(alloc, rest, levels)?;
+    Ok((SignedSide { kind, side }, rest))
 }
 
 /// The place of a target.
@@ -366,8 +514,31 @@ fn place_of(target: &Target) -> Place
     }
 }
 
+/// An assignment of this kind.
+fn assignment_of(kind: AssignmentKind, target: Target, side: RightSide) -> Stmt
+    ensures made { statement_of result ≡ group.assignment_of kind (target_of target) (expression_in side.delay) (expression_of side.value) }
+    ensures finished { is_unfinished (statement_of result) ≡ false }
+{
+    let place = place_of(&target);
+    let RightSide { delay, value } = side;
+    match kind {
+        AssignmentKind::Blocking => Stmt::Blocking {
+            place,
+            target,
+            delay,
+            value,
+        },
+        AssignmentKind::Nonblocking => Stmt::Nonblocking {
+            place,
+            target,
+            delay,
+            value,
+        },
+    }
+}
+
 /// An assignment, blocking or nonblocking.
-#[tactic(auto, unfolding(crate::specs::Statements::assignment))]
+#[tactic(auto, using(crate::proofs::Groups::assignment_is))]
 pub fn assignment<'t>(
     alloc: Global,
     tokens: &'t [Lexeme<'t>],
@@ -380,36 +551,7 @@ pub fn assignment<'t>(
 {
     ready(tokens, 0, levels)?;
     let (target, rest) = inner_target(alloc, tokens, levels)?;
-    let place = place_of(&target);
-    match next_class(rest) {
-        Some(Class::Assign) => {
-            let (_, rest) = step(rest)?;
-            let (behind, rest) = assigned(alloc, rest, levels)?;
-            let RightSide { delay, value } = behind;
-            Ok((
-                Stmt::Blocking {
-                    place,
-                    target,
-                    delay,
-                    value,
-                },
-                rest,
-            ))
-        }
-        Some(Class::LessEqual) => {
-            let (_, rest) = step(rest)?;
-            let (behind, rest) = assigned(alloc, rest, levels)?;
-            let RightSide { delay, value } = behind;
-            Ok((
-                Stmt::Nonblocking {
-                    place,
-                    target,
-                    delay,
-                    value,
-                },
-                rest,
-            ))
-        }
-        _ => Err(Stop::Wrong(rest)),
-    }
+    let (signed, rest) = signed_side(alloc, rest, levels)?;
+    let SignedSide { kind, side } = signed;
+    Ok((assignment_of(kind, target, side), rest))
 }

@@ -18,12 +18,19 @@ use std::alloc::Global;
 use v_expr::inner_expression;
 use v_readers::{Class, Lexeme, Stop, is_next, next_class, step};
 use v_tree::{CaseItem, Expr, Stmt};
-use vf_base::Seq;
+use vf_base::{NoMemory, Seq};
 
 /// A statement, and whether an `else` behind it would be its own.
 #[derive(Drop)]
 pub struct Piece {
     pub stmt: Stmt,
+    pub unfinished: bool,
+}
+
+/// A statement that another one holds, and whether an `else` behind it would be its own.
+#[derive(Drop)]
+pub struct Held {
+    pub stmt: Box<Stmt>,
     pub unfinished: bool,
 }
 
@@ -33,6 +40,16 @@ pub enum LoopKind {
     While,
     Repeat,
     Wait,
+}
+
+/// A statement as another one holds it.
+pub fn boxed(alloc: Global, piece: Piece) -> Result<Held, NoMemory>
+    ensures made { IfOk result (λ held. statement_of held.stmt.value ≡ statement_of piece.stmt) }
+    ensures unfinished { IfOk result (λ held. held.unfinished ≡ piece.unfinished) }
+{
+    let Piece { stmt, unfinished } = piece;
+    let stmt = Box::new(alloc, stmt)?;
+    Ok(Held { stmt, unfinished })
 }
 
 /// Whether a statement begins with the next token.

@@ -11,12 +11,12 @@ ghost use Rattle.v_stmt.specs.LoopKinds.{looping_of};
 ghost use Rattle.v_stmt.specs.Statements as read;
 ghost use Rattle.v_stmt.specs.Statements.{below_of};
 
-use crate::build::{block_of, case_of, if_else_of, if_of, looping};
-use crate::parts::{colon, condition, head_assignment, label, waits};
-use crate::pieces::{LoopKind, Piece, begins, has_default, labels, simple};
+use crate::build::{block_of, case_of, for_of, if_else_of, if_of, looping};
+use crate::parts::{colon, condition, for_head, label, waits};
+use crate::pieces::{Held, LoopKind, Piece, begins, boxed, has_default, labels, simple};
 use four_value::CaseKind;
 use std::alloc::Global;
-use v_expr::{inner_delay, inner_expression};
+use v_expr::inner_delay;
 use v_readers::{Class, Lexeme, Stop, down, expect, is_next, next_class, ready, step};
 use v_tree::{CaseItem, Expr, Stmt};
 use vf_base::Place;
@@ -36,6 +36,24 @@ fn below<'t>(
     ensures shorter { IfOk result (λ x. length x.1.now < length tokens.now) }
 {
     piece(alloc, tokens, levels - 1)
+}
+
+/// A statement one level down, as another one holds it.
+#[cycle(statement)]
+fn inner<'t>(
+    alloc: Global,
+    tokens: &'t [Lexeme<'t>],
+    levels: u32,
+) -> Result<(Held, &'t [Lexeme<'t>]), Stop<'t>>
+    requires few { levels < 256 }
+    requires some { 0 < levels }
+    ensures reads { Gives (λ x. (statement_of x.0.stmt.value, x.1.now)) result (below_of levels tokens.now) }
+    ensures unfinished { IfOk result (λ x. x.0.unfinished ≡ is_unfinished (statement_of x.0.stmt.value)) }
+    ensures shorter { IfOk result (λ x. length x.1.now < length tokens.now) }
+{
+    let (piece, rest) = below(alloc, tokens, levels)?;
+    let held = boxed(alloc, piece)?;
+    Ok((held, rest))
 }
 
 /// The label of a block, if it has one, and its statements.
@@ -94,20 +112,21 @@ fn branches<'t>(
     tokens: &'t [Lexeme<'t>],
     place: Place,
     test: Expr,
-    first: Piece,
+    first: Held,
     levels: u32,
 ) -> Result<(Piece, &'t [Lexeme<'t>]), Stop<'t>>
     requires few { levels < 256 }
     requires some { 0 < levels }
-    requires unfinished { first.unfinished ≡ is_unfinished (statement_of first.stmt) }
-    ensures reads { Gives (λ x. (statement_of x.0.stmt, x.1.now)) result (by_class (read.else_by (below_of levels) (source_place place) (expression_of test) (statement_of first.stmt)) tokens.now) }
+    requires unfinished { first.unfinished ≡ is_unfinished (statement_of first.stmt.value) }
+    ensures reads { Gives (λ x. (statement_of x.0.stmt, x.1.now)) result (by_class (read.else_by (below_of levels) (source_place place) (expression_of test)
+        (statement_of first.stmt.value)) tokens.now) }
     ensures unfinished { IfOk result (λ x. x.0.unfinished ≡ is_unfinished (statement_of x.0.stmt)) }
     ensures shorter { IfOk result (λ x. length x.1.now ≤ length tokens.now) }
 {
     if is_next(tokens, Class::Else) && !first.unfinished {
         let (_, rest) = step(tokens)?;
-        let (second, rest) = below(alloc, rest, levels)?;
-        let stmt = if_else_of(alloc, place, test, first.stmt, second.stmt)?;
+        let (second, rest) = inner(alloc, rest, levels)?;
+        let stmt = if_else_of(place, test, first.stmt, second.stmt);
         return Ok((
             Piece {
                 stmt,
@@ -116,7 +135,7 @@ fn branches<'t>(
             rest,
         ));
     }
-    let stmt = if_of(alloc, place, test, first.stmt)?;
+    let stmt = if_of(place, test, first.stmt);
     Ok((
         Piece {
             stmt,
@@ -141,7 +160,7 @@ fn conditional<'t>(
 {
     let (place, rest) = down(tokens, 0, levels)?;
     let (test, rest) = condition(alloc, rest, levels)?;
-    let (first, rest) = below(alloc, rest, levels)?;
+    let (first, rest) = inner(alloc, rest, levels)?;
     branches(alloc, rest, place, test, first, levels)
 }
 
@@ -161,8 +180,8 @@ fn looped<'t>(
 {
     let (place, rest) = down(tokens, 0, levels)?;
     let (test, rest) = condition(alloc, rest, levels)?;
-    let (body, rest) = below(alloc, rest, levels)?;
-    let stmt = looping(alloc, kind, place, test, body.stmt)?;
+    let (body, rest) = inner(alloc, rest, levels)?;
+    let stmt = looping(kind, place, test, body.stmt);
     Ok((
         Piece {
             stmt,
@@ -186,10 +205,10 @@ fn forever<'t>(
     ensures shorter { IfOk result (λ x. length x.1.now < length tokens.now) }
 {
     let (place, rest) = down(tokens, 0, levels)?;
-    let (body, rest) = below(alloc, rest, levels)?;
+    let (body, rest) = inner(alloc, rest, levels)?;
     let stmt = Stmt::Forever {
         place,
-        body: Box::new(alloc, body.stmt)?,
+        body: body.stmt,
     };
     Ok((
         Piece {
@@ -202,7 +221,7 @@ fn forever<'t>(
 
 /// A `for`.
 #[cycle(statement)]
-#[tactic(auto, unfolding(crate::specs::Statements::for_loop))]
+#[tactic(auto, using(crate::proofs::Groups::for_loop_is))]
 fn for_loop<'t>(
     alloc: Global,
     tokens: &'t [Lexeme<'t>],
@@ -214,23 +233,9 @@ fn for_loop<'t>(
     ensures shorter { IfOk result (λ x. length x.1.now < length tokens.now) }
 {
     let (place, rest) = down(tokens, 0, levels)?;
-    let (_, rest) = expect(rest, Class::LeftParen)?;
-    let (first, rest) = head_assignment(alloc, rest, levels)?;
-    let (_, rest) = expect(rest, Class::Semicolon)?;
-    let (condition, rest) = inner_expression(alloc, rest, levels)?;
-    let (_, rest) = expect(rest, Class::Semicolon)?;
-    let (next, rest) = head_assignment(alloc, rest, levels)?;
-    let (_, rest) = expect(rest, Class::RightParen)?;
-    let (body, rest) = below(alloc, rest, levels)?;
-    let stmt = Stmt::For {
-        place,
-        first_target: first.target,
-        first: first.value,
-        condition,
-        next_target: next.target,
-        next: next.value,
-        body: Box::new(alloc, body.stmt)?,
-    };
+    let (head, rest) = for_head(alloc, rest, levels)?;
+    let (body, rest) = inner(alloc, rest, levels)?;
+    let stmt = for_of(place, head, body.stmt);
     Ok((
         Piece {
             stmt,
@@ -255,11 +260,11 @@ fn event<'t>(
 {
     let (place, rest) = down(tokens, 0, levels)?;
     let (waits, rest) = waits(alloc, rest, levels)?;
-    let (body, rest) = below(alloc, rest, levels)?;
+    let (body, rest) = inner(alloc, rest, levels)?;
     let stmt = Stmt::Event {
         place,
         waits,
-        body: Box::new(alloc, body.stmt)?,
+        body: body.stmt,
     };
     Ok((
         Piece {
@@ -285,11 +290,11 @@ fn delayed<'t>(
 {
     let (place, rest) = down(tokens, 0, levels)?;
     let (delay, rest) = inner_delay(alloc, rest, levels)?;
-    let (body, rest) = below(alloc, rest, levels)?;
+    let (body, rest) = inner(alloc, rest, levels)?;
     let stmt = Stmt::Delay {
         place,
         delay,
-        body: Box::new(alloc, body.stmt)?,
+        body: body.stmt,
     };
     Ok((
         Piece {

@@ -9,26 +9,29 @@ use Rattle.v_stmt.proofs.statements.+statement.Given as goal
 abbrev pub decreases-below : goal.decreases-below
 decreases-below l = 16 * l.levels
 
+abbrev pub decreases-inner : goal.decreases-inner
+decreases-inner l = 16 * l.levels + 1
+
 abbrev pub decreases-block_body : goal.decreases-block_body
 decreases-block_body l = 16 * l.levels + 1
 
 abbrev pub decreases-branches : goal.decreases-branches
-decreases-branches l = 16 * l.levels + 1
+decreases-branches l = 16 * l.levels + 2
 
 abbrev pub decreases-looped : goal.decreases-looped
-decreases-looped l = 16 * l.levels + 1
+decreases-looped l = 16 * l.levels + 2
 
 abbrev pub decreases-forever : goal.decreases-forever
-decreases-forever l = 16 * l.levels + 1
+decreases-forever l = 16 * l.levels + 2
 
 abbrev pub decreases-for_loop : goal.decreases-for_loop
-decreases-for_loop l = 16 * l.levels + 1
+decreases-for_loop l = 16 * l.levels + 2
 
 abbrev pub decreases-event : goal.decreases-event
-decreases-event l = 16 * l.levels + 1
+decreases-event l = 16 * l.levels + 2
 
 abbrev pub decreases-delayed : goal.decreases-delayed
-decreases-delayed l = 16 * l.levels + 1
+decreases-delayed l = 16 * l.levels + 2
 
 abbrev pub decreases-item : goal.decreases-item
 decreases-item l = 16 * l.levels + 1
@@ -37,7 +40,7 @@ abbrev pub decreases-block : goal.decreases-block
 decreases-block l = 16 * l.levels + 2
 
 abbrev pub decreases-conditional : goal.decreases-conditional
-decreases-conditional l = 16 * l.levels + 2
+decreases-conditional l = 16 * l.levels + 3
 
 abbrev pub decreases-items : goal.decreases-items
 decreases-items l = 16 * l.levels + 2
