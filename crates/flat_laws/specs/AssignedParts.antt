@@ -34,7 +34,7 @@ use Rattle.flat_laws.specs.Visits.{IsVisited, IsAt, at_top, below}
 use Rattle.flat_laws.specs.Visited.{visited-walked}
 use Rattle.flat_laws.specs.Entries.{Ascend, whole-ascends}
 use Rattle.flat_laws.specs.Rounds.{scope-fixed}
-use Rattle.flat_laws.specs.Meanings.{found, in-meanings}
+use Rattle.v_names.specs.Meanings.{found, in-meanings}
 use Rattle.flat_laws.specs.Settled.{walk-settled}
 use Rattle.flat_laws.specs.Widths.{scope-narrow}
 use Rattle.flat_laws.specs.Assigned.{TargetHolds, target-holds, whole-long}

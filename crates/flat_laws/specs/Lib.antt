@@ -35,8 +35,6 @@ pub mod Narrow
 pub mod Driven
 pub mod GateOutputs
 pub mod Consistent
-pub mod Agreed
-pub mod Meanings
 pub mod Rounds
 pub mod Valued
 pub mod Faultless

@@ -17,7 +17,7 @@ use Rattle.flat_laws.specs.Hierarchy.{both-true}
 use Rattle.flat_laws.specs.Complete.{IsSettledEntry, IsSettled}
 use Rattle.flat_laws.specs.Processes.{unless_faulty-ok}
 use Rattle.flat_laws.specs.Visits.{IsAt}
-use Rattle.flat_laws.specs.Meanings.{found, or-false-left, or-false-right, not-waiting, in-meanings, in-waiting}
+use Rattle.v_names.specs.Meanings.{found, or-false-left, or-false-right, not-waiting, in-meanings, in-waiting}
 use Rattle.flat_laws.specs.Rounds.{found-in, scope-fixed}
 use Rattle.flat_laws.specs.Valued.{names-parameters, constant-ready, constant-valued}
 use Rattle.flat_laws.specs.Faultless.{IsFaultless, bounds-ready, bounds-narrow, declared-faultless}

@@ -22,7 +22,7 @@ use Rattle.flat_laws.specs.Walks.{walk-holds}
 use Rattle.flat_laws.specs.Visits.{IsVisited, at_top, below}
 use Rattle.flat_laws.specs.Placed.{is-parameter}
 use Rattle.flat_laws.specs.Rounds.{found-in, scope-fixed}
-use Rattle.flat_laws.specs.Meanings.{found, in-meanings}
+use Rattle.v_names.specs.Meanings.{found, in-meanings}
 use Rattle.flat_laws.specs.Faultless.{IsFaultless, bounds-fit, declared-faultless}
 
 -- Scopes

@@ -21,7 +21,7 @@ use Rattle.flat_laws.specs.Lists.{same_some}
 use Rattle.flat_laws.specs.Numbered.{AllHold-append, AllHold-filter, AllHold-flat_map, AllHold-map, AllHold-all, AllHold-each}
 use Rattle.flat_laws.specs.Declared.{items-declare}
 use Rattle.flat_laws.specs.Levelled.{IsModule, enters-module}
-use Rattle.flat_laws.specs.Meanings.{found, in-meanings}
+use Rattle.v_names.specs.Meanings.{found, in-meanings}
 use Rattle.flat_laws.specs.OnceDeclared.{IsNamedUnit}
 use Rattle.flat_laws.specs.Placed.{is-parameter, at-flat}
 use Rattle.flat_laws.specs.Processes.{unless_faulty-ok}
