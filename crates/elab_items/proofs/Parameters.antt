@@ -1,17 +1,14 @@
 -- The parameters of a module's scope are found by their names.
-use Rattle.std.proofs.Common.{◌≡◌, ℕ, Bool, true, false, List, [], ◌∷◌, map, Option, Some, None, Ok, refl, sym, ap, subst, ◌∙◌, add-one}
+use Rattle.std.proofs.Common.{◌≡◌, ℕ, Bool, true, false, List, [], ◌∷◌, Option, Some, None, Ok, refl, sym, ap, subst, ◌∙◌, add-one}
 use Rattle.v_tree.specs.Trees.{Identifier, SourceModule, same_name, has_name}
 use Rattle.v_names.specs.Faults.{Fault, first_fault, or_fault}
-use Rattle.v_names.specs.Scopes.{ScopeEntry, ScopeName, Scope, looked_up, is_parameter}
+use Rattle.v_names.specs.Scopes.{ScopeEntry, Scope, looked_up, is_parameter}
 use Rattle.v_names.specs.Names.{Declaration, GivenParameter, names_declared, meaning_of, scope_after, parameter_count, scope_of, module_name_faults, names}
 use Rattle.v_elab.specs.Blocks.{parameter_names}
+use Rattle.v_names.specs.Meanings.{named_by}
 use Rattle.module_scope.specs.Settled.{NoneNamed, AreApart}
 use Rattle.elab_items.specs.Heres.{FindsParameters}
 use Rattle.elab_items.proofs.Names.{equal-name, turned-apart}
-
--- the names of declarations with what each means
-abbrev pub named_by : (Declaration → ScopeEntry) → List Declaration → Scope
-named_by f ds = map (λ (d : Declaration). let n : ScopeName = record { name = d.name; entry = f d } in n) ds
 
 none-found : (f : Declaration → ScopeEntry) (name : Identifier) (ds : List Declaration) → NoneNamed name ds → looked_up (named_by f ds) name ≡ None
 none-found f name [] h = refl

@@ -5,8 +5,6 @@ pub mod Spelled
 pub mod OnceDeclared
 pub mod Once
 pub mod Consistent
-pub mod Agreed
-pub mod Meanings
 pub mod Rounds
 pub mod Valued
 pub mod Faultless

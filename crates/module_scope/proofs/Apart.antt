@@ -1,11 +1,12 @@
 -- The declarations of a scope have each name once.
-use Rattle.std.proofs.Common.{◌≡◌, ℕ, zero, suc, ◌+◌, ◌<◌, Bool, true, false, not, cond, List, [], ◌∷◌, ◌++◌, map, filter, take, drop, get_or, length, Option, Some, None, refl, sym, ap, ap₂, ◌∙◌, arith}
+use Rattle.std.proofs.Common.{◌≡◌, ℕ, zero, suc, ◌<◌, Bool, true, false, cond, List, [], ◌∷◌, take, get_or, length, Some, None, refl, sym, ap, ◌∙◌, arith}
 use Rattle.v_tree.specs.Trees.{Identifier, same_name}
-use Rattle.v_names.specs.Scopes.{ScopeEntry, ScopeName, Scope, entry_if, looked_up}
+use Rattle.v_names.specs.Scopes.{ScopeEntry, entry_if, looked_up}
 use Rattle.v_names.specs.Names.{Declaration, of_name, joined_declaration, first_of_name, first_declarations}
 use Rattle.v_names.specs.Readings.{is_empty}
-use Rattle.module_scope.specs.Settled.{found, NoneNamed, AreApart}
-use Rattle.module_scope.proofs.Maps.{same-equal, equal-same, same-turned}
+use Rattle.v_names.specs.Meanings.{found, named_by}
+use Rattle.module_scope.specs.Settled.{NoneNamed, AreApart}
+use Rattle.module_scope.proofs.Maps.{equal-same}
 
 none-step : (name : Identifier) (d : Declaration) (later : List Declaration) (b : Bool) → (b ≡ true → same_name name d.name ≡ false) → NoneNamed name later → NoneNamed name (first_of_name b d later)
 none-step name d later true h k = (h refl, k)
@@ -51,10 +52,6 @@ found-at [] i d h below at = absurd (omega arith)
 found-at (x ∷ xs) zero d h below at =
     ap (λ b. cond b (Some x) (found xs d.name)) (ap (λ (y : Declaration). same_name x.name y.name) at ∙ equal-same x.name x.name refl) ∙ ap (λ (y : Declaration). Some y) (sym at)
 found-at (x ∷ xs) (suc i) d h below at = ap (λ b. cond b (Some x) (found xs d.name)) (none-at x.name xs i d h.0 (omega arith) at) ∙ found-at xs i d h.1 (omega arith) at
-
--- the names of the first declarations
-abbrev pub named_by : (Declaration → ScopeEntry) → List Declaration → Scope
-named_by f ds = map (λ (d : Declaration). let n : ScopeName = record { name = d.name; entry = f d } in n) ds
 
 not-among : (f : Declaration → ScopeEntry) (name : Identifier) (ds : List Declaration) (i : ℕ) (d : Declaration) → AreApart ds → i < length ds → d ≡ get_or ds i d → looked_up (named_by f (take i ds)) d.name ≡ None
 not-among f name [] i d h below at = absurd (omega arith)

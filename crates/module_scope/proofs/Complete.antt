@@ -1,12 +1,13 @@
 -- A scope in which no parameter can get a value any more gives the scope of the definition.
-use Rattle.std.proofs.Common.{◌≡◌, ℕ, zero, suc, ◌+◌, ◌-◌, ◌≤◌, Bool, true, false, cond, List, [], ◌∷◌, ◌++◌, map, Option, Some, None, option_map, refl, sym, ap, ap₂, ◌∙◌, subst, arith, add-one}
-use Rattle.v_tree.specs.Trees.{Identifier, NamedPlace, SourceExpression, named_in, same_name}
-use Rattle.v_names.specs.Scopes.{ScopeEntry, RefusedParameter, WaitingParameter, ParameterEntry, NetEntry, RegEntry, MemoryEntry, GateEntry, InstanceEntry, ScopeName, Scope, looked_up, is_waiting}
-use Rattle.v_names.specs.Names.{Declared, DeclaredParameter, DeclaredPort, DeclaredNet, DeclaredReg, DeclaredMemory, DeclaredGate, DeclaredInstance, Declaration, GivenParameter, meaning_of, meanings, is_parameter_declared, waiting_entry, scope_after, parameter_count}
-use Rattle.module_scope.specs.Settled.{constant_part, Under, found, waits_in, waiting_left, IsSettled, AreStill}
-use Rattle.module_scope.proofs.Agreement.{part-waiting}
-use Rattle.module_scope.proofs.Rounds.{under-same, under-joins, still-settled, meaning-kept, meaning-agree, in-meanings, in-waiting}
-use Rattle.module_scope.proofs.Settling.{round-grows, rounds-grow, rounds-up-to, found-still, found-named, no-parameter}
+use Rattle.std.proofs.Common.{◌≡◌, ℕ, zero, suc, ◌+◌, Bool, true, false, List, Option, Some, None, option_map, refl, sym, ap, ◌∙◌, arith, add-one}
+use Rattle.v_tree.specs.Trees.{Identifier}
+use Rattle.v_names.specs.Scopes.{Scope, looked_up, is_waiting}
+use Rattle.v_names.specs.Names.{Declaration, GivenParameter, meaning_of, meanings, is_parameter_declared, waiting_entry, scope_after, parameter_count}
+use Rattle.v_names.specs.Agreement.{constant_part, part-waiting}
+use Rattle.v_names.specs.Meanings.{Under, found, still-settled, meaning-kept, in-meanings, in-waiting}
+use Rattle.v_names.specs.Rounds.{parameter-waits, waiting-part, meanings-by}
+use Rattle.module_scope.specs.Settled.{IsSettled, AreStill}
+use Rattle.module_scope.proofs.Settling.{rounds-grow, rounds-up-to, found-still, found-named, no-parameter}
 
 -- a name that waits in the scope of some rounds is that of a parameter, so one that is no parameter's waits nowhere
 other-name : (given : List GivenParameter) (ds : List Declaration) (scope : Scope) (name : Identifier) → IsSettled given ds scope → (rounds : ℕ) (d : Option Declaration) → found ds name ≡ d
@@ -33,16 +34,7 @@ some : (a b : Declaration) → Some a ≡ Some b → a ≡ b
 some a b e = cc
 
 first-waits : (given : List GivenParameter) (ds : List Declaration) (name : Identifier) (d : Declaration) → found ds name ≡ Some d → is_parameter_declared d.declared ≡ true → is_waiting (looked_up (scope_after 0 given ds) name) ≡ false → ⊥
-first-waits given ds name d e p w = by d.declared p (sym (ap is_waiting (in-waiting ds name ∙ ap (option_map (λ (x : Declaration). waiting_entry x.declared)) e)) ∙ w)
-  where
-    by : (k : Declared) → is_parameter_declared k ≡ true → is_waiting (Some (waiting_entry k)) ≡ false → ⊥
-    by (DeclaredParameter is_local signed bounds value) e w = cc
-    by (DeclaredPort direction is_reg signed bounds first) e w = cc
-    by (DeclaredNet signed bounds) e w = cc
-    by (DeclaredReg signed bounds first) e w = cc
-    by (DeclaredMemory signed bounds addresses) e w = cc
-    by DeclaredGate e w = cc
-    by DeclaredInstance e w = cc
+first-waits given ds name d e p w = parameter-waits d.declared p (sym (ap is_waiting (in-waiting ds name ∙ ap (option_map (λ (x : Declaration). waiting_entry x.declared)) e)) ∙ w)
 
 -- a declaration that could get a value has one
 has-value : (given : List GivenParameter) (ds : List Declaration) (scope : Scope) (name : Identifier) (d : Declaration) → AreStill given scope ds → found ds name ≡ Some d
@@ -82,17 +74,6 @@ rounds-under given ds scope s still zero = record { agrees = λ name w. by name 
         split false p = other-name given ds scope name s 0 (Some d) e (λ x f. ap (λ (y : Declaration). is_parameter_declared y.declared) (sym (some d x f)) ∙ p)
 rounds-under given ds scope s still (suc rounds) = record { agrees = λ name w. round-by given ds scope s still rounds (rounds-under given ds scope s still rounds) name w (found ds name) refl }
 
-waiting-part : (e : Option ScopeEntry) → is_waiting e ≡ true → constant_part e ≡ WaitingParameter
-waiting-part None w = cc
-waiting-part (Some (ParameterEntry value signed)) w = cc
-waiting-part (Some RefusedParameter) w = cc
-waiting-part (Some WaitingParameter) w = refl
-waiting-part (Some (NetEntry range signed)) w = cc
-waiting-part (Some (RegEntry range signed)) w = cc
-waiting-part (Some (MemoryEntry range first last signed)) w = cc
-waiting-part (Some GateEntry) w = cc
-waiting-part (Some InstanceEntry) w = cc
-
 -- after as many rounds as there are parameters a constant sees the same
 same-at-end : (given : List GivenParameter) (ds : List Declaration) (scope : Scope) → IsSettled given ds scope → AreStill given scope ds → (name : Identifier)
     → constant_part (looked_up scope name) ≡ constant_part (looked_up (scope_after (parameter_count ds) given ds) name)
@@ -110,11 +91,6 @@ same-at-end given ds scope s still name = by (is_waiting (looked_up scope name))
         end false v =
             let e = (rounds-under given ds scope s still (parameter_count ds)).agrees name v in
             let no : false ≡ true = sym v ∙ still-settled (scope_after (parameter_count ds) given ds) scope name e ∙ w in absurd (let z : ⊥ = cc in z)
-
-meanings-by : (s t : Scope) (given : List GivenParameter) (ds : List Declaration) → ((name : Identifier) → constant_part (looked_up s name) ≡ constant_part (looked_up t name)) → meanings s given ds ≡ meanings t given ds
-meanings-by s t given [] h = refl
-meanings-by s t given (d ∷ ds) h =
-    ap₂ (λ (entry : ScopeEntry) (rest : Scope). let n : ScopeName = record { name = d.name; entry = entry } in n ∷ rest) (meaning-agree s t h given d.name d.declared) (meanings-by s t given ds h)
 
 -- what the declarations mean by the parameters of the scope is the scope of the definition
 pub settled-scope : (given : List GivenParameter) (ds : List Declaration) (scope : Scope) → IsSettled given ds scope → AreStill given scope ds → meanings scope given ds ≡ scope_after (parameter_count ds + 1) given ds

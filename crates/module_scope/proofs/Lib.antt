@@ -1,8 +1,6 @@
-pub mod Agreement
 pub mod NamesOnce
 pub mod TwiceDeclared
 pub mod Maps
-pub mod Rounds
 pub mod Settling
 pub mod Complete
 pub mod Apart

@@ -9,11 +9,11 @@ use Rattle.v_names.specs.Names.{Declaration, GivenParameter, given_of, given_if,
 use Rattle.module_scope.specs.Kept.{kept}
 use Rattle.module_scope.specs.Givens.{given_seen, given_first, value_or}
 use Rattle.module_scope.specs.Meanings.{meaning_with, meaning-is}
-use Rattle.module_scope.specs.Settled.{found, waits_in, waiting_left, IsSettled, AreStill, AreApart, IsTurn, IsPassed}
+use Rattle.v_names.specs.Meanings.{found, named_by, in-waiting}
+use Rattle.module_scope.specs.Settled.{waits_in, waiting_left, IsSettled, AreStill, AreApart, IsTurn, IsPassed}
 use Rattle.module_scope.proofs.Maps.{equal-same}
-use Rattle.module_scope.proofs.Apart.{found-at, named_by, not-declared}
+use Rattle.module_scope.proofs.Apart.{found-at, not-declared}
 use Rattle.name_checks.specs.Rows.{drop-step, drop-past}
-use Rattle.module_scope.proofs.Rounds.{in-waiting}
 use Rattle.module_scope.proofs.Settling.{settle-turn, settle-fewer, settled-start}
 
 kept-by : (v : Constant) (others : Option Constant) (rest : Option SignedValue) (b : Bool) → option_map signed_value others ≡ rest → option_map signed_value (cond b (Some v) others) ≡ given_if b (signed_value v) rest

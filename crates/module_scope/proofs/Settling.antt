@@ -1,64 +1,20 @@
 -- Parameters that have got their values, in any order, against the rounds of the definition.
-use Rattle.std.proofs.Common.{◌≡◌, ℕ, zero, suc, ◌+◌, ◌-◌, ◌≤◌, ◌<◌, Bool, true, false, ◌||◌, cond, List, [], ◌∷◌, ◌++◌, map, filter, length, get_or, Option, Some, None, option_map, refl, sym, ap, ap₂, ◌∙◌, subst, arith, add-one}
-use Rattle.v_tree.specs.Trees.{Identifier, SourceExpression, NamedPlace, named_in, same_name}
-use Rattle.v_names.specs.Scopes.{ScopeEntry, RefusedParameter, WaitingParameter, ParameterEntry, NetEntry, RegEntry, MemoryEntry, GateEntry, InstanceEntry, Scope, entry_if, looked_up, is_waiting}
-use Rattle.v_names.specs.Names.{Declared, DeclaredParameter, DeclaredPort, DeclaredNet, DeclaredReg, DeclaredMemory, DeclaredGate, DeclaredInstance, Declaration, GivenParameter, meaning_of, meanings, is_parameter_declared, waiting_entry, waiting_scope, scope_after, parameter_count}
+use Rattle.std.proofs.Common.{◌≡◌, ℕ, zero, suc, ◌+◌, ◌-◌, ◌≤◌, ◌<◌, Bool, true, false, cond, List, [], ◌∷◌, filter, length, get_or, Option, Some, None, option_map, refl, sym, ap, ◌∙◌, subst, arith}
+use Rattle.v_tree.specs.Trees.{Identifier, same_name}
+use Rattle.v_names.specs.Scopes.{ScopeEntry, RefusedParameter, Scope, entry_if, looked_up, is_waiting}
+use Rattle.v_names.specs.Names.{Declaration, GivenParameter, meaning_of, is_parameter_declared, waiting_entry, waiting_scope, scope_after}
+use Rattle.v_names.specs.Agreement.{constant_part}
+use Rattle.v_names.specs.Meanings.{Under, found, under-same, under-joins, meaning-kept, no-constant, in-meanings, in-waiting}
+use Rattle.v_names.specs.Rounds.{entry-waits, start-constant, waits-by, round-grows, count-by, fewer}
 use Rattle.module_scope.proofs.Maps.{same-equal}
-use Rattle.module_scope.specs.Settled.{constant_part, Under, found, waits_in, waiting_left, IsSettled, AreStill, AreApart}
+use Rattle.module_scope.specs.Settled.{waits_in, waiting_left, IsSettled, AreStill, AreApart}
 use Rattle.module_scope.proofs.Apart.{found-at}
-use Rattle.module_scope.proofs.Agreement.{part-waiting}
-use Rattle.module_scope.proofs.Rounds.{under-same, under-joins, still-settled, meaning-kept, no-constant, in-meanings, in-waiting}
 
 true-or-false : {X : Type 0} (b : Bool) → b ≡ true → b ≡ false → X
 true-or-false true e f = cc
 true-or-false false e f = cc
 
 -- The rounds have more and more values
-
-first-by : (given : List GivenParameter) (s : Scope) (d : Declaration) (parameter : Bool) → is_parameter_declared d.declared ≡ parameter → is_waiting (Some (waiting_entry d.declared)) ≡ false
-    → constant_part (Some (waiting_entry d.declared)) ≡ constant_part (Some (meaning_of s given d.name d.declared))
-first-by given s d true e w = absurd (wait-by d.declared e w)
-  where
-    wait-by : (k : Declared) → is_parameter_declared k ≡ true → is_waiting (Some (waiting_entry k)) ≡ false → ⊥
-    wait-by (DeclaredParameter is_local signed bounds value) e w = cc
-    wait-by (DeclaredPort direction is_reg signed bounds first) e w = cc
-    wait-by (DeclaredNet signed bounds) e w = cc
-    wait-by (DeclaredReg signed bounds first) e w = cc
-    wait-by (DeclaredMemory signed bounds addresses) e w = cc
-    wait-by DeclaredGate e w = cc
-    wait-by DeclaredInstance e w = cc
-first-by given s d false e w = gate-by d.declared e ∙ sym (no-constant s given d.name d.declared e)
-  where
-    gate-by : (k : Declared) → is_parameter_declared k ≡ false → constant_part (Some (waiting_entry k)) ≡ RefusedParameter
-    gate-by (DeclaredParameter is_local signed bounds value) e = cc
-    gate-by (DeclaredPort direction is_reg signed bounds first) e = refl
-    gate-by (DeclaredNet signed bounds) e = refl
-    gate-by (DeclaredReg signed bounds first) e = refl
-    gate-by (DeclaredMemory signed bounds addresses) e = refl
-    gate-by DeclaredGate e = refl
-    gate-by DeclaredInstance e = refl
-
--- what holds of what a name means by a declaration, if it has one
-option-by : (f g : Declaration → ScopeEntry) (d : Option Declaration) → ((x : Declaration) → is_waiting (Some (f x)) ≡ false → constant_part (Some (f x)) ≡ constant_part (Some (g x)))
-    → is_waiting (option_map f d) ≡ false → constant_part (option_map f d) ≡ constant_part (option_map g d)
-option-by f g None h w = refl
-option-by f g (Some d) h w = h d w
-
-grow-by : (s t : Scope) (ds : List Declaration) (f g : Declaration → ScopeEntry) → ((name : Identifier) → looked_up s name ≡ option_map f (found ds name)) → ((name : Identifier) → looked_up t name ≡ option_map g (found ds name))
-    → ((x : Declaration) → is_waiting (Some (f x)) ≡ false → constant_part (Some (f x)) ≡ constant_part (Some (g x))) → Under s t
-grow-by s t ds f g es et h = record {
-  agrees = λ name w. ap constant_part (es name) ∙ option-by f g (found ds name) h (sym (ap is_waiting (es name)) ∙ w) ∙ sym (ap constant_part (et name));
-}
-
-pub round-grows : (rounds : ℕ) (given : List GivenParameter) (ds : List Declaration) → Under (scope_after rounds given ds) (scope_after (suc rounds) given ds)
-round-grows zero given ds =
-    grow-by (waiting_scope ds) (meanings (waiting_scope ds) given ds) ds (λ d. waiting_entry d.declared) (λ d. meaning_of (waiting_scope ds) given d.name d.declared) (in-waiting ds)
-    (in-meanings (waiting_scope ds) given ds) (λ d w. first-by given (waiting_scope ds) d (is_parameter_declared d.declared) refl w)
-round-grows (suc rounds) given ds =
-    let s = scope_after rounds given ds in
-    let t = scope_after (suc rounds) given ds in
-    grow-by t (scope_after (suc (suc rounds)) given ds) ds (λ d. meaning_of s given d.name d.declared) (λ d. meaning_of t given d.name d.declared) (in-meanings s given ds) (in-meanings t given ds)
-    (λ d w. meaning-kept s t (round-grows rounds given ds) given d.name d.declared w)
 
 pub rounds-grow : (more rounds : ℕ) (given : List GivenParameter) (ds : List Declaration) → Under (scope_after rounds given ds) (scope_after (more + rounds) given ds)
 rounds-grow zero rounds given ds = let e : rounds ≡ 0 + rounds = omega arith in subst (λ (n : ℕ). Under (scope_after rounds given ds) (scope_after n given ds)) e (under-same (scope_after rounds given ds))
@@ -73,16 +29,6 @@ rounds-up-to rounds most given ds below =
     subst (λ (n : ℕ). Under (scope_after rounds given ds) (scope_after n given ds)) e (rounds-grow (most - rounds) rounds given ds)
 
 -- Counts
-
-count-by : {A : Type 0} (p q : A → Bool) (x : A) (xs : List A) (a b : Bool) → p x ≡ a → q x ≡ b → (a ≡ true → b ≡ true) → length (filter p xs) ≤ length (filter q xs) → length (filter p (x ∷ xs)) ≤ length (filter q (x ∷ xs))
-count-by p q x xs true true e f h k = rw (e, f) (omega arith)
-count-by p q x xs true false e f h k = absurd (let n : false ≡ true = h refl in let x : ⊥ = cc in x)
-count-by p q x xs false true e f h k = rw (e, f) (omega arith)
-count-by p q x xs false false e f h k = rw (e, f) k
-
-pub fewer : {A : Type 0} (p q : A → Bool) (xs : List A) → ((x : A) → p x ≡ true → q x ≡ true) → length (filter p xs) ≤ length (filter q xs)
-fewer p q [] h = omega arith
-fewer p q (x ∷ xs) h = count-by p q x xs (p x) (q x) refl refl (h x) (fewer p q xs h)
 
 pub fewer-in : {A : Type 0} (p q : A → Bool) (xs : List A) → ((i : ℕ) (x : A) → i < length xs → x ≡ get_or xs i x → p x ≡ true → q x ≡ true) → length (filter p xs) ≤ length (filter q xs)
 fewer-in p q [] h = omega arith
@@ -161,25 +107,12 @@ settle-turn given ds scope new i d entry before below at here same waits means s
 
 -- At the start
 
-wait-parameter : (ds : List Declaration) (name : Identifier) (d : Option Declaration) → found ds name ≡ d → is_waiting (option_map (λ (x : Declaration). waiting_entry x.declared) d) ≡ true
-    → (x : Declaration) × (found ds name ≡ Some x) × (is_parameter_declared x.declared ≡ true)
-wait-parameter ds name None e w = absurd (let x : ⊥ = cc in x)
-wait-parameter ds name (Some d) e w = (d, e, by d.declared w)
-  where
-    by : (k : Declared) → is_waiting (Some (waiting_entry k)) ≡ true → is_parameter_declared k ≡ true
-    by (DeclaredParameter is_local signed bounds value) w = refl
-    by (DeclaredPort direction is_reg signed bounds first) w = cc
-    by (DeclaredNet signed bounds) w = cc
-    by (DeclaredReg signed bounds first) w = cc
-    by (DeclaredMemory signed bounds addresses) w = cc
-    by DeclaredGate w = cc
-    by DeclaredInstance w = cc
-
 some-start : (a b : Declaration) → Some a ≡ Some b → a ≡ b
 some-start a b e = cc
 
 start-waits : (ds : List Declaration) (scope : Scope) → scope ≡ waiting_scope ds → (name : Identifier) → is_waiting (looked_up scope name) ≡ true → (x : Declaration) × (found ds name ≡ Some x) × (is_parameter_declared x.declared ≡ true)
-start-waits ds scope e name w = wait-parameter ds name (found ds name) refl (sym (ap is_waiting (ap (λ s. looked_up s name) e ∙ in-waiting ds name)) ∙ w)
+start-waits ds scope e name w =
+    waits-by (λ (x : Declaration). waiting_entry x.declared) ds name (found ds name) refl (λ x v. entry-waits x.declared v) (sym (ap is_waiting (ap (λ s. looked_up s name) e ∙ in-waiting ds name)) ∙ w)
 
 start-parameter : (ds : List Declaration) (scope : Scope) → AreApart ds → scope ≡ waiting_scope ds → (i : ℕ) (x : Declaration) → i < length ds → x ≡ get_or ds i x → waits_in scope x ≡ true → is_parameter_declared x.declared ≡ true
 start-parameter ds scope apart e i x below at w =
@@ -221,16 +154,7 @@ found-named (x ∷ xs) name d e = named-by x d name (found xs name) (same_name x
 pub no-parameter : (rounds : ℕ) (given : List GivenParameter) (ds : List Declaration) (name : Identifier) (d : Option Declaration) → found ds name ≡ d → ((x : Declaration) → d ≡ Some x → is_parameter_declared x.declared ≡ false)
     → constant_part (looked_up (scope_after rounds given ds) name) ≡ RefusedParameter
 no-parameter zero given ds name None e h = ap constant_part (in-waiting ds name ∙ ap (option_map (λ (x : Declaration). waiting_entry x.declared)) e)
-no-parameter zero given ds name (Some d) e h = ap constant_part (in-waiting ds name ∙ ap (option_map (λ (x : Declaration). waiting_entry x.declared)) e) ∙ by d.declared (h d refl)
-  where
-    by : (k : Declared) → is_parameter_declared k ≡ false → constant_part (Some (waiting_entry k)) ≡ RefusedParameter
-    by (DeclaredParameter is_local signed bounds value) e = cc
-    by (DeclaredPort direction is_reg signed bounds first) e = refl
-    by (DeclaredNet signed bounds) e = refl
-    by (DeclaredReg signed bounds first) e = refl
-    by (DeclaredMemory signed bounds addresses) e = refl
-    by DeclaredGate e = refl
-    by DeclaredInstance e = refl
+no-parameter zero given ds name (Some d) e h = ap constant_part (in-waiting ds name ∙ ap (option_map (λ (x : Declaration). waiting_entry x.declared)) e) ∙ start-constant d.declared (h d refl)
 no-parameter (suc rounds) given ds name None e h =
     ap constant_part (in-meanings (scope_after rounds given ds) given ds name ∙ ap (option_map (λ (x : Declaration). meaning_of (scope_after rounds given ds) given x.name x.declared)) e)
 no-parameter (suc rounds) given ds name (Some d) e h =

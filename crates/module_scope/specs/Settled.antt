@@ -1,30 +1,10 @@
 -- Scopes in which some parameters have their values.
-use Rattle.std.specs.Prelude.{◌≡◌, ℕ, ◌+◌, ◌≤◌, Bool, true, false, cond, List, [], ◌∷◌, filter, length, Option, Some, None}
+use Rattle.std.specs.Prelude.{◌≡◌, ℕ, ◌+◌, ◌≤◌, Bool, true, false, List, [], ◌∷◌, filter, length, Option, Some}
 use Rattle.v_tree.specs.Trees.{Identifier, same_name}
-use Rattle.v_names.specs.Scopes.{SignedValue, ScopeEntry, ParameterEntry, RefusedParameter, WaitingParameter, NetEntry, RegEntry, MemoryEntry, GateEntry, InstanceEntry, Scope, entry_if, looked_up, is_waiting}
+use Rattle.v_names.specs.Scopes.{SignedValue, Scope, entry_if, looked_up, is_waiting}
 use Rattle.v_names.specs.Names.{Declaration, GivenParameter, meaning_of, is_parameter_declared, scope_after, parameter_count}
+use Rattle.v_names.specs.Meanings.{Under, found}
 use Rattle.module_scope.specs.Meanings.{meaning_with}
-
--- what a constant sees of an entry
-abbrev pub constant_part : Option ScopeEntry → ScopeEntry
-constant_part None = RefusedParameter
-constant_part (Some (ParameterEntry value signed)) = ParameterEntry value signed
-constant_part (Some RefusedParameter) = RefusedParameter
-constant_part (Some WaitingParameter) = WaitingParameter
-constant_part (Some (NetEntry range signed)) = RefusedParameter
-constant_part (Some (RegEntry range signed)) = RefusedParameter
-constant_part (Some (MemoryEntry range first last signed)) = RefusedParameter
-constant_part (Some GateEntry) = RefusedParameter
-constant_part (Some InstanceEntry) = RefusedParameter
-
--- one scope has values that another has too
-pub record Under (s t : Scope) : Type 0 where
-  pub agrees : (name : Identifier) → is_waiting (looked_up s name) ≡ false → constant_part (looked_up s name) ≡ constant_part (looked_up t name)
-
--- the first declaration of a name
-abbrev pub found : List Declaration → Identifier → Option Declaration
-found [] name = None
-found (d ∷ ds) name = cond (same_name d.name name) (Some d) (found ds name)
 
 abbrev pub waits_in : Scope → Declaration → Bool
 waits_in scope d = is_waiting (looked_up scope d.name)

@@ -23,7 +23,7 @@ use Rattle.flat_laws.specs.Lists.{same_some, AllHold-from}
 use Rattle.flat_laws.specs.Numbered.{AllHold-append, AllHold-filter, AllHold-flat_map, AllHold-map, AllHold-all, AllHold-each}
 use Rattle.flat_laws.specs.Names.Declared.{items-declare}
 use Rattle.flat_laws.specs.Hierarchy.Levelled.{IsModule, enters-module}
-use Rattle.flat_laws.specs.Names.Meanings.{found, in-meanings}
+use Rattle.v_names.specs.Meanings.{found, in-meanings}
 use Rattle.flat_laws.specs.Names.OnceDeclared.{IsNamedUnit}
 use Rattle.flat_laws.specs.Names.Placed.{is-parameter, at-flat}
 use Rattle.flat_laws.specs.Hierarchy.Processes.{unless_faulty-ok}

@@ -34,7 +34,7 @@ use Rattle.flat_laws.specs.Hierarchy.Visits.{IsVisited, IsAt, at_top, below}
 use Rattle.flat_laws.specs.Hierarchy.Visited.{visited-walked}
 use Rattle.flat_laws.specs.Sizes.Entries.{Ascend, whole-ascends}
 use Rattle.flat_laws.specs.Names.Rounds.{scope-fixed}
-use Rattle.flat_laws.specs.Names.Meanings.{found, in-meanings}
+use Rattle.v_names.specs.Meanings.{found, in-meanings}
 use Rattle.flat_laws.specs.Names.Settled.{walk-settled}
 use Rattle.flat_laws.specs.Sizes.Widths.{scope-narrow}
 use Rattle.flat_laws.specs.Drivers.Assigned.{TargetHolds, target-holds, whole-long}

@@ -1,75 +1,17 @@
 -- As many rounds as a module has parameters suffice: in each round one more parameter gets its value, or none ever will (IEEE 1364-2001, clause 12.2).
-use Rattle.std.proofs.Common.{◌≡◌, ℕ, zero, suc, ◌+◌, ◌≤◌, ◌⊎◌, Bool, true, false, ◌&&◌, cond, List, [], ◌∷◌, filter, length, Option, Some, None, option_map, refl, sym, ap, ap₂, ◌∙◌, inl, inr, arith, add-one}
+use Rattle.std.proofs.Common.{◌≡◌, ℕ, zero, suc, ◌+◌, ◌≤◌, ◌⊎◌, Bool, true, false, ◌&&◌, cond, List, [], ◌∷◌, filter, length, Some, refl, sym, ap, ◌∙◌, inl, inr, arith, add-one}
 use Rattle.std.specs.Prelude.{slice_get}
 use Rattle.v_tree.specs.Trees.{Identifier, SourceModule, same_name}
-use Rattle.v_names.specs.Scopes.{ScopeEntry, RefusedParameter, WaitingParameter, ParameterEntry, NetEntry, RegEntry, MemoryEntry, GateEntry, InstanceEntry, ScopeName, Scope, looked_up, is_waiting}
-use Rattle.v_names.specs.Names.{Declared, DeclaredParameter, DeclaredPort, DeclaredNet, DeclaredReg, DeclaredMemory, DeclaredGate, DeclaredInstance, Declaration, GivenParameter, names_declared, meaning_of, meanings, is_parameter_declared, waiting_entry, waiting_scope, scope_after, parameter_count, scope_of}
+use Rattle.v_names.specs.Scopes.{Scope, looked_up, is_waiting}
+use Rattle.v_names.specs.Names.{Declared, DeclaredParameter, DeclaredPort, DeclaredNet, DeclaredReg, DeclaredMemory, DeclaredGate, DeclaredInstance, Declaration, GivenParameter, names_declared, meaning_of, meanings, is_parameter_declared, waiting_entry, scope_after, parameter_count, scope_of}
 use Rattle.v_names.specs.SizedLaws.{and-left, and-right}
 use Rattle.flat_laws.specs.Lists.{same_some}
 use Rattle.flat_laws.specs.Hierarchy.Given.{equal-name, both-true}
-use Rattle.flat_laws.specs.Names.Agreed.{constant_part, part-waiting}
-use Rattle.flat_laws.specs.Names.Meanings.{Under, found, meaning-kept, meaning-agree, no-constant, in-meanings, in-waiting}
-
--- The rounds have more and more values
-
-first-by : (given : List GivenParameter) (s : Scope) (d : Declaration) (parameter : Bool) → is_parameter_declared d.declared ≡ parameter → is_waiting (Some (waiting_entry d.declared)) ≡ false →
-    constant_part (Some (waiting_entry d.declared)) ≡ constant_part (Some (meaning_of s given d.name d.declared))
-first-by given s d true e w = absurd (wait-by d.declared e w)
-  where
-    wait-by : (k : Declared) → is_parameter_declared k ≡ true → is_waiting (Some (waiting_entry k)) ≡ false → ⊥
-    wait-by (DeclaredParameter is_local signed bounds value) e w = cc
-    wait-by (DeclaredPort direction is_reg signed bounds first) e w = cc
-    wait-by (DeclaredNet signed bounds) e w = cc
-    wait-by (DeclaredReg signed bounds first) e w = cc
-    wait-by (DeclaredMemory signed bounds addresses) e w = cc
-    wait-by DeclaredGate e w = cc
-    wait-by DeclaredInstance e w = cc
-first-by given s d false e w = gate-by d.declared e ∙ sym (no-constant s given d.name d.declared e)
-  where
-    gate-by : (k : Declared) → is_parameter_declared k ≡ false → constant_part (Some (waiting_entry k)) ≡ RefusedParameter
-    gate-by (DeclaredParameter is_local signed bounds value) e = cc
-    gate-by (DeclaredPort direction is_reg signed bounds first) e = refl
-    gate-by (DeclaredNet signed bounds) e = refl
-    gate-by (DeclaredReg signed bounds first) e = refl
-    gate-by (DeclaredMemory signed bounds addresses) e = refl
-    gate-by DeclaredGate e = refl
-    gate-by DeclaredInstance e = refl
-
--- what holds of what a name means by a declaration, if it has one
-option-by : (f g : Declaration → ScopeEntry) (d : Option Declaration) → ((x : Declaration) → is_waiting (Some (f x)) ≡ false → constant_part (Some (f x)) ≡ constant_part (Some (g x))) →
-    is_waiting (option_map f d) ≡ false → constant_part (option_map f d) ≡ constant_part (option_map g d)
-option-by f g None h w = refl
-option-by f g (Some d) h w = h d w
-
-grow-by : (s t : Scope) (ds : List Declaration) (f g : Declaration → ScopeEntry) → ((name : Identifier) → looked_up s name ≡ option_map f (found ds name)) → ((name : Identifier) → looked_up t name ≡ option_map g (found ds name)) →
-    ((x : Declaration) → is_waiting (Some (f x)) ≡ false → constant_part (Some (f x)) ≡ constant_part (Some (g x))) → Under s t
-grow-by s t ds f g es et h = record {
-  agrees = λ name w. ap constant_part (es name) ∙ option-by f g (found ds name) h (sym (ap is_waiting (es name)) ∙ w) ∙ sym (ap constant_part (et name));
-}
-
--- a round keeps the values of the one before
-pub round-grows : (rounds : ℕ) (given : List GivenParameter) (ds : List Declaration) → Under (scope_after rounds given ds) (scope_after (suc rounds) given ds)
-round-grows zero given ds =
-    grow-by (waiting_scope ds) (meanings (waiting_scope ds) given ds) ds (λ d. waiting_entry d.declared) (λ d. meaning_of (waiting_scope ds) given d.name d.declared) (in-waiting ds)
-    (in-meanings (waiting_scope ds) given ds) (λ d w. first-by given (waiting_scope ds) d (is_parameter_declared d.declared) refl w)
-round-grows (suc rounds) given ds =
-    let s = scope_after rounds given ds in
-    let t = scope_after (suc rounds) given ds in
-    grow-by t (scope_after (suc (suc rounds)) given ds) ds (λ d. meaning_of s given d.name d.declared) (λ d. meaning_of t given d.name d.declared) (in-meanings s given ds) (in-meanings t given ds)
-    (λ d w. meaning-kept s t (round-grows rounds given ds) given d.name d.declared w)
+use Rattle.v_names.specs.Agreement.{constant_part, part-waiting}
+use Rattle.v_names.specs.Meanings.{found, in-meanings, in-waiting}
+use Rattle.v_names.specs.Rounds.{entry-waits, waits-by, waiting-part, meanings-by, round-grows, fewer}
 
 -- Counts
-
-fewer-by : {A : Type 0} (p q : A → Bool) (x : A) (xs : List A) (a b : Bool) → p x ≡ a → q x ≡ b → (a ≡ true → b ≡ true) → length (filter p xs) ≤ length (filter q xs) → length (filter p (x ∷ xs)) ≤ length (filter q (x ∷ xs))
-fewer-by p q x xs true true e f h k = rw (e, f) (omega arith)
-fewer-by p q x xs true false e f h k = absurd (let n : false ≡ true = h refl in let x : ⊥ = cc in x)
-fewer-by p q x xs false true e f h k = rw (e, f) (omega arith)
-fewer-by p q x xs false false e f h k = rw (e, f) k
-
--- what passes the one test passes the other too, so no more pass
-fewer : {A : Type 0} (p q : A → Bool) (xs : List A) → ((x : A) → p x ≡ true → q x ≡ true) → length (filter p xs) ≤ length (filter q xs)
-fewer p q [] h = omega arith
-fewer p q (x ∷ xs) h = fewer-by p q x xs (p x) (q x) refl refl (h x) (fewer p q xs h)
 
 -- whether the same of some pass both
 abbrev PassAlike : {A : Type 0} → (A → Bool) → (A → Bool) → List A → Type 0
@@ -105,15 +47,6 @@ pub found-in : (ds : List Declaration) (name : Identifier) (d : Declaration) →
 found-in [] name d e = absurd (cc)
 found-in (x ∷ xs) name d e = found-by x d xs name (same_name x.name name) refl e (λ f. found-in xs name d f)
 
-entry-waits : (d : Declared) → is_waiting (Some (waiting_entry d)) ≡ true → is_parameter_declared d ≡ true
-entry-waits (DeclaredParameter is_local signed bounds value) w = refl
-entry-waits (DeclaredPort direction is_reg signed bounds first) w = cc
-entry-waits (DeclaredNet signed bounds) w = cc
-entry-waits (DeclaredReg signed bounds first) w = cc
-entry-waits (DeclaredMemory signed bounds addresses) w = cc
-entry-waits DeclaredGate w = cc
-entry-waits DeclaredInstance w = cc
-
 meaning-waits : (s : Scope) (given : List GivenParameter) (name : Identifier) (d : Declared) → is_waiting (Some (meaning_of s given name d)) ≡ true → is_parameter_declared d ≡ true
 meaning-waits s given name (DeclaredParameter is_local signed bounds value) w = refl
 meaning-waits s given name (DeclaredPort direction true signed bounds first) w = cc
@@ -124,11 +57,6 @@ meaning-waits s given name (DeclaredMemory signed bounds addresses) w = cc
 meaning-waits s given name DeclaredGate w = cc
 meaning-waits s given name DeclaredInstance w = cc
 
-waits-by : (f : Declaration → ScopeEntry) (ds : List Declaration) (name : Identifier) (d : Option Declaration) → found ds name ≡ d → ((x : Declaration) → is_waiting (Some (f x)) ≡ true → is_parameter_declared x.declared ≡ true) →
-    is_waiting (option_map f d) ≡ true → (x : Declaration) × (found ds name ≡ Some x) × (is_parameter_declared x.declared ≡ true)
-waits-by f ds name None e h w = absurd (let x : ⊥ = cc in x)
-waits-by f ds name (Some d) e h w = (d, e, h d w)
-
 -- a name that waits is a parameter's
 waiting-parameter : (rounds : ℕ) (given : List GivenParameter) (ds : List Declaration) (name : Identifier) → is_waiting (looked_up (scope_after rounds given ds) name) ≡ true →
     (x : Declaration) × (found ds name ≡ Some x) × (is_parameter_declared x.declared ≡ true)
@@ -138,22 +66,6 @@ waiting-parameter (suc rounds) given ds name w =
     waits-by (λ d. meaning_of s given d.name d.declared) ds name (found ds name) refl (λ x v. meaning-waits s given x.name x.declared v) (sym (ap is_waiting (in-meanings s given ds name)) ∙ w)
 
 -- Rounds that change nothing
-
-waiting-part : (e : Option ScopeEntry) → is_waiting e ≡ true → constant_part e ≡ WaitingParameter
-waiting-part None w = cc
-waiting-part (Some (ParameterEntry value signed)) w = cc
-waiting-part (Some RefusedParameter) w = cc
-waiting-part (Some WaitingParameter) w = refl
-waiting-part (Some (NetEntry range signed)) w = cc
-waiting-part (Some (RegEntry range signed)) w = cc
-waiting-part (Some (MemoryEntry range first last signed)) w = cc
-waiting-part (Some GateEntry) w = cc
-waiting-part (Some InstanceEntry) w = cc
-
-meanings-by : (s t : Scope) (given : List GivenParameter) (ds : List Declaration) → ((name : Identifier) → constant_part (looked_up s name) ≡ constant_part (looked_up t name)) → meanings s given ds ≡ meanings t given ds
-meanings-by s t given [] h = refl
-meanings-by s t given (d ∷ ds) h =
-    ap₂ (λ (entry : ScopeEntry) (rest : Scope). let n : ScopeName = record { name = d.name; entry = entry } in n ∷ rest) (meaning-agree s t h given d.name d.declared) (meanings-by s t given ds h)
 
 module _ (given : List GivenParameter) (ds : List Declaration) where
   abbrev after : ℕ → Scope

@@ -17,7 +17,7 @@ use Rattle.flat_laws.specs.Hierarchy.Given.{both-true}
 use Rattle.flat_laws.specs.Sizes.Complete.{IsSettledEntry, IsSettled}
 use Rattle.flat_laws.specs.Hierarchy.Processes.{unless_faulty-ok}
 use Rattle.flat_laws.specs.Hierarchy.Visits.{IsAt}
-use Rattle.flat_laws.specs.Names.Meanings.{found, or-false-left, or-false-right, not-waiting, in-meanings, in-waiting}
+use Rattle.v_names.specs.Meanings.{found, or-false-left, or-false-right, not-waiting, in-meanings, in-waiting}
 use Rattle.flat_laws.specs.Names.Rounds.{found-in, scope-fixed}
 use Rattle.flat_laws.specs.Names.Valued.{names-parameters, constant-ready, constant-valued}
 use Rattle.flat_laws.specs.Names.Faultless.{IsFaultless, bounds-ready, bounds-narrow, declared-faultless}

@@ -12,8 +12,8 @@ use Rattle.v_names.specs.SizedLaws.{and-left, and-right}
 use Rattle.v_names.specs.ConstantLaws.{are_known}
 use Rattle.flat_laws.specs.Hierarchy.Given.{both-true}
 use Rattle.flat_laws.specs.Sizes.Complete.{append-none, fault_if-none, and-none, IsSettledEntry, IsSettled, constant-names, expression-complete}
-use Rattle.flat_laws.specs.Names.Agreed.{Same, same-left, same-right, same-reading}
-use Rattle.flat_laws.specs.Names.Meanings.{or-false-left}
+use Rattle.v_names.specs.Agreement.{Same, same-left, same-right, same-reading}
+use Rattle.v_names.specs.Meanings.{or-false-left}
 
 -- Names of constants
 

@@ -22,7 +22,7 @@ use Rattle.flat_laws.specs.Hierarchy.Walks.{walk-holds}
 use Rattle.flat_laws.specs.Hierarchy.Visits.{IsVisited, at_top, below}
 use Rattle.flat_laws.specs.Names.Placed.{is-parameter}
 use Rattle.flat_laws.specs.Names.Rounds.{found-in, scope-fixed}
-use Rattle.flat_laws.specs.Names.Meanings.{found, in-meanings}
+use Rattle.v_names.specs.Meanings.{found, in-meanings}
 use Rattle.flat_laws.specs.Names.Faultless.{IsFaultless, bounds-fit, declared-faultless}
 
 -- Scopes

@@ -1,18 +1,26 @@
--- Parameters get their values one after the other, in any order in which those that each names come first.
-use Rattle.std.proofs.Common.{◌≡◌, ℕ, zero, suc, ◌+◌, ◌≤◌, ◌<◌, Bool, true, false, ◌||◌, cond, List, [], ◌∷◌, ◌++◌, map, filter, length, Option, Some, None, option_map, refl, sym, ap, ap₂, ◌∙◌, arith, nat_lt}
+-- A declaration means the same in scopes that give the parameters that it names the same values (IEEE 1364-2001, clause 12.2 for parameters).
+use Rattle.std.proofs.Common.{◌≡◌, ℕ, Bool, true, false, ◌||◌, cond, List, [], ◌∷◌, map, Option, Some, None, option_map, refl, sym, ap, ap₂, ◌∙◌}
 use Rattle.v_tree.specs.Trees.{Identifier, SourceExpression, NamedPlace, named_in, same_name}
-use Rattle.v_names.specs.Scopes.{SignedValue, DeclaredRange, ScopeEntry, ParameterEntry, RefusedParameter, WaitingParameter, NetEntry, RegEntry, MemoryEntry, GateEntry, InstanceEntry, ScopeName, Scope, entry_if, looked_up, is_waiting}
-use Rattle.v_names.specs.Readings.{number_or, constant_of, number_of_constant}
+use Rattle.v_names.specs.Scopes.{SignedValue, DeclaredRange, ScopeEntry, RefusedParameter, ScopeName, Scope, entry_if, looked_up, is_waiting}
+use Rattle.v_names.specs.Readings.{number_or, constant_of}
 use Rattle.v_names.specs.Constants.{some_waiting}
-use Rattle.v_names.specs.Names.{Bounds, Unbounded, IntegerBounds, RangeBounds, Declared, DeclaredParameter, DeclaredPort, DeclaredNet, DeclaredReg, DeclaredMemory, DeclaredGate, DeclaredInstance, Declaration, GivenParameter, given_of, bound_number, range_of, bounds_wait, parameter_by_range, parameter_entry, waiting_or, context_width, parameter_of, vector_entry, memory_entry, meaning_of, meanings, is_parameter_declared, waiting_entry, waiting_scope, scope_after, parameter_count}
-use Rattle.module_scope.specs.Settled.{constant_part, Under, found}
-use Rattle.module_scope.proofs.Agreement.{part-waiting, Agree, some_wait, agree-waiting, agree-constant, agree-number}
+use Rattle.v_names.specs.Names.{Bounds, Unbounded, IntegerBounds, RangeBounds, Declared, DeclaredParameter, DeclaredPort, DeclaredNet, DeclaredReg, DeclaredMemory, DeclaredGate, DeclaredInstance, Declaration, GivenParameter, given_of, bound_number, range_of, bounds_wait, parameter_entry, waiting_or, context_width, parameter_of, vector_entry, memory_entry, meaning_of, meanings, is_parameter_declared, waiting_entry, waiting_scope}
+<use Rattle.v_names.specs.Agreement.{constant_part, part-waiting, Agree, some_wait, agree-waiting, agree-constant, agree-number}
+>
+-- one scope has values that another has too
+pub record Under (s t : Scope) : Type 0 where
+  pub agrees : (name : Identifier) → is_waiting (looked_up s name) ≡ false → constant_part (looked_up s name) ≡ constant_part (looked_up t name)
 
-or-false-left : (a b : Bool) → (a || b) ≡ false → a ≡ false
+-- the first declaration of a name
+abbrev pub found : List Declaration → Identifier → Option Declaration
+found [] name = None
+found (d ∷ ds) name = cond (same_name d.name name) (Some d) (found ds name)
+
+pub or-false-left : (a b : Bool) → (a || b) ≡ false → a ≡ false
 or-false-left true b e = e
 or-false-left false b e = refl
 
-or-false-right : (a b : Bool) → (a || b) ≡ false → b ≡ false
+pub or-false-right : (a b : Bool) → (a || b) ≡ false → b ≡ false
 or-false-right true b e = cc
 or-false-right false b e = e
 
@@ -69,7 +77,7 @@ under-bounds s t u IntegerBounds w = tt
 under-bounds s t u (RangeBounds range) w =
     (under-agree s t u (named_in range.high) (or-false-left (some_waiting s range.high) (some_waiting s range.low) w), under-agree s t u (named_in range.low) (or-false-right (some_waiting s range.high) (some_waiting s range.low) w))
 
-not-waiting : (b : Bool) (entry : ScopeEntry) → is_waiting (Some (waiting_or b entry)) ≡ false → b ≡ false
+pub not-waiting : (b : Bool) (entry : ScopeEntry) → is_waiting (Some (waiting_or b entry)) ≡ false → b ≡ false
 not-waiting true entry w = w
 not-waiting false entry w = refl
 
@@ -140,7 +148,8 @@ found-by : (f : Declaration → ScopeEntry) (d : Declaration) (others : Option D
 found-by f d others rest true e = refl
 found-by f d others rest false e = e
 
-abbrev named_by : (Declaration → ScopeEntry) → List Declaration → Scope
+-- the names of declarations with what each means
+abbrev pub named_by : (Declaration → ScopeEntry) → List Declaration → Scope
 named_by f ds = map (λ (d : Declaration). let n : ScopeName = record { name = d.name; entry = f d } in n) ds
 
 looked-up-found : (f : Declaration → ScopeEntry) (ds : List Declaration) (name : Identifier) → looked_up (named_by f ds) name ≡ option_map f (found ds name)

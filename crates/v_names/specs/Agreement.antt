@@ -1,15 +1,25 @@
--- Scopes that agree on the parameters that a constant names give it one value.
-use Rattle.std.proofs.Common.{◌≡◌, ℕ, Bool, true, false, ◌&&◌, ◌||◌, cond, List, [], ◌∷◌, ◌++◌, map, Option, Some, None, refl, sym, ap, ap₂, ◌∙◌, nat_lt}
-use Rattle.std.specs.List.{list_all, list_any}
-use Rattle.v_tree.specs.Trees.{Identifier, SourceExpression, Number, Selected, Parenthesised, Prefixed, Infixed, Chosen, Concatenated, Replicated, SourceIndex, NoIndex, IndexAt, IndexRange, SourceExpressions, no_parts, more_parts, NamedPlace, named_in, named_in_index, named_in_parts, place_of_expression, SourceRange}
+-- Scopes that agree on the parameters that a constant names give it one value (IEEE 1364-2001, clause 4 for constants, clause 12.2 for parameters).
+use Rattle.std.proofs.Common.{◌≡◌, ℕ, Bool, true, false, ◌&&◌, ◌||◌, List, [], ◌∷◌, ◌++◌, map, Option, Some, None, refl, sym, ap, ap₂, ◌∙◌}
+use Rattle.std.specs.List.{list_any}
+use Rattle.v_tree.specs.Trees.{Identifier, SourceExpression, Number, Selected, Parenthesised, Prefixed, Infixed, Chosen, Concatenated, Replicated, SourceIndex, NoIndex, IndexAt, IndexRange, SourceExpressions, no_parts, more_parts, NamedPlace, named_in, named_in_index, named_in_parts, place_of_expression}
 use Rattle.vf_base.specs.Base.{SourcePlace}
 use Rattle.v_design.specs.Sized.{unary_sizing, binary_sizing}
 use Rattle.v_names.specs.Scopes.{SignedValue, ScopeEntry, ParameterEntry, RefusedParameter, WaitingParameter, NetEntry, RegEntry, MemoryEntry, GateEntry, InstanceEntry, Scope, looked_up, is_known, is_waiting}
 use Rattle.v_names.specs.SizedLaws.{and-left, and-right}
 use Rattle.v_names.specs.ConstantLaws.{are_known}
-use Rattle.v_names.specs.Constants.{some_waiting}
-use Rattle.module_scope.specs.Settled.{constant_part}
-use Rattle.v_names.specs.Readings.{Reading, PartsReading, size_or_bit, tree_in, value_if, is_empty, alone_faults, constant_reading, all_known, natural_constant, constant_of, number_of_constant, number_or, unary_reading, binary_reading, choice_reading, name_reading, indexed_reading, ranged_reading, concatenation_reading, replication_reading, part_before, is_unsized_number, reading_of, select_reading, parts_reading}
+use Rattle.v_names.specs.Readings.{Reading, PartsReading, size_or_bit, tree_in, value_if, is_empty, alone_faults, constant_reading, all_known, natural_constant, constant_of, number_of_constant, unary_reading, binary_reading, choice_reading, name_reading, indexed_reading, ranged_reading, concatenation_reading, replication_reading, part_before, is_unsized_number, reading_of, select_reading, parts_reading}
+
+-- what a constant sees of an entry
+abbrev pub constant_part : Option ScopeEntry → ScopeEntry
+constant_part None = RefusedParameter
+constant_part (Some (ParameterEntry value signed)) = ParameterEntry value signed
+constant_part (Some RefusedParameter) = RefusedParameter
+constant_part (Some WaitingParameter) = WaitingParameter
+constant_part (Some (NetEntry range signed)) = RefusedParameter
+constant_part (Some (RegEntry range signed)) = RefusedParameter
+constant_part (Some (MemoryEntry range first last signed)) = RefusedParameter
+constant_part (Some GateEntry) = RefusedParameter
+constant_part (Some InstanceEntry) = RefusedParameter
 
 pub part-known : (e : Option ScopeEntry) → is_known e ≡ is_known (Some (constant_part e))
 part-known None = refl
@@ -54,11 +64,11 @@ abbrev pub Same : Scope → Scope → List NamedPlace → Type 0
 Same s t [] = Unit {0}
 Same s t (n ∷ ns) = (looked_up s n.name ≡ looked_up t n.name) × Same s t ns
 
-same-left : (s t : Scope) (xs ys : List NamedPlace) → Same s t (xs ++ ys) → Same s t xs
+pub same-left : (s t : Scope) (xs ys : List NamedPlace) → Same s t (xs ++ ys) → Same s t xs
 same-left s t [] ys h = tt
 same-left s t (x ∷ xs) ys h = (h.0, same-left s t xs ys h.1)
 
-same-right : (s t : Scope) (xs ys : List NamedPlace) → Same s t (xs ++ ys) → Same s t ys
+pub same-right : (s t : Scope) (xs ys : List NamedPlace) → Same s t (xs ++ ys) → Same s t ys
 same-right s t [] ys h = h
 same-right s t (x ∷ xs) ys h = same-right s t xs ys h.1
 
@@ -97,7 +107,7 @@ same-value : (s t : Scope) (width : ℕ) (e : SourceExpression) (one other : Rea
 same-value s t width e one other h r = ap₂ (valued width) (same-known s t (named_in e) h) r
 
 mutual
-  same-reading : (s t : Scope) (e : SourceExpression) → Same s t (named_in e) → reading_of s e ≡ reading_of t e
+  pub same-reading : (s t : Scope) (e : SourceExpression) → Same s t (named_in e) → reading_of s e ≡ reading_of t e
   same-reading s t (Number place form value) h = refl
   same-reading s t (Selected place name index) h = same-select s t place name index h.0 h.1
   same-reading s t (Parenthesised place inner) h = same-reading s t inner h
