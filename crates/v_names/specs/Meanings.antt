@@ -5,8 +5,8 @@ use Rattle.v_names.specs.Scopes.{SignedValue, DeclaredRange, ScopeEntry, Refused
 use Rattle.v_names.specs.Readings.{number_or, constant_of}
 use Rattle.v_names.specs.Constants.{some_waiting}
 use Rattle.v_names.specs.Names.{Bounds, Unbounded, IntegerBounds, RangeBounds, Declared, DeclaredParameter, DeclaredPort, DeclaredNet, DeclaredReg, DeclaredMemory, DeclaredGate, DeclaredInstance, Declaration, GivenParameter, given_of, bound_number, range_of, bounds_wait, parameter_entry, waiting_or, context_width, parameter_of, vector_entry, memory_entry, meaning_of, meanings, is_parameter_declared, waiting_entry, waiting_scope}
-<use Rattle.v_names.specs.Agreement.{constant_part, part-waiting, Agree, some_wait, agree-waiting, agree-constant, agree-number}
->
+use Rattle.v_names.specs.Agreement.{constant_part, part-waiting, Agree, some_wait, agree-waiting, agree-constant, agree-number}
+
 -- one scope has values that another has too
 pub record Under (s t : Scope) : Type 0 where
   pub agrees : (name : Identifier) → is_waiting (looked_up s name) ≡ false → constant_part (looked_up s name) ≡ constant_part (looked_up t name)
