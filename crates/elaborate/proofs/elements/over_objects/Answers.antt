@@ -25,7 +25,7 @@ returns-in-Err c =
     let nodes = map node_of c.args.nodes.now in
     let processes = map process_in c.args.processes.now in
     let made = subst (λ h. AreMade parts (held_objects h) nodes processes (c.in_ok-joined.joined, c.in_ok-joined.made)) c.deref.ensures.value c.in_ok-joined.ensures in
-    let few : length objects ≤ most_parts = (let l = length-map c.args.held.items held_of in let h = c.if-len-gt-MOST_PARTS.false in omega (arith, l, h)) in
+    let few : length objects ≤ most_parts = (let l = length-map c.args.held.items held_of in let h = c.if-len-gt-MAX_OBJECTS.false in omega (arith, l, h)) in
     refused-over parts objects nodes processes (map flats.object_of c.in_ok-objects.objects.items) _ (refusal_of c.in-Err.fault) few c.in_ok-objects.ensures made.nodes_are
     (subst (λ a. IsRefusal (ordered_nodes (map flats.object_of a) (map flats.node_of c.in_ok-joined.made.nodes.items)) (refusal_of c.in-Err.fault)) c.deref-2.ensures.value c.in-Err.ensures)
 
@@ -36,6 +36,6 @@ returns-in-Ok c =
     let nodes = map node_of c.args.nodes.now in
     let processes = map process_in c.args.processes.now in
     let made = subst (λ h. AreMade parts (held_objects h) nodes processes (c.in_ok-joined.joined, c.in_ok-joined.made)) c.deref.ensures.value c.in_ok-joined.ensures in
-    let few : length objects ≤ most_parts = (let l = length-map c.args.held.items held_of in let h = c.if-len-gt-MOST_PARTS.false in omega (arith, l, h)) in
+    let few : length objects ≤ most_parts = (let l = length-map c.args.held.items held_of in let h = c.if-len-gt-MAX_OBJECTS.false in omega (arith, l, h)) in
     sorted-over parts objects nodes processes (map flats.object_of c.in_ok-objects.objects.items) _ _ _ _ few c.in_ok-objects.ensures made.nodes_are made.joined_are made.processes_are
     (ap (λ a. ordered_nodes (map flats.object_of a) (map flats.node_of c.in_ok-joined.made.nodes.items)) (sym c.deref-2.ensures.value) ∙ c.in-Ok.ensures)
