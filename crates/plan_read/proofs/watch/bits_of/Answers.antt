@@ -8,4 +8,4 @@ use Rattle.plan_read.proofs.watch.bits_of.Goals as goal
 
 pub returns : goal.returns
 unfolding bits_spelled
-returns c = ap watched_bits c.reverse.ensures.after ∙ map-reverse watched_bit c.bits_upwards_of-bits.result.items ∙ ap reverse c.in_ok-bits.ensures
+returns c = ap watched_bits c.reverse.ensures.items ∙ map-reverse watched_bit c.in_ok-bits.bits.items ∙ ap reverse c.in_ok-bits.ensures
