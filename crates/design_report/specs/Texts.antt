@@ -33,3 +33,8 @@ pub record IsFaultsText (design : FlatDesign) (text : List ℕ) : Type 0 where
   pub places : List ℕ
   pub classes : AreClasses design (faults_of design) places
   pub text_is : text ≡ class_lines design (faults_of design) places
+
+-- this is that text, and there is no other
+pub record IsTheFaultsText (design : FlatDesign) (text : List ℕ) : Type 0 where
+  pub is : IsFaultsText design text
+  pub only : (other : List ℕ) → IsFaultsText design other → other ≡ text

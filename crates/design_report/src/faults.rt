@@ -3,7 +3,7 @@
 ghost use Rattle.std.specs.Prelude.{◌≡◌, ◌++◌, IfOk, OnOk};
 ghost use Rattle.v_design.specs.Plain.{fault_of};
 ghost use Rattle.v_design.specs.PlainDesigns.{design_of};
-ghost use Rattle.design_report.specs.Texts.{value_text, class_line, IsFaultsText};
+ghost use Rattle.design_report.specs.Texts.{value_text, class_line, IsTheFaultsText};
 
 use crate::check::append_count;
 use fault_list::{all_sites, append, classes, write_site};
@@ -43,7 +43,7 @@ fn append_class(
 ///
 /// Want of memory.
 pub fn faults_text(alloc: Global, design: &Design) -> Result<Vec<u8>, NoMemory>
-    ensures { IfOk result (λ text. IsFaultsText (design_of design.now) text.items) }
+    ensures { IfOk result (λ text. IsTheFaultsText (design_of design.now) text.items) }
 {
     let all = all_sites(alloc, design)?;
     let faults = all.as_slice();

@@ -1,14 +1,23 @@
 -- From what each step gives to what the output's making gives.
-use Rattle.std.proofs.Common.{◌≡◌, ℕ, ◌+◌, ◌≤◌, List, [], length, codes, Option, Some, None, Result, Ok, Err, Vec, refl, sym, ap, subst, ◌∙◌, ◌⊎◌, inl, inr, arith}
+use Rattle.std.proofs.Common.{◌≡◌, ◌≢◌, ℕ, ◌+◌, ◌<◌, ◌≤◌, List, [], ◌++◌, length, codes, Option, Some, None, Result, Ok, Err, Vec, refl, sym, ap, subst, ◌∙◌, ◌⊎◌, inl, inr, arith}
+use Rattle.std.proofs.lemmas.Option.{none-some, same_Some}
 use Rattle.std.specs.Result.{IsErrAnd}
 use Rattle.std.specs.declared.alloc.Global.{Global}
 use Rattle.vf_base.specs.Counts.{raised, Rose}
 use Rattle.vf_base.specs.Shelf.{Files}
+use Rattle.vf_base.specs.Sink.{Gains}
+use Rattle.v_scan.specs.Texts as tokens
+use Rattle.v_scan.specs.declared.fault.ScanFault.{ScanFault}
+use Rattle.v_scan.specs.declared.fault.ScanFault.TheVariants as scans
 use Rattle.v_design.specs.Designs.{FlatDesign}
 use Rattle.elaborate.specs.declared.design_fault.DesignFault.{DesignFault}
 use Rattle.elaborate.specs.declared.design_fault.DesignFault.TheVariants as designs
+use Rattle.elaborate.specs.ElabFaults as elab_faults
 use Rattle.elaborate.specs.Meanings as texts
-use Rattle.design_report.specs.Texts.{check_text, IsFaultsText}
+use Rattle.design_report.specs.Texts.{check_text, IsTheFaultsText}
+use Rattle.plan_read.specs.Spelled as plans
+use Rattle.plan_read.specs.declared.fault.PlanFault.{PlanFault}
+use Rattle.plan_read.specs.declared.fault.PlanFault.TheVariants as plan_faults
 use Rattle.plan_report.specs.declared.fault.ReportFault.{ReportFault}
 use Rattle.plan_report.specs.declared.fault.ReportFault.TheVariants as reported
 use Rattle.plan_report.specs.Reports as reports
@@ -22,10 +31,10 @@ use Rattle.vf_status.specs.declared.status.Refusal.{Refusal}
 use Rattle.vf_status.specs.declared.status.Refusal.TheVariants as refusals
 use Rattle.vf_status.specs.declared.status.Status.{Status}
 use Rattle.vf_status.specs.declared.status.Status.TheVariants.{Done, Refused, Usage, ReadFault, WriteFault, NoMemory, GoodLoop, TooLong}
-use Rattle.top_call.specs.Answers.{Answer, Outputs, Refuses, Lacks, Exceeds, Loops, status_of, AfterSource, refusal_of, IsAnswer, IsTheAnswer, Stands}
+use Rattle.top_call.specs.Answers.{Answer, Outputs, Refuses, Lacks, Exceeds, Loops, status_of, most_of, IsFile, HoldDesign, AfterSource, refusal_of, by_workers, IsAnswer, IsTheAnswer}
 use Rattle.std.specs.Prelude.{IfSome, IfErr}
-use Rattle.top_call.specs.Outside.{IsOutput, IfTold, ShelfCounts, ReadFailed, ToldLong, PutGives, Keeps, Names, CanEnd, files_for, as_answered, no_memory, no_read, no_put}
-use Rattle.top_call.specs.Making.{IsFile, FileGives, HoldDesign, DesignGives, status_if, design_status, report_status, soak_status, OutputGives}
+use Rattle.top_call.specs.Outside.{IsOutput, IfTold, ShelfCounts, refused_file, IsReason, ComesTo, ReadFailed, ToldLong, PutGives, PutsInFew, Keeps, Names, CanEnd, files_of, files_named, files_for, as_answered, no_memory, no_read, no_put}
+use Rattle.top_call.specs.Making.{FileGives, DesignGives, status_if, design_status, report_status, soak_status, OutputGives}
 use Rattle.top_call.proofs.OneAnswer.{The, source-lacks, source-exceeds, source-refused, plan-lacks, plan-exceeds, plan-tells, check-tells, faults-tell, soak-tells}
 
 -- what is handed on
@@ -51,7 +60,7 @@ file-ends form held name which old new (TooLong file) names h = subst (Names for
 
 pub source-ends : (form : Form) (held : Option Files) (source : Source) (old new : ShelfCounts) (status : Status) → Names form whiches.Design → DesignGives held source old new (Err status) → CanEnd form status
 source-ends form held source old new Done names h = absurd h
-source-ends form held source old new (Refused why) names h = names
+source-ends form held source old new (Refused why) names h = (subst (Names form) (sym h.0) names, h.1)
 source-ends form held source old new Usage names h = absurd h
 source-ends form held source old new (ReadFault file) names h = subst (Names form) (sym h.0) names
 source-ends form held source old new WriteFault names h = absurd h
@@ -59,13 +68,20 @@ source-ends form held source old new NoMemory names h = tt
 source-ends form held source old new (GoodLoop time) names h = absurd h
 source-ends form held source old new (TooLong file) names h = subst (Names form) (sym h.0) names
 
-pub report-ends : (source : Source) (plan : List ℕ) (workers : ℕ) (fault : ReportFault) (status : Status) → status ≡ report_status fault → CanEnd (Grade source plan workers) status
-report-ends source plan workers fault status e = subst (CanEnd (Grade source plan workers)) (sym e) (by fault)
+-- a plan's text that was read isn't too long
+plan-reason : (design : FlatDesign) (text : List ℕ) (fault : PlanFault) → length text ≤ most_of whiches.Plan → plans.Refuses design text fault → fault ≢ plan_faults.NoMemory → IsReason (refusals.Plan fault)
+plan-reason design text fault short refuses other =
+    ((λ e. let long : most_of whiches.Plan < length text = subst (plans.Refuses design text) e refuses in absurd (omega (arith, short, long))), other)
+
+pub report-ends : (source : Source) (plan : List ℕ) (workers : ℕ) (design : FlatDesign) (bytes text : List ℕ) (fault : ReportFault) (status : Status) → length bytes ≤ most_of whiches.Plan → text ≡ bytes →
+    (fault ≡ reported.NoMemory) ⊎ reports.IsTheMeaning Lines design text (Err fault) → status ≡ report_status fault → CanEnd (Grade source plan workers) status
+report-ends source plan workers design bytes text fault status short same is e = subst (CanEnd (Grade source plan workers)) (sym e) (by fault is)
   where
-    by : (f : ReportFault) → CanEnd (Grade source plan workers) (report_status f)
-    by (reported.Plan f) = tt
-    by (reported.GoodLoop time) = tt
-    by reported.NoMemory = tt
+    by : (f : ReportFault) → (f ≡ reported.NoMemory) ⊎ reports.IsTheMeaning Lines design text (Err f) → CanEnd (Grade source plan workers) (report_status f)
+    by (reported.Plan f) (inl none) = absurd (cc)
+    by (reported.Plan f) (inr m) = (tt, plan-reason design text f (subst (λ t. length t ≤ most_of whiches.Plan) (sym same) short) m.means.0 m.means.1)
+    by (reported.GoodLoop time) h = tt
+    by reported.NoMemory h = tt
 
 pub soak-ends : (number size workers : ℕ) (fault : ReportFault) (status : Status) → status ≡ soak_status fault → CanEnd (Soak number size workers) status
 soak-ends number size workers fault status e = subst (CanEnd (Soak number size workers)) (sym e) (by fault)
@@ -77,8 +93,25 @@ soak-ends number size workers fault status e = subst (CanEnd (Soak number size w
 
 -- Designs
 
+-- the reason of a text that was read, so isn't too long, is one of a design
+module _ (text top : List ℕ) (source : Source) (short : length text ≤ most_of whiches.Design) where
+  abbrev OfDesign : Refusal → Type 0
+  OfDesign why = (refused_file why ≡ whiches.Design) × IsReason why
+
+  not-long : (fault : ScanFault) → tokens.IsFault text fault → fault ≢ scans.TooLong
+  not-long fault is e = let long : most_of whiches.Design < length text = subst (tokens.IsFault text) e is in absurd (omega (arith, short, long))
+
+  design-reason : (fault : DesignFault) (why : Refusal) → refusal_of fault ≡ Some why → texts.IsFaultOf text top source.mode fault → OfDesign why
+  design-reason (designs.Scan fault) why e is = let same = same_Some (refusals.Scan fault) why e in subst OfDesign same (refl, (not-long fault is.0, is.1))
+  design-reason (designs.Parse fault) why e is = let same = same_Some (refusals.Parse fault) why e in subst OfDesign same (refl, is.1)
+  design-reason (designs.Elab fault) why e is =
+      let same = same_Some (refusals.Elab fault) why e in
+      subst OfDesign same (refl, λ none. none-some is.refusal (subst (λ f. elab_faults.refusal_of f ≡ Some is.refusal) none is.told))
+  design-reason designs.NoMemory why e is = absurd is
+
 -- what a text without a design gives
-module _ (held : Option Files) (source : Source) (old new : ShelfCounts) (bytes text top : List ℕ) (file : IfTold held (λ files. IsFile files source.design whiches.Design bytes)) (same_text : text ≡ bytes) (same_top : top ≡ source.top) where
+module _ (held : Option Files) (source : Source) (old new : ShelfCounts) (bytes text top : List ℕ) (short : length bytes ≤ most_of whiches.Design)
+    (file : IfTold held (λ files. IsFile files source.design whiches.Design bytes)) (same_text : text ≡ bytes) (same_top : top ≡ source.top) where
   means-here : (meaning : Result FlatDesign DesignFault) → texts.IsTheMeaning text top source.mode meaning → texts.IsTheMeaning bytes source.top source.mode meaning
   means-here meaning is = subst (λ t. texts.IsTheMeaning t source.top source.mode meaning) same_text (subst (λ w. texts.IsTheMeaning text w source.mode meaning) same_top is)
 
@@ -86,11 +119,14 @@ module _ (held : Option Files) (source : Source) (old new : ShelfCounts) (bytes 
   faulty fault (inl e) = subst (λ f. DesignGives held source old new (Err (design_status f))) (sym e) tt
   faulty fault (inr is) = by held file (refusal_of fault) refl
     where
+      its-reason : (why : Refusal) → refusal_of fault ≡ Some why → (refused_file why ≡ whiches.Design) × IsReason why
+      its-reason why e = design-reason text top source (subst (λ t. length t ≤ most_of whiches.Design) (sym same_text) short) fault why e is.means
+
       by : (told : Option Files) → IfTold told (λ files. IsFile files source.design whiches.Design bytes) → (reason : Option Refusal) → refusal_of fault ≡ reason → DesignGives told source old new (Err (status_if reason))
       by None f None e = tt
-      by None f (Some why) e = tt
+      by None f (Some why) e = let r = its-reason why e in (r.0, r.1, tt)
       by (Some files) f None e = tt
-      by (Some files) f (Some why) e = record { bytes = bytes; file = f; fault = fault; meaning = means-here (Err fault) is; told = e }
+      by (Some files) f (Some why) e = let r = its-reason why e in (r.0, r.1, record { bytes = bytes; file = f; fault = fault; meaning = means-here (Err fault) is; told = e })
 
   pub design-faulty : (fault : DesignFault) (status : Status) → (fault ≡ designs.NoMemory) ⊎ texts.IsTheMeaning text top source.mode (Err fault) → status ≡ design_status fault → DesignGives held source old new (Err status)
   design-faulty fault status is told = subst (λ s. DesignGives held source old new (Err s)) (sym told) (faulty fault is)
@@ -105,16 +141,20 @@ module _ (held : Option Files) (source : Source) (old new : ShelfCounts) (bytes 
 -- Where the design isn't read
 
 module _ (form : Form) (source : Source) (next : Files → FlatDesign → Answer → Type 0) (as_form : (files : Files) (answer : Answer) → The (AfterSource source files (next files)) answer → IsTheAnswer form files answer) where
+  due-first : (held : Option Files) → IfTold held (λ files. ComesTo form files whiches.Design)
+  due-first None = tt
+  due-first (Some files) = tt
+
   pub not-read : (held : Option Files) (old new : ShelfCounts) (status : Status) → new.reads ≡ raised old.reads → DesignGives held source old new (Err status) → OutputGives form held old new (Err status)
   not-read held old new Done reads h = absurd h
   not-read None old new (Refused why) reads h = tt
-  not-read (Some files) old new (Refused why) reads h = as_form files (Refuses why) (source-refused source (next files) files why h)
+  not-read (Some files) old new (Refused why) reads h = as_form files (Refuses why) (source-refused source (next files) files why h.2)
   not-read held old new Usage reads h = absurd h
   not-read held old new (ReadFault which) reads (same, inl rose) =
-      subst (λ w. ReadFailed w old new ⊎ ((files : Files) × (held ≡ Some files) × IsTheAnswer form files (Lacks w))) (sym same) (inl (record { faults = rose; reads = reads }))
+      subst (λ w. ReadFailed form held w old new ⊎ ((files : Files) × (held ≡ Some files) × IsTheAnswer form files (Lacks w))) (sym same) (inl (record { faults = rose; reads = reads; due = due-first held }))
   not-read None old new (ReadFault which) reads (same, inr none) = absurd none
   not-read (Some files) old new (ReadFault which) reads (same, inr none) =
-      subst (λ w. ReadFailed w old new ⊎ ((found : Files) × (Some files ≡ Some found) × IsTheAnswer form found (Lacks w))) (sym same)
+      subst (λ w. ReadFailed form (Some files) w old new ⊎ ((found : Files) × (Some files ≡ Some found) × IsTheAnswer form found (Lacks w))) (sym same)
       (inr (files, refl, as_form files (Lacks whiches.Design) (source-lacks source (next files) files none)))
   not-read held old new WriteFault reads h = absurd h
   not-read held old new NoMemory reads h = tt
@@ -131,17 +171,21 @@ module _ (source : Source) (plan : List ℕ) (workers : ℕ) (design : FlatDesig
   rose-from : (before mid after : ℕ) → before ≤ mid → Rose mid after → Rose before after
   rose-from before mid after low rose = omega (arith, low, rose)
 
+  due-plan : (held : Option Files) → IfTold held (λ files. HoldDesign files source design) → IfTold held (λ files. ComesTo (Grade source plan workers) files whiches.Plan)
+  due-plan None d = tt
+  due-plan (Some files) d = (design, d)
+
   pub plan-not-read : (held : Option Files) (old mid new : ShelfCounts) (status : Status) → old.faults ≤ mid.faults → old.long_answers ≤ mid.long_answers → mid.reads ≡ raised old.reads → new.reads ≡ raised mid.reads →
       IfTold held (λ files. HoldDesign files source design) → FileGives held plan whiches.Plan mid new (Err status) → OutputGives (Grade source plan workers) held old new (Err status)
   plan-not-read held old mid new Done faults longs one two d h = absurd h
   plan-not-read held old mid new (Refused why) faults longs one two d h = absurd h
   plan-not-read held old mid new Usage faults longs one two d h = absurd h
   plan-not-read held old mid new (ReadFault which) faults longs one two d (same, inl rose) =
-      subst (λ w. ReadFailed w old new ⊎ ((files : Files) × (held ≡ Some files) × IsTheAnswer (Grade source plan workers) files (Lacks w))) (sym same)
-      (inl (record { faults = rose-from old.faults mid.faults new.faults faults rose; reads = two ∙ ap raised one }))
+      subst (λ w. ReadFailed (Grade source plan workers) held w old new ⊎ ((files : Files) × (held ≡ Some files) × IsTheAnswer (Grade source plan workers) files (Lacks w))) (sym same)
+      (inl (record { faults = rose-from old.faults mid.faults new.faults faults rose; reads = two ∙ ap raised one; due = due-plan held d }))
   plan-not-read None old mid new (ReadFault which) faults longs one two d (same, inr none) = absurd none
   plan-not-read (Some files) old mid new (ReadFault which) faults longs one two d (same, inr none) =
-      subst (λ w. ReadFailed w old new ⊎ ((found : Files) × (Some files ≡ Some found) × IsTheAnswer (Grade source plan workers) found (Lacks w))) (sym same)
+      subst (λ w. ReadFailed (Grade source plan workers) (Some files) w old new ⊎ ((found : Files) × (Some files ≡ Some found) × IsTheAnswer (Grade source plan workers) found (Lacks w))) (sym same)
       (inr (files, refl, plan-lacks source plan workers files design d none))
   plan-not-read held old mid new WriteFault faults longs one two d h = absurd h
   plan-not-read held old mid new NoMemory faults longs one two d h = tt
@@ -172,27 +216,27 @@ module _ (source : Source) (plan : List ℕ) (workers : ℕ) (design : FlatDesig
       (faulty-report held old new bytes fault d f (subst (λ t. (fault ≡ reported.NoMemory) ⊎ reports.IsTheMeaning Lines design t (Err fault)) same is))
 
   made-report : (held : Option Files) (old new : ShelfCounts) (bytes report : List ℕ) → IfTold held (λ files. HoldDesign files source design) → IfTold held (λ files. IsFile files plan whiches.Plan bytes) →
-      reports.IsTheMeaning Lines design bytes (Ok report) → reports.HoldsInEveryOrder Lines design bytes report → IfTold held (λ files. IsTheAnswer (Grade source plan workers) files (Outputs report) × Stands (Grade source plan workers) files report)
+      reports.IsTheMeaning Lines design bytes (Ok report) → reports.HoldsInEveryOrder Lines design bytes report → IfTold held (λ files. IsOutput (Grade source plan workers) files report)
   made-report None old new bytes report d f is holds = tt
-  made-report (Some files) old new bytes report d f is holds = (
-    plan-tells source plan workers files design bytes (Ok report) (Outputs report) d f is refl,
-    record { design_text = d.bytes; design_held = d.file.held; design = design; is_design = d.meaning.means; plan_text = bytes; plan_held = f.held; holds = holds },
-  )
+  made-report (Some files) old new bytes report d f is holds = record {
+    answers = plan-tells source plan workers files design bytes (Ok report) (Outputs report) d f is refl;
+    every_order = record { design_text = d.bytes; design_held = d.file.held; design = design; is_design = d.meaning.means; plan_text = bytes; plan_held = f.held; holds = holds };
+  }
 
   pub report-made : (held : Option Files) (old new : ShelfCounts) (bytes text report : List ℕ) → IfTold held (λ files. HoldDesign files source design) → IfTold held (λ files. IsFile files plan whiches.Plan bytes) →
-      text ≡ bytes → reports.IsTheMeaning Lines design text (Ok report) → reports.HoldsInEveryOrder Lines design text report → IfTold held (λ files. IsTheAnswer (Grade source plan workers) files (Outputs report) × Stands (Grade source plan workers) files report)
+      text ≡ bytes → reports.IsTheMeaning Lines design text (Ok report) → reports.HoldsInEveryOrder Lines design text report → IfTold held (λ files. IsOutput (Grade source plan workers) files report)
   report-made held old new bytes text report d f same is holds =
       made-report held old new bytes report d f (subst (λ t. reports.IsTheMeaning Lines design t (Ok report)) same is) (subst (λ t. reports.HoldsInEveryOrder Lines design t report) same holds)
 
 pub check-made : (held : Option Files) (source : Source) (design : FlatDesign) (text : List ℕ) → IfTold held (λ files. HoldDesign files source design) → text ≡ check_text design →
-    IfTold held (λ files. IsTheAnswer (Check source) files (Outputs text) × Stands (Check source) files text)
+    IfTold held (λ files. IsOutput (Check source) files text)
 check-made None source design text d e = tt
-check-made (Some files) source design text d e = (check-tells source files design text d e, tt)
+check-made (Some files) source design text d e = record { answers = check-tells source files design text d e; every_order = tt }
 
-pub faults-made : (held : Option Files) (source : Source) (design : FlatDesign) (text : List ℕ) → IfTold held (λ files. HoldDesign files source design) → IsFaultsText design text →
-    IfTold held (λ files. IsTheAnswer (Faults source) files (Outputs text) × Stands (Faults source) files text)
+pub faults-made : (held : Option Files) (source : Source) (design : FlatDesign) (text : List ℕ) → IfTold held (λ files. HoldDesign files source design) → IsTheFaultsText design text →
+    IfTold held (λ files. IsOutput (Faults source) files text)
 faults-made None source design text d e = tt
-faults-made (Some files) source design text d e = (faults-tell source files design text d e, tt)
+faults-made (Some files) source design text d e = record { answers = faults-tell source files design text d e; every_order = tt }
 
 -- A generated design
 
@@ -210,23 +254,23 @@ module _ (number size workers : ℕ) (design : FlatDesign) (is : texts.IsTheMean
       (soak-at fault (subst (λ t. (fault ≡ reported.NoMemory) ⊎ reports.IsTheMeaning Totals design t (Err fault)) same h))
 
   pub soak-made : (text totals : List ℕ) → text ≡ soaks.plan_text size → reports.IsTheMeaning Totals design text (Ok totals) → reports.HoldsInEveryOrder Totals design text totals →
-      IsTheAnswer (Soak number size workers) [] (Outputs totals) × Stands (Soak number size workers) [] totals
-  soak-made text totals same m holds = (
-    soak-tells number size workers [] design (Ok totals) (Outputs totals) is (subst (λ t. reports.IsTheMeaning Totals design t (Ok totals)) same m) refl,
-    record { design = design; is_design = is.means; holds = subst (λ t. reports.HoldsInEveryOrder Totals design t totals) same holds },
-  )
+      IsOutput (Soak number size workers) [] totals
+  soak-made text totals same m holds = record {
+    answers = soak-tells number size workers [] design (Ok totals) (Outputs totals) is (subst (λ t. reports.IsTheMeaning Totals design t (Ok totals)) same m) refl;
+    every_order = record { design = design; is_design = is.means; holds = subst (λ t. reports.HoldsInEveryOrder Totals design t totals) same holds };
+  }
 
 -- The status at last
 
 module _ (form : Form) (held : Option Files) (old new : ShelfCounts) (sink_old sink_new : ℕ) (files : Files) (answer : Answer) (told : held ≡ Some files) (is : IsAnswer form files answer) where
   abbrev Kept : Status → Type 0
-  Kept status = Keeps answer old.faults new.faults sink_old sink_new status
+  Kept status = Keeps form files answer old new sink_old sink_new status
 
   here : (P : Files → Type 0) → IfTold held P → P files
   here P h = subst (λ t. IfTold t P) told h
 
   as-told : (found : Answer) → IsTheAnswer form files found → Kept (status_of found)
-  as-told found h = as_answered (sym (h.only answer is))
+  as-told found h = as_answered (sym (ap status_of (h.only answer is)))
 
   found-files : (found : Files) → held ≡ Some found → found ≡ files
   found-files found e = let same : Some found ≡ Some files = sym e ∙ told in cc
@@ -235,7 +279,7 @@ module _ (form : Form) (held : Option Files) (old new : ShelfCounts) (sink_old s
   keeps-status Done h = absurd h
   keeps-status (Refused why) h = as-told (Refuses why) (here (λ fs. IsTheAnswer form fs (Refuses why)) h)
   keeps-status Usage h = absurd h
-  keeps-status (ReadFault which) (inl failed) = no_read which refl failed.faults
+  keeps-status (ReadFault which) (inl failed) = no_read which refl (subst (λ t. ReadFailed form t which old new) told failed)
   keeps-status (ReadFault which) (inr lacks) = as-told (Lacks which) (subst (λ fs. IsTheAnswer form fs (Lacks which)) (found-files lacks.0 lacks.1) lacks.2)
   keeps-status WriteFault h = absurd h
   keeps-status NoMemory h = no_memory refl
@@ -243,8 +287,19 @@ module _ (form : Form) (held : Option Files) (old new : ShelfCounts) (sink_old s
   keeps-status (TooLong which) (inl long) = let none : None ≡ Some files = sym long.untold ∙ told in absurd (cc)
   keeps-status (TooLong which) (inr long) = as-told (Exceeds which) (subst (λ fs. IsTheAnswer form fs (Exceeds which)) (found-files long.0 long.1) long.2)
 
-  pub output-status : (text : List ℕ) → IfTold held (λ fs. IsTheAnswer form fs (Outputs text) × Stands form fs text) → status_of answer ≡ Done
-  output-status text h = (here (λ fs. IsTheAnswer form fs (Outputs text) × Stands form fs text) h).0.only answer is
+  pub output-status : (text : List ℕ) → IfTold held (λ fs. IsOutput form fs text) → status_of answer ≡ Done
+  output-status text h = ap status_of ((here (λ fs. IsOutput form fs text) h).answers.only answer is)
+
+-- The output for each number of workers
+
+any-workers : (form : Form) (workers : ℕ) (files : Files) (answer : Answer) → IsAnswer (by_workers workers form) files answer → IsAnswer form files answer
+any-workers (Grade source plan count) workers files answer is = is
+any-workers (Check source) workers files answer is = is
+any-workers (Faults source) workers files answer is = is
+any-workers (Soak number size count) workers files answer is = is
+
+one-output : (form : Form) (files : Files) (text : List ℕ) → IsOutput form files text → (workers : ℕ) (other : List ℕ) → IsAnswer (by_workers workers form) files (Outputs other) → other ≡ text
+one-output form files text m workers other is = let same : Outputs other ≡ Outputs text = m.answers.only (Outputs other) (any-workers form workers files (Outputs other) is) in cc
 
 -- The call at its end
 
@@ -259,19 +314,20 @@ module _ (asked : Option Form) (form : Form) (is_form : Some form ≡ asked) (he
   as-told-for other files e told = subst (λ f. files_for f held ≡ Some files) (same-form other e) told
 
   pub keeps-at-err : (sink_old sink_new : ℕ) (status : Status) → OutputGives form (files_for form held) old new (Err status) → (other : Form) (files : Files) (answer : Answer) → asked ≡ Some other → files_for other held ≡ Some files →
-      IsAnswer other files answer → Keeps answer old.faults new.faults sink_old sink_new status
+      IsAnswer other files answer → Keeps other files answer old new sink_old sink_new status
   keeps-at-err sink_old sink_new status h other files answer e told is =
-      keeps-status form (files_for form held) old new sink_old sink_new files answer (as-told-for other files e told) (as-asked other files answer e is) status h
+      subst (λ f. Keeps f files answer old new sink_old sink_new status) (sym (same-form other e))
+      (keeps-status form (files_for form held) old new sink_old sink_new files answer (as-told-for other files e told) (as-asked other files answer e is) status h)
 
-  pub keeps-at-end : (text : List ℕ) → IfTold (files_for form held) (λ files. IsTheAnswer form files (Outputs text) × Stands form files text) → (sink_held sink_after : Option (List ℕ)) (before after : ℕ) (status : Status) →
+  pub keeps-at-end : (text : List ℕ) → IfTold (files_for form held) (λ files. IsOutput form files text) → (sink_held sink_after : Option (List ℕ)) (before after : ℕ) (status : Status) →
       PutGives sink_held text sink_after before after status → (other : Form) (files : Files) (answer : Answer) → asked ≡ Some other → files_for other held ≡ Some files → IsAnswer other files answer →
-      Keeps answer old.faults new.faults before after status
+      Keeps other files answer old new before after status
   keeps-at-end text made sink_held sink_after before after status h other files answer e told is = by status h
     where
       done : status_of answer ≡ Done
       done = output-status form (files_for form held) old new before after files answer (as-told-for other files e told) (as-asked other files answer e is) text made
 
-      by : (s : Status) → PutGives sink_held text sink_after before after s → Keeps answer old.faults new.faults before after s
+      by : (s : Status) → PutGives sink_held text sink_after before after s → Keeps other files answer old new before after s
       by Done p = as_answered (sym done)
       by (Refused why) p = absurd p
       by Usage p = absurd p
@@ -281,22 +337,34 @@ module _ (asked : Option Form) (form : Form) (is_form : Some form ≡ asked) (he
       by (GoodLoop time) p = absurd p
       by (TooLong which) p = absurd p
 
-  -- How often the sink is put to
+  -- What a sink gained is the one output
 
-  abbrev pub FewPuts : Option Form → ℕ → ℕ → Type 0
-  FewPuts found before after = IfSome found (λ (f : Form). IfTold (files_for f held) (λ files. (after ≡ before) ⊎ ((text : List ℕ) × IsOutput f files text × (after ≤ before + length text))))
+  abbrev pub SameBytes : Option Form → Option (List ℕ) → Option (List ℕ) → Type 0
+  SameBytes found before after = IfSome found (λ (f : Form). IfTold (files_for f held) (λ files. IfTold before (λ had. (workers : ℕ) (other : List ℕ) → IsAnswer (by_workers workers f) files (Outputs other) → after ≡ Some (had ++ other))))
 
-  pub puts-at-err : (before : ℕ) → FewPuts asked before before
-  puts-at-err before = subst (λ o. FewPuts o before before) is_form (by (files_for form held))
+  pub same-at-end : (text : List ℕ) → IfTold (files_for form held) (λ files. IsOutput form files text) → (before after : Option (List ℕ)) (faults_before faults_after : ℕ) (status : Status) →
+      PutGives before text after faults_before faults_after status → status ≡ Done → SameBytes asked before after
+  same-at-end text made before after faults_before faults_after status put done =
+      subst (λ o. SameBytes o before after) is_form (by (files_for form held) made before (subst (PutGives before text after faults_before faults_after) done put))
     where
-      by : (found : Option Files) → IfTold found (λ files. (before ≡ before) ⊎ ((text : List ℕ) × IsOutput form files text × (before ≤ before + length text)))
-      by None = tt
-      by (Some files) = inl refl
+      by : (found : Option Files) → IfTold found (λ files. IsOutput form files text) → (told : Option (List ℕ)) → Gains told text after →
+          IfTold found (λ files. IfTold told (λ had. (workers : ℕ) (other : List ℕ) → IsAnswer (by_workers workers form) files (Outputs other) → after ≡ Some (had ++ other)))
+      by None m told gained = tt
+      by (Some files) m None gained = tt
+      by (Some files) m (Some had) gained = λ workers other is. gained ∙ ap (λ t. Some (had ++ t)) (sym (one-output form files text m workers other is))
 
-  pub puts-at-end : (text : List ℕ) → IfTold (files_for form held) (λ files. IsTheAnswer form files (Outputs text) × Stands form files text) → (before after : ℕ) → after ≤ before + length text → FewPuts asked before after
-  puts-at-end text made before after few = subst (λ o. FewPuts o before after) is_form (by (files_for form held) made)
-    where
-      by : (found : Option Files) → IfTold found (λ files. IsTheAnswer form files (Outputs text) × Stands form files text) →
-          IfTold found (λ files. (after ≡ before) ⊎ ((t : List ℕ) × IsOutput form files t × (after ≤ before + length t)))
-      by None m = tt
-      by (Some files) m = inr (text, record { answers = m.0.is; every_order = m.1 }, few)
+  -- How often files are read and the sink is put to
+
+  pub reads-at-end : (before after : ℕ) → (before ≤ after) × (after ≤ before + files_of form) → (before ≤ after) × (after ≤ before + files_named asked)
+  reads-at-end before after h = subst (λ o. (before ≤ after) × (after ≤ before + files_named o)) is_form h
+
+  abbrev pub FewPuts : Option Form → Option (List ℕ) → Option (List ℕ) → ℕ → ℕ → Type 0
+  FewPuts found told_before told_after before after =
+      IfSome found (λ (f : Form). (after ≡ before) ⊎ ((text : List ℕ) × IfTold (files_for f held) (λ files. IsOutput f files text) × PutsInFew told_before text told_after before after))
+
+  pub puts-at-err : (told_before told_after : Option (List ℕ)) (before : ℕ) → FewPuts asked told_before told_after before before
+  puts-at-err told_before told_after before = subst (λ o. FewPuts o told_before told_after before before) is_form (inl refl)
+
+  pub puts-at-end : (text : List ℕ) → IfTold (files_for form held) (λ files. IsOutput form files text) → (told_before told_after : Option (List ℕ)) (before after : ℕ) →
+      PutsInFew told_before text told_after before after → FewPuts asked told_before told_after before after
+  puts-at-end text made told_before told_after before after few = subst (λ o. FewPuts o told_before told_after before after) is_form (inr (text, made, few))

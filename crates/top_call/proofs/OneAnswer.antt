@@ -4,7 +4,7 @@ use Rattle.vf_base.specs.Shelf.{Files, content_of}
 use Rattle.v_design.specs.Designs.{FlatDesign}
 use Rattle.elaborate.specs.declared.design_fault.DesignFault.{DesignFault}
 use Rattle.elaborate.specs.Meanings as texts
-use Rattle.design_report.specs.Texts.{check_text, IsFaultsText}
+use Rattle.design_report.specs.Texts.{check_text, IsFaultsText, IsTheFaultsText}
 use Rattle.plan_report.specs.declared.fault.ReportFault.{ReportFault}
 use Rattle.plan_report.specs.declared.fault.ReportFault.TheVariants as reported
 use Rattle.plan_report.specs.Reports as reports
@@ -15,12 +15,12 @@ use Rattle.vf_words.specs.Words.{Source, Grade, Check, Faults, Soak}
 use Rattle.vf_status.specs.declared.status.Which.{Which}
 use Rattle.vf_status.specs.declared.status.Which.TheVariants as whiches
 use Rattle.vf_status.specs.declared.status.Refusal.{Refusal}
-use Rattle.top_call.specs.Answers.{Answer, Outputs, Refuses, Lacks, Exceeds, status_of, most_of, AfterFile, refusal_of, IsRefusal, GoesOn, AfterDesign, AfterSource, IsReported, AfterPlan, IsCounted, IsSoaked, IsTheAnswer}
-use Rattle.top_call.specs.Making.{IsFile, IsLongFile, HoldDesign, HoldRefused}
+use Rattle.top_call.specs.Answers.{Answer, Outputs, Refuses, Lacks, Exceeds, most_of, IsFile, HoldDesign, AfterFile, refusal_of, IsRefusal, GoesOn, AfterDesign, AfterSource, IsReported, AfterPlan, IsCounted, IsSoaked, IsTheAnswer}
+use Rattle.top_call.specs.Making.{IsLongFile, HoldRefused}
 
--- an answer, and the only status of one
+-- an answer, and the only one
 abbrev pub The : (Answer → Type 0) → Answer → Type 0
-The P answer = P answer × ((other : Answer) → P other → status_of other ≡ status_of answer)
+The P answer = P answer × ((other : Answer) → P other → other ≡ answer)
 
 some-is : (one other : List ℕ) → Some one ≡ Some other → one ≡ other
 some-is one other e = cc
@@ -29,22 +29,22 @@ some-is one other e = cc
 
 module _ (which : Which) (next : List ℕ → Answer → Type 0) where
   pub the-lacks : (content : Option (List ℕ)) → content ≡ None → The (AfterFile which content next) (Lacks which)
-  the-lacks None e = (refl, λ other h. ap status_of h)
+  the-lacks None e = (refl, λ other h. h)
   the-lacks (Some bytes) e = absurd (cc)
 
   pub the-exceeds : (content : Option (List ℕ)) (bytes : List ℕ) → content ≡ Some bytes → most_of which < length bytes → The (AfterFile which content next) (Exceeds which)
   the-exceeds None bytes e long = absurd (cc)
   the-exceeds (Some found) bytes e long = (inl (subst (λ bs. most_of which < length bs) (sym (some-is found bytes e)) long, refl), only)
     where
-      only : (other : Answer) → AfterFile which (Some found) next other → status_of other ≡ status_of (Exceeds which)
-      only other (inl h) = ap status_of h.1
+      only : (other : Answer) → AfterFile which (Some found) next other → other ≡ Exceeds which
+      only other (inl h) = h.1
       only other (inr h) = let same = ap length (some-is found bytes e) in absurd (omega (arith, h.0, long, same))
 
   pub the-file : (content : Option (List ℕ)) (bytes : List ℕ) (answer : Answer) → content ≡ Some bytes → length bytes ≤ most_of which → The (next bytes) answer → The (AfterFile which content next) answer
   the-file None bytes answer e short t = absurd (cc)
   the-file (Some found) bytes answer e short t = (inr (subst (λ bs. length bs ≤ most_of which) (sym (some-is found bytes e)) short, subst (λ bs. next bs answer) (sym (some-is found bytes e)) t.0), only)
     where
-      only : (other : Answer) → AfterFile which (Some found) next other → status_of other ≡ status_of answer
+      only : (other : Answer) → AfterFile which (Some found) next other → other ≡ answer
       only other (inl h) = let same = ap length (some-is found bytes e) in absurd (omega (arith, h.0, short, same))
       only other (inr h) = t.1 other (subst (λ bs. next bs other) (some-is found bytes e) h.1)
 
@@ -56,7 +56,7 @@ module _ (source : Source) (next : FlatDesign → Answer → Type 0) where
 
   refused : (reason : Option Refusal) (why : Refusal) → reason ≡ Some why → The (IsRefusal reason) (Refuses why)
   refused None why e = absurd (cc)
-  refused (Some found) why e = let same : found ≡ why = cc in (ap Refuses (sym same), λ other h. ap status_of (h ∙ ap Refuses same))
+  refused (Some found) why e = let same : found ≡ why = cc in (ap Refuses (sym same), λ other h. h ∙ ap Refuses same)
 
   pub source-lacks : (files : Files) → content_of files source.design ≡ None → The (AfterSource source files next) (Lacks whiches.Design)
   source-lacks files e = the-lacks whiches.Design (AfterDesign source next) (content_of files source.design) e
@@ -75,10 +75,10 @@ module _ (source : Source) (next : FlatDesign → Answer → Type 0) where
 
 -- Plans
 
-reported-one : (meaning : Result (List ℕ) ReportFault) (one other : Answer) → IsReported meaning one → IsReported meaning other → status_of other ≡ status_of one
-reported-one (Ok report) one other h d = ap status_of (d ∙ sym h)
-reported-one (Err (reported.Plan fault)) one other h d = ap status_of (d ∙ sym h)
-reported-one (Err (reported.GoodLoop time)) one other h d = ap status_of (d ∙ sym h)
+reported-one : (meaning : Result (List ℕ) ReportFault) (one other : Answer) → IsReported meaning one → IsReported meaning other → other ≡ one
+reported-one (Ok report) one other h d = d ∙ sym h
+reported-one (Err (reported.Plan fault)) one other h d = d ∙ sym h
+reported-one (Err (reported.GoodLoop time)) one other h d = d ∙ sym h
 reported-one (Err reported.NoMemory) one other h d = absurd h
 
 pub the-plan : (design : FlatDesign) (bytes : List ℕ) (meaning : Result (List ℕ) ReportFault) (answer : Answer) → reports.IsTheMeaning Lines design bytes meaning → IsReported meaning answer → The (AfterPlan design bytes) answer
@@ -122,17 +122,17 @@ module _ (source : Source) (files : Files) where
   faults-form answer t = record { is = t.0; only = t.1 }
 
   pub check-tells : (design : FlatDesign) (text : List ℕ) → HoldDesign files source design → text ≡ check_text design → IsTheAnswer (Check source) files (Outputs text)
-  check-tells design text h e = check-form (Outputs text) (source-design source check_next files design (Outputs text) h (ap Outputs e, λ other o. ap status_of o))
+  check-tells design text h e = check-form (Outputs text) (source-design source check_next files design (Outputs text) h (ap Outputs e, λ other o. o ∙ ap Outputs (sym e)))
 
-  pub faults-tell : (design : FlatDesign) (text : List ℕ) → HoldDesign files source design → IsFaultsText design text → IsTheAnswer (Faults source) files (Outputs text)
-  faults-tell design text h is = faults-form (Outputs text) (source-design source faults_next files design (Outputs text) h ((text, is, refl), λ other o. ap status_of o.2))
+  pub faults-tell : (design : FlatDesign) (text : List ℕ) → HoldDesign files source design → IsTheFaultsText design text → IsTheAnswer (Faults source) files (Outputs text)
+  faults-tell design text h is = faults-form (Outputs text) (source-design source faults_next files design (Outputs text) h ((text, is.is, refl), λ other o. o.2 ∙ ap Outputs (is.only o.0 o.1)))
 
 -- Generated designs
 
-counted-one : (meaning : Result (List ℕ) ReportFault) (one other : Answer) → IsCounted meaning one → IsCounted meaning other → status_of other ≡ status_of one
-counted-one (Ok totals) one other h d = ap status_of (d ∙ sym h)
+counted-one : (meaning : Result (List ℕ) ReportFault) (one other : Answer) → IsCounted meaning one → IsCounted meaning other → other ≡ one
+counted-one (Ok totals) one other h d = d ∙ sym h
 counted-one (Err (reported.Plan fault)) one other h d = absurd h
-counted-one (Err (reported.GoodLoop time)) one other h d = ap status_of (d ∙ sym h)
+counted-one (Err (reported.GoodLoop time)) one other h d = d ∙ sym h
 counted-one (Err reported.NoMemory) one other h d = absurd h
 
 abbrev design_or : FlatDesign → Result FlatDesign DesignFault → FlatDesign
@@ -148,7 +148,7 @@ soak-tells number size workers files design meaning answer d m told =
     same-design : (other : FlatDesign) → texts.IsDesignOf (soaks.design_text number size) (codes "top") Usual other → other ≡ design
     same-design other is = ap (design_or design) (d.only (Ok other) is)
 
-    only : (other : Answer) → IsSoaked number size other → status_of other ≡ status_of answer
+    only : (other : Answer) → IsSoaked number size other → other ≡ answer
     only other h =
         let means = subst (λ x. reports.Means Totals x (soaks.plan_text size) h.meaning) (same-design h.design h.is_design) h.means in
         counted-one meaning answer other told (subst (λ x. IsCounted x other) (m.only h.meaning means) h.counted)

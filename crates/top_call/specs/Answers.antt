@@ -41,6 +41,19 @@ abbrev pub most_of : Which → ℕ
 most_of whiches.Design = 1048576
 most_of whiches.Plan = 262144
 
+-- What the files hold
+
+-- a file of this name that isn't too long
+pub record IsFile (files : Files) (name : List ℕ) (which : Which) (bytes : List ℕ) : Type 0 where
+  pub held : content_of files name ≡ Some bytes
+  pub short : length bytes ≤ most_of which
+
+-- a text that says the design, and nothing else
+pub record HoldDesign (files : Files) (source : Source) (design : FlatDesign) : Type 0 where
+  pub bytes : List ℕ
+  pub file : IsFile files source.design whiches.Design bytes
+  pub meaning : texts.IsTheMeaning bytes source.top source.mode (Ok design)
+
 -- Step by step: what comes first decides
 
 -- a file is read: it isn't there, or it is too long, or its bytes decide
@@ -100,16 +113,23 @@ pub record IsSoaked (number size : ℕ) (answer : Answer) : Type 0 where
 
 -- The answer to each form. No number of workers is in it, and `soak` reads no file
 
+-- the form by so many workers
+abbrev pub by_workers : ℕ → Form → Form
+by_workers count (Grade source plan workers) = Grade source plan count
+by_workers count (Check source) = Check source
+by_workers count (Faults source) = Faults source
+by_workers count (Soak number size workers) = Soak number size count
+
 abbrev pub IsAnswer : Form → Files → Answer → Type 0
 IsAnswer (Grade source plan workers) files answer = AfterSource source files (λ design. AfterFile whiches.Plan (content_of files plan) (AfterPlan design)) answer
 IsAnswer (Check source) files answer = AfterSource source files (λ design answer. answer ≡ Outputs (check_text design)) answer
 IsAnswer (Faults source) files answer = AfterSource source files (λ design answer. (text : List ℕ) × IsFaultsText design text × (answer ≡ Outputs text)) answer
 IsAnswer (Soak number size workers) files answer = IsSoaked number size answer
 
--- this is the answer, and every other one has its status
+-- this is the answer, and there is no other
 pub record IsTheAnswer (form : Form) (files : Files) (answer : Answer) : Type 0 where
   pub is : IsAnswer form files answer
-  pub only : (other : Answer) → IsAnswer form files other → status_of other ≡ status_of answer
+  pub only : (other : Answer) → IsAnswer form files other → other ≡ answer
 
 -- What the lines of a report say
 

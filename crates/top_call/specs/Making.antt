@@ -17,17 +17,12 @@ use Rattle.vf_status.specs.declared.status.Refusal.{Refusal}
 use Rattle.vf_status.specs.declared.status.Refusal.TheVariants as refusals
 use Rattle.vf_status.specs.declared.status.Status.{Status}
 use Rattle.vf_status.specs.declared.status.Status.TheVariants.{Done, Refused, Usage, ReadFault, WriteFault, NoMemory, GoodLoop, TooLong}
-use Rattle.top_call.specs.Answers.{Outputs, Refuses, Lacks, Exceeds, Loops, refusal_of, most_of, IsTheAnswer, Stands}
-use Rattle.top_call.specs.Outside.{IfTold, ShelfCounts, ReadFailed, ToldLong}
+use Rattle.top_call.specs.Answers.{Refuses, Lacks, Exceeds, Loops, refusal_of, most_of, IsFile, HoldDesign, IsTheAnswer}
+use Rattle.top_call.specs.Outside.{IfTold, ShelfCounts, IsOutput, ReadFailed, ToldLong, refused_file, IsReason}
 
 -- Files
 
--- the files hold a file of this name that isn't too long
-pub record IsFile (files : Files) (name : List ℕ) (which : Which) (bytes : List ℕ) : Type 0 where
-  pub held : content_of files name ≡ Some bytes
-  pub short : length bytes ≤ most_of which
-
--- they hold one that is
+-- the files hold a file of this name that is too long
 pub record IsLongFile (files : Files) (name : List ℕ) (which : Which) : Type 0 where
   pub bytes : List ℕ
   pub held : content_of files name ≡ Some bytes
@@ -44,7 +39,7 @@ NoFile (Some files) name = content_of files name ≡ None
 
 -- what reading one file of the form answers
 abbrev pub FileGives : Option Files → List ℕ → Which → ShelfCounts → ShelfCounts → Result (Vec ℕ Global) Status → Type 0
-FileGives held name which old new (Ok bytes) = IfTold held (λ files. IsFile files name which bytes.items)
+FileGives held name which old new (Ok bytes) = (length bytes.items ≤ most_of which) × IfTold held (λ files. IsFile files name which bytes.items)
 FileGives held name which old new (Err Done) = ⊥
 FileGives held name which old new (Err (Refused why)) = ⊥
 FileGives held name which old new (Err Usage) = ⊥
@@ -55,12 +50,6 @@ FileGives held name which old new (Err (GoodLoop time)) = ⊥
 FileGives held name which old new (Err (TooLong file)) = (file ≡ which) × LongFile held name which old.long_answers new.long_answers
 
 -- Designs
-
--- the files hold a text that says the design, and nothing else
-pub record HoldDesign (files : Files) (source : Source) (design : FlatDesign) : Type 0 where
-  pub bytes : List ℕ
-  pub file : IsFile files source.design whiches.Design bytes
-  pub meaning : texts.IsTheMeaning bytes source.top source.mode (Ok design)
 
 -- the files hold a text that is refused
 pub record HoldRefused (files : Files) (source : Source) (why : Refusal) : Type 0 where
@@ -82,7 +71,7 @@ design_status fault = status_if (refusal_of fault)
 abbrev pub DesignGives : Option Files → Source → ShelfCounts → ShelfCounts → Result Design Status → Type 0
 DesignGives held source old new (Ok design) = IfTold held (λ files. HoldDesign files source (design_of design))
 DesignGives held source old new (Err Done) = ⊥
-DesignGives held source old new (Err (Refused why)) = IfTold held (λ files. HoldRefused files source why)
+DesignGives held source old new (Err (Refused why)) = (refused_file why ≡ whiches.Design) × IsReason why × IfTold held (λ files. HoldRefused files source why)
 DesignGives held source old new (Err Usage) = ⊥
 DesignGives held source old new (Err (ReadFault file)) = (file ≡ whiches.Design) × (Rose old.faults new.faults ⊎ NoFile held source.design)
 DesignGives held source old new (Err WriteFault) = ⊥
@@ -106,11 +95,11 @@ soak_status reported.NoMemory = NoMemory
 
 -- what making the output of a form answers, over the files that are told for it and by the shelf's counts
 abbrev pub OutputGives : Form → Option Files → ShelfCounts → ShelfCounts → Result (Vec ℕ Global) Status → Type 0
-OutputGives form held old new (Ok text) = IfTold held (λ files. IsTheAnswer form files (Outputs text.items) × Stands form files text.items)
+OutputGives form held old new (Ok text) = IfTold held (λ files. IsOutput form files text.items)
 OutputGives form held old new (Err Done) = ⊥
 OutputGives form held old new (Err (Refused why)) = IfTold held (λ files. IsTheAnswer form files (Refuses why))
 OutputGives form held old new (Err Usage) = ⊥
-OutputGives form held old new (Err (ReadFault which)) = ReadFailed which old new ⊎ ((files : Files) × (held ≡ Some files) × IsTheAnswer form files (Lacks which))
+OutputGives form held old new (Err (ReadFault which)) = ReadFailed form held which old new ⊎ ((files : Files) × (held ≡ Some files) × IsTheAnswer form files (Lacks which))
 OutputGives form held old new (Err WriteFault) = ⊥
 OutputGives form held old new (Err NoMemory) = Unit {0}
 OutputGives form held old new (Err (GoodLoop time)) = IfTold held (λ files. IsTheAnswer form files (Loops time))

@@ -1,14 +1,22 @@
 -- What is said of the outside (nothing of the language).
-use Rattle.std.specs.Prelude.{◌≡◌, ℕ, ◌<◌, List, [], length, take, Option, Some, None}
+use Rattle.std.specs.Prelude.{◌≡◌, ◌≢◌, ℕ, ◌+◌, ◌<◌, ◌≤◌, List, [], length, take, Option, Some, None}
 use Rattle.vf_base.specs.Counts.{raised, Rose}
 use Rattle.vf_base.specs.Shelf.{Files}
 use Rattle.vf_base.specs.Sink.{Gains}
+use Rattle.vf_base.specs.declared.shelf.Shelf.{Ghosts}
+use Rattle.v_scan.specs.declared.fault.ScanFault.TheVariants as scans
+use Rattle.v_parse.specs.declared.fault.ParseFault.TheVariants as parses
+use Rattle.v_design.specs.Designs.{FlatDesign}
+use Rattle.elaborate.specs.declared.fault.ElabFault.TheVariants as elabs
+use Rattle.plan_read.specs.declared.fault.PlanFault.TheVariants as plans
 use Rattle.vf_words.specs.Words.{Form, Grade, Check, Faults, Soak}
 use Rattle.vf_status.specs.declared.status.Which.{Which}
 use Rattle.vf_status.specs.declared.status.Which.TheVariants as whiches
+use Rattle.vf_status.specs.declared.status.Refusal.{Refusal}
+use Rattle.vf_status.specs.declared.status.Refusal.TheVariants as refusals
 use Rattle.vf_status.specs.declared.status.Status.{Status}
 use Rattle.vf_status.specs.declared.status.Status.TheVariants.{Done, Refused, Usage, ReadFault, WriteFault, NoMemory, GoodLoop, TooLong}
-use Rattle.top_call.specs.Answers.{Answer, Outputs, status_of, IsAnswer, Stands}
+use Rattle.top_call.specs.Answers.{Answer, Outputs, status_of, HoldDesign, IsAnswer, IsTheAnswer, Stands}
 
 -- a fact about what is told, where it is told
 abbrev pub IfTold : {X : Type 0} → Option X → (X → Type 0) → Type 0
@@ -21,6 +29,9 @@ pub record ShelfCounts : Type 0 where
   pub reads : ℕ
   pub long_answers : ℕ
 
+abbrev pub counts_of : {S : Type 0} → Ghosts S → S → ShelfCounts
+counts_of told shelf = record { faults = told.faults shelf; reads = told.reads shelf; long_answers = told.long_answers shelf }
+
 -- the count of reads after the file of the form was read
 abbrev pub reads_to : Which → ℕ → ℕ
 reads_to whiches.Design reads = raised reads
@@ -32,6 +43,11 @@ files_of (Grade source plan workers) = 2
 files_of (Check source) = 1
 files_of (Faults source) = 1
 files_of (Soak number size workers) = 0
+
+-- how many files the words name, which may be of no form
+abbrev pub files_named : Option Form → ℕ
+files_named None = 0
+files_named (Some form) = files_of form
 
 -- the files over which a form is answered, where they are told: `soak` reads none, so it is answered over none whatever is told
 abbrev pub files_for : Form → Option Files → Option Files
@@ -56,10 +72,25 @@ RunsGood (Check source) = ⊥
 RunsGood (Faults source) = ⊥
 RunsGood (Soak number size workers) = Unit {0}
 
--- the statuses with which a form can end: a file's only where it names that file, a refusal only where it names a design, a loop only where it runs the good machine
+-- the file whose text is refused
+abbrev pub refused_file : Refusal → Which
+refused_file (refusals.Scan fault) = whiches.Design
+refused_file (refusals.Parse fault) = whiches.Design
+refused_file (refusals.Elab fault) = whiches.Design
+refused_file (refusals.Plan fault) = whiches.Plan
+
+-- the reason is one of the text: a length and want of memory have statuses of their own
+abbrev pub IsReason : Refusal → Type 0
+IsReason (refusals.Scan fault) = (fault ≢ scans.TooLong) × (fault ≢ scans.NoMemory)
+IsReason (refusals.Parse fault) = fault ≢ parses.NoMemory
+IsReason (refusals.Elab fault) = fault ≢ elabs.NoMemory
+IsReason (refusals.Plan fault) = (fault ≢ plans.TooLong) × (fault ≢ plans.NoMemory)
+
+-- the statuses with which a form can end: a file's only where it names that file, a refusal only for a reason of a text that it names, a loop only where it runs
+-- the good machine
 abbrev pub CanEnd : Form → Status → Type 0
 CanEnd form Done = Unit {0}
-CanEnd form (Refused why) = Names form whiches.Design
+CanEnd form (Refused why) = Names form (refused_file why) × IsReason why
 CanEnd form Usage = ⊥
 CanEnd form (ReadFault which) = Names form which
 CanEnd form WriteFault = Unit {0}
@@ -67,10 +98,23 @@ CanEnd form NoMemory = Unit {0}
 CanEnd form (GoodLoop time) = RunsGood form
 CanEnd form (TooLong which) = Names form which
 
--- the shelf's fault count rose, by the file's place in the form
-pub record ReadFailed (which : Which) (old new : ShelfCounts) : Type 0 where
+-- the files hold the design that the form names, and its text says one
+abbrev pub HoldItsDesign : Form → Files → Type 0
+HoldItsDesign (Grade source plan workers) files = (design : FlatDesign) × HoldDesign files source design
+HoldItsDesign (Check source) files = (design : FlatDesign) × HoldDesign files source design
+HoldItsDesign (Faults source) files = (design : FlatDesign) × HoldDesign files source design
+HoldItsDesign (Soak number size workers) files = ⊥
+
+-- nothing decides before the file of this place is read: the design comes first, and the plan where the design is there and is read
+abbrev pub ComesTo : Form → Files → Which → Type 0
+ComesTo form files whiches.Design = Unit {0}
+ComesTo form files whiches.Plan = HoldItsDesign form files
+
+-- the shelf's fault count rose at the read of the file of this place, and nothing had decided before
+pub record ReadFailed (form : Form) (held : Option Files) (which : Which) (old new : ShelfCounts) : Type 0 where
   pub faults : Rose old.faults new.faults
   pub reads : new.reads ≡ reads_to which old.reads
+  pub due : IfTold held (λ files. ComesTo form files which)
 
 -- the shelf tells nothing, and answered that the file of this place is too long
 pub record ToldLong (held : Option Files) (which : Which) (old new : ShelfCounts) : Type 0 where
@@ -83,14 +127,22 @@ abbrev pub Answers : Option Form → Option Files → Answer → Type 0
 Answers None held answer = ⊥
 Answers (Some form) held answer = IfTold (files_for form held) (λ files. IsAnswer form files answer)
 
--- the text is the output of the form over the files, where they are told, and what it says holds in every order
+-- the text is the output of the form over the files, which has no other, and what it says holds in every order
 pub record IsOutput (form : Form) (files : Files) (text : List ℕ) : Type 0 where
-  pub answers : IsAnswer form files (Outputs text)
+  pub answers : IsTheAnswer form files (Outputs text)
   pub every_order : Stands form files text
 
 -- a part of the text from its front was put
 abbrev pub PutsSome : Option (List ℕ) → List ℕ → Option (List ℕ) → Type 0
 PutsSome old text new = (n : ℕ) × (n < length text) × Gains old (take n text) new
+
+-- so many bytes from the front of the text were put, a byte at least by each call but one that failed, and by no more calls than the text has bytes
+pub record PutsInFew (old : Option (List ℕ)) (text : List ℕ) (new : Option (List ℕ)) (before after : ℕ) : Type 0 where
+  pub taken : ℕ
+  pub within : taken ≤ length text
+  pub gained : Gains old (take taken text) new
+  pub calls : after ≤ before + taken + 1
+  pub few : after ≤ before + length text
 
 -- what putting a text answers
 abbrev pub PutGives : Option (List ℕ) → List ℕ → Option (List ℕ) → ℕ → ℕ → Status → Type 0
@@ -114,9 +166,9 @@ PutsNothing NoMemory = ⊥
 PutsNothing (GoodLoop time) = Unit {0}
 PutsNothing (TooLong which) = Unit {0}
 
--- the status is that of the answer, unless memory is wanting, a read failed, or a put of the output failed
-pub data Keeps (answer : Answer) (shelf_old shelf_new sink_old sink_new : ℕ) (status : Status) : Type 0 where
-  as_answered : status ≡ status_of answer → Keeps answer shelf_old shelf_new sink_old sink_new status
-  no_memory : status ≡ NoMemory → Keeps answer shelf_old shelf_new sink_old sink_new status
-  no_read : (which : Which) → status ≡ ReadFault which → Rose shelf_old shelf_new → Keeps answer shelf_old shelf_new sink_old sink_new status
-  no_put : status ≡ WriteFault → status_of answer ≡ Done → Rose sink_old sink_new → Keeps answer shelf_old shelf_new sink_old sink_new status
+-- the status is that of the answer, unless memory is wanting, a read failed before anything else had decided, or a put of the output failed
+pub data Keeps (form : Form) (files : Files) (answer : Answer) (old new : ShelfCounts) (sink_old sink_new : ℕ) (status : Status) : Type 0 where
+  as_answered : status ≡ status_of answer → Keeps form files answer old new sink_old sink_new status
+  no_memory : status ≡ NoMemory → Keeps form files answer old new sink_old sink_new status
+  no_read : (which : Which) → status ≡ ReadFault which → ReadFailed form (Some files) which old new → Keeps form files answer old new sink_old sink_new status
+  no_put : status ≡ WriteFault → status_of answer ≡ Done → Rose sink_old sink_new → Keeps form files answer old new sink_old sink_new status

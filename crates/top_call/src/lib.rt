@@ -6,6 +6,7 @@
 #![tactic(auto)]
 
 mod counting;
+mod grade;
 mod make;
 mod output;
 mod soak;

@@ -4,6 +4,7 @@ ghost use Rattle.std.specs.Prelude.{◌≡◌, ◌≤◌, IfOk, Some};
 ghost use Rattle.vf_base.specs.Counts.{raised};
 ghost use Rattle.vf_words.specs.Forms.{plain_source};
 ghost use Rattle.top_call.specs.Answers.{most_of};
+ghost use Rattle.top_call.specs.Outside.{counts_of};
 ghost use Rattle.top_call.specs.Making as making;
 
 use elaborate::{DesignFault, read_design};
@@ -30,9 +31,7 @@ pub(crate) fn read_file<S: Shelf>(
     name: &str,
     which: Which,
 ) -> Result<Vec<u8>, Status>
-    ensures gives { making.FileGives (S.held shelf.old) name.now which
-        record { faults = S.faults shelf.old; reads = S.reads shelf.old; long_answers = S.long_answers shelf.old }
-        record { faults = S.faults shelf.new; reads = S.reads shelf.new; long_answers = S.long_answers shelf.new } result }
+    ensures gives { making.FileGives (S.held shelf.old) name.now which (counts_of ⟦<S as Shelf>⟧ shelf.old) (counts_of ⟦<S as Shelf>⟧ shelf.new) result }
     ensures kept { S.held shelf.new ≡ S.held shelf.old }
     ensures reads { S.reads shelf.new ≡ raised (S.reads shelf.old) }
     ensures faults { S.faults shelf.old ≤ S.faults shelf.new }
@@ -65,9 +64,7 @@ pub(crate) fn read_source<S: Shelf>(
     shelf: &mut S,
     source: Source<'_>,
 ) -> Result<Design, Status>
-    ensures gives { making.DesignGives (S.held shelf.old) (plain_source source.entry)
-        record { faults = S.faults shelf.old; reads = S.reads shelf.old; long_answers = S.long_answers shelf.old }
-        record { faults = S.faults shelf.new; reads = S.reads shelf.new; long_answers = S.long_answers shelf.new } result }
+    ensures gives { making.DesignGives (S.held shelf.old) (plain_source source.entry) (counts_of ⟦<S as Shelf>⟧ shelf.old) (counts_of ⟦<S as Shelf>⟧ shelf.new) result }
     ensures kept { S.held shelf.new ≡ S.held shelf.old }
     ensures reads { S.reads shelf.new ≡ raised (S.reads shelf.old) }
     ensures faults { S.faults shelf.old ≤ S.faults shelf.new }

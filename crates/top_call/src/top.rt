@@ -7,8 +7,8 @@ ghost use Rattle.vf_status.specs.declared.status.Refusal.{Refusal as Reason};
 ghost use Rattle.vf_status.specs.declared.status.Which.{Which};
 ghost use Rattle.vf_words.specs.Words.{Form as Asked, form_of, bytes_of};
 ghost use Rattle.vf_words.specs.Forms.{plain_form};
-ghost use Rattle.top_call.specs.Answers.{Answer, Outputs, Refuses, Lacks, Exceeds, Loops, IsAnswer};
-ghost use Rattle.top_call.specs.Outside.{IfTold, ReadFailed, ToldLong, Answers, IsOutput, PutsSome, PutsNothing, Keeps, CanEnd, files_of, files_for};
+ghost use Rattle.top_call.specs.Answers.{Answer, Outputs, Refuses, Lacks, Exceeds, Loops, by_workers, IsAnswer};
+ghost use Rattle.top_call.specs.Outside.{IfTold, counts_of, ReadFailed, ToldLong, Answers, IsOutput, PutsSome, PutsInFew, PutsNothing, Keeps, CanEnd, files_named, files_for};
 
 use crate::make::make_output;
 use crate::output::put_all;
@@ -40,10 +40,15 @@ pub fn vfault<R: Threads + Sync, S: Shelf, K: Sink, G: Gate + Sync, L: Ledger + 
     ensures done { result ≡ Status.Done → IfSome (form_of (bytes_of words.now)) (λ form. IfTold (files_for form (S.held shelf.old)) (λ files. IfTold (K.contents sink.old)
         (λ held. (text : List ℕ) × IsOutput form files text × (K.contents sink.new ≡ Some (held ++ text))))) }
 
+    // The bytes are the same for each number of workers: the sink gained whatever is the output of the form over these files by any number of them.
+    ensures same_bytes { result ≡ Status.Done → IfSome (form_of (bytes_of words.now)) (λ form. IfTold (files_for form (S.held shelf.old)) (λ files. IfTold (K.contents sink.old)
+        (λ held. (workers : ℕ) (text : List ℕ) → IsAnswer (by_workers workers form) files (Outputs text) → K.contents sink.new ≡ Some (held ++ text)))) }
+
     // The words are of no form.
     ensures usage { (result ≡ Status.Usage) ↔ (form_of (bytes_of words.now) ≡ None) }
 
-    // The status is one with which the form can end: `soak` is never refused and reads nothing, and the good machine loops only where it runs.
+    // The status is one with which the form can end: `soak` is never refused and reads nothing, a refusal is for a reason of a text that the form names, and the good
+    // machine loops only where it runs.
     ensures of_the_form { IfSome (form_of (bytes_of words.now)) (λ form. CanEnd form result) }
 
     // The design or the plan is refused for this reason.
@@ -52,39 +57,40 @@ pub fn vfault<R: Threads + Sync, S: Shelf, K: Sink, G: Gate + Sync, L: Ledger + 
     // The good machine loops.
     ensures loops { (time : ℕ) → result ≡ Status.GoodLoop time → Answers (form_of (bytes_of words.now)) (S.held shelf.old) (Loops time) }
 
-    // A read failed, or the shelf tells that the file isn't there.
-    ensures read_fault { (which : Which) → result ≡ Status.ReadFault which → ReadFailed which
-        record { faults = S.faults shelf.old; reads = S.reads shelf.old; long_answers = S.long_answers shelf.old }
-        record { faults = S.faults shelf.new; reads = S.reads shelf.new; long_answers = S.long_answers shelf.new }
-        ⊎ IfSome (form_of (bytes_of words.now)) (λ form. (files : Files) × (files_for form (S.held shelf.old) ≡ Some files) × IsAnswer form files (Lacks which)) }
+    // A read failed, for the plan over a design that is there and isn't refused; or the shelf tells that the file isn't there.
+    ensures read_fault { (which : Which) → result ≡ Status.ReadFault which → IfSome (form_of (bytes_of words.now)) (λ form.
+        ReadFailed form (files_for form (S.held shelf.old)) which (counts_of ⟦<S as Shelf>⟧ shelf.old) (counts_of ⟦<S as Shelf>⟧ shelf.new)
+        ⊎ ((files : Files) × (files_for form (S.held shelf.old) ≡ Some files) × IsAnswer form files (Lacks which))) }
 
     // The shelf tells that the file is too long, or it tells nothing and answered so.
-    ensures too_long { (which : Which) → result ≡ Status.TooLong which → IfSome (form_of (bytes_of words.now)) (λ form. ToldLong (files_for form (S.held shelf.old)) which
-        record { faults = S.faults shelf.old; reads = S.reads shelf.old; long_answers = S.long_answers shelf.old }
-        record { faults = S.faults shelf.new; reads = S.reads shelf.new; long_answers = S.long_answers shelf.new }
+    ensures too_long { (which : Which) → result ≡ Status.TooLong which → IfSome (form_of (bytes_of words.now)) (λ form.
+        ToldLong (files_for form (S.held shelf.old)) which (counts_of ⟦<S as Shelf>⟧ shelf.old) (counts_of ⟦<S as Shelf>⟧ shelf.new)
         ⊎ ((files : Files) × (files_for form (S.held shelf.old) ≡ Some files) × IsAnswer form files (Exceeds which))) }
 
     // A put failed after a proper part of the output.
     ensures write_fault { result ≡ Status.WriteFault → Rose (K.faults sink.old) (K.faults sink.new)
-        × IfSome (form_of (bytes_of words.now)) (λ form. IfTold (files_for form (S.held shelf.old)) (λ files. (text : List ℕ) × IsOutput form files text × PutsSome (K.contents sink.old) text (K.contents sink.new))) }
+        × IfSome (form_of (bytes_of words.now)) (λ form. IfTold (files_for form (S.held shelf.old)) (λ files. (text : List ℕ) × IsOutput form files text
+        × PutsSome (K.contents sink.old) text (K.contents sink.new))) }
 
     // Want of memory: nothing was put, or a proper part of the output.
     ensures no_memory { result ≡ Status.NoMemory → (K.contents sink.new ≡ K.contents sink.old)
-        ⊎ IfSome (form_of (bytes_of words.now)) (λ form. IfTold (files_for form (S.held shelf.old)) (λ files. (text : List ℕ) × IsOutput form files text × PutsSome (K.contents sink.old) text (K.contents sink.new))) }
+        ⊎ IfSome (form_of (bytes_of words.now)) (λ form. IfTold (files_for form (S.held shelf.old)) (λ files. (text : List ℕ) × IsOutput form files text
+        × PutsSome (K.contents sink.old) text (K.contents sink.new))) }
 
     // Else nothing was put.
     ensures nothing_put { PutsNothing result → (K.contents sink.new ≡ K.contents sink.old) × (K.puts sink.new ≡ K.puts sink.old) }
 
-    // The status is that of the answer, unless memory is wanting, a read failed, or a put of the output failed.
+    // The status is that of the answer, unless memory is wanting, a read failed before anything else had decided, or a put of the output failed.
     ensures exactly { (form : Asked) (files : Files) (answer : Answer) → form_of (bytes_of words.now) ≡ Some form → files_for form (S.held shelf.old) ≡ Some files → IsAnswer form files answer →
-        Keeps answer (S.faults shelf.old) (S.faults shelf.new) (K.faults sink.old) (K.faults sink.new) result }
+        Keeps form files answer (counts_of ⟦<S as Shelf>⟧ shelf.old) (counts_of ⟦<S as Shelf>⟧ shelf.new) (K.faults sink.old) (K.faults sink.new) result }
 
-    // The sink is put to at most as often as the output has bytes.
-    ensures few_puts { IfSome (form_of (bytes_of words.now)) (λ form. IfTold (files_for form (S.held shelf.old)) (λ files. (K.puts sink.new ≡ K.puts sink.old)
-        ⊎ ((text : List ℕ) × IsOutput form files text × (K.puts sink.new ≤ K.puts sink.old + length text)))) }
+    // The sink is put to at most as often as the text has bytes, and once more at most than it took bytes; where the shelf tells its files, the text is the output.
+    ensures few_puts { IfSome (form_of (bytes_of words.now)) (λ form. (K.puts sink.new ≡ K.puts sink.old)
+        ⊎ ((text : List ℕ) × IfTold (files_for form (S.held shelf.old)) (λ files. IsOutput form files text)
+        × PutsInFew (K.contents sink.old) text (K.contents sink.new) (K.puts sink.old) (K.puts sink.new))) }
 
-    // Each file of the form is read at most once, and `soak` reads none.
-    ensures few_reads { (form : Asked) → form_of (bytes_of words.now) ≡ Some form → S.reads shelf.new ≤ S.reads shelf.old + files_of form }
+    // Each file of the form is read at most once; `soak` reads none, and where the words are of no form nothing is read.
+    ensures few_reads { (S.reads shelf.old ≤ S.reads shelf.new) × (S.reads shelf.new ≤ S.reads shelf.old + files_named (form_of (bytes_of words.now))) }
 {
     let Some(form) = read_words(words) else {
         return Status::Usage;

@@ -2,7 +2,7 @@ use Rattle.v_design.specs.PlainDesigns.{design_of}
 use Rattle.vf_words.specs.Forms.{plain_source}
 use Rattle.vf_words.specs.Words.{Check}
 use Rattle.vf_status.specs.declared.status.Which.TheVariants as whiches
-use Rattle.top_call.specs.Outside.{ShelfCounts}
+use Rattle.top_call.specs.Outside.{counts_of}
 use Rattle.top_call.proofs.OneAnswer.{check_next, check-form}
 use Rattle.top_call.proofs.Making.{err-gives, err-ends, source-ends, not-read, check-made}
 use Rattle.top_call.proofs.make.check_output.Goals as goal
@@ -10,16 +10,16 @@ use Rattle.top_call.proofs.make.check_output.Goals as goal
 pub returns-in_err-design-clause-gives : goal.returns-in_err-design-clause-gives
 returns-in_err-design-clause-gives g c =
     let held = g.S.Shelf.held c.args.shelf.now in let source = plain_source c.args.source in let status = c.in_err-design.field-0.0 in
-    let old : ShelfCounts = record { faults = g.S.Shelf.faults c.args.shelf.now; reads = g.S.Shelf.reads c.args.shelf.now; long_answers = g.S.Shelf.long_answers c.args.shelf.now } in
-    let new : ShelfCounts = record { faults = g.S.Shelf.faults c.read_source.new.shelf; reads = g.S.Shelf.reads c.read_source.new.shelf; long_answers = g.S.Shelf.long_answers c.read_source.new.shelf } in
+    let old = counts_of g.S.Shelf c.args.shelf.now in
+    let new = counts_of g.S.Shelf c.read_source.new.shelf in
     err-gives (Check source) held old new c.from_residual.result status c.from_residual.ensures.1
     (not-read (Check source) source (λ files. check_next) (λ files answer t. check-form source files answer t) held old new status c.in_err-design.ensures.reads c.in_err-design.ensures.gives)
 
 pub returns-in_err-design-clause-ends : goal.returns-in_err-design-clause-ends
 returns-in_err-design-clause-ends g c =
     let held = g.S.Shelf.held c.args.shelf.now in let source = plain_source c.args.source in let status = c.in_err-design.field-0.0 in
-    let old : ShelfCounts = record { faults = g.S.Shelf.faults c.args.shelf.now; reads = g.S.Shelf.reads c.args.shelf.now; long_answers = g.S.Shelf.long_answers c.args.shelf.now } in
-    let new : ShelfCounts = record { faults = g.S.Shelf.faults c.read_source.new.shelf; reads = g.S.Shelf.reads c.read_source.new.shelf; long_answers = g.S.Shelf.long_answers c.read_source.new.shelf } in
+    let old = counts_of g.S.Shelf c.args.shelf.now in
+    let new = counts_of g.S.Shelf c.read_source.new.shelf in
     err-ends (Check source) c.from_residual.result status c.from_residual.ensures.1 (source-ends (Check source) held source old new status tt c.in_err-design.ensures.gives)
 
 pub returns-in-Ok-clause-gives : goal.returns-in-Ok-clause-gives
