@@ -15,7 +15,7 @@ use Rattle.elab_examples.specs.Texts12 as texts12_texts
 use Rattle.elab_examples.specs.Texts13 as texts13_texts
 
 -- each text has the answer that stands beside it
-pub record WorkedTexts : Type 0 where
+pub record TextsAtTheEdge : Type 0 where
   pub texts0 : texts0_texts.Holds
   pub texts1 : texts1_texts.Holds
   pub texts2 : texts2_texts.Holds
@@ -31,8 +31,8 @@ pub record WorkedTexts : Type 0 where
   pub texts12 : texts12_texts.Holds
   pub texts13 : texts13_texts.Holds
 
-pub worked_texts : WorkedTexts
-worked_texts = record {
+pub texts_at_the_edge : TextsAtTheEdge
+texts_at_the_edge = record {
   texts0 = texts0_texts.holds;
   texts1 = texts1_texts.holds;
   texts2 = texts2_texts.holds;

@@ -5,14 +5,14 @@
 #![tactic(auto)]
 
 ghost use Rattle.elab_examples.specs.Examples.{WorkedTexts};
-ghost use Rattle.elab_examples.specs.Refusals.{WorkedTexts};
+ghost use Rattle.elab_examples.specs.Refusals.{TextsAtTheEdge};
 
 /// The definitions, evaluated on each text, give the flat design and the grades that stand there.
-pub fn rows()
+pub fn designs()
     ensures { WorkedTexts }
 {}
 
 /// The definition, evaluated on each text, gives the refusal or the outline that stands there.
 pub fn refusals()
-    ensures { WorkedTexts }
+    ensures { TextsAtTheEdge }
 {}

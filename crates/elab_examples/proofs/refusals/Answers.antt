@@ -1,5 +1,5 @@
-use Rattle.elab_examples.specs.Refusals.{worked_texts}
+use Rattle.elab_examples.specs.Refusals.{texts_at_the_edge}
 use Rattle.elab_examples.proofs.refusals.Goals as goal
 
 pub returns : goal.returns
-returns c = worked_texts
+returns c = texts_at_the_edge
