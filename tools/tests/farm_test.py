@@ -2,7 +2,7 @@
 import os
 import subprocess
 
-from helper import EXAMPLES, Tools, needs, program, read
+from shared import EXAMPLES, Tools, needs, program, read
 
 PIPELINE = os.path.join(EXAMPLES, "pipeline")
 WORDS = [os.path.join(PIPELINE, "design.v"), os.path.join(PIPELINE, "plan.txt"), "top"]
@@ -107,6 +107,8 @@ class Farm(Tools):
         plan = self.file("plan", "end 20\nfaults all\nwatch a\nfault a 0\nfault c 1\n")
         self.bad(1, "farm: vfault: plan 5: unknown name", "farm", "-parts", "3", "-jobs", "1", design, plan, "top", environment=self.place)
         self.bad(1, "no module of that name", "farm", design, plan, "other", environment=self.place)
+        loop = [os.path.join(EXAMPLES, "lines", it) for it in ("good_loop.v", "good_loop.plan")]
+        self.bad(6, "farm: vfault: the good machine loops at time 0", "farm", "-jobs", "1", *loop, "top", environment=self.place)
         self.bad(3, "cannot read", "farm", design, "nowhere", "top")
         self.bad(2, "no number from 1", "farm", "-parts", "0", design, plan, "top")
         self.bad(3, "no program at /nowhere", "farm", "--program", "/nowhere", design, plan, "top")

@@ -3,7 +3,7 @@ import os
 import shutil
 import subprocess
 
-from helper import EXAMPLES, TOOLS, Tools, needs, read
+from shared import EXAMPLES, TOOLS, Tools, needs, read
 
 STAND_IN = "#!/bin/sh\necho \"stand-in $*\"\n"
 FILES = ("bin/vfault", "share/man/man1/vfault.1", "share/bash-completion/completions/vfault")

@@ -3,7 +3,7 @@ import glob
 import json
 import os
 
-from helper import EXAMPLES, Tools, read
+from shared import EXAMPLES, Tools, read
 
 
 def reports():

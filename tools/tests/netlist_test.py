@@ -4,7 +4,7 @@ import re
 import shutil
 import subprocess
 
-from helper import DESIGNS, EXAMPLES, Tools, needs, program, read
+from shared import DESIGNS, EXAMPLES, Tools, needs, program, read
 
 EXAMPLE = os.path.join(EXAMPLES, "netlist")
 # What the tool says of each design that can't be used, and the text.

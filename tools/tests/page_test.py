@@ -6,7 +6,7 @@ import subprocess
 from collections import Counter
 from html.parser import HTMLParser
 
-from helper import EXAMPLES, Tools, needs, read
+from shared import EXAMPLES, Tools, needs, read
 from json_test import reports
 
 KINDS = ("detected", "possible", "undetected", "race", "hyper")

@@ -4,7 +4,7 @@ import re
 import shutil
 import subprocess
 
-from helper import EXAMPLES, TOOLS, Tools, needs, program, read
+from shared import EXAMPLES, TOOLS, Tools, needs, program, read
 
 # Commands that need a second machine or Slurm; examples/farm says so.
 ELSEWHERE = ("--sshlogin", "sbatch ")
