@@ -1,12 +1,12 @@
 -- The faults that have a strobe, and what their counts say.
-use Rattle.std.proofs.Common.{◌≡◌, ℕ, zero, suc, ◌+◌, ◌<◌, ◌≤◌, Bool, true, false, cond, List, [], ◌∷◌, ◌++◌, length, get_or, filter, nat_eq, All, count_by, refl, sym, ap, subst, ◌∙◌, ◌⊎◌, inl, inr, arith}
+use Rattle.std.proofs.Common.{◌≡◌, ℕ, zero, suc, ◌+◌, ◌<◌, ◌≤◌, Bool, true, false, cond, List, [], ◌∷◌, ◌++◌, length, get_or, nat_eq, All, count_by, refl, ap, subst, ◌∙◌, inl, inr, arith}
 use Rattle.std.proofs.lemmas.Bool.{ne_eqb, eq-eqb, cases_Bool}
 use Rattle.std.proofs.lemmas.List.Elements.{All-nil, All-cons, All-head, All-tail}
 use Rattle.std.proofs.lemmas.List.Sums.{sum_by-cons}
 use Rattle.vf_base.specs.Lists.{has, AllHold}
 use Rattle.v_design.specs.WellFormed.{IsAscending}
 use Rattle.pick_laws.specs.Kept.{covers, is_covered}
-use Rattle.vf_pick.specs.Faults.{placed, faults_with_from, faults_with, standing_count, AreCounts}
+use Rattle.vf_pick.specs.Faults.{placed, faults_with_from, faults_with, AreCounts}
 use Rattle.vf_pick.proofs.Standing.{tally, hold-at, without, once, covered-count, count-covered, covered-same, covers-each, covers-from}
 
 -- Facts of the faults that have a strobe

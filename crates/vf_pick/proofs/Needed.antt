@@ -1,5 +1,5 @@
 -- The fault for which a strobe is kept.
-use Rattle.std.proofs.Common.{◌≡◌, ℕ, zero, suc, ◌+◌, ◌<◌, ◌≤◌, Bool, true, false, ◌&&◌, cond, List, [], ◌∷◌, ◌++◌, length, get_or, map, filter, find, nat_eq, All, Option, Some, None, IsSome, refl, sym, ap, subst, ◌∙◌, ◌⊎◌, inl, inr, arith}
+use Rattle.std.proofs.Common.{◌≡◌, ℕ, zero, suc, ◌+◌, ◌<◌, ◌≤◌, Bool, true, false, ◌&&◌, cond, List, [], ◌∷◌, ◌++◌, length, get_or, map, filter, find, nat_eq, All, Option, Some, None, IsSome, refl, sym, ap, subst, ◌∙◌, inl, inr, arith}
 use Rattle.std.proofs.lemmas.Bool.{eqb-true, eqb-false, eq-eqb, ne_eqb, cases_Bool, false_from_ne_true}
 use Rattle.std.proofs.lemmas.List.{length-map, get_or-map}
 use Rattle.std.proofs.lemmas.List.Elements.{All-nil, All-cons}
@@ -7,7 +7,7 @@ use Rattle.vf_base.specs.Lists.{has, AllHold}
 use Rattle.v_design.specs.WellFormed.{IsAscending}
 use Rattle.strobe_detect.specs.declared.hard.Hard.{Hard}
 use Rattle.pick_laws.specs.Kept.{covers, kept_strobes, is_only, needs}
-use Rattle.pick_laws.proofs.Covers.{either-true, or-left, or-right, true-false, has-filter, filter-has, kept-covers, kept-needed, kept-ascends, not-in-rest}
+use Rattle.pick_laws.proofs.Covers.{either-true, or-left, true-false, has-filter, filter-has, kept-covers, kept-needed, kept-ascends, not-in-rest}
 use Rattle.vf_pick.specs.Faults.{lists_of, placed, faults_with_from, faults_with, standing_count, AreCounts}
 use Rattle.vf_pick.proofs.Standing.{covered-count, covers-each, parts-cover, all-standing}
 use Rattle.vf_pick.proofs.Groups.{all-with, all-at, may-go}

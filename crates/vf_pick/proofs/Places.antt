@@ -1,14 +1,14 @@
 -- The places of strobes, and the index of the faults that have them.
-use Rattle.std.proofs.Common.{◌≡◌, ℕ, zero, suc, ◌+◌, ◌<◌, ◌≤◌, Bool, true, false, ◌||◌, cond, List, [], ◌∷◌, ◌++◌, length, get_or, map, filter, nat_eq, All, refl, sym, ap, subst, ◌∙◌, ◌⊎◌, inl, inr, arith}
+use Rattle.std.proofs.Common.{◌≡◌, ℕ, zero, suc, ◌+◌, ◌<◌, ◌≤◌, Bool, true, false, ◌||◌, cond, List, [], ◌∷◌, ◌++◌, length, get_or, map, filter, nat_eq, All, refl, sym, ap, subst, ◌∙◌, inl, inr, arith}
 use Rattle.std.specs.List.{position_or_len}
 use Rattle.std.specs.List.Sorted.{IsNonDecreasing, IsNonDecreasingBy}
-use Rattle.std.proofs.lemmas.Bool.{eqb-true, eq-eqb, ne_eqb, cases_eq, cases_Bool, cases_order, false_from_ne_true}
+use Rattle.std.proofs.lemmas.Bool.{eqb-true, eq-eqb, ne_eqb, cases_eq, cases_order, false_from_ne_true}
 use Rattle.std.proofs.lemmas.List.Elements.{All-nil, All-cons, All-append, All-weaker, filter-append}
 use Rattle.std.proofs.lemmas.List.{map-append}
 use Rattle.std.proofs.lemmas.List.Sums.{position_or_len_is}
 use Rattle.vf_base.specs.Lists.{has, AllHold}
 use Rattle.v_design.specs.WellFormed.{IsAscending}
-use Rattle.pick_laws.proofs.Covers.{either-true, true-false}
+use Rattle.pick_laws.proofs.Covers.{either-true}
 use Rattle.window_index.specs.declared.occurrence.Occurrence.{Occurrence}
 use Rattle.window_index.specs.Moments.{moment_of, is_of, moments_of}
 use Rattle.vf_pick.specs.Faults.{placed, faults_with_from}

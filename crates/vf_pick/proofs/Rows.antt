@@ -1,5 +1,5 @@
 -- What the index and the counts say at the place of a strobe.
-use Rattle.std.proofs.Common.{◌≡◌, ℕ, zero, suc, ◌+◌, ◌<◌, ◌≤◌, true, List, [], ◌∷◌, ◌++◌, length, get_or, take, drop, map, find, nat_eq, All, count_by, Some, Option, IsSome, refl, sym, ap, subst, ◌∙◌, arith}
+use Rattle.std.proofs.Common.{◌≡◌, ℕ, zero, suc, ◌+◌, ◌<◌, ◌≤◌, true, List, [], ◌∷◌, ◌++◌, length, get_or, take, drop, find, nat_eq, All, count_by, Some, Option, IsSome, refl, sym, ap, subst, ◌∙◌, arith}
 use Rattle.std.specs.List.{AllZip}
 use Rattle.std.proofs.lemmas.Bool.{eq-eqb}
 use Rattle.std.proofs.lemmas.List.{get_or-map, length-map, map_more, take_all}
@@ -8,7 +8,7 @@ use Rattle.v_design.specs.WellFormed.{IsAscending}
 use Rattle.strobe_detect.specs.declared.hard.Hard.{Hard}
 use Rattle.pick_laws.specs.Kept.{kept_strobes}
 use Rattle.pick_laws.proofs.Covers.{or-left, or-right}
-use Rattle.vf_pick.specs.Faults.{lists_of, faults_with, IsFaultIndex, AreCounts}
+use Rattle.vf_pick.specs.Faults.{lists_of, faults_with, IsFaultIndex}
 use Rattle.vf_pick.specs.Picks.{StandsFor}
 use Rattle.vf_pick.specs.Walks.{strobes_at}
 use Rattle.vf_pick.specs.declared.picking.Picked.{Picked}

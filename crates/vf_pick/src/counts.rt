@@ -29,7 +29,10 @@ pub(crate) fn all_have_two(counts: &[usize], faults: &[u32]) -> bool
 /// Takes one strobe from each of some faults.
 pub(crate) fn take_one(counts: &mut Vec<usize>, faults: &[u32])
     requires within { All (λ fault. fault < length counts.old.items) faults.now }
+
+    // A fault that comes again needs one more.
     requires enough { (fault : ℕ) → fault < length counts.old.items → count_by (nat_eq fault) faults.now ≤ get_or counts.old.items fault 0 }
+
     ensures same { length counts.new.items ≡ length counts.old.items }
     ensures taken { (fault : ℕ) → fault < length counts.old.items → get_or counts.new.items fault 0 + count_by (nat_eq fault) faults.now ≡ get_or counts.old.items fault 0 }
 {

@@ -52,8 +52,11 @@ pub(crate) fn index_faults(
     requires ascending { IsAscending strobes.now }
     requires hard_ascend { AllHold IsAscending (lists_of hard.now) }
     requires parts { AllHold (λ times. AllHold (λ time. IsTrue (has strobes.now time)) times) (lists_of hard.now) }
+
+    // Places and faults are numbers of 32 bits in the index.
     requires few_strobes { length strobes.now < 2 ^ 32 }
     requires few_faults { length hard.now < 2 ^ 32 }
+
     ensures { IfOk result (λ index. IsFaultIndex strobes.now (lists_of hard.now) index) }
 {
     let mut occurrences = Vec::new(alloc);

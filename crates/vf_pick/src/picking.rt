@@ -34,10 +34,14 @@ fn picked_at(
     requires ascending { IsAscending strobes.now }
     requires hard_ascend { AllHold IsAscending (lists_of hard.now) }
     requires parts { AllHold (λ times. AllHold (λ time. IsTrue (has strobes.now time)) times) (lists_of hard.now) }
+
+    // The index has the faults of each strobe, the counts are those of the kept strobes, and the one at the place is kept.
     requires indexed { IsFaultIndex strobes.now (lists_of hard.now) index.now }
     requires counted { AreCounts (lists_of hard.now) (kept_strobes (lists_of hard.now) strobes.now) counts.now }
     requires within { place < length strobes.now }
     requires kept { IsTrue (has (kept_strobes (lists_of hard.now) strobes.now) (get_or strobes.now place 0)) }
+
+    // Of all listed faults it is the first whose only kept hard strobe this is.
     ensures { StandsFor hard.now (kept_strobes (lists_of hard.now) strobes.now) (get_or strobes.now place 0) result }
 {
     let fault = first_with_one(counts, index.moments(place)).unwrap();
@@ -59,6 +63,8 @@ fn picked_strobes(
     requires ascending { IsAscending strobes.now }
     requires hard_ascend { AllHold IsAscending (lists_of hard.now) }
     requires parts { AllHold (λ times. AllHold (λ time. IsTrue (has strobes.now time)) times) (lists_of hard.now) }
+
+    // The index has the faults of each strobe; places and counts are those of the kept strobes.
     requires indexed { IsFaultIndex strobes.now (lists_of hard.now) index.now }
     requires kept { AreKept strobes.now (lists_of hard.now) places.now counts.now }
     ensures { IfOk result (λ picked. ArePicked strobes.now hard.now picked.items) }
@@ -76,9 +82,12 @@ fn picked_strobes(
 ///
 /// Want of memory, also where there are more strobes or faults than a number of 32 bits can count.
 pub fn pick(alloc: Global, strobes: &[u64], hard: &[Hard]) -> Result<Vec<Picked>, NoMemory>
+    // Strobes ascend without repeats, and each fault's hard ones are some of them.
     requires ascending { IsAscending strobes.now }
     requires hard_ascend { AllHold IsAscending (lists_of hard.now) }
     requires parts { AllHold (λ times. AllHold (λ time. IsTrue (has strobes.now time)) times) (lists_of hard.now) }
+
+    // They are the kept strobes by their definition, each with the first fault that needs it.
     ensures { IfOk result (λ picked. ArePicked strobes.now hard.now picked.items) }
 {
     if strobes.len() > u32::MAX as usize || hard.len() > u32::MAX as usize {

@@ -30,7 +30,11 @@ pub(crate) fn keep_strobes(
     requires hard_ascend { AllHold IsAscending (lists_of hard.now) }
     requires parts { AllHold (λ times. AllHold (λ time. IsTrue (has strobes.now time)) times) (lists_of hard.now) }
     requires few_strobes { length strobes.now < 2 ^ 32 }
+
+    // The index has the faults of each strobe.
     requires indexed { IsFaultIndex strobes.now (lists_of hard.now) index.now }
+
+    // The places are those of the kept strobes by their definition, which tries them without counts.
     ensures { IfOk result (λ kept. AreKept strobes.now (lists_of hard.now) kept.places.items kept.counts.items) }
 {
     let mut places = Vec::new(alloc);

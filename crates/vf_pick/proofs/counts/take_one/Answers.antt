@@ -1,5 +1,5 @@
 -- Each fault has a strobe left to take.
-use Rattle.std.proofs.Common.{◌≡◌, ◌<◌, ◌≤◌, get_or, length, subst, ap, sym, ◌∙◌, arith}
+use Rattle.std.proofs.Common.{◌<◌, ◌≤◌, get_or, length, subst, sym, arith}
 use Rattle.std.proofs.lemmas.List.{get_or_read}
 use Rattle.vf_pick.proofs.Taking.{enough-left}
 use Rattle.vf_pick.proofs.counts.take_one.Goals as goal

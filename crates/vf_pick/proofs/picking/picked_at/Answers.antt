@@ -1,5 +1,5 @@
 -- The first fault of the strobe that has no other kept one.
-use Rattle.std.proofs.Common.{◌≡◌, ◌<◌, get_or, length, refl, sym, ap, ◌∙◌, Some}
+use Rattle.std.proofs.Common.{get_or, refl, sym, ap, ◌∙◌}
 use Rattle.strobe_detect.specs.declared.hard.Hard.{Hard}
 use Rattle.vf_pick.specs.declared.picking.Picked.{Picked}
 use Rattle.vf_pick.specs.Faults.{lists_of}

@@ -1,5 +1,5 @@
 -- Before the walk, and at the try of a strobe.
-use Rattle.std.proofs.Common.{◌≡◌, ℕ, ◌+◌, ◌-◌, ◌<◌, ◌≤◌, length, get_or, All, ap, sym, subst, ◌∙◌, arith, take, drop}
+use Rattle.std.proofs.Common.{◌-◌, ◌<◌, ◌≤◌, length, get_or, All, ap, sym, subst, ◌∙◌, arith, take, drop}
 use Rattle.std.proofs.lemmas.Bool.{iff_false}
 use Rattle.vf_pick.specs.Faults.{lists_of}
 use Rattle.vf_pick.proofs.Tries.{AreTried, none-tried}
