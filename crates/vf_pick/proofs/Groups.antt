@@ -11,7 +11,8 @@ use Rattle.vf_pick.proofs.Standing.{tally, hold-at, without, once, covered-count
 
 -- Facts of the faults that have a strobe
 
-with-from : (P : ℕ → Type 0) (number : ℕ) (faults : List (List ℕ)) (s : ℕ) → ((place : ℕ) → place < length faults → has (get_or faults place []) s ≡ true → P (number + place)) → All P (faults_with_from number faults s)
+with-from : (P : ℕ → Type 0) (number : ℕ) (faults : List (List ℕ)) (s : ℕ) → ((place : ℕ) → place < length faults → has (get_or faults place []) s ≡ true → P (number + place)) →
+    All P (faults_with_from number faults s)
 with-from P number [] s h = All-nil P
 with-from P number (times ∷ faults) s h =
     go (has times s) refl (with-from P (number + 1) faults s (λ place low there. let e : number + suc place ≡ number + 1 + place = omega arith in subst P e (h (suc place) (omega arith) there)))
@@ -23,7 +24,8 @@ with-from P number (times ∷ faults) s h =
 pub all-with : (P : ℕ → Type 0) (faults : List (List ℕ)) (s : ℕ) → ((place : ℕ) → place < length faults → has (get_or faults place []) s ≡ true → P place) → All P (faults_with faults s)
 all-with P faults s h = with-from P 0 faults s (λ place low there. let e : place ≡ 0 + place = omega arith in subst P e (h place low there))
 
-at-from : (P : ℕ → Type 0) (number : ℕ) (faults : List (List ℕ)) (s : ℕ) → All P (faults_with_from number faults s) → (place : ℕ) → place < length faults → has (get_or faults place []) s ≡ true → P (number + place)
+at-from : (P : ℕ → Type 0) (number : ℕ) (faults : List (List ℕ)) (s : ℕ) → All P (faults_with_from number faults s) → (place : ℕ) → place < length faults →
+    has (get_or faults place []) s ≡ true → P (number + place)
 at-from P number [] s all place low there = absurd (omega arith)
 at-from P number (times ∷ faults) s all zero low there =
     let here : number ≡ number + 0 = omega arith in
@@ -62,7 +64,8 @@ count-before k number (times ∷ faults) s low =
     let z = cond-none (has times s) (tally (nat_eq k number)) (ap tally (ne_eqb k number (λ e. omega arith))) in
     omega (arith, c, r, z)
 
-count-from : (number : ℕ) (faults : List (List ℕ)) (s place : ℕ) → place < length faults → count_by (nat_eq (number + place)) (faults_with_from number faults s) ≡ tally (has (get_or faults place []) s)
+count-from : (number : ℕ) (faults : List (List ℕ)) (s place : ℕ) → place < length faults →
+    count_by (nat_eq (number + place)) (faults_with_from number faults s) ≡ tally (has (get_or faults place []) s)
 count-from number [] s place low = absurd (omega arith)
 count-from number (times ∷ faults) s zero low =
     let c = count-placed (nat_eq (number + 0)) (has times s) number (faults_with_from (number + 1) faults s) in
@@ -87,7 +90,8 @@ tally-le false = omega arith
 -- What may go
 
 -- a strobe may go where each of its faults has two
-pub may-go : (faults : List (List ℕ)) (before : List ℕ) (s : ℕ) (after counts : List ℕ) → (has (before ++ after) s ≡ true → ⊥) → AllHold IsAscending faults → covers faults (before ++ s ∷ after) ≡ true →
+pub may-go : (faults : List (List ℕ)) (before : List ℕ) (s : ℕ) (after counts : List ℕ) → (has (before ++ after) s ≡ true → ⊥) → AllHold IsAscending faults →
+    covers faults (before ++ s ∷ after) ≡ true →
     AreCounts faults (before ++ s ∷ after) counts → All (λ fault. 2 ≤ get_or counts fault 0) (faults_with faults s) → covers faults (before ++ after) ≡ true
 may-go faults before s after counts out ascend all counted two = covers-from faults (before ++ after) each
   where
@@ -107,7 +111,8 @@ may-go faults before s after counts out ascend all counted two = covers-from fau
         ]
 
 -- and only there
-pub must-stay : (faults : List (List ℕ)) (before : List ℕ) (s : ℕ) (after counts : List ℕ) → (has (before ++ after) s ≡ true → ⊥) → AllHold IsAscending faults → AreCounts faults (before ++ s ∷ after) counts →
+pub must-stay : (faults : List (List ℕ)) (before : List ℕ) (s : ℕ) (after counts : List ℕ) → (has (before ++ after) s ≡ true → ⊥) → AllHold IsAscending faults →
+    AreCounts faults (before ++ s ∷ after) counts →
     covers faults (before ++ after) ≡ true → All (λ fault. 2 ≤ get_or counts fault 0) (faults_with faults s)
 must-stay faults before s after counts out ascend counted go = all-with (λ fault. 2 ≤ get_or counts fault 0) faults s each
   where
@@ -121,7 +126,8 @@ must-stay faults before s after counts out ascend counted go = all-with (λ faul
         omega (arith, parts, one, right, t, there)
 
 -- the counts without a strobe
-pub counts-left : (faults : List (List ℕ)) (before : List ℕ) (s : ℕ) (after counts new : List ℕ) → (has (before ++ after) s ≡ true → ⊥) → AllHold IsAscending faults → AreCounts faults (before ++ s ∷ after) counts → length new ≡ length counts →
+pub counts-left : (faults : List (List ℕ)) (before : List ℕ) (s : ℕ) (after counts new : List ℕ) → (has (before ++ after) s ≡ true → ⊥) → AllHold IsAscending faults →
+    AreCounts faults (before ++ s ∷ after) counts → length new ≡ length counts →
     ((fault : ℕ) → fault < length counts → get_or new fault 0 + count_by (nat_eq fault) (faults_with faults s) ≡ get_or counts fault 0) → AreCounts faults (before ++ after) new
 counts-left faults before s after counts new out ascend counted same taken = record {
   whole = same ∙ counted.whole;
@@ -140,12 +146,16 @@ pub with-within : (faults : List (List ℕ)) (s n : ℕ) → length faults ≤ n
 with-within faults s n whole = all-with (λ fault. fault < n) faults s (λ place low there. omega arith)
 
 -- none of them is there more often than it has strobes
-pub with-enough : (faults : List (List ℕ)) (s : ℕ) (counts : List ℕ) → length counts ≡ length faults → All (λ fault. 2 ≤ get_or counts fault 0) (faults_with faults s) → (fault : ℕ) → fault < length counts →
+pub with-enough : (faults : List (List ℕ)) (s : ℕ) (counts : List ℕ) → length counts ≡ length faults → All (λ fault. 2 ≤ get_or counts fault 0) (faults_with faults s) → (fault : ℕ) →
+    fault < length counts →
     count_by (nat_eq fault) (faults_with faults s) ≤ get_or counts fault 0
 with-enough faults s counts whole two fault low =
     let within : fault < length faults = omega (arith, whole, low) in
     let often = count-with faults s fault within in
     elim (cases_Bool (has (get_or faults fault []) s)) [
-      | inl h ↦ (let more : 2 ≤ get_or counts fault 0 = all-at (λ fault. 2 ≤ get_or counts fault 0) faults s two fault within h in let t : tally (has (get_or faults fault []) s) ≡ 1 = ap tally h in omega (arith, often, t, more))
+      | inl h ↦
+          (let more : 2 ≤ get_or counts fault 0 = all-at (λ fault. 2 ≤ get_or counts fault 0) faults s two fault within h in
+          let t : tally (has (get_or faults fault []) s) ≡ 1 = ap tally h in
+          omega (arith, often, t, more))
       | inr h ↦ (let t : tally (has (get_or faults fault []) s) ≡ 0 = ap tally h in omega (arith, often, t))
     ]

@@ -1,5 +1,6 @@
 -- The fault for which a strobe is kept.
-use Rattle.std.proofs.Common.{◌≡◌, ℕ, zero, suc, ◌+◌, ◌<◌, ◌≤◌, Bool, true, false, ◌&&◌, cond, List, [], ◌∷◌, ◌++◌, length, get_or, map, filter, find, nat_eq, All, Option, Some, None, IsSome, refl, sym, ap, subst, ◌∙◌, inl, inr, arith}
+use Rattle.std.proofs.Common.{◌≡◌, ℕ, zero, suc, ◌+◌, ◌<◌, ◌≤◌, Bool, true, false, ◌&&◌, cond, List, [], ◌∷◌, ◌++◌, length, get_or, map, filter, find, nat_eq, All, Option, Some, None}
+use Rattle.std.proofs.Common.{IsSome, refl, sym, ap, subst, ◌∙◌, inl, inr, arith}
 use Rattle.std.proofs.lemmas.Bool.{eqb-true, eqb-false, eq-eqb, ne_eqb, cases_Bool, false_from_ne_true}
 use Rattle.std.proofs.lemmas.List.{length-map, get_or-map}
 use Rattle.std.proofs.lemmas.List.Elements.{All-nil, All-cons}
@@ -20,7 +21,8 @@ first-right strobes [] h place low = absurd (omega arith)
 first-right strobes (one ∷ hard) h zero low = sym (all-standing strobes one.times h.0)
 first-right strobes (one ∷ hard) h (suc place) low = first-right strobes hard h.1 place (omega arith)
 
-pub first-counts : (strobes : List ℕ) (hard : List Hard) (counts : List ℕ) → AllHold (λ times. AllHold (λ time. has strobes time ≡ true) times) (lists_of hard) → counts ≡ map (λ (one : Hard). length one.times) hard → AreCounts (lists_of hard) strobes counts
+pub first-counts : (strobes : List ℕ) (hard : List Hard) (counts : List ℕ) → AllHold (λ times. AllHold (λ time. has strobes time ≡ true) times) (lists_of hard) →
+    counts ≡ map (λ (one : Hard). length one.times) hard → AreCounts (lists_of hard) strobes counts
 first-counts strobes hard counts h e = record {
   whole = ap length e ∙ (length-map hard (λ (one : Hard). length one.times) ∙ sym (length-map hard (λ (one : Hard). one.times)));
   right = λ place low. ap (λ xs. get_or xs place 0) e ∙ first-right strobes hard h place low;
@@ -61,7 +63,8 @@ pub record IsFound (hard : List Hard) (test : Hard → Bool) (number fault : ℕ
 some-is : (x y : ℕ) → Some x ≡ Some y → x ≡ y
 some-is x y e = cc
 
-find-from : (number : ℕ) (hard : List Hard) (s : ℕ) (passes : ℕ → Bool) (test : Hard → Bool) → ((place : ℕ) (d : Hard) → place < length hard → test (get_or hard place d) ≡ (has (get_or hard place d).times s && passes (number + place))) →
+find-from : (number : ℕ) (hard : List Hard) (s : ℕ) (passes : ℕ → Bool) (test : Hard → Bool) →
+    ((place : ℕ) (d : Hard) → place < length hard → test (get_or hard place d) ≡ (has (get_or hard place d).times s && passes (number + place))) →
     (fault : ℕ) → find passes (faults_with_from number (lists_of hard) s) ≡ Some fault → IsFound hard test number fault
 find-from number [] s passes test agree fault e = absurd (cc)
 find-from number (one ∷ hard) s passes test agree fault e =
@@ -151,7 +154,8 @@ module _ (strobes : List ℕ) (faults : List (List ℕ)) (counts : List ℕ) (s 
       let is : kept_strobes faults strobes ≡ r.0 ++ s ∷ r.1 = r.2 in
       let out : has (r.0 ++ r.1) s ≡ true → ⊥ = not-in-rest r.0 s r.1 (subst IsAscending is (kept-ascends faults [] strobes setting.ascending)) in
       let go : covers faults (r.0 ++ r.1) ≡ true =
-      may-go faults r.0 s r.1 counts out setting.ascend (subst (λ xs. covers faults xs ≡ true) is all-kept) (subst (λ xs. AreCounts faults xs counts) is setting.counted) (two (find-none (has_one counts) (faults_with faults s) e)) in
+      may-go faults r.0 s r.1 counts out setting.ascend (subst (λ xs. covers faults xs ≡ true) is all-kept) (subst (λ xs. AreCounts faults xs counts) is setting.counted)
+      (two (find-none (has_one counts) (faults_with faults s) e)) in
       true-false (covers faults (r.0 ++ r.1)) go (kept-needed faults [] strobes r.0 s r.1 is)
 
   pub is-found : (found : Option ℕ) → found ≡ find (has_one counts) (faults_with faults s) → IsSome found
@@ -162,11 +166,13 @@ pub lists-at : (hard : List Hard) (place : ℕ) (d : Hard) → place < length ha
 lists-at hard place d low = get_or-map (λ (one : Hard). one.times) hard place d [] low
 
 -- and it is the first fault whose only kept hard strobe the strobe is
-pub first-needing : (strobes : List ℕ) (hard : List Hard) (counts : List ℕ) (s fault : ℕ) → AreCounts (lists_of hard) (kept_strobes (lists_of hard) strobes) counts → has (kept_strobes (lists_of hard) strobes) s ≡ true →
+pub first-needing : (strobes : List ℕ) (hard : List Hard) (counts : List ℕ) (s fault : ℕ) → AreCounts (lists_of hard) (kept_strobes (lists_of hard) strobes) counts →
+    has (kept_strobes (lists_of hard) strobes) s ≡ true →
     find (has_one counts) (faults_with (lists_of hard) s) ≡ Some fault → IsFound hard (λ other. needs (kept_strobes (lists_of hard) strobes) s other.times) 0 fault
 first-needing strobes hard counts s fault counted stands e = find-from 0 hard s (has_one counts) (λ other. needs (kept_strobes (lists_of hard) strobes) s other.times) agree fault e
   where
-    agree : (place : ℕ) (d : Hard) → place < length hard → needs (kept_strobes (lists_of hard) strobes) s (get_or hard place d).times ≡ (has (get_or hard place d).times s && has_one counts (0 + place))
+    agree : (place : ℕ) (d : Hard) → place < length hard →
+        needs (kept_strobes (lists_of hard) strobes) s (get_or hard place d).times ≡ (has (get_or hard place d).times s && has_one counts (0 + place))
     agree place d low =
         let whole = length-map hard (λ (one : Hard). one.times) in
         let same : 0 + place ≡ place = omega arith in

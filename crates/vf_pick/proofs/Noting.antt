@@ -10,7 +10,8 @@ use Rattle.vf_pick.specs.Occurrences.{occurrence_of, occurrences_from}
 use Rattle.vf_pick.proofs.Places.{place-is}
 
 -- one hard strobe more
-pub noted-more : (strobes times : List ℕ) (fault i number : ℕ) (old had new : List Occurrence) → i < length times → IsAscending strobes → number < length strobes → get_or strobes number 0 ≡ get_or times i 0 →
+pub noted-more : (strobes times : List ℕ) (fault i number : ℕ) (old had new : List Occurrence) → i < length times → IsAscending strobes → number < length strobes →
+    get_or strobes number 0 ≡ get_or times i 0 →
     had ≡ old ++ map (occurrence_of strobes fault) (take i times) → new ≡ had ++ record { number = number; moment = fault } ∷ [] → new ≡ old ++ map (occurrence_of strobes fault) (take (i + 1) times)
 noted-more strobes times fault i number old had new low ascending within at had_is pushed =
     let o : Occurrence = record { number = number; moment = fault } in
@@ -34,7 +35,8 @@ pub indexed-all : (strobes : List ℕ) (hard : List Hard) (i : ℕ) (had all : L
 indexed-all strobes hard i had all low had_is = sym (append-nil had) ∙ (ap (λ fs. had ++ occurrences_from strobes i (lists_of fs)) (sym (drop_all i hard low)) ∙ had_is)
 
 -- the counts of one fault more
-pub counted-more : (hard : List Hard) (i : ℕ) (one : Hard) (had new : List ℕ) (count : ℕ) → i < length hard → one ≡ get_or hard i one → had ≡ map (λ (other : Hard). length other.times) (take i hard) → new ≡ had ++ count ∷ [] → count ≡ length one.times →
+pub counted-more : (hard : List Hard) (i : ℕ) (one : Hard) (had new : List ℕ) (count : ℕ) → i < length hard → one ≡ get_or hard i one →
+    had ≡ map (λ (other : Hard). length other.times) (take i hard) → new ≡ had ++ count ∷ [] → count ≡ length one.times →
     new ≡ map (λ (other : Hard). length other.times) (take (i + 1) hard)
 counted-more hard i one had new count low is had_is pushed counts =
     pushed ∙ (ap (λ xs. xs ++ count ∷ []) had_is ∙ (ap (λ n. map (λ (other : Hard). length other.times) (take i hard) ++ n ∷ []) (counts ∙ ap (λ (other : Hard). length other.times) is)

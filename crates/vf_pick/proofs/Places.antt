@@ -1,5 +1,6 @@
 -- The places of strobes, and the index of the faults that have them.
-use Rattle.std.proofs.Common.{◌≡◌, ℕ, zero, suc, ◌+◌, ◌<◌, ◌≤◌, Bool, true, false, ◌||◌, cond, List, [], ◌∷◌, ◌++◌, length, get_or, map, filter, nat_eq, All, refl, sym, ap, subst, ◌∙◌, inl, inr, arith}
+use Rattle.std.proofs.Common.{◌≡◌, ℕ, zero, suc, ◌+◌, ◌<◌, ◌≤◌, Bool, true, false, ◌||◌, cond, List, [], ◌∷◌, ◌++◌, length, get_or, map, filter, nat_eq, All, refl, sym, ap, subst, ◌∙◌, inl}
+use Rattle.std.proofs.Common.{inr, arith}
 use Rattle.std.specs.List.{position_or_len}
 use Rattle.std.specs.List.Sorted.{IsNonDecreasing, IsNonDecreasingBy}
 use Rattle.std.proofs.lemmas.Bool.{eqb-true, eq-eqb, ne_eqb, cases_eq, cases_order, false_from_ne_true}
@@ -47,7 +48,8 @@ has-place (y ∷ xs) x h = elim (either-true (nat_eq y x) (has xs x) h) [
 ]
 
 -- the first place that isn't before a strobe is the strobe's
-pub found-at : (xs : List ℕ) (x place : ℕ) → IsAscending xs → has xs x ≡ true → ((k : ℕ) → k < place → k < length xs → get_or xs k 0 < x) → ((k : ℕ) → place ≤ k → k < length xs → x ≤ get_or xs k 0) →
+pub found-at : (xs : List ℕ) (x place : ℕ) → IsAscending xs → has xs x ≡ true → ((k : ℕ) → k < place → k < length xs → get_or xs k 0 < x) →
+    ((k : ℕ) → place ≤ k → k < length xs → x ≤ get_or xs k 0) →
     (place < length xs) × (get_or xs place 0 ≡ x)
 found-at xs x place a h before after =
     let r = has-place xs x h in
@@ -57,7 +59,10 @@ found-at xs x place a h before after =
       | inl same ↦ (subst (λ k. k < length xs) same low, ap (λ k. get_or xs k 0) (sym same) ∙ is)
       | inr other ↦ elim other [
         | inl less ↦ (let h : get_or xs r.0 0 < x = before r.0 less low in absurd (omega arith))
-        | inr more ↦ (let h : get_or xs place 0 < get_or xs r.0 0 = ascends xs place r.0 0 a more low in let k : x ≤ get_or xs place 0 = after place (omega arith) (omega arith) in absurd (omega arith))
+        | inr more ↦
+            (let h : get_or xs place 0 < get_or xs r.0 0 = ascends xs place r.0 0 a more low in
+            let k : x ≤ get_or xs place 0 = after place (omega arith) (omega arith) in
+            absurd (omega arith))
       ]
     ]
 
@@ -84,18 +89,22 @@ same-place xs x place a h low =
 abbrev Parts : List ℕ → List ℕ → Type 0
 Parts strobes times = AllHold (λ time. has strobes time ≡ true) times
 
-numbers-of : (strobes : List ℕ) (fault : ℕ) (times : List ℕ) → IsAscending strobes → Parts strobes times → All (λ (o : Occurrence). o.number < length strobes) (map (occurrence_of strobes fault) times)
+numbers-of : (strobes : List ℕ) (fault : ℕ) (times : List ℕ) → IsAscending strobes → Parts strobes times →
+    All (λ (o : Occurrence). o.number < length strobes) (map (occurrence_of strobes fault) times)
 numbers-of strobes fault [] a h = All-nil (λ (o : Occurrence). o.number < length strobes)
 numbers-of strobes fault (t ∷ times) a h =
     let r = has-place strobes t h.0 in
     let is : position_or_len (nat_eq t) strobes ≡ r.0 = place-is strobes t r.0 a r.1 r.2 in
     let low : r.0 < length strobes = r.1 in
-    All-cons (λ (o : Occurrence). o.number < length strobes) (occurrence_of strobes fault t) (map (occurrence_of strobes fault) times) (subst (λ k. k < length strobes) (sym is) low) (numbers-of strobes fault times a h.1)
+    All-cons (λ (o : Occurrence). o.number < length strobes) (occurrence_of strobes fault t) (map (occurrence_of strobes fault) times) (subst (λ k. k < length strobes) (sym is) low)
+    (numbers-of strobes fault times a h.1)
 
-pub numbers-within : (strobes : List ℕ) (number : ℕ) (faults : List (List ℕ)) → IsAscending strobes → AllHold (Parts strobes) faults → All (λ (o : Occurrence). o.number < length strobes) (occurrences_from strobes number faults)
+pub numbers-within : (strobes : List ℕ) (number : ℕ) (faults : List (List ℕ)) → IsAscending strobes → AllHold (Parts strobes) faults →
+    All (λ (o : Occurrence). o.number < length strobes) (occurrences_from strobes number faults)
 numbers-within strobes number [] a h = All-nil (λ (o : Occurrence). o.number < length strobes)
 numbers-within strobes number (times ∷ faults) a h =
-    All-append (λ (o : Occurrence). o.number < length strobes) (map (occurrence_of strobes number) times) (occurrences_from strobes (number + 1) faults) (numbers-of strobes number times a h.0) (numbers-within strobes (number + 1) faults a h.1)
+    All-append (λ (o : Occurrence). o.number < length strobes) (map (occurrence_of strobes number) times) (occurrences_from strobes (number + 1) faults)
+    (numbers-of strobes number times a h.0) (numbers-within strobes (number + 1) faults a h.1)
 
 cons-ascends : (o : Occurrence) (os : List Occurrence) → All (λ (other : Occurrence). o.moment ≤ other.moment) os → IsNonDecreasingBy moment_of os → IsNonDecreasingBy moment_of (o ∷ os)
 cons-ascends o os low up zero zero d order within = omega arith
@@ -133,7 +142,9 @@ moments-times : (strobes : List ℕ) (number place : ℕ) (times : List ℕ) →
     moments_of (map (occurrence_of strobes number) times) place ≡ placed (has times (get_or strobes place 0)) number []
 moments-times strobes number place [] a low b h = refl
 moments-times strobes number place (t ∷ times) a low b h =
-    ap (λ here. map moment_of (cond here (occurrence_of strobes number t ∷ filter (is_of place) (map (occurrence_of strobes number) times)) (filter (is_of place) (map (occurrence_of strobes number) times)))) (same-place strobes t place a h.0 low)
+    ap (λ here. map moment_of
+    (cond here (occurrence_of strobes number t ∷ filter (is_of place) (map (occurrence_of strobes number) times)) (filter (is_of place) (map (occurrence_of strobes number) times))))
+    (same-place strobes t place a h.0 low)
     ∙ go (nat_eq t (get_or strobes place 0)) refl (moments-times strobes number place times a low b.1 h.1)
   where
     go : (here : Bool) → nat_eq t (get_or strobes place 0) ≡ here → moments_of (map (occurrence_of strobes number) times) place ≡ placed (has times (get_or strobes place 0)) number [] →
@@ -141,7 +152,11 @@ moments-times strobes number place (t ∷ times) a low b h =
         ≡ placed (has (t ∷ times) (get_or strobes place 0)) number []
     go true e rest =
         let none : has times (get_or strobes place 0) ≡ false =
-        false_from_ne_true (has times (get_or strobes place 0)) (λ there. let same : t ≡ get_or strobes place 0 = eqb-true t (get_or strobes place 0) e in let less : t < get_or strobes place 0 = above t times (get_or strobes place 0) b.0 there in omega arith) in
+        false_from_ne_true (has times (get_or strobes place 0))
+        (λ there.
+        let same : t ≡ get_or strobes place 0 = eqb-true t (get_or strobes place 0) e in
+        let less : t < get_or strobes place 0 = above t times (get_or strobes place 0) b.0 there in
+        omega arith) in
         ap (λ xs. number ∷ xs) (rest ∙ ap (λ x. placed x number []) none) ∙ sym (ap (λ x. placed (x || has times (get_or strobes place 0)) number []) e)
     go false e rest = rest ∙ sym (ap (λ x. placed (x || has times (get_or strobes place 0)) number []) e)
 

@@ -51,7 +51,8 @@ apart false true h = refl
 apart false false h = refl
 
 -- the strobes that stand, and the one that goes
-pub without : (before : List ℕ) (s : ℕ) (after : List ℕ) → (has (before ++ after) s ≡ true → ⊥) → (times : List ℕ) → standing_count (before ++ after) times + length (filter (nat_eq s) times) ≡ standing_count (before ++ s ∷ after) times
+pub without : (before : List ℕ) (s : ℕ) (after : List ℕ) → (has (before ++ after) s ≡ true → ⊥) → (times : List ℕ) →
+    standing_count (before ++ after) times + length (filter (nat_eq s) times) ≡ standing_count (before ++ s ∷ after) times
 without before s after out [] = refl
 without before s after out (t ∷ times) =
     let a = count-cond (has (before ++ after) t) t (filter (has (before ++ after)) times) in

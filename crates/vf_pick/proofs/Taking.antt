@@ -18,14 +18,16 @@ enough-left old counts faults i low same within taken enough =
     omega (arith, more, part, now, all)
 
 pub taken-more : (old counts faults : List ℕ) (i : ℕ) → i < length faults → get_or faults i 0 < length counts → AreTaken old counts faults i → 1 ≤ get_or counts (get_or faults i 0) 0 →
-    (fault : ℕ) → fault < length counts → get_or (set counts (get_or faults i 0) (get_or counts (get_or faults i 0) 0 - 1)) fault 0 + count_by (nat_eq fault) (take (i + 1) faults) ≡ get_or old fault 0
+    (fault : ℕ) → fault < length counts → get_or (set counts (get_or faults i 0) (get_or counts (get_or faults i 0) 0 - 1)) fault 0 + count_by (nat_eq fault)
+    (take (i + 1) faults) ≡ get_or old fault 0
 taken-more old counts faults i low within taken left fault there =
     elim (cases_eq fault (get_or faults i 0)) [
       | inl same ↦
           (let more = count_by_more_yes (nat_eq (get_or faults i 0)) faults i 0 low (eq-eqb (get_or faults i 0) (get_or faults i 0) refl) in
           let now = taken (get_or faults i 0) within in
           let put = get_or-set_same counts (get_or faults i 0) (get_or counts (get_or faults i 0) 0 - 1) 0 within in
-          subst (λ k. get_or (set counts (get_or faults i 0) (get_or counts (get_or faults i 0) 0 - 1)) k 0 + count_by (nat_eq k) (take (i + 1) faults) ≡ get_or old k 0) (sym same) (omega (arith, more, now, put, left)))
+          subst (λ k. get_or (set counts (get_or faults i 0) (get_or counts (get_or faults i 0) 0 - 1)) k 0 + count_by (nat_eq k) (take (i + 1) faults) ≡ get_or old k 0) (sym same)
+          (omega (arith, more, now, put, left)))
       | inr other ↦
           (let more = count_by_more_no (nat_eq fault) faults i 0 low (ne_eqb fault (get_or faults i 0) other) in
           let now = taken fault there in

@@ -26,9 +26,11 @@ module _ (faults : List (List ℕ)) (earlier : List ℕ) (s : ℕ) (rest : List 
 
   pub all-stand : covers faults (earlier ++ s ∷ rest) ≡ true → covers faults (earlier ++ s ∷ kept_behind faults (earlier ++ s ∷ []) rest) ≡ true
   all-stand all =
-      ap (covers faults) (sym (append-one earlier s (kept_behind faults (earlier ++ s ∷ []) rest))) ∙ kept-covers faults (earlier ++ s ∷ []) rest (ap (covers faults) (append-one earlier s rest) ∙ all)
+      ap (covers faults) (sym (append-one earlier s (kept_behind faults (earlier ++ s ∷ []) rest)))
+      ∙ kept-covers faults (earlier ++ s ∷ []) rest (ap (covers faults) (append-one earlier s rest) ∙ all)
 
-  pub counts-there : (counts : List ℕ) → AreCounts faults ((earlier ++ s ∷ []) ++ kept_behind faults (earlier ++ s ∷ []) rest) counts → AreCounts faults (earlier ++ s ∷ kept_behind faults (earlier ++ s ∷ []) rest) counts
+  pub counts-there : (counts : List ℕ) → AreCounts faults ((earlier ++ s ∷ []) ++ kept_behind faults (earlier ++ s ∷ []) rest) counts →
+      AreCounts faults (earlier ++ s ∷ kept_behind faults (earlier ++ s ∷ []) rest) counts
   counts-there counts had = subst (λ xs. AreCounts faults xs counts) (append-one earlier s (kept_behind faults (earlier ++ s ∷ []) rest)) had
 
   -- a strobe that is left out
@@ -37,21 +39,25 @@ module _ (faults : List (List ℕ)) (earlier : List ℕ) (s : ℕ) (rest : List 
       ((fault : ℕ) → fault < length counts → get_or new fault 0 + count_by (nat_eq fault) (faults_with faults s) ≡ get_or counts fault 0) → AreTried strobes faults earlier (s ∷ rest) places new
   goes strobes places counts new ascend all had two same taken =
       let there = counts-there counts had.counted in
-      let go : covers faults (earlier ++ kept_behind faults (earlier ++ s ∷ []) rest) ≡ true = may-go faults earlier s (kept_behind faults (earlier ++ s ∷ []) rest) counts not-standing ascend (all-stand all) there two in
+      let go : covers faults (earlier ++ kept_behind faults (earlier ++ s ∷ []) rest) ≡ true = may-go faults earlier s
+      (kept_behind faults (earlier ++ s ∷ []) rest) counts not-standing ascend (all-stand all) there two in
       let is : kept_behind faults earlier (s ∷ rest) ≡ kept_behind faults (earlier ++ s ∷ []) rest = ap (λ b. left_out b s (kept_behind faults (earlier ++ s ∷ []) rest)) go in
       record {
         within = had.within;
         kept = had.kept ∙ sym is;
-        counted = subst (λ xs. AreCounts faults (earlier ++ xs) new) (sym is) (counts-left faults earlier s (kept_behind faults (earlier ++ s ∷ []) rest) counts new not-standing ascend there same taken);
+        counted = subst (λ xs. AreCounts faults (earlier ++ xs) new) (sym is)
+            (counts-left faults earlier s (kept_behind faults (earlier ++ s ∷ []) rest) counts new not-standing ascend there same taken);
       }
 
   -- a strobe that is kept
   pub stays : (strobes places counts more : List ℕ) (place : ℕ) → AllHold IsAscending faults → AreTried strobes faults (earlier ++ s ∷ []) rest places counts →
-      (All (λ fault. 2 ≤ get_or counts fault 0) (faults_with faults s) → ⊥) → place < length strobes → get_or strobes place 0 ≡ s → more ≡ places ++ place ∷ [] → AreTried strobes faults earlier (s ∷ rest) more counts
+      (All (λ fault. 2 ≤ get_or counts fault 0)
+      (faults_with faults s) → ⊥) → place < length strobes → get_or strobes place 0 ≡ s → more ≡ places ++ place ∷ [] → AreTried strobes faults earlier (s ∷ rest) more counts
   stays strobes places counts more place ascend had needed low at pushed =
       let there = counts-there counts had.counted in
       let stay : covers faults (earlier ++ kept_behind faults (earlier ++ s ∷ []) rest) ≡ false =
-      false_from_ne_true (covers faults (earlier ++ kept_behind faults (earlier ++ s ∷ []) rest)) (λ go. needed (must-stay faults earlier s (kept_behind faults (earlier ++ s ∷ []) rest) counts not-standing ascend there go)) in
+      false_from_ne_true (covers faults (earlier ++ kept_behind faults (earlier ++ s ∷ []) rest))
+      (λ go. needed (must-stay faults earlier s (kept_behind faults (earlier ++ s ∷ []) rest) counts not-standing ascend there go)) in
       let is : kept_behind faults earlier (s ∷ rest) ≡ s ∷ kept_behind faults (earlier ++ s ∷ []) rest = ap (λ b. left_out b s (kept_behind faults (earlier ++ s ∷ []) rest)) stay in
       let turned : reverse more ≡ place ∷ reverse places = ap reverse pushed ∙ reverse-append places (place ∷ []) in
       record {
@@ -65,16 +71,20 @@ module _ (faults : List (List ℕ)) (earlier : List ℕ) (s : ℕ) (rest : List 
 split : (strobes : List ℕ) (i : ℕ) → i < length strobes → take i strobes ++ get_or strobes i 0 ∷ drop (i + 1) strobes ≡ strobes
 split strobes i low = ap (λ xs. take i strobes ++ xs) (sym (drop_more strobes i 0 low)) ∙ take-append-drop i strobes
 
-pub goes-at : (strobes : List ℕ) (faults : List (List ℕ)) (i : ℕ) (places counts new : List ℕ) → i < length strobes → IsAscending strobes → AllHold IsAscending faults → covers faults strobes ≡ true →
-    AreTried strobes faults (take (i + 1) strobes) (drop (i + 1) strobes) places counts → All (λ fault. 2 ≤ get_or counts fault 0) (faults_with faults (get_or strobes i 0)) → length new ≡ length counts →
-    ((fault : ℕ) → fault < length counts → get_or new fault 0 + count_by (nat_eq fault) (faults_with faults (get_or strobes i 0)) ≡ get_or counts fault 0) → AreTried strobes faults (take i strobes) (drop i strobes) places new
+pub goes-at : (strobes : List ℕ) (faults : List (List ℕ)) (i : ℕ) (places counts new : List ℕ) → i < length strobes → IsAscending strobes → AllHold IsAscending faults →
+    covers faults strobes ≡ true →
+    AreTried strobes faults (take (i + 1) strobes) (drop (i + 1) strobes) places counts → All (λ fault. 2 ≤ get_or counts fault 0)
+    (faults_with faults (get_or strobes i 0)) → length new ≡ length counts →
+    ((fault : ℕ) → fault < length counts → get_or new fault 0 + count_by (nat_eq fault) (faults_with faults (get_or strobes i 0)) ≡ get_or counts fault 0) → AreTried strobes faults
+    (take i strobes) (drop i strobes) places new
 goes-at strobes faults i places counts new low ascending ascend all had two same taken =
     subst (λ xs. AreTried strobes faults (take i strobes) xs places new) (sym (drop_more strobes i 0 low))
     (goes faults (take i strobes) (get_or strobes i 0) (drop (i + 1) strobes) (subst IsAscending (sym (split strobes i low)) ascending) strobes places counts new ascend
     (ap (covers faults) (split strobes i low) ∙ all) (subst (λ xs. AreTried strobes faults xs (drop (i + 1) strobes) places counts) (take_more strobes i 0 low) had) two same taken)
 
 pub stays-at : (strobes : List ℕ) (faults : List (List ℕ)) (i : ℕ) (places counts more : List ℕ) → i < length strobes → IsAscending strobes → AllHold IsAscending faults →
-    AreTried strobes faults (take (i + 1) strobes) (drop (i + 1) strobes) places counts → (All (λ fault. 2 ≤ get_or counts fault 0) (faults_with faults (get_or strobes i 0)) → ⊥) → more ≡ places ++ i ∷ [] →
+    AreTried strobes faults (take (i + 1) strobes)
+    (drop (i + 1) strobes) places counts → (All (λ fault. 2 ≤ get_or counts fault 0) (faults_with faults (get_or strobes i 0)) → ⊥) → more ≡ places ++ i ∷ [] →
     AreTried strobes faults (take i strobes) (drop i strobes) more counts
 stays-at strobes faults i places counts more low ascending ascend had needed pushed =
     subst (λ xs. AreTried strobes faults (take i strobes) xs more counts) (sym (drop_more strobes i 0 low))
@@ -82,7 +92,8 @@ stays-at strobes faults i places counts more low ascending ascend had needed pus
     (subst (λ xs. AreTried strobes faults xs (drop (i + 1) strobes) places counts) (take_more strobes i 0 low) had) needed low refl pushed)
 
 -- before the walk
-pub none-tried : (strobes : List ℕ) (faults : List (List ℕ)) (counts : List ℕ) → AreCounts faults strobes counts → AreTried strobes faults (take (length strobes) strobes) (drop (length strobes) strobes) [] counts
+pub none-tried : (strobes : List ℕ) (faults : List (List ℕ)) (counts : List ℕ) → AreCounts faults strobes counts →
+    AreTried strobes faults (take (length strobes) strobes) (drop (length strobes) strobes) [] counts
 none-tried strobes faults counts counted =
     subst (λ xs. AreTried strobes faults xs (drop (length strobes) strobes) [] counts) (sym (take_all (length strobes) strobes (omega arith)))
     (subst (λ xs. AreTried strobes faults strobes xs [] counts) (sym (drop_all (length strobes) strobes (omega arith))) at-end)
@@ -91,7 +102,8 @@ none-tried strobes faults counts counted =
     at-end = record { within = All-nil (λ place. place < length strobes); kept = refl; counted = subst (λ xs. AreCounts faults xs counts) (sym (append-nil strobes)) counted }
 
 -- and behind it
-pub all-tried : (strobes : List ℕ) (faults : List (List ℕ)) (i : ℕ) (places counts turned : List ℕ) → i ≡ 0 → AreTried strobes faults (take i strobes) (drop i strobes) places counts → turned ≡ reverse places → AreKept strobes faults turned counts
+pub all-tried : (strobes : List ℕ) (faults : List (List ℕ)) (i : ℕ) (places counts turned : List ℕ) → i ≡ 0 → AreTried strobes faults (take i strobes) (drop i strobes) places counts →
+    turned ≡ reverse places → AreKept strobes faults turned counts
 all-tried strobes faults i places counts turned none had is =
     let end : AreTried strobes faults (take 0 strobes) (drop 0 strobes) places counts = subst (λ k. AreTried strobes faults (take k strobes) (drop k strobes) places counts) none had in
     record {

@@ -26,13 +26,17 @@ note_fault-requires-clause-listed c =
 pub build-requires-clause-numbers : goal.build-requires-clause-numbers
 build-requires-clause-numbers c =
     subst (λ os. All (λ (o : Occurrence). o.number < length c.args.strobes.now) os)
-    (sym (c.deref.ensures.value ∙ indexed-all c.args.strobes.now c.args.hard.now c.faults.fault c.faults.occurrences.items (occurrences_from c.args.strobes.now 0 (lists_of c.args.hard.now)) c.faults-test.false c.faults.invariant))
+    (sym (c.deref.ensures.value
+    ∙ indexed-all c.args.strobes.now c.args.hard.now c.faults.fault c.faults.occurrences.items
+    (occurrences_from c.args.strobes.now 0 (lists_of c.args.hard.now)) c.faults-test.false c.faults.invariant))
     (numbers-within c.args.strobes.now 0 (lists_of c.args.hard.now) c.requires.ascending c.requires.parts)
 
 pub build-requires-clause-ascending : goal.build-requires-clause-ascending
 build-requires-clause-ascending c =
     subst (λ os. IsNonDecreasingBy moment_of os)
-    (sym (c.deref.ensures.value ∙ indexed-all c.args.strobes.now c.args.hard.now c.faults.fault c.faults.occurrences.items (occurrences_from c.args.strobes.now 0 (lists_of c.args.hard.now)) c.faults-test.false c.faults.invariant))
+    (sym (c.deref.ensures.value
+    ∙ indexed-all c.args.strobes.now c.args.hard.now c.faults.fault c.faults.occurrences.items
+    (occurrences_from c.args.strobes.now 0 (lists_of c.args.hard.now)) c.faults-test.false c.faults.invariant))
     (moments-ascend c.args.strobes.now 0 (lists_of c.args.hard.now))
 
 pub returns : goal.returns
@@ -41,6 +45,8 @@ returns c = record {
   rows = λ place low.
       c.in_ok-index.ensures.moments place low
       ∙ (ap (λ os. moments_of os place)
-      (c.deref.ensures.value ∙ indexed-all c.args.strobes.now c.args.hard.now c.faults.fault c.faults.occurrences.items (occurrences_from c.args.strobes.now 0 (lists_of c.args.hard.now)) c.faults-test.false c.faults.invariant)
+      (c.deref.ensures.value
+      ∙ indexed-all c.args.strobes.now c.args.hard.now c.faults.fault c.faults.occurrences.items
+      (occurrences_from c.args.strobes.now 0 (lists_of c.args.hard.now)) c.faults-test.false c.faults.invariant)
       ∙ moments-are c.args.strobes.now 0 place (lists_of c.args.hard.now) c.requires.ascending low c.requires.hard_ascend c.requires.parts);
 }

@@ -9,25 +9,30 @@ use Rattle.vf_pick.proofs.walk.keep_strobes.Goals as goal
 
 pub strobes-init : goal.strobes-init
 strobes-init c =
-    subst (λ places. AreTried c.args.strobes.now (lists_of c.args.hard.now) (take (length c.args.strobes.now) c.args.strobes.now) (drop (length c.args.strobes.now) c.args.strobes.now) places c.in_ok-counts.counts.items)
+    subst (λ places. AreTried c.args.strobes.now (lists_of c.args.hard.now) (take (length c.args.strobes.now) c.args.strobes.now)
+    (drop (length c.args.strobes.now) c.args.strobes.now) places c.in_ok-counts.counts.items)
     (sym c.new-places.ensures.items)
-    (none-tried c.args.strobes.now (lists_of c.args.hard.now) c.in_ok-counts.counts.items (first-counts c.args.strobes.now c.args.hard.now c.in_ok-counts.counts.items c.requires.parts c.in_ok-counts.ensures))
+    (none-tried c.args.strobes.now (lists_of c.args.hard.now) c.in_ok-counts.counts.items
+    (first-counts c.args.strobes.now c.args.hard.now c.in_ok-counts.counts.items c.requires.parts c.in_ok-counts.ensures))
 
 pub all_have_two-requires : goal.all_have_two-requires
 all_have_two-requires c =
     let low : c.strobes.place - 1 < length c.args.strobes.now = omega arith in
-    row-within c.args.strobes.now (lists_of c.args.hard.now) c.args.index.now (c.strobes.place - 1) c.moments-faults.result.now c.deref.result.now c.requires.indexed low c.moments-faults.ensures.moments
+    row-within c.args.strobes.now (lists_of c.args.hard.now) c.args.index.now
+    (c.strobes.place - 1) c.moments-faults.result.now c.deref.result.now c.requires.indexed low c.moments-faults.ensures.moments
     (ap length c.deref.ensures.value ∙ c.strobes.invariant.counted.whole)
 
 pub take_one-requires-clause-enough : goal.take_one-requires-clause-enough
 take_one-requires-clause-enough c =
     let low : c.strobes.place - 1 < length c.args.strobes.now = omega arith in
-    row-enough c.args.strobes.now (lists_of c.args.hard.now) c.args.index.now (c.strobes.place - 1) c.moments-faults.result.now c.strobes.counts.items c.requires.indexed low c.moments-faults.ensures.moments
+    row-enough c.args.strobes.now (lists_of c.args.hard.now) c.args.index.now
+    (c.strobes.place - 1) c.moments-faults.result.now c.strobes.counts.items c.requires.indexed low c.moments-faults.ensures.moments
     c.strobes.invariant.counted.whole (subst (λ xs. All (λ fault. 2 ≤ get_or xs fault 0) c.moments-faults.result.now) c.deref.ensures.value (c.all_have_two.ensures.0 c.if-all_have_two.true))
 
 pub strobes-preserved-then-all_have_two : goal.strobes-preserved-then-all_have_two
 strobes-preserved-then-all_have_two c =
-    let setting : IsBefore c.args.strobes.now (lists_of c.args.hard.now) c.args.index.now c.strobes.place (c.strobes.place - 1) c.moments-faults.result.now c.strobes.places.items c.strobes.counts.items = record {
+    let setting : IsBefore c.args.strobes.now (lists_of c.args.hard.now) c.args.index.now c.strobes.place
+    (c.strobes.place - 1) c.moments-faults.result.now c.strobes.places.items c.strobes.counts.items = record {
       indexed = c.requires.indexed;
       next = omega arith;
       low = omega arith;
@@ -37,12 +42,15 @@ strobes-preserved-then-all_have_two c =
       row = c.moments-faults.ensures.moments;
       had = c.strobes.invariant;
     } in
-    row-goes c.args.strobes.now (lists_of c.args.hard.now) c.args.index.now c.strobes.place (c.strobes.place - 1) c.moments-faults.result.now c.strobes.places.items c.strobes.counts.items setting c.take_one.new.counts.items
-    (subst (λ xs. All (λ fault. 2 ≤ get_or xs fault 0) c.moments-faults.result.now) c.deref.ensures.value (c.all_have_two.ensures.0 c.if-all_have_two.true)) c.take_one.ensures.same c.take_one.ensures.taken
+    row-goes c.args.strobes.now (lists_of c.args.hard.now) c.args.index.now c.strobes.place
+    (c.strobes.place - 1) c.moments-faults.result.now c.strobes.places.items c.strobes.counts.items setting c.take_one.new.counts.items
+    (subst (λ xs. All (λ fault. 2 ≤ get_or xs fault 0) c.moments-faults.result.now) c.deref.ensures.value
+    (c.all_have_two.ensures.0 c.if-all_have_two.true)) c.take_one.ensures.same c.take_one.ensures.taken
 
 pub strobes-preserved : goal.strobes-preserved
 strobes-preserved c =
-    let setting : IsBefore c.args.strobes.now (lists_of c.args.hard.now) c.args.index.now c.strobes.place (c.strobes.place - 1) c.moments-faults.result.now c.strobes.places.items c.strobes.counts.items = record {
+    let setting : IsBefore c.args.strobes.now (lists_of c.args.hard.now) c.args.index.now c.strobes.place
+    (c.strobes.place - 1) c.moments-faults.result.now c.strobes.places.items c.strobes.counts.items = record {
       indexed = c.requires.indexed;
       next = omega arith;
       low = omega arith;
@@ -52,5 +60,7 @@ strobes-preserved c =
       row = c.moments-faults.ensures.moments;
       had = c.strobes.invariant;
     } in
-    row-stays c.args.strobes.now (lists_of c.args.hard.now) c.args.index.now c.strobes.place (c.strobes.place - 1) c.moments-faults.result.now c.strobes.places.items c.strobes.counts.items setting c.push.new.self.items
-    (λ two. iff_false c.all_have_two.ensures c.if-all_have_two.false (subst (λ xs. All (λ fault. 2 ≤ get_or xs fault 0) c.moments-faults.result.now) (sym c.deref.ensures.value) two)) c.in_ok-push.ensures.items
+    row-stays c.args.strobes.now (lists_of c.args.hard.now) c.args.index.now c.strobes.place
+    (c.strobes.place - 1) c.moments-faults.result.now c.strobes.places.items c.strobes.counts.items setting c.push.new.self.items
+    (λ two. iff_false c.all_have_two.ensures c.if-all_have_two.false
+    (subst (λ xs. All (λ fault. 2 ≤ get_or xs fault 0) c.moments-faults.result.now) (sym c.deref.ensures.value) two)) c.in_ok-push.ensures.items
