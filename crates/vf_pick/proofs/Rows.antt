@@ -85,8 +85,8 @@ row-needing strobes hard index counts i group fault kept indexed low is e =
 
 pub row-stands : (strobes : List ℕ) (hard : List Hard) (index : List (List ℕ)) (counts : List ℕ) (i : ℕ) (group : List ℕ) (fault : ℕ) (one : Hard) (picked : Picked) →
     IsKept strobes (lists_of hard) counts (get_or strobes i 0) →
-    IsFaultIndex strobes (lists_of hard) index → i < length strobes → group ≡ get_or index i [] → Some fault ≡ find
-    (has_one counts) group → one ≡ get_or hard fault one → picked.time ≡ get_or strobes i 0 → picked.fault ≡ one.fault →
+    IsFaultIndex strobes (lists_of hard) index → i < length strobes → group ≡ get_or index i [] →
+    Some fault ≡ find (has_one counts) group → one ≡ get_or hard fault one → picked.time ≡ get_or strobes i 0 → picked.fault ≡ one.fault →
     StandsFor hard (kept_strobes (lists_of hard) strobes) (get_or strobes i 0) picked
 row-stands strobes hard index counts i group fault one picked kept indexed low is e read time told =
     let f = first-needing strobes hard counts (get_or strobes i 0) fault kept.counted kept.stands (sym (e ∙ ap (find (has_one counts)) (is ∙ indexed.rows i low))) in

@@ -18,8 +18,8 @@ enough-left old counts faults i low same within taken enough =
     omega (arith, more, part, now, all)
 
 pub taken-more : (old counts faults : List ℕ) (i : ℕ) → i < length faults → get_or faults i 0 < length counts → AreTaken old counts faults i → 1 ≤ get_or counts (get_or faults i 0) 0 →
-    (fault : ℕ) → fault < length counts → get_or (set counts (get_or faults i 0) (get_or counts (get_or faults i 0) 0 - 1)) fault 0 + count_by (nat_eq fault)
-    (take (i + 1) faults) ≡ get_or old fault 0
+    (fault : ℕ) → fault < length counts →
+    get_or (set counts (get_or faults i 0) (get_or counts (get_or faults i 0) 0 - 1)) fault 0 + count_by (nat_eq fault) (take (i + 1) faults) ≡ get_or old fault 0
 taken-more old counts faults i low within taken left fault there =
     elim (cases_eq fault (get_or faults i 0)) [
       | inl same ↦

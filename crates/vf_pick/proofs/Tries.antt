@@ -39,8 +39,8 @@ module _ (faults : List (List ℕ)) (earlier : List ℕ) (s : ℕ) (rest : List 
       ((fault : ℕ) → fault < length counts → get_or new fault 0 + count_by (nat_eq fault) (faults_with faults s) ≡ get_or counts fault 0) → AreTried strobes faults earlier (s ∷ rest) places new
   goes strobes places counts new ascend all had two same taken =
       let there = counts-there counts had.counted in
-      let go : covers faults (earlier ++ kept_behind faults (earlier ++ s ∷ []) rest) ≡ true = may-go faults earlier s
-      (kept_behind faults (earlier ++ s ∷ []) rest) counts not-standing ascend (all-stand all) there two in
+      let go : covers faults (earlier ++ kept_behind faults (earlier ++ s ∷ []) rest) ≡ true =
+      may-go faults earlier s (kept_behind faults (earlier ++ s ∷ []) rest) counts not-standing ascend (all-stand all) there two in
       let is : kept_behind faults earlier (s ∷ rest) ≡ kept_behind faults (earlier ++ s ∷ []) rest = ap (λ b. left_out b s (kept_behind faults (earlier ++ s ∷ []) rest)) go in
       record {
         within = had.within;
@@ -51,8 +51,8 @@ module _ (faults : List (List ℕ)) (earlier : List ℕ) (s : ℕ) (rest : List 
 
   -- a strobe that is kept
   pub stays : (strobes places counts more : List ℕ) (place : ℕ) → AllHold IsAscending faults → AreTried strobes faults (earlier ++ s ∷ []) rest places counts →
-      (All (λ fault. 2 ≤ get_or counts fault 0)
-      (faults_with faults s) → ⊥) → place < length strobes → get_or strobes place 0 ≡ s → more ≡ places ++ place ∷ [] → AreTried strobes faults earlier (s ∷ rest) more counts
+      (All (λ fault. 2 ≤ get_or counts fault 0) (faults_with faults s) → ⊥) → place < length strobes → get_or strobes place 0 ≡ s → more ≡ places ++ place ∷ [] →
+      AreTried strobes faults earlier (s ∷ rest) more counts
   stays strobes places counts more place ascend had needed low at pushed =
       let there = counts-there counts had.counted in
       let stay : covers faults (earlier ++ kept_behind faults (earlier ++ s ∷ []) rest) ≡ false =
@@ -73,18 +73,18 @@ split strobes i low = ap (λ xs. take i strobes ++ xs) (sym (drop_more strobes i
 
 pub goes-at : (strobes : List ℕ) (faults : List (List ℕ)) (i : ℕ) (places counts new : List ℕ) → i < length strobes → IsAscending strobes → AllHold IsAscending faults →
     covers faults strobes ≡ true →
-    AreTried strobes faults (take (i + 1) strobes) (drop (i + 1) strobes) places counts → All (λ fault. 2 ≤ get_or counts fault 0)
-    (faults_with faults (get_or strobes i 0)) → length new ≡ length counts →
-    ((fault : ℕ) → fault < length counts → get_or new fault 0 + count_by (nat_eq fault) (faults_with faults (get_or strobes i 0)) ≡ get_or counts fault 0) → AreTried strobes faults
-    (take i strobes) (drop i strobes) places new
+    AreTried strobes faults (take (i + 1) strobes) (drop (i + 1) strobes) places counts →
+    All (λ fault. 2 ≤ get_or counts fault 0) (faults_with faults (get_or strobes i 0)) → length new ≡ length counts →
+    ((fault : ℕ) → fault < length counts → get_or new fault 0 + count_by (nat_eq fault) (faults_with faults (get_or strobes i 0)) ≡ get_or counts fault 0) →
+    AreTried strobes faults (take i strobes) (drop i strobes) places new
 goes-at strobes faults i places counts new low ascending ascend all had two same taken =
     subst (λ xs. AreTried strobes faults (take i strobes) xs places new) (sym (drop_more strobes i 0 low))
     (goes faults (take i strobes) (get_or strobes i 0) (drop (i + 1) strobes) (subst IsAscending (sym (split strobes i low)) ascending) strobes places counts new ascend
     (ap (covers faults) (split strobes i low) ∙ all) (subst (λ xs. AreTried strobes faults xs (drop (i + 1) strobes) places counts) (take_more strobes i 0 low) had) two same taken)
 
 pub stays-at : (strobes : List ℕ) (faults : List (List ℕ)) (i : ℕ) (places counts more : List ℕ) → i < length strobes → IsAscending strobes → AllHold IsAscending faults →
-    AreTried strobes faults (take (i + 1) strobes)
-    (drop (i + 1) strobes) places counts → (All (λ fault. 2 ≤ get_or counts fault 0) (faults_with faults (get_or strobes i 0)) → ⊥) → more ≡ places ++ i ∷ [] →
+    AreTried strobes faults (take (i + 1) strobes) (drop (i + 1) strobes) places counts →
+    (All (λ fault. 2 ≤ get_or counts fault 0) (faults_with faults (get_or strobes i 0)) → ⊥) → more ≡ places ++ i ∷ [] →
     AreTried strobes faults (take i strobes) (drop i strobes) more counts
 stays-at strobes faults i places counts more low ascending ascend had needed pushed =
     subst (λ xs. AreTried strobes faults (take i strobes) xs more counts) (sym (drop_more strobes i 0 low))

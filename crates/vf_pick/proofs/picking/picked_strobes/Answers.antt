@@ -11,6 +11,6 @@ picked_at-requires-clause-kept c = stands-at c.args.strobes.now c.args.places.no
 
 pub places-preserved : goal.places-preserved
 places-preserved c =
-    picked-more (StandsFor c.args.hard.now
-    (kept_strobes (lists_of c.args.hard.now) c.args.strobes.now)) c.args.strobes.now c.args.places.now c.places.place-index c.places.picked.items c.push.new.self.items c.picked_at.result
+    picked-more (StandsFor c.args.hard.now (kept_strobes (lists_of c.args.hard.now) c.args.strobes.now))
+    c.args.strobes.now c.args.places.now c.places.place-index c.places.picked.items c.push.new.self.items c.picked_at.result
     c.places-test.true c.places.invariant c.in_ok-push.ensures.items c.picked_at.ensures
