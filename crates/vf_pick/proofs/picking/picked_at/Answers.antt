@@ -39,4 +39,5 @@ returns c =
     record { ascending = c.requires.ascending; ascend = c.requires.hard_ascend; parts = c.requires.parts; counted = c.requires.counted; stands = c.requires.kept } in
     let picked : Picked = record { time = get_or c.args.strobes.now c.args.place 0; fault = (get_or c.args.hard.now c.unwrap-fault.result c.index-hard-fault.result).fault } in
     row-stands c.args.strobes.now c.args.hard.now c.args.index.now c.args.counts.now c.args.place c.moments.result.now c.unwrap-fault.result c.index-hard-fault.result picked
-    kept c.requires.indexed c.requires.within c.moments.ensures.moments (sym c.unwrap-fault.ensures ∙ c.first_with_one.ensures) c.index-hard-fault.is refl (ap (λ (one : Hard). one.fault) (sym c.index-hard-fault.is))
+    kept c.requires.indexed c.requires.within c.moments.ensures.moments (sym c.unwrap-fault.ensures ∙ c.first_with_one.ensures)
+    c.index-hard-fault.is refl (ap (λ (one : Hard). one.fault) (sym c.index-hard-fault.is))
