@@ -1,0 +1,4 @@
+pub mod Faults
+pub mod Occurrences
+pub mod Picks
+pub mod Walks
