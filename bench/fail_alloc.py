@@ -4,7 +4,7 @@
 PROGRAM is the built program, by itself the one that ./run builds. The runs are those of the table RUNS: cases of crates/case_runs/data, in the forms grade, check, faults
 and soak, the last ones over a design with every construct. After -- stand the words of one run in the present folder instead. Each run has to write what it writes without
 a refusal and to end as it does then, or to write a prefix of that and end with 5; anything else is printed, and the status is then 1, as it is where a run allocates
-nothing that can be refused. --step N refuses each N-th allocation only, --run NAME takes the runs whose name has NAME in it, --list names them.
+nothing that can be refused. --step N refuses each N-th allocation only, --run NAME takes the runs in whose line of --list NAME stands.
 Needs cc and the C library of GNU, on x86-64. Takes one run of the program for each allocation.
 """
 import argparse
@@ -157,7 +157,7 @@ def words_of_command_line():
 
 def main():
     given, own = words_of_command_line()
-    chosen = [(family, name) for family, name in RUNS if given.run in name]
+    chosen = [(family, name) for family, name in RUNS if given.run in f"{family}: {name}"]
     if given.list:
         print("\n".join(f"{family}: {name}" for family, name in RUNS))
         return 0

@@ -30,6 +30,10 @@ MARKS = "=== !== <<< >>> && || == != <= >= << >> ~& ~| ~^ ^~ + - * / % ! ~ & | ^
 NUMBERS = ("0 1 2 63 64 65 127 128 129 255 256 4095 4096 65535 65536 65537 1048575 1048576 2147483647 2147483648 4294967295 4294967296 18446744073709551616 1'b0 1'bx 1'bz 4'bx01z 128'hx "
            "129'd1 0'd1 8'sh80 'd99 'sb1 32'hffffffff 4'd 4' 'q 1_0 1__").split()
 POOL = [word.encode() for word in WORDS + MARKS + NUMBERS]
+# Tokens of which one can stand in the place of another.
+GROUPS = ["+ - * / % & | ^ ~^ ^~ == != === !== < <= > >= << >> <<< >>> && ||", "~ ! ~& ~|", "and nand or nor xor xnor", "buf not", "posedge negedge", "= <=", "initial always", "wire reg",
+          "case casez casex", "while repeat", "if wait", "$finish $stop $display", "parameter localparam", "input output", "0 1"]
+ALIKE = {word.encode(): [other.encode() for other in group.split()] for group in reversed(GROUPS) for word in group.split()}
 BYTES = [bytes([value]) for value in (0, 9, 10, 12, 13, 32, 34, 36, 39, 40, 41, 47, 59, 64, 92, 96, 123, 125, 127, 128, 255)]
 DESIGN_WORDS = ("bad byte|bad number|not closed|unexpected|not in the profile|too deep|unknown name|declared twice|not a constant|bad width|bad connection|two drivers of bit [0-9]+"
                 "|wrong kind of name|loop")
@@ -90,9 +94,9 @@ class Fuzz:
         return words
 
     def mutated(self, text, which):
-        """The text after one to six changes."""
-        for _ in range(self.random.choice([1, 1, 1, 2, 3, 6])):
-            text = self.bytes_changed(text) if self.random.random() < 0.3 else self.tokens_changed(text, which)
+        """The text after one to four changes."""
+        for _ in range(self.random.choice([1, 1, 1, 1, 2, 4])):
+            text = self.bytes_changed(text) if self.random.random() < 0.15 else self.tokens_changed(text, which)
         return text[:1 << 17]
 
     def bytes_changed(self, text):
@@ -105,7 +109,7 @@ class Fuzz:
         tokens = TOKEN.findall(text) or [b""]
         solid = [at for at, token in enumerate(tokens) if not token.isspace()] or [0]
         first, second = sorted((self.random.choice(solid), self.random.choice(solid)))
-        kind = self.random.randrange(8)
+        kind = self.random.choice([0, 1, 2, 3, 4, 5, 6, 7, 8, 8, 8, 8, 8, 8, 8, 8])
         if kind == 0:
             tokens[first], tokens[second] = tokens[second], tokens[first]
         elif kind == 1:
@@ -120,11 +124,19 @@ class Fuzz:
             tokens[first] = (tokens[first] + b" ") * self.random.choice([2, 3, 300])
         elif kind == 6:
             tokens[first:first + 12] = tokens[first:first + 12] * 2
+        elif kind == 8:
+            tokens[first] = self.random.choice(ALIKE.get(tokens[first]) or self.of_its_kind(tokens, tokens[first]))
         else:
             other = TOKEN.findall(self.random.choice(self.originals)[which]) or [b""]
             at = self.random.randrange(len(other))
             tokens[first:first + self.random.randrange(12)] = other[at:at + self.random.randrange(1, 40)]
         return b"".join(tokens)
+
+    def of_its_kind(self, tokens, token):
+        """Tokens that may well stand in place of this one: other names or numbers of the text, and for a number those of the pool."""
+        if token[:1].isdigit() or token[:1] == b"'":
+            return [other for other in tokens if other[:1].isdigit() or other[:1] == b"'"] + [number.encode() for number in NUMBERS]
+        return [other for other in tokens if other[:1].isalpha() and other not in POOL] or [token]
 
     def with_early_end(self, plan, changed):
         """The changed plan, with the end of the plan where a later one would make the run long by right."""

@@ -2,10 +2,11 @@
 """Runs the program at each of its limits and past it, and over texts of sizes n, 2n and 4n: bench/limits.py [PROGRAM] [--divide K] [--only NAME] [--edges | --growth]
 
 PROGRAM is the built program, by itself the one that ./run builds. First come the edges: for each limit a text that reaches it, which has to be accepted, and one that is
-past it by one, which has to be refused with the message of that limit; each with its processor time and the most memory that it held. Then the growth: the processor time
-over texts of three sizes, from which that of an empty module is taken off. A quantity whose time grows by more than a factor of 9 from n to 4n (a linear one grows by 4, a
-quadratic one by 16) is wrong, where the last time is over a tenth of a second. --divide K divides the sizes of the growth by K, for a slow build or machine; --only NAME
-takes the rows whose name has NAME in it. A run that takes over 10 minutes of processor time is ended. The status is 1 where a row was wrong.
+past it by one, which has to be refused with the message of that limit; each with its processor time and the most memory that it held. Then short texts that spell much.
+Then the growth: the processor time over texts of three sizes, from which that of an empty module is taken off. A quantity whose time grows by more than a factor of 9 from
+n to 4n (a linear one grows by 4, a quadratic one by 16) is wrong, where the last time is over a tenth of a second; the last two rows, whose texts spell n times n parts,
+aren't judged. --divide K divides the sizes of the growth by K, for a slow build or machine; --only NAME takes the rows whose name has NAME in it. A run that takes over
+10 minutes of processor time is ended. The status is 1 where a row was wrong.
 """
 import argparse
 import os
@@ -153,6 +154,11 @@ GROWTH = [
     ("updates of a slot, grade", 12000, lambda n: graded(top("reg q;", f"initial repeat ({n}) q <= 1;"), PLAN)),
     ("slots, grade", 4000, lambda n: graded(top("reg q = 0;", "always #1 q = ~q;"), PLAN.replace("end 20", f"end {n}"))),
 ]
+# As GROWTH, of texts in which a module of n parts has n instances, so that what they spell grows by 16: told, and not judged.
+PRODUCTS = [
+    ("statements of each of as many instances, check", 128, lambda n: checked(top(*numbered(n, "m iI();")) + "module m;\nreg q;\ninitial begin\n" + "q = 1;\n" * n + "end\nendmodule\n")),
+    ("parameters of each of as many instances, check", 128, lambda n: checked(top(*numbered(n, "m iI();")) + "module m;\n" + "\n".join(numbered(n, "parameter pI = 1;")) + "\nendmodule\n")),
+]
 # Texts that would take years where a part of them were worked out once for each of its uses: the run, with the status and the message.
 SHORT_TEXTS = [
     ("modules that double, 64 deep", checked(doubled(64)), refused("design: too many instances (65537)")),
@@ -222,7 +228,7 @@ def try_short(program, row):
     return right
 
 
-def try_growth(program, row, divide, start):
+def try_growth(program, row, divide, start, most_growth=MOST_GROWTH):
     name, least, make = row
     counts = [max(least // divide, 1) * factor for factor in (1, 2, 4)]
     runs = [Run(program, *make(count)) for count in counts]
@@ -232,7 +238,7 @@ def try_growth(program, row, divide, start):
     first, second, last = (max(run.seconds - start, 0.001) for run in runs)
     grown = last / first
     print(f"| {name} | {counts[0]:,} | {first:.3f} s | {second / first:.1f} | {grown:.1f} | {runs[2].megabytes:.0f} MB |", flush=True)
-    if last > 0.1 and grown > MOST_GROWTH:
+    if last > 0.1 and grown > most_growth:
         print(f"{name}: {counts[2]:,} take {grown:.1f} times as long as {counts[0]:,}")
         return False
     return not failed
@@ -263,6 +269,7 @@ def main():
     if not given.edges:
         print("\n| what grows | n | time of n | of 2n by n | of 4n by n | memory of 4n |\n|---|---|---|---|---|---|")
         right += [try_growth(program, row, given.divide, start) for row in GROWTH if chosen.search(row[0])]
+        right += [try_growth(program, row, given.divide, start, float("inf")) for row in PRODUCTS if chosen.search(row[0])]
     print(f"\nlimits: {right.count(True)} right, {right.count(False)} wrong")
     return 0 if all(right) else 1
 
