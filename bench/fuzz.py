@@ -157,7 +157,8 @@ def is_form(words):
     def is_number(word, least, most):
         return bool(re.fullmatch("0|[1-9][0-9]{0,9}", word)) and least <= int(word) <= most
 
-    if "" in rest:
+    # a word is written as bytes of latin-1, so one beyond ASCII is no UTF-8 and of no form
+    if "" in rest or not all(word.isascii() for word in words):
         return False
     if words[0] == "soak":
         return is_number(rest[0], 0, 4294967295) and is_number(rest[1], 1, 4000) and is_number(rest[2], 1, 64)
