@@ -188,6 +188,6 @@ fn a_number_takes_the_size_of_its_context(rt: HostRuntime) -> Result<(), Fail> {
     };
     let scope = Scope::new(rt.alloc());
     let sized = size_expr(rt.alloc(), &five, &scope, 40, true)?;
-    assert!(rt; matches!(&sized, SizedExpr::Constant { value, .. } if value.width() == 40));
+    assert!(rt; matches!(&sized, SizedExpr::Constant { size, .. } if size.width == 40));
     Ok(())
 }
