@@ -1,20 +1,20 @@
 -- A pass over the declarations, one at a time.
-use Rattle.std.proofs.Common.{◌≡◌, ℕ, zero, suc, ◌+◌, ◌≤◌, ◌<◌, Bool, true, false, ◌||◌, cond, List, [], ◌∷◌, ◌++◌, map, filter, take, drop, get_or, length, Option, Some, None, option_map, refl, sym, ap, ap₂, ◌∙◌, subst, arith}
+use Rattle.std.proofs.Common.{◌≡◌, ℕ, zero, suc, ◌+◌, ◌≤◌, ◌<◌, Bool, true, false, ◌||◌, cond, List, [], ◌∷◌, ◌++◌, map, take, drop, get_or, length, Option, Some, None, option_map, refl, sym, ap, ap₂, ◌∙◌, subst, arith}
 use Rattle.std.proofs.lemmas.List.{map-append, take_more}
 use Rattle.v_tree.specs.Trees.{Identifier, same_name}
-use Rattle.v_names.specs.Scopes.{SignedValue, ScopeEntry, ScopeName, Scope, entry_if, looked_up, is_waiting}
+use Rattle.v_names.specs.Scopes.{SignedValue, ScopeEntry, ScopeName, Scope, looked_up, is_waiting}
 use Rattle.v_names.specs.SizeViews.{signed_value}
 use Rattle.v_names.specs.declared.constant.Constant.{Constant}
-use Rattle.v_names.specs.Names.{Declaration, GivenParameter, given_of, given_if, meaning_of, meanings, is_parameter_declared, waiting_entry, waiting_scope, scope_after}
+use Rattle.v_names.specs.Names.{Declaration, GivenParameter, given_of, given_if, meaning_of, meanings, scope_after}
 use Rattle.module_scope.specs.Kept.{kept}
 use Rattle.module_scope.specs.Givens.{given_seen, given_first, value_or}
 use Rattle.module_scope.specs.Meanings.{meaning_with, meaning-is}
-use Rattle.v_names.specs.Meanings.{found, named_by, in-waiting}
-use Rattle.module_scope.specs.Settled.{waits_in, waiting_left, IsSettled, AreStill, AreApart, IsTurn, IsPassed}
+use Rattle.v_names.specs.Meanings.{named_by}
+use Rattle.module_scope.specs.Settled.{waiting_left, IsSettled, AreStill, AreApart, IsTurn, IsPassed}
 use Rattle.module_scope.proofs.Maps.{equal-same}
 use Rattle.module_scope.proofs.Apart.{found-at, not-declared}
 use Rattle.name_checks.specs.Rows.{drop-step, drop-past}
-use Rattle.module_scope.proofs.Settling.{settle-turn, settle-fewer, settled-start}
+use Rattle.module_scope.proofs.Settling.{settle-turn, settle-fewer}
 
 kept-by : (v : Constant) (others : Option Constant) (rest : Option SignedValue) (b : Bool) → option_map signed_value others ≡ rest → option_map signed_value (cond b (Some v) others) ≡ given_if b (signed_value v) rest
 kept-by v others rest true e = refl
@@ -24,6 +24,43 @@ kept-by v others rest false e = e
 pub given-kept : (pairs : List (List ℕ × Constant)) (name : Identifier) → option_map signed_value (kept pairs name) ≡ given_of (given_seen pairs) name
 given-kept [] name = refl
 given-kept (p ∷ pairs) name = kept-by p.1 (kept pairs name) (given_of (given_seen pairs) name) (same_name p.0 name) (given-kept pairs name)
+
+get-mapped : {A : Type 0} (view : A → Declaration) (xs : List A) (i : ℕ) (x : A) → i < length xs → x ≡ get_or xs i x → view x ≡ get_or (map view xs) i (view x)
+get-mapped view [] i x below at = absurd (omega arith)
+get-mapped view (y ∷ ys) zero x below at = ap view at
+get-mapped view (y ∷ ys) (suc i) x below at = get-mapped view ys i x (omega arith) at
+
+length-mapped : {A : Type 0} (view : A → Declaration) (xs : List A) → length (map view xs) ≡ length xs
+length-mapped view [] = refl
+length-mapped view (x ∷ xs) = ap (λ n. suc n) (length-mapped view xs)
+
+below-mapped : {A : Type 0} (view : A → Declaration) (xs : List A) (i : ℕ) → i < length xs → i < length (map view xs)
+below-mapped view xs i below = let e = length-mapped view xs in omega (arith, e)
+
+-- a turn keeps what is settled, and none waits more
+pub turn-settled : (given : List GivenParameter) (ds : List Declaration) (now new : Scope) (turned : Bool) (i : ℕ) (d : Declaration) → AreApart ds → i < length ds → d ≡ get_or ds i d
+    → IsSettled given ds now → IsTurn (given_of given d.name) d now new turned → IsSettled given ds new
+turn-settled given ds now new true i d apart below at s t =
+    let means : meaning_with now (given_of given d.name) d.declared ≡ meaning_of now given d.name d.declared = sym (meaning-is now given d.name d.declared) in
+    settle-turn given ds now new i d (meaning_with now (given_of given d.name) d.declared) s below at (found-at ds i d apart below at) (equal-same d.name d.name refl) t.0 means t.1 t.2
+turn-settled given ds now new false i d apart below at s t = subst (IsSettled given ds) (sym t.0) s
+
+pub turn-fewer : (given : List GivenParameter) (ds : List Declaration) (now new : Scope) (turned : Bool) (i : ℕ) (d : Declaration) → i < length ds → d ≡ get_or ds i d
+    → IsTurn (given_of given d.name) d now new turned → waiting_left new ds ≤ waiting_left now ds
+turn-fewer given ds now new true i d below at t =
+    let one = settle-fewer ds now new i d (meaning_with now (given_of given d.name) d.declared) below at (equal-same d.name d.name refl) t.0 t.1 t.2 in omega (arith, one)
+turn-fewer given ds now new false i d below at t = let same : waiting_left new ds ≡ waiting_left now ds = ap (λ s. waiting_left s ds) t.0 in omega (arith, same)
+
+-- a turn of one of the code's declarations
+pub turn-seen : {A : Type 0} (view : A → Declaration) (xs : List A) (i : ℕ) (x : A) (pairs : List (List ℕ × Constant)) (value : Option Constant) (now new : Scope) (turned : Bool) → AreApart (map view xs) → i < length xs → x ≡ get_or xs i x
+    → IsSettled (given_seen pairs) (map view xs) now → value ≡ kept pairs (view x).name → IsTurn (option_map signed_value value) (view x) now new turned
+    → IsSettled (given_seen pairs) (map view xs) new × (waiting_left new (map view xs) ≤ waiting_left now (map view xs))
+turn-seen {A} view xs i x pairs value now new turned apart below at s e t =
+    let P : Option SignedValue → Type 0 = λ g. IsTurn g (view x) now new turned in
+    let turn : IsTurn (given_of (given_seen pairs) (view x).name) (view x) now new turned = subst P (ap (option_map signed_value) e ∙ given-kept pairs (view x).name) t in
+    let there = below-mapped view xs i below in
+    let is = get-mapped view xs i x below at in
+    (turn-settled (given_seen pairs) (map view xs) now new turned i (view x) apart there is s turn, turn-fewer (given_seen pairs) (map view xs) now new turned i (view x) there is turn)
 
 -- the state of a pass
 pub record IsUnderWay (given : List GivenParameter) (ds : List Declaration) (old now : Scope) (changed : Bool) (rest : List Declaration) : Type 0 where
@@ -119,18 +156,6 @@ given-turn g rest name None new whole e h = by (same_name g.name name) refl
     by : (b : Bool) → same_name g.name name ≡ b → value_or new (given_of rest name) ≡ whole
     by true s = ap (λ n. value_or n (given_of rest name)) (e ∙ ap (λ b. given_if b g.given None) s) ∙ sym (ap (λ b. given_if b g.given (given_of rest name)) s) ∙ h
     by false s = ap (λ n. value_or n (given_of rest name)) (e ∙ ap (λ b. given_if b g.given None) s) ∙ sym (ap (λ b. given_if b g.given (given_of rest name)) s) ∙ h
-
-get-mapped : {A : Type 0} (view : A → Declaration) (xs : List A) (i : ℕ) (x : A) → i < length xs → x ≡ get_or xs i x → view x ≡ get_or (map view xs) i (view x)
-get-mapped view [] i x below at = absurd (omega arith)
-get-mapped view (y ∷ ys) zero x below at = ap view at
-get-mapped view (y ∷ ys) (suc i) x below at = get-mapped view ys i x (omega arith) at
-
-length-mapped : {A : Type 0} (view : A → Declaration) (xs : List A) → length (map view xs) ≡ length xs
-length-mapped view [] = refl
-length-mapped view (x ∷ xs) = ap (λ n. suc n) (length-mapped view xs)
-
-below-mapped : {A : Type 0} (view : A → Declaration) (xs : List A) (i : ℕ) → i < length xs → i < length (map view xs)
-below-mapped view xs i below = let e = length-mapped view xs in omega (arith, e)
 
 pub way-step : {A : Type 0} (view : A → Declaration) (xs : List A) (i : ℕ) (x : A) (pairs : List (List ℕ × Constant)) (old now new : Scope) (changed turned changed' : Bool) → AreApart (map view xs) → i < length xs → x ≡ get_or xs i x
     → IsUnderWay (given_seen pairs) (map view xs) old now changed (map view (drop i xs)) → IsTurn (option_map signed_value (kept pairs (view x).name)) (view x) now new turned → changed' ≡ (changed || turned)

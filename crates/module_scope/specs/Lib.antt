@@ -5,3 +5,4 @@ pub mod Kept
 pub mod Settled
 pub mod Givens
 pub mod NameFaults
+pub mod Below

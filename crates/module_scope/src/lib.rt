@@ -13,6 +13,7 @@ mod meaning;
 mod module_scope;
 mod name_map;
 mod once;
+mod order;
 mod settle;
 mod twice;
 

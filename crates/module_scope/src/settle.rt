@@ -1,20 +1,22 @@
 // The values of the parameters of a module.
 //
 // Passes over the declarations in text order, until one gives no parameter a value. Parameters that are declared before they are used need one
-// pass and one that changes nothing; each use before a declaration may need a pass more.
+// pass and one that changes nothing. Behind a pass those that still wait are gone through in an order in which each stands behind those that it
+// names, so that the next pass changes nothing, whatever the order of the text.
 
-ghost use Rattle.std.specs.Prelude.{◌≡◌, ◌+◌, ◌||◌, IfOk, OnOk, Some, option_map};
+ghost use Rattle.std.specs.Prelude.{◌≡◌, ◌+◌, ◌≤◌, ◌||◌, IfOk, OnOk, Some, option_map};
 ghost use Rattle.v_names.specs.Scopes.{is_waiting, looked_up};
 ghost use Rattle.v_names.specs.ScopeViews.{entry_of};
 ghost use Rattle.v_names.specs.Names.{waiting_entry, waiting_scope, meanings, scope_after, parameter_count};
 ghost use Rattle.v_names.specs.SizeViews.{signed_value};
 ghost use Rattle.module_scope.specs.Declarations.{declared_seen, declaration_seen, declarations_seen};
 ghost use Rattle.module_scope.specs.Givens.{given_seen};
-ghost use Rattle.module_scope.specs.Settled.{AreApart, AreStill, IsPassed, IsSettled, IsTurn};
+ghost use Rattle.module_scope.specs.Settled.{waiting_left, AreApart, AreStill, IsPassed, IsSettled, IsTurn};
 
 use crate::declaration::{Declaration, Declared};
 use crate::meaning::meaning_of;
 use crate::name_map::NameMap;
+use crate::order::waiting_order;
 use std::alloc::Global;
 use v_names::{Constant, Entry, Scope};
 use vf_base::{NoMemory, Text};
@@ -55,7 +57,7 @@ fn is_waiting_entry(entry: &Entry) -> bool
 }
 
 /// Whether a name is that of a parameter that has no value.
-fn is_waiting_name(scope: &Scope<'_>, name: &Text) -> bool
+pub fn is_waiting_name(scope: &Scope<'_>, name: &Text) -> bool
     ensures { result ≡ is_waiting (looked_up scope.now name.now) }
 {
     match scope.lookup(name) {
@@ -115,6 +117,47 @@ fn pass<'m>(
     Ok(changed)
 }
 
+/// Gives the parameter at a place its value if it has none and those that it names have theirs; there may be no such place.
+fn settle_at<'m>(
+    alloc: Global,
+    scope: &mut Scope<'m>,
+    declared: &[Declaration<'m>],
+    given: &NameMap<'_, Constant>,
+    place: usize,
+) -> Result<(), NoMemory>
+    requires apart { AreApart (declarations_seen declared.now) }
+    requires settled { IsSettled (given_seen given.now) (declarations_seen declared.now) scope.old }
+    ensures settled { OnOk result (IsSettled (given_seen given.now) (declarations_seen declared.now) scope.new) }
+    ensures fewer { OnOk result (waiting_left scope.new (declarations_seen declared.now) ≤ waiting_left scope.old (declarations_seen declared.now)) }
+{
+    if place >= declared.len() {
+        return Ok(());
+    }
+    let declaration = declared[place];
+    let value = given.get(declaration.name.as_bytes());
+    settle(alloc, scope, declaration, value)?;
+    Ok(())
+}
+
+/// Gives values to parameters that wait, those first on which others rest. The order only saves passes, so nothing is said of it.
+fn settle_waiting<'m>(
+    alloc: Global,
+    scope: &mut Scope<'m>,
+    declared: &[Declaration<'m>],
+    given: &NameMap<'_, Constant>,
+) -> Result<(), NoMemory>
+    requires apart { AreApart (declarations_seen declared.now) }
+    requires settled { IsSettled (given_seen given.now) (declarations_seen declared.now) scope.old }
+    ensures settled { OnOk result (IsSettled (given_seen given.now) (declarations_seen declared.now) scope.new) }
+    ensures fewer { OnOk result (waiting_left scope.new (declarations_seen declared.now) ≤ waiting_left scope.old (declarations_seen declared.now)) }
+{
+    let order = waiting_order(alloc, scope, declared, given)?;
+    'order: for place in &order {
+        settle_at(alloc, scope, declared, given, *place)?;
+    }
+    Ok(())
+}
+
 /// Gives each parameter its value that doesn't rest on itself.
 fn settle_all<'m>(
     alloc: Global,
@@ -132,6 +175,7 @@ fn settle_all<'m>(
         if !changed {
             return Ok(());
         }
+        settle_waiting(alloc, scope, declared, given)?;
     }
 }
 
