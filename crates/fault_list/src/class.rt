@@ -99,7 +99,8 @@ fn first_place(
 /// For each of some faults the place, in their list, of the first one of its class: two faults are of one class where they are equal, or
 /// joined by a chain of pairs of a gate's terminal and its output whose faults have one effect.
 pub fn classes(alloc: Global, design: &Design, faults: &[Fault]) -> Result<Vec<u32>, NoMemory>
-    ensures { IfOk result (λ places. AreClasses (design_of design.now) (stuck faults.now) places.items) }
+    ensures count { IfOk result (λ places. length places.items ≡ length faults.now) }
+    ensures classes { IfOk result (λ places. AreClasses (design_of design.now) (stuck faults.now) places.items) }
 {
     if faults.len() > u32::MAX as usize {
         return Err(NoMemory);

@@ -26,7 +26,7 @@ slice_get-take (suc n) (x ∷ xs) zero h = refl
 slice_get-take (suc n) (x ∷ xs) (suc k) h = slice_get-take n xs k (omega (arith, h))
 
 -- each listed fault has a place
-pub places-enough : (design : FlatDesign) (faults : List StuckAt) (places : List ℕ) → AreClasses design faults places → length faults ≤ length places
+places-enough : (design : FlatDesign) (faults : List StuckAt) (places : List ℕ) → AreClasses design faults places → length faults ≤ length places
 places-enough design faults places classes =
     ⊎_elim (λ (some : 0 < length faults).
     let last = element-at faults (length faults - 1) (omega (arith, some)) in
