@@ -1,5 +1,5 @@
 -- The sizes of expressions that are sized together, in whatever order they are taken.
-use Rattle.std.proofs.Common.{◌≡◌, ℕ, ◌+◌, ◌<◌, max, Bool, true, false, ◌&&◌, List, [], ◌∷◌, length, get_or, drop, Option, Some, None, refl, sym, ap, ap₂, ◌∙◌, arith}
+use Rattle.std.proofs.Common.{◌≡◌, ℕ, max, Bool, true, false, ◌&&◌, List, ◌∷◌, Option, Some, None, refl, ap, ap₂, ◌∙◌, arith}
 use Rattle.v_tree.specs.Trees.{SourceExpressions, no_parts, more_parts, SourceCaseItems, no_source_items, labelled, otherwise}
 use Rattle.v_tree.specs.Views.{expressions_of, case_items_of}
 use Rattle.v_tree.specs.declared.statement.CaseItem.{CaseItem}

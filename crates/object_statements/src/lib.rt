@@ -9,6 +9,7 @@
 mod cases;
 mod delays;
 mod meaning;
+mod parts;
 mod reads;
 mod statements;
 mod waits;

@@ -9,16 +9,19 @@ ghost use Rattle.v_elab.specs.Statements.{Meaning as PlainMeaning, statement_ove
 ghost use Rattle.v_design.specs.Trees.{CaseItems};
 ghost use Rattle.object_statements.specs.Meanings.{IsMeaning};
 ghost use Rattle.object_statements.specs.CaseItems.{item_over, then_items};
+ghost use Rattle.object_statements.specs.Branches.{second_over};
 
-use crate::cases::{case_size, expr_at, labels_over};
-use crate::delays::{delay_if, delay_or_zero, delay_over};
-use crate::meaning::{Meaning, expr_alone, expr_assigned, targets_over};
-use crate::waits::wait_entries;
+use crate::cases::{case_size, labels_over};
+use crate::meaning::Meaning;
+use crate::parts::{
+    ForHead, blocking_over, case_over, delayed_over, event_over, for_over, if_over,
+    nonblocking_over, repeat_over, wait_over, while_over,
+};
 use std::alloc::Global;
 use v_design::{CaseItem as FlatItem, FlatStmt};
 use v_names::Size;
 use v_tree::{CaseItem, Stmt};
-use vf_base::{NoMemory, Seq};
+use vf_base::NoMemory;
 
 /// A statement over objects, for what the names of its process mean.
 ///
@@ -48,33 +51,11 @@ pub fn statement_over(
             place,
             condition,
             first,
-            second: None,
+            second,
         } => {
-            let condition = expr_alone(alloc, meaning, condition)?;
             let first = boxed_over(alloc, meaning, first)?;
-            let second = Box::new(alloc, FlatStmt::Null)?;
-            Ok(FlatStmt::If {
-                place: *place,
-                condition,
-                first,
-                second,
-            })
-        }
-        Stmt::If {
-            place,
-            condition,
-            first,
-            second: Some(second),
-        } => {
-            let condition = expr_alone(alloc, meaning, condition)?;
-            let first = boxed_over(alloc, meaning, first)?;
-            let second = boxed_over(alloc, meaning, second)?;
-            Ok(FlatStmt::If {
-                place: *place,
-                condition,
-                first,
-                second,
-            })
+            let second = second_over(alloc, meaning, second)?;
+            if_over(alloc, meaning, *place, condition, first, second)
         }
         Stmt::Case {
             place,
@@ -83,16 +64,10 @@ pub fn statement_over(
             items,
         } => {
             let size = case_size(alloc, meaning.scope, value, items)?;
-            let value = expr_at(alloc, meaning, value, size)?;
+            let flats = items_over(alloc, meaning, items, size)?;
             let other = default_over(alloc, meaning, items)?;
-            let items = items_over(alloc, meaning, items, size)?;
-            Ok(FlatStmt::Case {
-                place: *place,
-                kind: *kind,
-                value,
-                items,
-                default: other,
-            })
+            let flat = case_over(alloc, meaning, *place, *kind, value, size, flats, other)?;
+            Ok(flat)
         }
         Stmt::For {
             place,
@@ -103,43 +78,27 @@ pub fn statement_over(
             next,
             body,
         } => {
-            let first_targets = targets_over(alloc, meaning, first_target)?;
-            let first = expr_assigned(alloc, meaning, first_target, first)?;
-            let condition = expr_alone(alloc, meaning, condition)?;
-            let next_targets = targets_over(alloc, meaning, next_target)?;
-            let next = expr_assigned(alloc, meaning, next_target, next)?;
             let body = boxed_over(alloc, meaning, body)?;
-            Ok(FlatStmt::For {
-                place: *place,
-                first_targets,
+            let head = ForHead {
+                first_target,
                 first,
                 condition,
-                next_targets,
+                next_target,
                 next,
-                body,
-            })
+            };
+            for_over(alloc, meaning, *place, head, body)
         }
         Stmt::While {
             place,
             condition,
             body,
         } => {
-            let condition = expr_alone(alloc, meaning, condition)?;
             let body = boxed_over(alloc, meaning, body)?;
-            Ok(FlatStmt::While {
-                place: *place,
-                condition,
-                body,
-            })
+            while_over(alloc, meaning, *place, condition, body)
         }
         Stmt::Repeat { place, count, body } => {
-            let condition = expr_alone(alloc, meaning, count)?;
             let body = boxed_over(alloc, meaning, body)?;
-            Ok(FlatStmt::Repeat {
-                place: *place,
-                count: condition,
-                body,
-            })
+            repeat_over(alloc, meaning, *place, count, body)
         }
         Stmt::Forever { place, body } => {
             let body = boxed_over(alloc, meaning, body)?;
@@ -153,63 +112,46 @@ pub fn statement_over(
             condition,
             body,
         } => {
-            let condition = expr_alone(alloc, meaning, condition)?;
             let body = boxed_over(alloc, meaning, body)?;
-            Ok(FlatStmt::Wait {
-                place: *place,
-                condition,
-                body,
-            })
+            wait_over(alloc, meaning, *place, condition, body)
         }
         Stmt::Event { place, waits, body } => {
-            let entries = wait_entries(alloc, meaning, waits, body)?;
-            let body = boxed_over(alloc, meaning, body)?;
-            Ok(FlatStmt::EventControl {
-                place: *place,
-                entries: Seq::from_vec(entries),
-                body,
-            })
+            let flat = boxed_over(alloc, meaning, body)?;
+            event_over(alloc, meaning, *place, waits, body, flat)
         }
         Stmt::Delay { place, delay, body } => {
-            let delay = delay_over(alloc, meaning, delay)?;
             let body = boxed_over(alloc, meaning, body)?;
-            Ok(FlatStmt::Delay {
-                place: *place,
-                delay,
-                body,
-            })
+            delayed_over(alloc, meaning, *place, delay, body)
         }
         Stmt::Blocking {
             place,
             target,
             delay,
             value,
-        } => {
-            let targets = targets_over(alloc, meaning, target)?;
-            let delay = delay_if(alloc, meaning, delay)?;
-            let value = expr_assigned(alloc, meaning, target, value)?;
-            Ok(FlatStmt::Blocking {
-                place: *place,
-                targets,
-                delay,
-                value,
-            })
-        }
+        } => blocking_over(alloc, meaning, *place, target, delay, value),
         Stmt::Nonblocking {
             place,
             target,
             delay,
             value,
-        } => {
-            let targets = targets_over(alloc, meaning, target)?;
-            let delay = delay_or_zero(alloc, meaning, delay)?;
-            let value = expr_assigned(alloc, meaning, target, value)?;
-            Ok(FlatStmt::Nonblocking {
-                place: *place,
-                targets,
-                delay,
-                value,
-            })
+        } => nonblocking_over(alloc, meaning, *place, target, delay, value),
+    }
+}
+
+/// The other branch of an `if` over objects, a statement that does nothing where it has none.
+#[cycle(statement)]
+fn second_over(
+    alloc: Global,
+    meaning: Meaning<'_, '_>,
+    second: &Option<Box<Stmt>>,
+) -> Result<Box<FlatStmt>, NoMemory>
+    ensures { IfOk result (λ flat. (plain : PlainMeaning) → IsMeaning plain meaning.entry → statement_of flat.value ≡ second_over plain second.now) }
+{
+    match second {
+        None => Ok(Box::new(alloc, FlatStmt::Null)?),
+        Some(second) => {
+            let flat = boxed_over(alloc, meaning, second)?;
+            Ok(flat)
         }
     }
 }

@@ -1,7 +1,7 @@
-use Rattle.std.proofs.Common.{◌+◌, List, Option, drop, ap, ◌∙◌, option_map}
+use Rattle.std.proofs.Common.{◌+◌, List, drop, ap, ◌∙◌, option_map}
 use Rattle.v_tree.specs.Views.{expression_of, expressions_of}
 use Rattle.v_tree.specs.declared.expression.Expr.{Expr}
-use Rattle.v_names.specs.Readings.{Size, reading_of}
+use Rattle.v_names.specs.Readings.{reading_of}
 use Rattle.v_names.specs.SizeViews.{size_of}
 use Rattle.v_elab.specs.Statements.{labels_size}
 use Rattle.object_statements.proofs.Sizes.{labels-turned}

@@ -1,7 +1,7 @@
-use Rattle.std.proofs.Common.{◌≡◌, ◌++◌, ℕ, List, map, refl, sym, ap, ◌∙◌}
+use Rattle.std.proofs.Common.{◌++◌, ℕ, List, map, refl, sym, ap, ◌∙◌}
 use Rattle.vf_base.specs.Base.{object_number}
 use Rattle.v_tree.specs.Trees.{SourceStatement}
-use Rattle.v_tree.specs.Views.{expression_of, expressions_of, statement_of, statements_of, case_items_of}
+use Rattle.v_tree.specs.Views.{expressions_of, statement_of, statements_of, case_items_of}
 use Rattle.v_tree.specs.ViewLaws.{statement_of-Block, statement_of-Case}
 use Rattle.v_tree.specs.declared.expression.Expr.{Expr}
 use Rattle.v_tree.specs.declared.statement.Stmt.{Stmt}
