@@ -1,7 +1,6 @@
 pub mod StemCuts
 pub mod Noting
 pub mod NameWalking
-pub mod Cuts
 pub mod Rows
 pub mod KeptTimes
 pub mod Reading

@@ -19,8 +19,9 @@ use Rattle.plan_read.specs.declared.draft.Draft.{Draft}
 use Rattle.plan_read.specs.declared.fault.PlanFault.{PlanFault}
 use Rattle.plan_read.specs.declared.fault.PlanFault.TheVariants.{BadLine, UnknownSite, TooMany, TooLong, NoMemory}
 use Rattle.plan_read.specs.Forms.{PlanLine, Empty, Ends, Watches, Strobes, Lists, ListsAll, Formless, line_of, times_on}
-use Rattle.plan_read.specs.Text.{words_of}
-use Rattle.plan_read.specs.Plain.{plain_words, watched_bits}
+use Rattle.text_lines.specs.Text.{words_of}
+use Rattle.text_lines.specs.Plain.{plain_texts}
+use Rattle.plan_read.specs.Plain.{watched_bits}
 use Rattle.plan_read.specs.Spelled.{PlanReason, IsBad, IsUnknown, IsTooMany, bits_on, faults_on, fault_at, end_on, earlier_end, end_of, times_of, bits_of, listed_faults, is_bad, is_bad_first, is_bad_after, is_unknown, are_none, is_none, are_too_many, first_reason, reason_of, lines_say, NoneRefused, IsFirstRefused, latest_end, most_strobes, most_watched, most_faults}
 use Rattle.plan_read.specs.Steps.{FaultIs, bad_if, too_many_if, strobes_reason, watched_reason, site_reason, all_reason, reason_first, reason_after, reason_at, AreKept, AreInTime, IsAdded, IsWithin, IsRead, FaultOf}
 
@@ -267,40 +268,40 @@ refused-at design all place line draft NoMemory is there h = tt
 
 -- The lines of the code
 
-pub say-take : (lines : List (Bor (List ℕ))) (i : ℕ) → take i (lines_say (plain_words lines)) ≡ lines_say (plain_words (take i lines))
+pub say-take : (lines : List (Bor (List ℕ))) (i : ℕ) → take i (lines_say (plain_texts lines)) ≡ lines_say (plain_texts (take i lines))
 say-take [] zero = refl
 say-take [] (suc i) = refl
 say-take (x ∷ xs) zero = refl
 say-take (x ∷ xs) (suc i) = ap (λ l. line_of (words_of x.now) ∷ l) (say-take xs i)
 
-pub say-at : (lines : List (Bor (List ℕ))) (i : ℕ) (line : Bor (List ℕ)) → slice_get lines i ≡ Some line → slice_get (lines_say (plain_words lines)) i ≡ Some (line_of (words_of line.now))
+pub say-at : (lines : List (Bor (List ℕ))) (i : ℕ) (line : Bor (List ℕ)) → slice_get lines i ≡ Some line → slice_get (lines_say (plain_texts lines)) i ≡ Some (line_of (words_of line.now))
 say-at [] i line h = cc
 say-at (x ∷ xs) zero line h = let same : x ≡ line = cc in ap (λ l. Some (line_of (words_of l.now))) same
 say-at (x ∷ xs) (suc i) line h = say-at xs i line h
 
-pub say-more : (lines : List (Bor (List ℕ))) (i : ℕ) (line : Bor (List ℕ)) → slice_get lines i ≡ Some line → lines_say (plain_words (take (i + 1) lines)) ≡ lines_say (plain_words (take i lines)) ++ line_of (words_of line.now) ∷ []
+pub say-more : (lines : List (Bor (List ℕ))) (i : ℕ) (line : Bor (List ℕ)) → slice_get lines i ≡ Some line → lines_say (plain_texts (take (i + 1) lines)) ≡ lines_say (plain_texts (take i lines)) ++ line_of (words_of line.now) ∷ []
 say-more [] i line h = cc
 say-more (x ∷ xs) zero line h = let same : x ≡ line = cc in ap (λ l. line_of (words_of l.now) ∷ []) same
 say-more (x ∷ xs) (suc i) line h = rw add-one (ap (λ l. line_of (words_of x.now) ∷ l) (rw add-one at (say-more xs i line h)))
 
 -- the next line of the code was read
 pub lines-more : (design : FlatDesign) (lines : List (Bor (List ℕ))) (i : ℕ) (d : Bor (List ℕ)) (row words : List (Bor (List ℕ))) (line : PlanLine) (old new : Draft) →
-    i < length lines → plain_words row ≡ words_of (get_or lines i d).now → words ≡ row → line ≡ line_of (plain_words words) →
-    IsRead design (lines_say (plain_words (take i lines))) old → reason_at design old old.end line ≡ None → IsAdded design line old new → IsRead design (lines_say (plain_words (take (i + 1) lines))) new
+    i < length lines → plain_texts row ≡ words_of (get_or lines i d).now → words ≡ row → line ≡ line_of (plain_texts words) →
+    IsRead design (lines_say (plain_texts (take i lines))) old → reason_at design old old.end line ≡ None → IsAdded design line old new → IsRead design (lines_say (plain_texts (take (i + 1) lines))) new
 lines-more design lines i d row words line old new below r s l is fine added =
-    let said : line ≡ line_of (words_of (get_or lines i d).now) = l ∙ (ap (λ w. line_of (plain_words w)) s ∙ ap line_of r) in
-    let more : lines_say (plain_words (take (i + 1) lines)) ≡ lines_say (plain_words (take i lines)) ++ line_of (words_of (get_or lines i d).now) ∷ [] = say-more lines i (get_or lines i d) (slice_get-get_or lines i d below) in
+    let said : line ≡ line_of (words_of (get_or lines i d).now) = l ∙ (ap (λ w. line_of (plain_texts w)) s ∙ ap line_of r) in
+    let more : lines_say (plain_texts (take (i + 1) lines)) ≡ lines_say (plain_texts (take i lines)) ++ line_of (words_of (get_or lines i d).now) ∷ [] = say-more lines i (get_or lines i d) (slice_get-get_or lines i d below) in
     let P : List PlanLine → Type 0 = λ ls. IsRead design ls new in
-    subst P (sym (more ∙ ap (λ it. lines_say (plain_words (take i lines)) ++ it ∷ []) (sym said))) (read-more design (lines_say (plain_words (take i lines))) line old new is fine added)
+    subst P (sym (more ∙ ap (λ it. lines_say (plain_texts (take i lines)) ++ it ∷ []) (sym said))) (read-more design (lines_say (plain_texts (take i lines))) line old new is fine added)
 
 -- the next line of the code is refused
 pub lines-refused : (design : FlatDesign) (lines : List (Bor (List ℕ))) (i : ℕ) (d : Bor (List ℕ)) (row words : List (Bor (List ℕ))) (line : PlanLine) (old : Draft) (fault : PlanFault) →
-    i < length lines → plain_words row ≡ words_of (get_or lines i d).now → words ≡ row → line ≡ line_of (plain_words words) →
-    IsRead design (lines_say (plain_words (take i lines))) old → FaultIs (i + 1) (reason_at design old old.end line) fault → FaultOf design (lines_say (plain_words lines)) fault
+    i < length lines → plain_texts row ≡ words_of (get_or lines i d).now → words ≡ row → line ≡ line_of (plain_texts words) →
+    IsRead design (lines_say (plain_texts (take i lines))) old → FaultIs (i + 1) (reason_at design old old.end line) fault → FaultOf design (lines_say (plain_texts lines)) fault
 lines-refused design lines i d row words line old fault below r s l is h =
-    let said : line ≡ line_of (words_of (get_or lines i d).now) = l ∙ (ap (λ w. line_of (plain_words w)) s ∙ ap line_of r) in
+    let said : line ≡ line_of (words_of (get_or lines i d).now) = l ∙ (ap (λ w. line_of (plain_texts w)) s ∙ ap line_of r) in
     let P : List PlanLine → Type 0 = λ ls. IsRead design ls old in
-    refused-at design (lines_say (plain_words lines)) i line old fault (subst P (sym (say-take lines i)) is) (say-at lines i (get_or lines i d) (slice_get-get_or lines i d below) ∙ ap (λ it. Some it) (sym said)) h
+    refused-at design (lines_say (plain_texts lines)) i line old fault (subst P (sym (say-take lines i)) is) (say-at lines i (get_or lines i d) (slice_get-get_or lines i d below) ∙ ap (λ it. Some it) (sym said)) h
 
 -- what holds of an error holds of the same error
 pub err-same : {A E : Type 0} (r : Result A E) (fault : E) (P : E → Type 0) → IsErrAnd r (λ e. e ≡ fault) → P fault → IfErr r P

@@ -7,7 +7,7 @@ use Rattle.fault_list.specs.Listed.{stuck}
 use Rattle.plan_read.specs.declared.draft.Draft.{Draft}
 use Rattle.plan_read.specs.declared.fault.PlanFault.{PlanFault}
 use Rattle.plan_read.specs.declared.fault.PlanFault.TheVariants.{BadLine, UnknownSite, TooMany, TooLong, NoMemory}
-use Rattle.plan_read.specs.Text.{lines_of, words_of}
+use Rattle.text_lines.specs.Text.{lines_of, words_of}
 use Rattle.plan_read.specs.Forms.{line_of}
 use Rattle.plan_read.specs.Plain.{watched_bits}
 use Rattle.plan_read.specs.Spelled.{lines_say, plan_lines, most_bytes, NoneRefused, LinesSpell, HaveNoEnd, IsBadAt, bad_line, no_end, Spells, Refuses}

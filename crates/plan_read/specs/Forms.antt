@@ -1,7 +1,12 @@
 -- What a line's words say (the format is this program's own).
-use Rattle.std.specs.Prelude.{ℕ, zero, suc, ◌+◌, ◌*◌, ◌-◌, ◌/◌, List, [], ◌∷◌, ◌++◌, Bool, true, false, ◌&&◌, nat_le, Option, Some, None, if◌then◌else◌, codes}
+use Rattle.std.specs.Prelude.{ℕ, zero, suc, ◌+◌, ◌*◌, ◌-◌, ◌/◌, List, [], ◌∷◌, ◌++◌, Bool, true, false, ◌&&◌, nat_le, length, Option, Some, None, if◌then◌else◌, codes}
 use Rattle.std.specs.Str.{bytes_eq}
-use Rattle.plan_read.specs.Text.{number_of}
+use Rattle.text_lines.specs.Text.{number_after}
+
+-- a number is 1 to 13 digits
+abbrev pub number_of : List ℕ → Option ℕ
+number_of [] = None
+number_of (b ∷ bs) = if nat_le (length (b ∷ bs)) 13 then number_after 0 (b ∷ bs) else None
 
 -- what a line says: nothing, the end, what is watched, strobes from a time in steps up to a time, a fault, or all faults; or it is of no form
 pub data PlanLine : Type 0 where

@@ -1,6 +1,5 @@
 pub mod Stems
 pub mod StemLaws
-pub mod Text
 pub mod Forms
 pub mod Watched
 pub mod Spelled

@@ -1,15 +1,10 @@
 -- What the code's lines and bits stand for (nothing of the language).
-use Rattle.std.specs.Prelude.{ℕ, List, map}
-use Rattle.std.specs.Borrow.{Bor}
+use Rattle.std.specs.Prelude.{List, map}
 use Rattle.vf_base.specs.declared.ids.WatchBit.{WatchBit}
 use Rattle.vf_base.specs.Base.{WatchedBit, watched_bit}
 use Rattle.plan_read.specs.declared.form.Line.{Line}
 use Rattle.plan_read.specs.declared.form.Line.TheVariants.{Empty as EmptyLine, Ends as EndsLine, Watches as WatchesLine, Strobes as StrobesLine, Lists as ListsLine, ListsAll as ListsAllLine, Formless as FormlessLine}
 use Rattle.plan_read.specs.Forms.{PlanLine, Empty, Ends, Watches, Strobes, Lists, ListsAll, Formless}
-
--- words as bytes
-abbrev pub plain_words : List (Bor (List ℕ)) → List (List ℕ)
-plain_words words = map (λ word. word.now) words
 
 -- a line
 abbrev pub plain_line : Line → PlanLine

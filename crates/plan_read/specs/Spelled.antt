@@ -11,7 +11,7 @@ use Rattle.plan_read.specs.Watched.{bits_spelled}
 use Rattle.fault_list.specs.Spelled.{site_spelled}
 use Rattle.plan_read.specs.declared.fault.PlanFault.{PlanFault}
 use Rattle.plan_read.specs.declared.fault.PlanFault.TheVariants.{BadLine, UnknownSite, TooMany, TooLong, NoMemory}
-use Rattle.plan_read.specs.Text.{lines_of, words_of}
+use Rattle.text_lines.specs.Text.{lines_of, words_of}
 use Rattle.plan_read.specs.Forms.{PlanLine, Empty, Ends, Watches, Strobes, Lists, ListsAll, Formless, line_of, times_on}
 
 -- What a line gives

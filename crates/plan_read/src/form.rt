@@ -1,11 +1,12 @@
 // What a line's words say.
 
-ghost use Rattle.std.specs.Prelude.{◌≡◌, ◌≤◌, ◌∷◌, [], length};
-ghost use Rattle.plan_read.specs.Text.{is_digit, number_after, number_of};
-ghost use Rattle.plan_read.specs.Forms.{end_line, strobe_line, strobes_line, fault_line, faults_line, line_of};
-ghost use Rattle.plan_read.specs.Plain.{plain_line, plain_words};
+ghost use Rattle.std.specs.Prelude.{◌≡◌, ◌∷◌, []};
+ghost use Rattle.text_lines.specs.Plain.{plain_texts};
+ghost use Rattle.plan_read.specs.Forms.{number_of, end_line, strobe_line, strobes_line, fault_line, faults_line, line_of};
+ghost use Rattle.plan_read.specs.Plain.{plain_line};
 
 use crate::row::Row;
+use text_lines::digits_value;
 
 /// What a line says. A single strobe is a row of one.
 #[derive(Clone, Copy, Debug)]
@@ -17,28 +18,6 @@ pub enum Line<'t> {
     Lists(&'t [u8], bool),
     ListsAll,
     Formless,
-}
-
-/// Whether a byte is a decimal digit.
-fn is_digit(byte: u8) -> bool
-    ensures { result ≡ is_digit byte }
-{
-    48 <= byte && byte <= 57
-}
-
-/// The number that digits spell, if they are all digits.
-fn digits_value(word: &[u8]) -> Option<u64>
-    requires { length word.now ≤ 13 }
-    ensures { result ≡ number_after 0 word.now }
-{
-    let mut value: u64 = 0;
-    for digit in word {
-        if !is_digit(*digit) {
-            return None;
-        }
-        value = value * 10 + u64::from(*digit - 48);
-    }
-    Some(value)
 }
 
 /// A number of 1 to 13 digits.
@@ -140,7 +119,7 @@ fn line_of_two<'t>(form: &[u8], word: &'t [u8]) -> Line<'t>
 
 /// What the words of a line say.
 pub fn line_of<'t>(words: &[&'t [u8]]) -> Line<'t>
-    ensures { plain_line result ≡ line_of (plain_words words.now) }
+    ensures { plain_line result ≡ line_of (plain_texts words.now) }
 {
     match words {
         [] => Line::Empty,

@@ -6,7 +6,6 @@
 //! `fault_list::site_of` answers. The formats are this program's own.
 #![tactic(auto)]
 
-mod cut;
 mod draft;
 mod drivers;
 mod fault;

@@ -3,22 +3,23 @@
 ghost use Rattle.std.specs.Prelude.{◌≡◌, ◌<◌, ◌≤◌, ◌↔◌, ◌∷◌, [], ℕ, All, Contains, IfOk, IfErr, IfSome, IsErrOf, None, Some, length, map, slice_index};
 ghost use Rattle.v_design.specs.Designs.{TestPlan};
 ghost use Rattle.v_design.specs.PlainDesigns.{design_of, plan_of};
-ghost use Rattle.plan_read.specs.Text.{words_of};
+ghost use Rattle.text_lines.specs.Text.{words_of};
 ghost use Rattle.plan_read.specs.Forms.{line_of};
-ghost use Rattle.plan_read.specs.Plain.{plain_words, watched_bits};
+ghost use Rattle.text_lines.specs.Plain.{plain_texts};
+ghost use Rattle.plan_read.specs.Plain.{watched_bits};
 ghost use Rattle.fault_list.specs.Listed.{stuck};
 ghost use Rattle.v_design.specs.WellFormed.{IsAscending, IsPlan, IsPlanOf};
 ghost use Rattle.plan_read.specs.Spelled.{most_bytes, most_strobes, most_watched, most_faults, latest_end, lines_say, plan_lines, LinesSpell, Spells, Refuses};
 ghost use Rattle.plan_read.specs.Steps.{IsRead, FaultOf};
 
 use crate::SiteNames;
-use crate::cut::{lines, words};
 use crate::draft::Draft;
 use crate::fault::PlanFault;
 use crate::form::line_of;
 use crate::line::add_line;
 use crate::sorted::ascending;
 use std::alloc::Global;
+use text_lines::{lines, words};
 use v_design::{Design, Plan};
 use vf_base::{MAX_PLAN_BYTES, NoMemory, Seq};
 
@@ -46,8 +47,8 @@ fn read_lines<'t>(
     lines: &[&'t [u8]],
 ) -> Result<Draft, PlanFault>
     requires { length lines.now ≤ most_bytes }
-    ensures read { IfOk result (IsRead (design_of names.now.design.now) (lines_say (plain_words lines.now))) }
-    ensures fault { IfErr result (FaultOf (design_of names.now.design.now) (lines_say (plain_words lines.now))) }
+    ensures read { IfOk result (IsRead (design_of names.now.design.now) (lines_say (plain_texts lines.now))) }
+    ensures fault { IfErr result (FaultOf (design_of names.now.design.now) (lines_say (plain_texts lines.now))) }
 {
     let mut draft = empty_draft(alloc);
     let mut row: Vec<&'t [u8]> = Vec::new(alloc);

@@ -1,6 +1,0 @@
-use Rattle.std.proofs.Common.{◌≡◌, ◌++◌, take, drop}
-use Rattle.plan_read.specs.Text.{before_comment}
-use Rattle.plan_read.proofs.cut.before_comment.Given as goal
-
-abbrev pub invariant-loop-i : goal.invariant-loop-i
-invariant-loop-i l = before_comment l.line ≡ take l.i l.line ++ before_comment (drop l.i l.line)

@@ -1,9 +1,0 @@
-use Rattle.std.proofs.Common.{◌≤◌, ◌<◌, ◌^◌, arith, lit<}
-use Rattle.std.proofs.Math.Nat.{pow-le-pow_right}
-use Rattle.plan_read.proofs.form.digits_value.Goals as goal
-
-pub overflow_mul-value : goal.overflow_mul-value
-overflow_mul-value c = let p : 10 ^ c.loop-digit.digit-index ≤ 10 ^ 12 = pow-le-pow_right (lit< tt) {i = c.loop-digit.digit-index} {j = 12} (omega arith) in omega (arith, p, c.loop-digit.invariant.small)
-
-pub overflow_add-value : goal.overflow_add-value
-overflow_add-value c = let p : 10 ^ c.loop-digit.digit-index ≤ 10 ^ 12 = pow-le-pow_right (lit< tt) {i = c.loop-digit.digit-index} {j = 12} (omega arith) in omega (arith, p, c.loop-digit.invariant.small)

@@ -1,0 +1,5 @@
+pub mod ObservedBits
+pub mod Heads
+pub mod ReadLines
+pub mod Fitting
+pub mod Answered
