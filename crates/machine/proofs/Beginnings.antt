@@ -11,6 +11,7 @@ use Rattle.slot_record.specs.Records.{object_count}
 use Rattle.machine_laws.specs.SlotLoop.{SlotsBegin, first_moment}
 use Rattle.slot_record.specs.declared.record.SlotRecord.{SlotRecord}
 use Rattle.slot_record.specs.SlotRecords.{BeginsSlot, BeginsPhase, RecordedSlot, IsEmptyLog}
+use Rattle.run_record.specs.RunRecords.{runs_so_far, AreAtRest, SlotsBeginNotes}
 use Rattle.net_state.specs.declared.state.NetState.{NetState}
 use Rattle.net_state.specs.States.{AreNetsOf}
 use Rattle.process_table.specs.Tables.{TableState, IsTableOf}
@@ -19,7 +20,7 @@ use Rattle.process_table.specs.Arranged.{IsKept, table_of}
 use Rattle.machine.specs.declared.parts.Stage.{Stage}
 use Rattle.machine.specs.declared.parts.Stage.TheVariants.{Start, Between, Over}
 use Rattle.machine.specs.declared.parts.Machine.{Machine as Simulated}
-use Rattle.machine.specs.Standing.{machine_kept, state_kept, slot_after, begins_at, begins_next, first_turn, IsStanding}
+use Rattle.machine.specs.Standing.{machine_kept, state_kept, slot_after, begins_at, begins_next, notes_runs, first_turn, IsStanding}
 use Rattle.machine.specs.Moments.{AreBothOf}
 use Rattle.machine.specs.Phases.{held_in, Runs}
 use Rattle.machine.proofs.Moved.{moved}
@@ -53,17 +54,19 @@ pub begins-table : (m : Simulated) → IsStanding m → IsTableOf (machine_kept 
 begins-table m standing = record { design = standing.design; time = refl; processes = refl }
 
 -- the slot begins, and is recorded
-pub slot-begun : SlotsBegin → (begins : State) (old new : Simulated) (log : SlotLog) (turn : Turn) (between : SlotRecord) → IsStanding old → begins_next old ≡ Some begins → begins.time ≤ 2 ^ 63 →
+pub slot-begun : SlotsBegin → SlotsBeginNotes → (begins : State) (old new : Simulated) (log : SlotLog) (turn : Turn) (between : SlotRecord) → IsStanding old → begins_next old ≡ Some begins → begins.time ≤ 2 ^ 63 →
     turn ≡ first_turn old.stage → IsTableOf (machine_kept old) begins (table_of new.table) → IsKept new.table → AreNetsOf new.nets (state_kept old) → machine_kept new ≡ machine_kept old →
     design_of new.graph.now.design.now ≡ design_of old.graph.now.design.now → IsEmptyLog log → BeginsSlot old.record between →
-    BeginsPhase turn (table_of new.table).time (held_in (table_of new.table)) between new.record → Runs (machine_kept old) (first_turn old.stage) begins 0 new log
-slot-begun law begins old new log turn between standing next low first table kept nets same graph empty slot phase =
+    BeginsPhase turn (table_of new.table).time (held_in (table_of new.table)) between new.record → new.runs.ended.items ≡ [] → runs_so_far new.runs ≡ runs_so_far old.runs → notes_runs new ≡ notes_runs old →
+    Runs (machine_kept old) (first_turn old.stage) begins 0 new log
+slot-begun law notes begins old new log turn between standing next low first table kept nets same graph empty slot phase none stay noted =
     let machine = machine_kept old in
     let both : AreBothOf machine begins new.nets new.table = record { machine_is = same; nets_are = begins-nets old.stage new.nets (state_kept old) begins nets next; table_is = table } in
     record {
       at = first_moment begins;
       is = moved machine (first_turn old.stage) (first_moment begins) new log (law machine begins (standing.begins begins next)) both kept (graph ∙ standing.graph)
-          (phase machine (first_turn old.stage) [] None begins log (slot machine (first_turn old.stage) standing.earlier log standing.causes empty) first (sym table.time) (held-is machine begins (table_of new.table) table)) low;
+          (phase machine (first_turn old.stage) [] None begins log (slot machine (first_turn old.stage) standing.earlier log standing.causes empty) first (sym table.time) (held-is machine begins (table_of new.table) table)) low
+          (λ on. notes machine begins new.runs (subst (AreAtRest (length machine.design.processes)) (sym stay) (standing.rests begins next (sym noted ∙ on))) none);
       begins_is = refl;
       steps_is = refl;
     }

@@ -6,6 +6,7 @@ use Rattle.v_design.specs.Designs.{Machine}
 use Rattle.v_design.specs.States.{State, ProcessState, TimeTurn, time_turn, turn_of, has_event, some_in}
 use Rattle.v_design.specs.Runs.{slot_end, is_hyper}
 use Rattle.v_design.specs.Laws.{BeginsPhase}
+use Rattle.v_design.specs.Grades as plain
 use Rattle.v_design.specs.Grades.{SlotOutcome, slot_outcome}
 use Rattle.causal_monitor.specs.declared.slot.Turn.{Turn}
 use Rattle.causal_monitor.specs.declared.slot.SlotLog.{SlotLog}
@@ -13,22 +14,27 @@ use Rattle.causal_monitor.specs.declared.slot.Actor.{Actor}
 use Rattle.event_causes.specs.Causes.{AreCausesOf}
 use Rattle.slot_record.specs.Records.{event_of}
 use Rattle.slot_record.specs.SlotLogs.{IsSlotLog}
-use Rattle.machine_laws.specs.SlotLoop.{Moment, NextSlotsBegin, EndsAt, slot_from, phases_so_far}
+use Rattle.machine_laws.specs.SlotLoop.{Moment, present_phase, NextSlotsBegin, EndsAt, slot_from, phases_so_far}
 use Rattle.slot_record.specs.declared.record.SlotRecord.{SlotRecord}
 use Rattle.slot_record.specs.SlotRecords.{EndsPhase, RecordedSlot}
 use Rattle.slot_record.specs.SlotEnds.{outcome_kept, outcome-recorded, log-recorded}
+use Rattle.run_ends.specs.RunEnds.{HaveRunEnds}
+use Rattle.run_record.specs.RunRecords.{IsAtRest, SlotsEndNotes}
+use Rattle.run_record.specs.declared.record.RunRecord.{RunRecord}
 use Rattle.net_state.specs.States.{machine_in, values_in, nodes_in}
 use Rattle.process_table.specs.Arranged.{IsKept, table_of}
 use Rattle.machine.specs.declared.end.SlotEnd.{SlotEnd}
 use Rattle.machine.specs.declared.parts.Stage.{Stage}
 use Rattle.machine.specs.declared.parts.Stage.TheVariants.{Start, Between, Over}
 use Rattle.machine.specs.declared.parts.Machine.{Machine as Simulated}
-use Rattle.machine.specs.Standing.{machine_kept, state_kept, slot_after, begins_at, begins_next, following, outcome_of, IsStanding, RunsSlot}
+use Rattle.machine.specs.Standing.{machine_kept, state_kept, slot_after, begins_at, begins_next, notes_runs, following, outcome_of, BeginsInFirstRun, IsStanding, RunsSlot}
 use Rattle.machine.specs.Phases.{EndsSlot, outcome_told, stage_after}
+use Rattle.order_laws.specs.FirstRuns.{FirstRunsGoOn}
 use Rattle.machine.proofs.Moved.{graph-of}
 use Rattle.machine.proofs.Events.{rules-at}
-use Rattle.machine.proofs.TurnsOn.{idle-processes}
+use Rattle.machine.proofs.TurnsOn.{idle-processes, none-ready}
 use Rattle.machine.proofs.Beginnings.{later-slot}
+use Rattle.machine.proofs.InRun.{next-in-run}
 
 told-kept : (hyper : Bool) (kept : SlotRecord) → outcome_told hyper kept.race ≡ outcome_kept hyper kept
 told-kept true kept = refl
@@ -48,10 +54,11 @@ pub ended-record : (machine : Machine) (first : Turn) (begins : State) (hyper : 
 ended-record machine first begins hyper old log logged kept ends phase = phase machine first ends.at.ended _ (sym (graph-of machine first ends.at old log ends.is)) ends.is.recorded
 
 -- what the slot gives
-pub slot-run : (machine : Machine) (first : Turn) (begins : State) (hyper : Bool) (end : SlotEnd) (old new : Simulated) (log logged timed : SlotLog) → EndsSlot machine first begins hyper old log →
+pub slot-run : SlotsEndNotes → (machine : Machine) (first : Turn) (begins : State) (hyper : Bool) (end : SlotEnd) (old new : Simulated) (log logged timed : SlotLog) → EndsSlot machine first begins hyper old log →
     EndsPhase (design_of old.graph.now.design.now) old.record new.record log logged → outcome_of end ≡ outcome_told hyper new.record.race → state_kept new ≡ state_kept old → new.stage ≡ stage_after hyper →
-    timed.phases ≡ logged.phases → timed.actors ≡ logged.actors → timed.turns ≡ logged.turns → timed.time ≡ (table_of old.table).time → RunsSlot machine begins first end new timed
-slot-run machine first begins hyper end old new log logged timed ends phase says same stage phases actors turns time =
+    timed.phases ≡ logged.phases → timed.actors ≡ logged.actors → timed.turns ≡ logged.turns → timed.time ≡ (table_of old.table).time →
+    new.runs ≡ old.runs → notes_runs new ≡ notes_runs old → RunsSlot machine begins first end new timed
+slot-run law machine first begins hyper end old new log logged timed ends phase says same stage phases actors turns time noted notes =
     let recorded : RecordedSlot machine first (phases_so_far ends.at) new.record logged = ended-record machine first begins hyper old log logged new.record ends phase in
     let had = log-recorded machine hyper ends.at first new.record logged ends.ends recorded in
     subst (λ b. RunsSlot machine b first end new timed) ends.begins_is
@@ -61,6 +68,10 @@ slot-run machine first begins hyper end old new log logged timed ends phase says
       next = ap (λ s. begins_at s (state_kept new)) stage ∙ next-is machine ends.at.begins (state_kept new) hyper ends.ends.hyper_is (same ∙ ends.is.state_is ∙ sym ends.ends.end_is);
       logged = record { phases_are = phases ∙ had.phases_are; actors_are = ap (map (λ (one : List Actor). map event_of one)) actors ∙ had.actors_are; turns_are = turns ∙ had.turns_are };
       log_time = time ∙ ap (λ (s : State). s.time) ends.is.state_is ∙ ends.is.comes.same_time;
+      runs = λ on few.
+          subst (λ (kept : RunRecord). HaveRunEnds machine (plain.phases machine (slot_from machine ends.at.begins)) kept.ended.items) (sym noted)
+          (subst (λ l. HaveRunEnds machine l old.runs.ended.items) (sym ends.ends.phases_are)
+          (law machine ends.at.ended (present_phase ends.at) old.runs (none-ready machine ends.at ends.is.comes (ends.idle (sym ends.ends.hyper_is ∙ few))) (ends.is.runs (sym notes ∙ on))).ends);
     })
 
 between-not-hyper : (hyper : Bool) → stage_after hyper ≡ Between → hyper ≡ false
@@ -75,10 +86,18 @@ next-begins law machine first begins next false old log ends e =
     subst (BeginsPhase machine) (ap (λ s. time_turn l.0 s) (sym ends.is.state_is) ∙ l.2)
     (law machine ends.at l.0 (rules-at machine first ends.at old log ends.is) ends.is.comes (ends.idle refl) (ap turn_of (sym ends.is.state_is) ∙ l.1))
 
+-- no process is in a run
+next-rests : SlotsEndNotes → (machine : Machine) (first : Turn) (begins next : State) (hyper : Bool) (old : Simulated) (log : SlotLog) → EndsSlot machine first begins hyper old log → begins_at (stage_after hyper) (state_kept old) ≡ Some next →
+    notes_runs old ≡ true → IsAtRest (length machine.design.processes) old.runs
+next-rests law machine first begins next true old log ends e on = cc
+next-rests law machine first begins next false old log ends e on =
+    (law machine ends.at.ended (present_phase ends.at) old.runs (none-ready machine ends.at ends.is.comes (ends.idle refl)) (ends.is.runs on)).rests
+
 -- the machine stands between two slots
-pub slot-stands : NextSlotsBegin → (machine : Machine) (first : Turn) (begins : State) (hyper : Bool) (old new : Simulated) (log logged : SlotLog) → EndsSlot machine first begins hyper old log →
-    EndsPhase (design_of old.graph.now.design.now) old.record new.record log logged → new.nets ≡ old.nets → new.table ≡ old.table → design_of new.graph.now.design.now ≡ design_of old.graph.now.design.now → new.stage ≡ stage_after hyper → IsStanding new
-slot-stands law machine first begins hyper old new log logged ends phase nets table graph stage =
+pub slot-stands : NextSlotsBegin → SlotsEndNotes → FirstRunsGoOn → (machine : Machine) (first : Turn) (begins : State) (hyper : Bool) (old new : Simulated) (log logged : SlotLog) → BeginsInFirstRun machine begins → EndsSlot machine first begins hyper old log →
+    EndsPhase (design_of old.graph.now.design.now) old.record new.record log logged → new.nets ≡ old.nets → new.table ≡ old.table → design_of new.graph.now.design.now ≡ design_of old.graph.now.design.now → new.stage ≡ stage_after hyper →
+    new.runs ≡ old.runs → notes_runs new ≡ notes_runs old → IsStanding new
+slot-stands law quiet follows machine first begins hyper old new log logged within ends phase nets table graph stage noted notes =
     let recorded : RecordedSlot machine first (phases_so_far ends.at) new.record logged = ended-record machine first begins hyper old log logged new.record ends phase in
     let same : machine_kept new ≡ machine = ap machine_in nets ∙ ends.is.machine_is in
     record {
@@ -94,4 +113,15 @@ slot-stands law machine first begins hyper old new log logged ends phase nets ta
       begins = λ next e. subst (λ k. BeginsPhase k next) (sym same)
           (next-begins law machine first begins next hyper old log ends
           ((λ i. begins_at (sym stage i) (record { time = (table_of (sym table i)).time; values = values_in (sym nets i); nodes = nodes_in (sym nets i); processes = (table_of (sym table i)).processes })) ∙ e));
+      reached = λ next e.
+          subst (λ k. BeginsInFirstRun k next) (sym same)
+          (next-in-run follows machine begins next (rules-at machine first ends.at old log ends.is) within
+          (sym (next-is machine begins (state_kept old) hyper (subst (λ b. is_hyper (slot_from machine b) ≡ hyper) ends.begins_is ends.ends.hyper_is)
+          (subst (λ b. state_kept old ≡ slot_end machine (slot_from machine b)) ends.begins_is (ends.is.state_is ∙ sym ends.ends.end_is)))
+          ∙ (λ i. begins_at (sym stage i) (record { time = (table_of (sym table i)).time; values = values_in (sym nets i); nodes = nodes_in (sym nets i); processes = (table_of (sym table i)).processes })) ∙ e));
+      rests = λ next e on.
+          subst (λ (kept : RunRecord). IsAtRest (length (machine_kept new).design.processes) kept) (sym noted)
+          (subst (λ (k : Machine). IsAtRest (length k.design.processes) old.runs) (sym same)
+          (next-rests quiet machine first begins next hyper old log ends
+          ((λ i. begins_at (sym stage i) (record { time = (table_of (sym table i)).time; values = values_in (sym nets i); nodes = nodes_in (sym nets i); processes = (table_of (sym table i)).processes })) ∙ e) (sym notes ∙ on)));
     }

@@ -9,3 +9,4 @@ pub mod NodesOn
 pub mod Beginnings
 pub mod Endings
 pub mod Started
+pub mod InRun

@@ -7,11 +7,12 @@ use Rattle.causal_monitor.specs.declared.slot.Turn.{Turn}
 use Rattle.causal_monitor.specs.declared.slot.SlotLog.{SlotLog}
 use Rattle.machine_laws.specs.SlotLoop.{Moment, after_event, after_node, steps_of, QuietSlotsEnd, HyperSlotsEnd, IsIdle, present_phase}
 use Rattle.slot_record.specs.SlotRecords.{RecordsSlot}
+use Rattle.run_record.specs.RunRecords.{RecordsRuns}
 use Rattle.net_state.specs.States.{machine_in, values_in, nodes_in}
 use Rattle.process_table.specs.Arranged.{IsKept, table_of}
 use Rattle.v_design.specs.PlainDesigns.{design_of}
 use Rattle.machine.specs.declared.parts.Machine.{Machine as Simulated}
-use Rattle.machine.specs.Standing.{machine_kept, state_kept}
+use Rattle.machine.specs.Standing.{machine_kept, state_kept, notes_runs}
 use Rattle.machine.specs.Moments.{IsAt, IsMoving, IsMovingIn, GoesOn, StaysAt}
 use Rattle.machine.specs.Phases.{Runs, IsQuiet, MakesMove, TurnsPhase, EndsSlot}
 use Rattle.machine.specs.declared.moves.Made.{Made}
@@ -30,7 +31,7 @@ pub made-event : (step : Machine → Moment → Moment) (count : ℕ) (old mid n
     Runs machine first begins steps old log → steps ≤ most_steps → Runs machine first begins (steps + count) new log
 made-event step count old mid new log same counted stays goes machine first begins steps runs few = record {
   at = step machine runs.at;
-  is = goes machine first runs.at log (stays.at machine first runs.at log runs.is) (subst (λ n. n ≤ most_steps) (sym runs.steps_is) few);
+  is = goes.leads machine first runs.at log (stays.at machine first runs.at log runs.is) (subst (λ n. n ≤ most_steps) (sym runs.steps_is) few);
   begins_is = same machine runs.at ∙ runs.begins_is;
   steps_is = counted machine runs.at ∙ ap (λ n. n + count) runs.steps_is;
 }
@@ -41,13 +42,14 @@ stays-runs old new log stays machine first begins steps runs = record { at = run
 
 -- where the values and the nodes are told to be the same, the machine stays
 pub stays-nets : (old new : Simulated) → machine_in new.nets ≡ machine_in old.nets → values_in new.nets ≡ values_in old.nets → nodes_in new.nets ≡ nodes_in old.nets → new.table ≡ old.table → new.record ≡ old.record →
-    design_of new.graph.now.design.now ≡ design_of old.graph.now.design.now → StaysAt old new
-stays-nets old new machine values nodes table kept graph =
+    design_of new.graph.now.design.now ≡ design_of old.graph.now.design.now → new.runs ≡ old.runs → notes_runs new ≡ notes_runs old → StaysAt old new
+stays-nets old new machine values nodes table kept graph runs notes =
     let state : state_kept new ≡ state_kept old =
     λ i. record { time = (table_of (table i)).time; values = values i; nodes = nodes i; processes = (table_of (table i)).processes } in
     record {
       machine_is = machine;
       state_is = state;
+      notes_are = notes;
       at = λ k first at log is. record {
         machine_is = machine ∙ is.machine_is;
         comes = is.comes;
@@ -60,6 +62,7 @@ stays-nets old new machine values nodes table kept graph =
           values = ap length values ∙ is.parts.values ∙ ap (λ (m : Machine). length m.design.objects) (sym machine);
         };
         in_time = is.in_time;
+        runs = λ on. subst (RecordsRuns k at.ended (present_phase at)) (sym runs) (is.runs (sym notes ∙ on));
       };
     }
 
@@ -100,6 +103,7 @@ pub move-after : (made : Made) (old mid new : Simulated) (log logged : SlotLog) 
 move-after made old mid new log logged stays makes = record {
   goes_on = λ machine first begins steps runs few. makes.goes_on machine first begins steps (stays-runs old mid log stays machine first begins steps runs) few;
   quiet = makes.quiet;
+  notes_are = makes.notes_are ∙ stays.notes_are;
 }
 
 -- an event that isn't counted, one that is, and a turn
@@ -107,23 +111,26 @@ pub node-made : (node : ℕ) (old mid new : Simulated) (log : SlotLog) → Stays
 node-made node old mid new log stays goes = record {
   goes_on = made-event (λ machine at. after_node machine node at) 0 old mid new log (λ machine at. refl) (λ machine at. omega arith) stays goes;
   quiet = tt;
+  notes_are = goes.notes_are ∙ stays.notes_are;
 }
 
 pub event-made : (event : Event) → steps_of event ≡ 1 → (old new : Simulated) (log : SlotLog) → GoesOn (λ machine at. after_event machine event at) old new → MakesMove Counted old new log log
 event-made event one old new log goes = record {
   goes_on = λ machine first begins steps runs few. record {
     at = after_event machine event runs.at;
-    is = goes machine first runs.at log runs.is (subst (λ n. n ≤ most_steps) (sym runs.steps_is) few);
+    is = goes.leads machine first runs.at log runs.is (subst (λ n. n ≤ most_steps) (sym runs.steps_is) few);
     begins_is = runs.begins_is;
     steps_is = λ i. runs.steps_is i + one i;
   };
   quiet = tt;
+  notes_are = goes.notes_are;
 }
 
 pub turn-made : (old new : Simulated) (log logged : SlotLog) → TurnsPhase old new log logged → MakesMove Uncounted old new log logged
 turn-made old new log logged turns = record {
-  goes_on = λ machine first begins steps runs few. subst (λ n. Runs machine first begins n new logged) (plus-none steps) (turns machine first begins steps runs few);
+  goes_on = λ machine first begins steps runs few. subst (λ n. Runs machine first begins n new logged) (plus-none steps) (turns.leads machine first begins steps runs few);
   quiet = tt;
+  notes_are = turns.notes_are;
 }
   where
     plus-none : (n : ℕ) → n ≡ n + 0
@@ -133,6 +140,7 @@ pub nothing-made : (m : Simulated) (log : SlotLog) → IsQuiet (state_kept m) �
 nothing-made m log quiet = record {
   goes_on = λ machine first begins steps runs few. subst (λ n. Runs machine first begins n m log) (plus-none steps) runs;
   quiet = quiet;
+  notes_are = refl;
 }
   where
     plus-none : (n : ℕ) → n ≡ n + 0

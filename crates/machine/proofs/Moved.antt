@@ -1,5 +1,5 @@
 -- A machine moves from one moment of a slot to the next (IEEE 1364-2001, clause 5).
-use Rattle.std.proofs.Common.{◌≡◌, ℕ, ◌+◌, ◌<◌, ◌≤◌, ◌^◌, List, length, sym, ap, subst, ◌∙◌}
+use Rattle.std.proofs.Common.{◌≡◌, ℕ, ◌+◌, ◌<◌, ◌≤◌, ◌^◌, List, length, true, sym, ap, subst, ◌∙◌}
 use Rattle.std.specs.List.{All}
 use Rattle.vf_base.specs.Base.{object_number, process_number}
 use Rattle.vf_base.specs.declared.ids.ObjectId.{ObjectId}
@@ -20,10 +20,11 @@ use Rattle.machine_laws.specs.SlotLoop.{Moment, ComesTo, present_phase}
 use Rattle.slot_record.specs.Records.{IsRecord, process_count, object_count}
 use Rattle.slot_record.specs.declared.record.SlotRecord.{SlotRecord}
 use Rattle.slot_record.specs.SlotRecords.{RecordsSlot, AddsStep, one_more}
+use Rattle.run_record.specs.RunRecords.{RecordsRuns}
 use Rattle.process_table.specs.Arranged.{IsKept, table_of}
 use Rattle.machine_laws.specs.StepTells.{TellsStep}
 use Rattle.machine.specs.declared.parts.Machine.{Machine as Simulated}
-use Rattle.machine.specs.Standing.{machine_kept, state_kept}
+use Rattle.machine.specs.Standing.{machine_kept, state_kept, notes_runs}
 use Rattle.machine.specs.Moments.{FitsDesign, FitsRecord, AreBothOf, AreParts, IsAt, IsMoving}
 
 -- the values, the nodes and the processes are those of the state in which a machine stands
@@ -61,14 +62,16 @@ rules-of m = rules_hold (design_of m.nets.objects.settle.graph.now.design.now) m
 
 -- a machine stands at the next moment
 pub moved : (machine : Machine) (first : Turn) (next : Moment) (m : Simulated) (log : SlotLog) → ComesTo machine next → AreBothOf machine next.state m.nets m.table → IsKept m.table →
-    design_of m.graph.now.design.now ≡ machine.design → RecordsSlot machine first next.ended (present_phase next) m.record log → next.begins.time ≤ 2 ^ 63 → IsAt machine first next m log
-moved machine first next m log comes both kept graph recorded in_time = record {
+    design_of m.graph.now.design.now ≡ machine.design → RecordsSlot machine first next.ended (present_phase next) m.record log → next.begins.time ≤ 2 ^ 63 →
+    (notes_runs m ≡ true → RecordsRuns machine next.ended (present_phase next) m.runs) → IsAt machine first next m log
+moved machine first next m log comes both kept graph recorded in_time runs = record {
   machine_is = both.machine_is;
   comes = comes;
   state_is = state-of machine next.state m both;
   recorded = recorded;
   parts = parts-of machine next.state m both kept graph;
   in_time = in_time;
+  runs = runs;
 }
 
 -- an event is recorded, which is told

@@ -23,8 +23,9 @@ use Rattle.value_change.specs.declared.change.Change.{Change}
 use Rattle.value_change.specs.Changes.{ObjectChange, change_seen, woken_by, ended_by_changes}
 use Rattle.value_change.specs.ChangeLaws as seen
 use Rattle.slot_record.specs.Records.{TellsUpdate, write_of_change}
-use Rattle.machine_laws.specs.SlotLoop.{Moment, ComesTo, NodesGoOn, after_node}
-use Rattle.slot_record.specs.SlotRecords.{AddsNode}
+use Rattle.machine_laws.specs.SlotLoop.{Moment, present_phase, ComesTo, NodesGoOn, after_node}
+use Rattle.slot_record.specs.SlotRecords.{AddsNode, one_more}
+use Rattle.run_record.specs.RunRecords.{EventsNoteNothing}
 use Rattle.net_state.specs.declared.state.NetState.{NetState}
 use Rattle.net_state.specs.States.{machine_in, values_in, nodes_in, AreNetsOf}
 use Rattle.net_state.specs.Held.{node_marked}
@@ -34,10 +35,10 @@ use Rattle.process_table.specs.Tables.{TableState, IsTableOf, is_woken}
 use Rattle.process_table.specs.Arranged.{IsKept, table_of}
 use Rattle.machine_laws.specs.WriteTells.{woken-numbers}
 use Rattle.machine.specs.declared.parts.Machine.{Machine as Simulated}
-use Rattle.machine.specs.Standing.{machine_kept, state_kept}
+use Rattle.machine.specs.Standing.{machine_kept, state_kept, notes_runs}
 use Rattle.machine.specs.Moments.{AreBothOf, IsAt, GoesOn}
 use Rattle.machine.proofs.Moved.{both-at, moved, graph-of}
-use Rattle.machine.proofs.Events.{node-comes}
+use Rattle.machine.proofs.Events.{node-comes, same-runs}
 
 -- Nodes
 
@@ -106,14 +107,14 @@ woken-table machine state last old new changes had woke time processes = record 
 }
 
 -- the work leads to the next moment
-pub node-moved : NodesGoOn → (machine : Machine) (first : Turn) (at : Moment) (old new : Simulated) (log : SlotLog) (node : ℕ) (text : FlatNode) (changes : List Change) (accesses : List ObjectAccess) (ended : List ℕ) →
+pub node-moved : NodesGoOn → EventsNoteNothing → (machine : Machine) (first : Turn) (at : Moment) (old new : Simulated) (log : SlotLog) (node : ℕ) (text : FlatNode) (changes : List Change) (accesses : List ObjectAccess) (ended : List ℕ) →
     IsAt machine first at old log → at.steps ≤ most_steps → slice_get machine.design.nodes node ≡ Some text → work_of 0 (state_kept old).nodes ≡ Some (Evaluation node) →
     WorkTells machine at.state node (map change_seen changes) → AreNetsOf new.nets (after machine (after machine at.state (Evaluation node)) (NetUpdate node)) → machine_kept new ≡ machine_kept old →
     table_of new.table ≡ record (table_of old.table) { processes = map (woken_by (map change_seen changes)) (table_of old.table).processes } → IsKept new.table →
     accesses ≡ joined (map_numbered (ended_by_changes (map change_seen changes)) 0 (table_of old.table).processes) → ended ≡ numbers_where (is_woken (map change_seen changes)) 0 (table_of old.table).processes →
     design_of new.graph.now.design.now ≡ design_of old.graph.now.design.now → (inputs : List ℕ) → text.inputs ≡ inputs → AddsNode node inputs changes accesses ended old.record new.record →
-    IsAt machine first (after_node machine node at) new log
-node-moved law machine first at old new log node text changes accesses ended is few here work tells nets same woke kept acc end graph inputs own adds =
+    new.runs ≡ old.runs → notes_runs new ≡ notes_runs old → IsAt machine first (after_node machine node at) new log
+node-moved law quiet machine first at old new log node text changes accesses ended is few here work tells nets same woke kept acc end graph inputs own adds runs notes =
     let last : State = after machine (after machine at.state (Evaluation node)) (NetUpdate node) in
     let processes : (table_of old.table).processes ≡ at.state.processes = ap (λ (s : State). s.processes) is.state_is in
     let told : TellsUpdate machine (after machine at.state (Evaluation node)) node changes accesses ended =
@@ -132,22 +133,27 @@ node-moved law machine first at old new log node text changes accesses ended is 
     } in
     moved machine first (after_node machine node at) new log (node-comes law machine first at old log node text is few here work) both kept (graph ∙ graph-of machine first at old log is)
     (adds machine first at.ended _ log text is.recorded here own (subst (λ s. TellsUpdate machine (after machine s (Evaluation node)) node changes accesses ended) is.comes.happened_so_far told)) is.in_time
+    (same-runs quiet machine at.ended (one_more (Evaluation node) (present_phase at)) (NetUpdate node) old.runs new.runs old.noting new.noting refl runs notes
+    (same-runs quiet machine at.ended (present_phase at) (Evaluation node) old.runs old.runs old.noting old.noting refl refl refl is.runs))
 
 -- the same from what the work tells
-pub node-goes : NodesGoOn → (old new : Simulated) (node : ℕ) (text : FlatNode) (changes : List Change) (accesses : List ObjectAccess) (ended : List ℕ) → work_of 0 (nodes_in old.nets) ≡ Some (Evaluation node) →
+pub node-goes : NodesGoOn → EventsNoteNothing → (old new : Simulated) (node : ℕ) (text : FlatNode) (changes : List Change) (accesses : List ObjectAccess) (ended : List ℕ) → work_of 0 (nodes_in old.nets) ≡ Some (Evaluation node) →
     slice_get (machine_kept old).design.nodes node ≡ Some text → machine_kept new ≡ machine_kept old →
     ((state : State) → AreNetsOf old.nets state → AreNetsOf new.nets (after (machine_in old.nets) (after (machine_in old.nets) state (Evaluation node)) (NetUpdate node))) →
     ((flat : FlatNode) → slice_get (machine_in old.nets).design.nodes node ≡ Some flat → map change_seen changes ≡ seen.net_changes (machine_in old.nets).design flat.outputs (values_in old.nets) (values_in new.nets)) →
     table_of new.table ≡ record (table_of old.table) { processes = map (woken_by (map change_seen changes)) (table_of old.table).processes } → IsKept new.table →
     accesses ≡ joined (map_numbered (ended_by_changes (map change_seen changes)) 0 (table_of old.table).processes) → ended ≡ numbers_where (is_woken (map change_seen changes)) 0 (table_of old.table).processes →
     design_of new.graph.now.design.now ≡ design_of old.graph.now.design.now → (inputs : List ℕ) → text.inputs ≡ inputs → AddsNode node inputs changes accesses ended old.record new.record →
-    GoesOn (λ machine at. after_node machine node at) old new
-node-goes law old new node text changes accesses ended work here same nets told woke kept acc end graph inputs own adds = λ machine first at log is few.
-    let were : AreNetsOf old.nets at.state = (both-at machine first at old log is).nets_are in
-    let low : node < length (nodes_in old.nets) = omega (arith, work-low 0 (nodes_in old.nets) node work) in
-    node-moved law machine first at old new log node text changes accesses ended is few (subst (λ (k : Machine). slice_get k.design.nodes node ≡ Some text) is.machine_is here) work
-    (subst (λ (k : Machine). WorkTells k at.state node (map change_seen changes)) is.machine_is (work-tells old.nets new.nets at.state node (map change_seen changes) were low (nets at.state were) told))
-    (subst (λ (k : Machine). AreNetsOf new.nets (after k (after k at.state (Evaluation node)) (NetUpdate node))) is.machine_is (nets at.state were)) same woke kept acc end graph inputs own adds
+    new.runs ≡ old.runs → notes_runs new ≡ notes_runs old → GoesOn (λ machine at. after_node machine node at) old new
+node-goes law quiet old new node text changes accesses ended work here same nets told woke kept acc end graph inputs own adds runs notes = record {
+  notes_are = notes;
+  leads = λ machine first at log is few.
+      let were : AreNetsOf old.nets at.state = (both-at machine first at old log is).nets_are in
+      let low : node < length (nodes_in old.nets) = omega (arith, work-low 0 (nodes_in old.nets) node work) in
+      node-moved law quiet machine first at old new log node text changes accesses ended is few (subst (λ (k : Machine). slice_get k.design.nodes node ≡ Some text) is.machine_is here) work
+      (subst (λ (k : Machine). WorkTells k at.state node (map change_seen changes)) is.machine_is (work-tells old.nets new.nets at.state node (map change_seen changes) were low (nets at.state were) told))
+      (subst (λ (k : Machine). AreNetsOf new.nets (after k (after k at.state (Evaluation node)) (NetUpdate node))) is.machine_is (nets at.state were)) same woke kept acc end graph inputs own adds runs notes;
+}
 
 -- the least node with work is one of the design
 pub node-low : (m : Simulated) (node : ℕ) → work_of 0 (nodes_in m.nets) ≡ Some (Evaluation node) → node < length (machine_kept m).design.nodes

@@ -1,11 +1,11 @@
 -- A phase ends, and a turn within the slot begins the next one (IEEE 1364-2001, clauses 5.3 and 5.4).
-use Rattle.std.proofs.Common.{◌≡◌, ℕ, ◌+◌, ◌<◌, ◌≤◌, ◌^◌, List, [], ◌∷◌, ◌++◌, Bool, true, false, not, ◌&&◌, ◌||◌, map, length, refl, sym, ap, subst, ◌∙◌}
-use Rattle.std.specs.Prelude.{Option, Some, None}
+use Rattle.std.proofs.Common.{◌≡◌, ℕ, zero, suc, ◌+◌, ◌<◌, ◌≤◌, ◌^◌, List, [], ◌∷◌, ◌++◌, Bool, true, false, not, ◌&&◌, ◌||◌, map, length, refl, sym, ap, subst, ◌∙◌}
+use Rattle.std.specs.Prelude.{Option, Some, None, slice_get}
 use Rattle.four_value.specs.Values.{LogicValue}
 use Rattle.v_design.specs.PlainDesigns.{design_of}
 use Rattle.vf_base.specs.Lists.{first_place, earlier_place, joined, map_numbered}
 use Rattle.v_design.specs.Designs.{FlatDesign, Machine}
-use Rattle.v_design.specs.States.{State, ProcessState, NodeState, TurnKind, PostponedTurn, UpdatesTurn, TimeTurn, turn_of, turned, has_event, some_in, is_ready, is_any}
+use Rattle.v_design.specs.States.{State, ProcessState, NodeState, TurnKind, PostponedTurn, UpdatesTurn, TimeTurn, found_or, idle_process, turn_of, turned, has_event, some_in, is_ready, is_any}
 use Rattle.v_design.specs.Runs.{Turns, most_steps, turn_in_slot, turned_by}
 use Rattle.v_design.specs.Accesses.{ObjectAccess, held_by, held_accesses}
 use Rattle.causal_monitor.specs.declared.slot.Turn.{Turn}
@@ -13,16 +13,17 @@ use Rattle.causal_monitor.specs.declared.slot.SlotLog.{SlotLog}
 use Rattle.causal_monitor.specs.Phases.{IsLogOf}
 use Rattle.slot_record.specs.SlotLogs.{turn_before}
 use Rattle.slot_record.specs.Records.{object_count}
-use Rattle.machine_laws.specs.SlotLoop.{Moment, TurnsGoOn, IsIdle, after_turn, phases_so_far, first_lane, first_ready}
+use Rattle.machine_laws.specs.SlotLoop.{Moment, ComesTo, present_phase, TurnsGoOn, IsIdle, after_turn, phases_so_far, first_lane, first_ready}
 use Rattle.slot_record.specs.declared.record.SlotRecord.{SlotRecord}
-use Rattle.slot_record.specs.SlotRecords.{BeginsPhase, EndsPhase, RecordedSlot}
+use Rattle.slot_record.specs.SlotRecords.{BeginsPhase, EndsPhase, RecordedSlot, state_in}
+use Rattle.run_record.specs.RunRecords.{RecordsRuns, NoneReady, PhasesNoteNothing}
 use Rattle.net_state.specs.declared.state.NetState.{NetState}
 use Rattle.net_state.specs.States.{AreNetsOf}
 use Rattle.process_table.specs.declared.table.ProcessTable.{ProcessTable}
 use Rattle.process_table.specs.Tables.{TableState, IsTableOf}
 use Rattle.process_table.specs.Arranged.{IsKept, table_of}
 use Rattle.machine.specs.declared.parts.Machine.{Machine as Simulated}
-use Rattle.machine.specs.Standing.{machine_kept, state_kept}
+use Rattle.machine.specs.Standing.{machine_kept, state_kept, notes_runs}
 use Rattle.machine.specs.Moments.{AreBothOf, IsAt, IsMovingIn}
 use Rattle.machine.specs.Phases.{held_in, TellsTurn, Runs}
 use Rattle.machine.proofs.Moved.{both-at, moved, graph-of}
@@ -55,6 +56,24 @@ pub idle-processes : (state : State) → IsIdle state → some_in has_event stat
 idle-processes state idle =
     both-none state.processes (none-placed (λ (p : ProcessState). is_any p.lane) state.processes idle.1) (none-placed (λ (p : ProcessState). is_ready p.activity) state.processes idle.2)
 
+-- nor is one ready
+none-at : {A : Type 0} (test : A → Bool) (default : A) (xs : List A) → first_place test xs ≡ None → test default ≡ false → (n : ℕ) → test (found_or default (slice_get xs n)) ≡ false
+none-at test default [] e none n = none
+none-at test default (x ∷ xs) e none zero = here (test x) (first_place test xs) e
+  where
+    here : (b : Bool) (o : Option ℕ) → earlier_place b o ≡ None → b ≡ false
+    here true o h = cc
+    here false o h = refl
+none-at test default (x ∷ xs) e none (suc n) = none-at test default xs (later (test x) (first_place test xs) e) none n
+  where
+    later : (b : Bool) (o : Option ℕ) → earlier_place b o ≡ None → o ≡ None
+    later true o h = cc
+    later false None h = refl
+    later false (Some m) h = cc
+
+pub none-ready : (machine : Machine) (at : Moment) → ComesTo machine at → IsIdle at.state → NoneReady (state_in machine (present_phase at))
+none-ready machine at comes idle = subst NoneReady comes.happened_so_far (none-at (λ (p : ProcessState). is_ready p.activity) idle_process at.state.processes idle.2 refl)
+
 -- Turns
 
 -- a turn changes no value and no node
@@ -76,12 +95,12 @@ pub ended-room : (m : Simulated) (after : SlotRecord) (log logged : SlotLog) →
 ended-room m after log logged moving ends = (ends (machine_kept m) moving.first moving.at.ended _ (sym moving.is.parts.graph) moving.is.recorded).causes.objects
 
 -- the turn leads to the next moment
-pub turn-moved : TurnsGoOn → (machine : Machine) (first : Turn) (begins : State) (steps : ℕ) (old new : Simulated) (log logged : SlotLog) (turn : Turn) (between : SlotRecord) → Runs machine first begins steps old log → steps ≤ most_steps →
+pub turn-moved : TurnsGoOn → PhasesNoteNothing → (machine : Machine) (first : Turn) (begins : State) (steps : ℕ) (old new : Simulated) (log logged : SlotLog) (turn : Turn) (between : SlotRecord) → Runs machine first begins steps old log → steps ≤ most_steps →
     IsIdle (state_kept old) → TellsTurn (Some turn) (turn_of (state_kept old)) → EndsPhase (design_of old.graph.now.design.now) old.record between log logged →
     ((state : State) → IsTableOf machine state (table_of old.table) → IsTableOf machine (turned_by (turn_of state) state) (table_of new.table)) → IsKept new.table → AreNetsOf new.nets (state_kept old) →
     machine_kept new ≡ machine_kept old → design_of new.graph.now.design.now ≡ design_of old.graph.now.design.now →
-    BeginsPhase turn (table_of new.table).time (held_in (table_of new.table)) between new.record → Runs machine first begins steps new logged
-turn-moved law machine first begins steps old new log logged turn between runs few idle told ends turns kept nets same graph starts =
+    BeginsPhase turn (table_of new.table).time (held_in (table_of new.table)) between new.record → new.runs ≡ old.runs → notes_runs new ≡ notes_runs old → Runs machine first begins steps new logged
+turn-moved law quiet machine first begins steps old new log logged turn between runs few idle told ends turns kept nets same graph starts noted notes =
     go (turn_of runs.at.state) refl (subst (λ (s : State). TellsTurn (Some turn) (turn_of s)) runs.is.state_is told)
   where
     go : (found : Option TurnKind) → turn_of runs.at.state ≡ found → TellsTurn (Some turn) found → Runs machine first begins steps new logged
@@ -102,7 +121,10 @@ turn-moved law machine first begins steps old new log logged turn between runs f
           is = moved machine first (after_turn kind at) new logged
               (law machine at kind (rules-at machine first at old log runs.is) runs.is.comes (subst (λ n. n ≤ most_steps) (sym runs.steps_is) few) (subst IsIdle runs.is.state_is idle) is tells.0)
               both kept (graph ∙ graph-of machine first at old log runs.is)
-              (starts machine first (phases_so_far at) (Some kind) next logged recorded (tells.1 first) (sym table.time) (held-is machine next (table_of new.table) table)) runs.is.in_time;
+              (starts machine first (phases_so_far at) (Some kind) next logged recorded (tells.1 first) (sym table.time) (held-is machine next (table_of new.table) table)) runs.is.in_time
+              (λ on.
+              subst (RecordsRuns machine (phases_so_far at) (record { turn = Some kind; begins = next; events = [] })) (sym noted)
+              (quiet machine at.ended (present_phase at) (Some kind) next old.runs (none-ready machine at runs.is.comes (subst IsIdle runs.is.state_is idle)) (runs.is.runs (sym notes ∙ on))));
           begins_is = runs.begins_is;
           steps_is = runs.steps_is;
         }

@@ -1,5 +1,5 @@
 -- A machine in the midst of a slot: the moment to which the first order has come, and what is recorded of it (IEEE 1364-2001, clause 5).
-use Rattle.std.specs.Prelude.{◌≡◌, ℕ, ◌≤◌, ◌<◌, ◌^◌, List, map, length}
+use Rattle.std.specs.Prelude.{◌≡◌, ℕ, ◌≤◌, ◌<◌, ◌^◌, true, List, map, length}
 use Rattle.std.specs.List.{All}
 use Rattle.vf_base.specs.Base.{object_number, process_number, node_number}
 use Rattle.v_design.specs.PlainDesigns.{design_of}
@@ -15,6 +15,7 @@ use Rattle.machine_laws.specs.SlotLoop.{Moment, ComesTo, present_phase}
 use Rattle.slot_record.specs.declared.phase.PhaseRecord.{PhaseRecord}
 use Rattle.slot_record.specs.Records.{process_count, object_count}
 use Rattle.slot_record.specs.SlotRecords.{RecordsSlot}
+use Rattle.run_record.specs.RunRecords.{RecordsRuns}
 use Rattle.net_state.specs.declared.state.NetState.{NetState}
 use Rattle.net_state.specs.States.{machine_in, values_in, AreNetsOf}
 use Rattle.process_table.specs.declared.table.ProcessTable.{ProcessTable}
@@ -25,7 +26,7 @@ use Rattle.machine_laws.specs.WriteTells.{TellsWrite}
 use Rattle.machine_laws.specs.StepTells.{TellsStep}
 use Rattle.machine.specs.declared.told.Told.{Told}
 use Rattle.machine.specs.declared.parts.Machine.{Machine as Simulated}
-use Rattle.machine.specs.Standing.{machine_kept, state_kept}
+use Rattle.machine.specs.Standing.{machine_kept, state_kept, notes_runs}
 
 -- What an event tells
 
@@ -78,6 +79,7 @@ pub record IsAt (machine : Machine) (first : Turn) (at : Moment) (m : Simulated)
   pub recorded : RecordsSlot machine first at.ended (present_phase at) m.record log
   pub parts : AreParts m
   pub in_time : at.begins.time ≤ 2 ^ 63
+  pub runs : notes_runs m ≡ true → RecordsRuns machine at.ended (present_phase at) m.runs
 
 -- a machine stands at some moment of some slot
 pub record IsMoving (m : Simulated) : Type 0 where
@@ -93,12 +95,13 @@ pub record IsMovingIn (m : Simulated) (log : SlotLog) : Type 0 where
   pub is : IsAt (machine_kept m) first at m log
 
 -- from each moment at which the machine stood, so few steps into the slot that it may go on, it comes to another
-abbrev pub GoesOn : (step : Machine → Moment → Moment) (old new : Simulated) → Type 0
-GoesOn step old new =
-    (machine : Machine) (first : Turn) (at : Moment) (log : SlotLog) → IsAt machine first at old log → at.steps ≤ most_steps → IsAt machine first (step machine at) new log
+pub record GoesOn (step : Machine → Moment → Moment) (old new : Simulated) : Type 0 where
+  pub notes_are : notes_runs new ≡ notes_runs old
+  pub leads : (machine : Machine) (first : Turn) (at : Moment) (log : SlotLog) → IsAt machine first at old log → at.steps ≤ most_steps → IsAt machine first (step machine at) new log
 
 -- a machine stands at each moment at which it stood, with the same machine and state
 pub record StaysAt (old new : Simulated) : Type 0 where
   pub machine_is : machine_kept new ≡ machine_kept old
   pub state_is : state_kept new ≡ state_kept old
+  pub notes_are : notes_runs new ≡ notes_runs old
   pub at : (machine : Machine) (first : Turn) (at : Moment) (log : SlotLog) → IsAt machine first at old log → IsAt machine first at new log

@@ -20,7 +20,7 @@ use Rattle.machine.specs.declared.moves.Made.TheVariants.{Counted, Uncounted, No
 use Rattle.machine.specs.declared.parts.Machine.{Machine as Simulated}
 use Rattle.machine.specs.declared.parts.Stage.{Stage}
 use Rattle.machine.specs.declared.parts.Stage.TheVariants.{Between, Over}
-use Rattle.machine.specs.Standing.{machine_kept, state_kept, begins_next, first_turn, IsStanding, RunsSlot}
+use Rattle.machine.specs.Standing.{machine_kept, state_kept, begins_next, notes_runs, first_turn, BeginsInFirstRun, IsStanding, RunsSlot}
 use Rattle.machine.specs.Moments.{IsAt}
 
 -- Turns
@@ -58,9 +58,9 @@ pub record IsBegun (m : Simulated) (log : SlotLog) : Type 0 where
   pub runs : Runs (machine_kept m) first begins 0 m log
 
 -- from wherever the machine stood in a slot, a turn within the slot begins its next phase
-abbrev pub TurnsPhase : (old new : Simulated) (log_old log_new : SlotLog) → Type 0
-TurnsPhase old new log_old log_new =
-    (machine : Machine) (first : Turn) (begins : State) (steps : ℕ) → Runs machine first begins steps old log_old → steps ≤ most_steps → Runs machine first begins steps new log_new
+pub record TurnsPhase (old new : Simulated) (log_old log_new : SlotLog) : Type 0 where
+  pub notes_are : notes_runs new ≡ notes_runs old
+  pub leads : (machine : Machine) (first : Turn) (begins : State) (steps : ℕ) → Runs machine first begins steps old log_old → steps ≤ most_steps → Runs machine first begins steps new log_new
 
 -- neither an event nor a turn within the slot is possible
 pub record IsQuiet (state : State) : Type 0 where
@@ -83,6 +83,7 @@ QuietIfNothing Nothing state = IsQuiet state
 pub record MakesMove (made : Made) (old new : Simulated) (log_old log_new : SlotLog) : Type 0 where
   pub goes_on : (machine : Machine) (first : Turn) (begins : State) (steps : ℕ) → Runs machine first begins steps old log_old → steps ≤ most_steps → Runs machine first begins (steps + steps_made made) new log_new
   pub quiet : QuietIfNothing made (state_kept new)
+  pub notes_are : notes_runs new ≡ notes_runs old
 
 -- The end
 
@@ -96,6 +97,7 @@ pub record EndsSlot (machine : Machine) (first : Turn) (begins : State) (hyper :
 
 -- from the beginning of a slot the machine came to its end, hyperactive or not
 pub record ComesToEnd (hyper : Bool) (old new : Simulated) (log_old log_new : SlotLog) : Type 0 where
+  pub notes_are : notes_runs new ≡ notes_runs old
   pub ends : (machine : Machine) (first : Turn) (begins : State) → Runs machine first begins 0 old log_old → EndsSlot machine first begins hyper new log_new
 
 -- the same of some slot
@@ -106,6 +108,7 @@ pub record IsEnded (hyper : Bool) (m : Simulated) (log : SlotLog) : Type 0 where
 
 -- the next slot begins, with an empty log
 pub record BeginsSlotHere (old new : Simulated) (log : SlotLog) : Type 0 where
+  pub notes_are : notes_runs new ≡ notes_runs old
   pub machine_is : machine_kept new ≡ machine_kept old
   pub runs : (begins : State) → begins_next old ≡ Some begins → Runs (machine_kept old) (first_turn old.stage) begins 0 new log
 
@@ -122,5 +125,6 @@ stage_after false = Between
 -- the slot is at its end: its last phase is recorded, and the machine stands between two slots
 pub record FinishesSlot (hyper : Bool) (end : SlotEnd) (old new : Simulated) (log_old log_new : SlotLog) : Type 0 where
   pub machine_is : machine_kept new ≡ machine_kept old
+  pub notes_are : notes_runs new ≡ notes_runs old
   pub runs : (machine : Machine) (first : Turn) (begins : State) → EndsSlot machine first begins hyper old log_old → RunsSlot machine begins first end new log_new
-  pub standing : (machine : Machine) (first : Turn) (begins : State) → EndsSlot machine first begins hyper old log_old → IsStanding new
+  pub standing : (machine : Machine) (first : Turn) (begins : State) → BeginsInFirstRun machine begins → EndsSlot machine first begins hyper old log_old → IsStanding new

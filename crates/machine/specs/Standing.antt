@@ -17,6 +17,9 @@ use Rattle.causal_monitor.specs.declared.slot.Turn.{Turn}
 use Rattle.causal_monitor.specs.declared.slot.Turn.TheVariants as turn
 use Rattle.causal_monitor.specs.declared.slot.SlotLog.{SlotLog}
 use Rattle.slot_record.specs.SlotLogs.{IsSlotLog}
+use Rattle.process_code.specs.declared.state.RunEnd.{RunEnd}
+use Rattle.run_ends.specs.RunEnds.{HaveRunEnds}
+use Rattle.run_record.specs.RunRecords.{IsAtRest}
 use Rattle.net_state.specs.States.{machine_in, values_in, nodes_in}
 use Rattle.process_table.specs.Arranged.{IsKept, table_of}
 use Rattle.machine.specs.declared.end.SlotEnd.{SlotEnd}
@@ -39,6 +42,13 @@ state_kept m = record {
   nodes = nodes_in m.nets;
   processes = (table_of m.table).processes;
 }
+
+-- whether the ends of process runs are noted, and those of the slot that was run last, as long as they aren't taken
+abbrev pub notes_runs : Simulated → Bool
+notes_runs m = m.noting
+
+abbrev pub runs_kept : Simulated → List RunEnd
+runs_kept m = m.runs.ended.items
 
 -- Slots
 
@@ -85,7 +95,12 @@ first_turn at.Start = turn.Start
 first_turn at.Between = turn.Time
 first_turn at.Over = turn.Time
 
--- the parts of a machine agree between two slots
+-- the slot that a state begins is one of the first run: it has its place in each that goes to its time
+pub record BeginsInFirstRun (machine : Machine) (begins : State) : Type 0 where
+  pub number : ℕ
+  pub stands : (time : ℕ) → begins.time ≤ time → slice_get (first_run machine time) number ≡ Some (slot_from machine begins)
+
+-- a machine stands between two slots of its first run, and its parts agree
 pub record IsStanding (m : Simulated) : Type 0 where
   pub table : IsKept m.table
   pub design : (table_of m.table).design ≡ (machine_kept m).design
@@ -97,6 +112,18 @@ pub record IsStanding (m : Simulated) : Type 0 where
   pub quiet : m.stage ≡ at.Between → some_in has_event (table_of m.table).processes ≡ false
   -- the next slot begins as the laws ask
   pub begins : (begins : State) → begins_next m ≡ Some begins → BeginsPhase (machine_kept m) begins
+  -- and is one of the first run
+  pub reached : (begins : State) → begins_next m ≡ Some begins → BeginsInFirstRun (machine_kept m) begins
+  -- where runs are noted, no process is in one
+  pub rests : (begins : State) → begins_next m ≡ Some begins → notes_runs m ≡ true → IsAtRest (length (machine_kept m).design.processes) m.runs
+
+-- a machine still stands where it stood
+pub record StaysStanding (old new : Simulated) : Type 0 where
+  pub machine_is : machine_kept new ≡ machine_kept old
+  pub state_is : state_kept new ≡ state_kept old
+  pub begins_is : begins_next new ≡ begins_next old
+  pub turn_is : first_turn new.stage ≡ first_turn old.stage
+  pub standing : IsStanding new
 
 -- How a slot ends
 
@@ -106,19 +133,20 @@ outcome_of ends.Fine = Fine
 outcome_of (ends.Race pair) = Race (reported_pair pair)
 outcome_of ends.Hyper = Hyper
 
--- a slot that a state begins was run: its outcome, the state at its end, the next slot, and the log of its phases, the first of which comes after a turn
+-- a slot that a state begins was run: its outcome, the state at its end, the next slot, the log of its phases, the first of which comes after a turn, and, where they are
+-- noted, the ends of its process runs, unless it is hyperactive, so that some runs are cut off
 pub record RunsSlot (machine : Machine) (begins : State) (first : Turn) (end : SlotEnd) (m : Simulated) (log : SlotLog) : Type 0 where
   pub outcome : outcome_of end ≡ slot_outcome machine (slot_from machine begins)
   pub state : state_kept m ≡ slot_end machine (slot_from machine begins)
   pub next : begins_next m ≡ following machine (slot_from machine begins)
   pub logged : IsSlotLog machine first (phases machine (slot_from machine begins)) log
   pub log_time : log.time ≡ begins.time
+  pub runs : notes_runs m ≡ true → is_hyper (slot_from machine begins) ≡ false → HaveRunEnds machine (phases machine (slot_from machine begins)) (runs_kept m)
 
--- where a slot of the first run is fine, every legal run of it ends in the state in which the machine stands
+-- where a slot is fine, every legal run of it ends in the state in which the machine stands
 abbrev pub EveryOrderEndsHere : (machine : Machine) (begins : State) (m : Simulated) → Type 0
 EveryOrderEndsHere machine begins m =
-    slot_outcome machine (slot_from machine begins) ≡ Fine → (time number : ℕ) → slice_get (first_run machine time) number ≡ Some (slot_from machine begins) →
-    (moves : List Move) (final : State) → Leads machine begins.time begins moves final → IsTrue (ends_by begins.time final) → final ≡ state_kept m
+    slot_outcome machine (slot_from machine begins) ≡ Fine → (moves : List Move) (final : State) → Leads machine begins.time begins moves final → IsTrue (ends_by begins.time final) → final ≡ state_kept m
 
 -- the next slot of the first run up to a time is the following one, if it begins by then
 pub next-is-following : (machine : Machine) (time : ℕ) (slot : FirstSlot) → next_slot machine time slot ≡ begun_within time (following machine slot)

@@ -1,10 +1,10 @@
 // What a machine can do.
 
-ghost use Rattle.std.specs.Prelude.{◌≡◌, ◌≤◌, ◌^◌, ℕ, Some, IfOk, IsSomeAnd};
+ghost use Rattle.std.specs.Prelude.{◌≡◌, ◌≤◌, ◌^◌, ℕ, false, Some, IfOk, IsSomeAnd};
 ghost use Rattle.std.specs.Option.{option_map};
 ghost use Rattle.v_design.specs.States.{State, start};
 ghost use Rattle.v_design.specs.Views.{machine_with};
-ghost use Rattle.machine.specs.Standing.{IsStanding, RunsSlot, EveryOrderEndsHere, machine_kept, state_kept, begins_next, first_turn};
+ghost use Rattle.machine.specs.Standing.{IsStanding, RunsSlot, EveryOrderEndsHere, machine_kept, state_kept, begins_next, notes_runs, first_turn};
 
 use crate::end::SlotEnd;
 use crate::parts::{Machine, Stage};
@@ -14,6 +14,7 @@ use causal_monitor::SlotLog;
 use net_graph::Graph;
 use net_state::NetState;
 use process_table::ProcessTable;
+use run_record::RunRecord;
 use slot_record::SlotRecord;
 use std::alloc::Global;
 use std::sync::ledger::Ledger;
@@ -21,7 +22,7 @@ use v_design::{Design, Fault, View};
 use vf_base::{NoMemory, Steps};
 
 impl<'d> Machine<'d> {
-    /// A machine at the start of its run: a design, good or under a fault.
+    /// A machine at the start of its run: a design, good or under a fault. It notes no process runs.
     ///
     /// # Errors
     ///
@@ -36,8 +37,10 @@ impl<'d> Machine<'d> {
         ensures machine { IfOk result (λ m. machine_kept m ≡ machine_with design.now fault) }
         ensures begins { IfOk result (λ m. begins_next m ≡ Some (start (machine_with design.now fault))) }
         ensures standing { IfOk result (λ m. IsStanding m) }
+        ensures notes { IfOk result (λ m. notes_runs m ≡ false) }
     {
         order_laws::nets();
+        order_laws::first_run_goes_on();
         let nets = NetState::new(alloc, View { design, fault }, graph)?;
         let table = ProcessTable::new(alloc, design)?;
         let processes = design.processes.as_slice().len();
@@ -47,6 +50,8 @@ impl<'d> Machine<'d> {
             nets,
             table,
             record,
+            runs: RunRecord::none(alloc),
+            noting: false,
             stage: Stage::Start,
             changes: Vec::new(alloc),
             told: Told::new(alloc),
@@ -82,6 +87,7 @@ impl<'d> Machine<'d> {
         ensures slot { IfOk result (λ end. (begins : State) → begins_next self.old ≡ Some begins → RunsSlot (machine_kept self.old) begins (first_turn self.old.stage) end self.new log.new) }
         ensures every_order { IfOk result (λ _. (begins : State) → begins_next self.old ≡ Some begins → EveryOrderEndsHere (machine_kept self.old) begins self.new) }
         ensures standing { IfOk result (λ _. IsStanding self.new) }
+        ensures notes { IfOk result (λ _. notes_runs self.new ≡ notes_runs self.old) }
     {
         order_laws::fine_slots();
         self.begin_slot(log)?;

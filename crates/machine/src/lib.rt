@@ -3,7 +3,8 @@
 //! A `Machine` begins at the start of a run. `next_time` tells the time of the slot that comes next, and `slot` runs that slot: the least node with work,
 //! else the least lane, else the least ready process, and where no event is possible the turn that comes, until no turn within the slot is left or
 //! more than 100,000 process and lane steps were taken. Its main contract: `slot` answers the outcome of that slot of the first run, the machine
-//! stands at the slot's end, the log is that of the slot's phases, and the next slot is the one that the first run takes.
+//! stands at the slot's end, the log is that of the slot's phases, and the next slot is the one that the first run takes. After `note_runs` a machine also notes the
+//! ends of its process runs, and `take_runs` answers those of the slot that was run last, in the order in which they ended; one that notes none takes no memory for it.
 #![tactic(auto)]
 
 mod calls;
@@ -13,6 +14,7 @@ mod nodes;
 mod notes;
 mod parts;
 mod phases;
+mod runs;
 mod slots;
 mod steps;
 mod told;

@@ -56,6 +56,7 @@ impl<'d> Machine<'d> {
         ensures { OnOk result (TurnsPhase self.old self.new log.old log.new) }
     {
         machine_laws::slot_goes_on();
+        run_record::runs_go_on();
         self.record.end_phase(self.graph, log)?;
         self.table.turn()?;
         begin_phase(&self.table, &mut self.record, &mut self.told, turn)?;

@@ -24,6 +24,7 @@ impl<'d> Machine<'d> {
         ensures { OnOk result (GoesOn (λ machine at. after_node machine (node_number node) at) self.old self.new) }
     {
         machine_laws::slot_goes_on();
+        run_record::runs_go_on();
         self.told.clear();
         self.nets.work(node, &mut self.changes)?;
         self.table.wake(&self.changes, &mut self.told.accesses, &mut self.told.ended)?;

@@ -7,6 +7,7 @@ use four_value::Vec4;
 use net_graph::Graph;
 use net_state::NetState;
 use process_table::ProcessTable;
+use run_record::RunRecord;
 use slot_record::SlotRecord;
 use v_design::Values;
 use value_change::Change;
@@ -20,7 +21,8 @@ pub enum Stage {
     Over,
 }
 
-/// A machine: the values and the nodes, the processes, the record of the present slot, and room for what one event tells.
+/// A machine: the values and the nodes, the processes, the record of the present slot, that of its process runs where these are noted, and room for what one event
+/// tells.
 ///
 /// Contracts see a machine as a design with a fault, and a state of it. After a call that ran out of memory a machine isn't to be used again.
 #[derive(Drop)]
@@ -29,6 +31,8 @@ pub struct Machine<'d> {
     pub(crate) nets: NetState<'d>,
     pub(crate) table: ProcessTable<'d>,
     pub(crate) record: SlotRecord,
+    pub(crate) runs: RunRecord,
+    pub(crate) noting: bool,
     pub(crate) stage: Stage,
     pub(crate) changes: Vec<Change>,
     pub(crate) told: Told,

@@ -42,8 +42,10 @@ impl<'d> Machine<'d> {
         ensures { OnOk result (BeginsSlotHere self.old self.new log.new) }
     {
         machine_laws::slot_goes_on();
+        run_record::runs_go_on();
         let turn = turn_to_slot(self.stage, &mut self.table)?;
         self.record.begin_slot(log)?;
+        self.runs.begin_slot();
         begin_phase(&self.table, &mut self.record, &mut self.told, turn)?;
         Ok(())
     }
@@ -58,6 +60,8 @@ impl<'d> Machine<'d> {
         ensures { IfOk result (λ end. FinishesSlot hyper end self.old self.new log.old log.new) }
     {
         machine_laws::slot_ends();
+        order_laws::first_run_goes_on();
+        run_record::runs_go_on();
         self.record.end_phase(self.graph, log)?;
         log.time = self.table.time();
         self.stage = stage_after(hyper);

@@ -14,6 +14,7 @@ ghost use Rattle.machine.specs.StepDeeds.{TellsQuiet, FinishesStep};
 
 use crate::notes::{note_lane, note_step};
 use crate::parts::Machine;
+use crate::runs::note_run;
 use crate::told::Told;
 use crate::write::write_update;
 use causal_monitor::Noted;
@@ -164,6 +165,14 @@ impl<'d> Machine<'d> {
     {
         machine_laws::slot_goes_on();
         let stepped = self.table.step(process, &self.nets, steps)?;
+        note_run(
+            &mut self.runs,
+            self.noting,
+            &self.table,
+            self.record.number(),
+            process,
+            &stepped,
+        )?;
         finish_step(
             &mut self.nets,
             &mut self.table,
@@ -187,6 +196,7 @@ impl<'d> Machine<'d> {
         ensures { OnOk result (GoesOn (λ machine at. after_event machine (LaneStep (process_number process)) at) self.old self.new) }
     {
         machine_laws::slot_goes_on();
+        run_record::runs_go_on();
         let Some(update) = self.table.lane_step(process) else {
             unreachable!();
         };

@@ -1,6 +1,7 @@
 -- A step of the table is a step of the state (IEEE 1364-2001, clause 5).
 use Rattle.std.proofs.Common.{◌≡◌, ℕ, zero, suc, ◌+◌, ◌<◌, ◌≤◌, Bool, true, false, List, [], ◌∷◌, ◌++◌, length, map, Option, Some, None, refl, sym, ap, ◌∙◌, subst, arith, append-nil, inl, inr}
 use Rattle.std.specs.Prelude.{slice_get}
+use Rattle.std.specs.Option.{option_map, option_to_list}
 use Rattle.four_value.specs.Values.{LogicValue}
 use Rattle.vf_base.specs.Lists.{AllHold, change_at}
 use Rattle.v_design.specs.Trees.{Entry}
@@ -9,6 +10,7 @@ use Rattle.v_design.specs.Assignments.{ValueUpdate}
 use Rattle.v_design.specs.Processes.{Activity, Ready, Waiting, Asleep, Postponed, Done, Action, ReadsObject, WritesObject, AppendsUpdate, TouchesNothing, ProcessStep, process_step}
 use Rattle.v_design.specs.States.{State, ProcessState, LaterUpdate, found_or, idle_process, is_ready, is_any, source_at, activity_step, step_of, process_at, after_step, with_process, next_activity, appended, write_of}
 use Rattle.v_design.specs.Accesses.{waiting_entries, is_waiting}
+use Rattle.v_design.specs.Plain.{due_of}
 use Rattle.event_queue.specs.declared.held.Holding.TheVariants as held
 use Rattle.event_queue.specs.Queues.{HeldProcess, held_at, holding_of, ComesAfter, WakesAfter}
 use Rattle.process_code.specs.Points.{StepSaid, said_of, said_of_activity}
@@ -93,6 +95,16 @@ waiting-next values (ReadsObject object) Done = refl
 waiting-next values (WritesObject update) next = refl
 waiting-next values (AppendsUpdate delay update) next = refl
 waiting-next values TouchesNothing next = refl
+
+ready-next : (values : List LogicValue) (action : Action) (next : Activity) → is_ready (next_activity values action next) ≡ is_ready next
+ready-next values (ReadsObject object) (Ready tasks operands) = refl
+ready-next values (ReadsObject object) (Waiting place entries tasks) = refl
+ready-next values (ReadsObject object) (Asleep time tasks) = refl
+ready-next values (ReadsObject object) (Postponed tasks) = refl
+ready-next values (ReadsObject object) Done = refl
+ready-next values (WritesObject update) next = refl
+ready-next values (AppendsUpdate delay update) next = refl
+ready-next values TouchesNothing next = refl
 
 -- What comes after the present time
 
@@ -197,10 +209,11 @@ module _ (design : FlatDesign) (time : ℕ) (rows : List Row) (index : List (Lis
 
   -- it is the step of each state
   pub is-step : (stage : Stage) (is_ready' waits' : Bool) (queue1 : List HeldProcess) (stepped : Stepped) → HasStage (state_at (row_states rows1) p).activity stage is_ready' waits' → p < length (row_states rows) →
-      queue1 ≡ change_at queue p (held_so (stage_holding stage) (later_by said)) → stepped.line ≡ line → read_by stepped.act ≡ read_said said → written_by stepped.act ≡ written_said said → stepped.waits ≡ waits' →
+      queue1 ≡ change_at queue p (held_so (stage_holding stage) (later_by said)) → stepped.line ≡ line → read_by stepped.act ≡ read_said said → written_by stepped.act ≡ written_said said →
+      option_to_list (option_map due_of stepped.later) ≡ later_by said → stepped.waits ≡ waits' → stepped.ready ≡ is_ready' →
       (machine : Machine) (state : State) → IsTableOf machine state (record { design = design; time = time; processes = processes_of (row_states rows) queue }) → state.values ≡ values →
       IsStepOf machine state p stepped (record { design = design; time = time; processes = processes_of (row_states rows1) queue1 })
-  is-step stage is_ready' waits' queue1 stepped has low kept lines reads writes waiting machine state of same_values =
+  is-step stage is_ready' waits' queue1 stepped has low kept lines reads writes latered waiting readied machine state of same_values =
       let long = queue-length design time rows index ready lanes queue table in
       let same : step_of machine state p ≡ step =
       step-of machine state (record { design = design; time = time; processes = processes_of (row_states rows) queue }) p of
@@ -212,15 +225,18 @@ module _ (design : FlatDesign) (time : ℕ) (rows : List Row) (index : List (Lis
       ap (λ states. processes_of states queue1) steps.rows.states ∙ ap (processes_of (change_at (row_states rows) p after_it)) kept
       ∙ processes-change (row_states rows) queue p after_it (held_so (stage_holding stage) (later_by said)) (after_step state (step_of machine state p))
       (rw (same, same_values, sym of.time, laters) refl) in
+      let does : (found_or idle_process (slice_get (processes_of (row_states rows1) queue1) p)).activity ≡ next_activity state.values (step_of machine state p).action (step_of machine state p).next =
+      ap (λ ps. (found_or idle_process (slice_get ps p)).activity) changes
+      ∙ ap (λ (r : ProcessState). r.activity) (at-change idle_process (processes_of (row_states rows) queue) p (after_step state (step_of machine state p)) (omega (arith, low, length-processes (row_states rows) queue long))) in
       record {
         line = lines ∙ steps.line ∙ ap (λ (s : ProcessStep). s.line) (sym same);
         read = reads ∙ ap read_said steps.said ∙ read-said time step.action step.next ∙ ap (λ (s : ProcessStep). read_of s.action) (sym same);
         write = writes ∙ ap written_said steps.said ∙ written-said time step.action step.next ∙ ap (λ (s : ProcessStep). write_of s.action) (sym same);
+        later = latered ∙ laters ∙ ap (λ now. appended now step.action) of.time ∙ ap (λ (s : ProcessStep). appended state.time s.action) (sym same);
         waits = waiting ∙ sym has.waits ∙ ap (λ (r : RowState). is_waiting r.activity) at ∙ waiting-next values step.action step.next ∙ ap (λ (s : ProcessStep). is_waiting s.next) (sym same);
-        entries =
-            ap (λ ps. waiting_entries (found_or idle_process (slice_get ps p)).activity) changes
-            ∙ ap (λ (r : ProcessState). waiting_entries r.activity) (at-change idle_process (processes_of (row_states rows) queue) p (after_step state (step_of machine state p)) (omega (arith, low, length-processes (row_states rows) queue long)))
-            ∙ entries-next state.values (step_of machine state p).action (step_of machine state p).next;
+        ready = readied ∙ sym has.ready ∙ ap row_ready at ∙ ready-next values step.action step.next ∙ ap (λ (s : ProcessStep). is_ready s.next) (sym same);
+        activity = does;
+        entries = ap waiting_entries does ∙ entries-next state.values (step_of machine state p).action (step_of machine state p).next;
         after = record {
           design = of.design;
           time = of.time;

@@ -1,11 +1,12 @@
 -- What a step and a turn did (IEEE 1364-2001, clause 5).
 use Rattle.std.specs.Prelude.{◌≡◌, ℕ, Option, Some, None}
+use Rattle.std.specs.Option.{option_map, option_to_list}
 use Rattle.vf_base.specs.Base.{object_number}
-use Rattle.v_design.specs.Plain.{update_of}
+use Rattle.v_design.specs.Plain.{due_of, update_of}
 use Rattle.v_design.specs.Designs.{Machine}
 use Rattle.v_design.specs.Assignments.{ValueUpdate}
 use Rattle.v_design.specs.Processes.{Action, ReadsObject, WritesObject, AppendsUpdate, TouchesNothing}
-use Rattle.v_design.specs.States.{State, TurnKind, PostponedTurn, UpdatesTurn, TimeTurn, write_of, step_of, after_step, with_process}
+use Rattle.v_design.specs.States.{State, TurnKind, PostponedTurn, UpdatesTurn, TimeTurn, appended, write_of, step_of, is_ready, next_activity, after_step, with_process}
 use Rattle.v_design.specs.Accesses.{waiting_entries, is_waiting}
 use Rattle.process_code.specs.Points.{StepSaid, SaysRead, SaysWrite, SaysLater, SaysAwait, SaysSleep, SaysZero, SaysFinished, SaysInner}
 use Rattle.process_table.specs.declared.deed.Act.{Act}
@@ -56,12 +57,16 @@ written_said SaysZero = None
 written_said SaysFinished = None
 written_said SaysInner = None
 
--- a step of a process in a state: its line, what it reads and writes, the wait that it begins, and the processes after it
+-- a step of a process in a state: its line, what it reads, writes and appends, the wait that it begins, whether its process is still ready, and what the process does and
+-- all processes are after it
 pub record IsStepOf (machine : Machine) (state : State) (process : ℕ) (stepped : Stepped) (table : TableState) : Type 0 where
   pub line : stepped.line ≡ (step_of machine state process).line
   pub read : read_by stepped.act ≡ read_of (step_of machine state process).action
   pub write : written_by stepped.act ≡ write_of (step_of machine state process).action
+  pub later : option_to_list (option_map due_of stepped.later) ≡ appended state.time (step_of machine state process).action
   pub waits : stepped.waits ≡ is_waiting (step_of machine state process).next
+  pub ready : stepped.ready ≡ is_ready (step_of machine state process).next
+  pub activity : (process_in table process).activity ≡ next_activity state.values (step_of machine state process).action (step_of machine state process).next
   pub entries : waiting_entries (process_in table process).activity ≡ waiting_entries (step_of machine state process).next
   pub after : IsTableOf machine (with_process process (after_step state (step_of machine state process)) state) table
 

@@ -9,16 +9,21 @@ ghost use Rattle.v_design.specs.PlainDesigns.{design_of};
 ghost use Rattle.v_design.specs.Plain.{update_of};
 ghost use Rattle.v_design.specs.Designs.{Machine};
 ghost use Rattle.v_design.specs.States.{State, ProcessState, start, is_ready, is_any, first_update, after_lane_step, turn_of, has_event, some_in};
+ghost use Rattle.process_code.specs.Points.{activity_of};
+ghost use Rattle.process_code.specs.StatesOf.{IsStateOf};
+ghost use Rattle.process_code.specs.declared.code.Code.{Code};
+ghost use Rattle.run_ends.specs.RunEnds.{IsCodeAt};
 ghost use Rattle.process_table.specs.Tables.{IsTableOf, process_in, is_woken};
 ghost use Rattle.process_table.specs.Deeds.{IsStepOf, turn_kind};
 ghost use Rattle.process_table.specs.Arranged.{IsKept, table_of};
 
 use crate::deed::{Stepped, TableTurn};
-use crate::holds::{act_of, keep, mark, standing_of};
+use crate::holds::{act_of, keep, later_of, mark, standing_of};
 use crate::rows::{has_lane, new_rows, step_row, take_update};
 use crate::set::ProcessSet;
 use crate::table::ProcessTable;
 use event_queue::Queue;
+use process_code::{ProcState, codes_are_one};
 use std::alloc::Global;
 use std::sync::ledger::Ledger;
 use v_design::{Design, Update, Values};
@@ -105,8 +110,28 @@ impl<'d> ProcessTable<'d> {
         Ok(Stepped {
             line,
             act: act_of(&did),
+            later: later_of(&did),
             waits: standing.waits,
+            ready: standing.ready,
         })
+    }
+
+    /// Where a process stands, as a copy: in each code of the process it is a state that does what the process does.
+    ///
+    /// # Errors
+    ///
+    /// Want of memory.
+    pub fn copy_state(&self, process: ProcId) -> Result<ProcState, NoMemory>
+        requires kept { IsKept self.now }
+        requires number { process_number process < length (table_of self.now).processes }
+        ensures state { IfOk result (λ copy. (code : Code) → IsCodeAt (table_of self.now).design (process_number process) code → IsStateOf code copy) }
+        ensures activity { IfOk result (λ copy. (code : Code) → IsCodeAt (table_of self.now).design (process_number process) code →
+            activity_of code copy ≡ (process_in (table_of self.now) (process_number process)).activity) }
+    {
+        codes_are_one();
+        let row = &self.rows[process.0 as usize];
+        let copy = row.state.copy(self.alloc)?;
+        Ok(copy)
     }
 
     /// Takes the first update of a process's lane.

@@ -1,8 +1,11 @@
 // What a step and a turn did.
 
 ghost use Rattle.std.specs.Prelude.{◌≡◌};
+ghost use Rattle.std.specs.Option.{option_map};
+ghost use Rattle.v_design.specs.Plain.{update_of};
+ghost use Rattle.process_table.specs.Deeds.{written_by};
 
-use v_design::Update;
+use v_design::{Due, Update};
 use vf_base::ObjectId;
 
 /// What a step did to an object.
@@ -14,12 +17,28 @@ pub enum Act {
     Write(Update),
 }
 
-/// What a step did: the line of its statement, what it did to an object, if it touched one, and whether it began a wait.
+/// What a step did: the line of its statement, what it did to an object, if it touched one, the update that it appended, if it did, whether it began a wait, and
+/// whether its process is still ready; where it isn't, the step ended the process's run.
 #[derive(Clone, Copy, Debug)]
 pub struct Stepped {
     pub line: u32,
     pub act: Option<Act>,
+    pub later: Option<Due>,
     pub waits: bool,
+    pub ready: bool,
+}
+
+impl Stepped {
+    /// The update that the step wrote, if it did.
+    pub fn write(&self) -> Option<Update>
+        ensures { option_map update_of result ≡ written_by self.now.act }
+    {
+        match self.act {
+            Some(Act::Write(update)) => Some(update),
+            Some(Act::Read(_)) => None,
+            None => None,
+        }
+    }
 }
 
 /// A turn between two phases: postponed processes become ready, updates that are due are activated, or time moves on, in steps.

@@ -1,8 +1,10 @@
 // What a step leaves to the sets and to the queue of a table.
 
 ghost use Rattle.std.specs.Prelude.{◌≡◌, ◌<◌, Bool, length, OnOk};
+ghost use Rattle.std.specs.Option.{option_map, option_to_list};
 ghost use Rattle.vf_base.specs.Base.{process_number};
 ghost use Rattle.vf_base.specs.Lists.{change_at};
+ghost use Rattle.v_design.specs.Plain.{due_of};
 ghost use Rattle.event_queue.specs.Queues.{held_at, with_holding};
 ghost use Rattle.event_queue.specs.declared.held.Holding.TheVariants as Holding;
 ghost use Rattle.process_code.specs.Points.{said_by};
@@ -15,6 +17,7 @@ use crate::row::Row;
 use crate::set::ProcessSet;
 use event_queue::Queue;
 use process_code::{Did, Stage};
+use v_design::Due;
 use vf_base::{NoMemory, ProcId};
 
 /// Where a process stands: its stage, whether it is ready, and whether it waits.
@@ -69,6 +72,25 @@ pub fn act_of(did: &Did) -> Option<Act>
         Did::Read(object) => Some(Act::Read(*object)),
         Did::Write(update) => Some(Act::Write(*update)),
         Did::Later(_, _) => None,
+        Did::Await => None,
+        Did::Sleep(_) => None,
+        Did::Zero => None,
+        Did::Finished => None,
+        Did::Inner => None,
+    }
+}
+
+/// The update that a step appended, if it did.
+pub fn later_of(did: &Did) -> Option<Due>
+    ensures { option_to_list (option_map due_of result) ≡ later_by (said_by did.now) }
+{
+    match did {
+        Did::Later(update, time) => Some(Due {
+            time: *time,
+            update: *update,
+        }),
+        Did::Read(_) => None,
+        Did::Write(_) => None,
         Did::Await => None,
         Did::Sleep(_) => None,
         Did::Zero => None,

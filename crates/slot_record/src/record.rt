@@ -215,6 +215,13 @@ impl SlotRecord {
         Ok(())
     }
 
+    /// The number of the present phase, from 1; of the last one, where it has ended.
+    pub fn number(&self) -> u32
+        ensures { result ≡ self.now.number }
+    {
+        self.number
+    }
+
     /// The least pair of conflicting accesses of the first phase that ended with one, `None` exactly where none did.
     pub fn race(&self) -> Option<Pair>
         ensures { result ≡ self.now.race }

@@ -19,9 +19,10 @@ returns c =
     let f = found-some (begins_next m) (λ begins. begins.time ≤ 2 ^ 63) c.requires.left in
     record {
       machine_is = refl;
+      notes_are = refl;
       runs = λ begins next.
-          slot-begun c.slot_goes_on.ensures.begin begins m _ _ c.in_ok-turn.turn c.begin_slot.new.self c.requires.standing next
+          slot-begun c.slot_goes_on.ensures.begin c.runs_go_on.ensures.begin begins m _ _ c.in_ok-turn.turn c.begin_slot.new.self c.requires.standing next
           (subst (λ (s : State). s.time ≤ 2 ^ 63) (some-state f.0 begins (sym f.1 ∙ next)) f.2) c.in_ok-turn.ensures.turn
           (c.in_ok-turn.ensures.begins (machine_kept m) (state_kept m) begins (begins-table m c.requires.standing) next) c.in_ok-turn.ensures.kept (record { values = refl; nodes = refl }) refl refl
-          c.in_ok-begin_slot.ensures.empty c.in_ok-begin_slot.ensures.begins c.in_ok-begin_phase.ensures;
+          c.in_ok-begin_slot.ensures.empty c.in_ok-begin_slot.ensures.begins c.in_ok-begin_phase.ensures c.begin_slot-2.ensures.none c.begin_slot-2.ensures.stays refl;
     }

@@ -25,5 +25,5 @@ unreachable-requires c = lane-never c.args.self.now (process_number c.args.proce
 
 pub returns : goal.returns
 returns c =
-    lane-moved c.slot_goes_on.ensures.lane c.args.self.now _ (process_number c.args.process) (update_of c.in-Some.update) c.lane_step.new.self c.requires.nodes c.requires.lanes c.in-Some.ensures.update c.in-Some.ensures.rest
-    c.in_ok-write_update.ensures refl c.in_ok-note_lane.ensures
+    lane-moved c.slot_goes_on.ensures.lane c.runs_go_on.ensures.events c.args.self.now _ (process_number c.args.process) (update_of c.in-Some.update) c.lane_step.new.self c.requires.nodes c.requires.lanes c.in-Some.ensures.update c.in-Some.ensures.rest
+    c.in_ok-write_update.ensures refl c.in_ok-note_lane.ensures refl refl

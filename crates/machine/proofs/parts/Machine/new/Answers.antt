@@ -40,6 +40,6 @@ returns-clause-standing c =
     let machine = machine_with c.args.design.now c.args.fault in
     let same = c.in_ok-nets.ensures.machine in
     let objects = sym (c.object_count.ensures.count ∙ c.object_count.ensures.all ∙ ap (λ (k : Machine). length k.design.objects) same) in
-    start-stands c.nets.ensures.begin machine _ (record { machine_is = same; nets_are = c.in_ok-nets.ensures.begins; table_is = c.in_ok-table.ensures.does machine refl }) refl
+    start-stands c.nets.ensures.begin c.first_run_goes_on.ensures machine _ (record { machine_is = same; nets_are = c.in_ok-nets.ensures.begins; table_is = c.in_ok-table.ensures.does machine refl }) refl
     c.in_ok-table.ensures.kept (ap design_of c.requires)
-    (causes-of _ _ _ same (c.in_ok-record.ensures machine (length-map c.args.design.now.processes process_of ∙ sym (ap length c.as_slice-processes.ensures)) objects))
+    (causes-of _ _ _ same (c.in_ok-record.ensures machine (length-map c.args.design.now.processes process_of ∙ sym (ap length c.as_slice-processes.ensures)) objects)) refl

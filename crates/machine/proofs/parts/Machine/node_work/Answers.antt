@@ -106,8 +106,8 @@ returns c =
       told = record { accesses = c.wake.new.accesses; changed = c.clear.new.self.changed; ended = c.wake.new.ended };
       «record» = c.note_node.new.record;
     } in
-    node-goes c.slot_goes_on.ensures.node m new (node_number c.args.node) (node_of c.index-as_slice-node.result) changes _ _ c.requires.node here c.in_ok-work.ensures.machine c.in_ok-work.ensures.after c.in_ok-work.ensures.changes
+    node-goes c.slot_goes_on.ensures.node c.runs_go_on.ensures.events m new (node_number c.args.node) (node_of c.index-as_slice-node.result) changes _ _ c.requires.node here c.in_ok-work.ensures.machine c.in_ok-work.ensures.after c.in_ok-work.ensures.changes
     woken.table c.in_ok-wake.ensures.kept
     (woken.entries ∙ ap (λ (l : List Noted). map noted_access l ++ joined (map_numbered (ended_by_changes (map change_seen changes)) 0 (table_of m.table).processes)) c.clear.ensures.accesses)
     (woken.ended ∙ ap (λ (l : List ProcId). map process_number l ++ numbers_where (is_woken (map change_seen changes)) 0 (table_of m.table).processes) c.clear.ensures.ended)
-    refl (map object_number c.index-as_slice-node.result.inputs) refl c.in_ok-note_node.ensures
+    refl (map object_number c.index-as_slice-node.result.inputs) refl c.in_ok-note_node.ensures refl refl

@@ -32,6 +32,7 @@ make_move-requires g c =
 
 pub returns-then-taken-gt-MAX_SLOT_STEPS : goal.returns-then-taken-gt-MAX_SLOT_STEPS
 returns-then-taken-gt-MAX_SLOT_STEPS g c = record {
+  notes_are = c.moves.invariant.notes;
   ends = λ machine first begins runs. ends-hyper c.slot_ends.ensures.hyper machine first begins c.moves.taken c.moves.self c.moves.log (c.moves.invariant.runs machine first begins runs) (omega (arith, c.moves.invariant.few));
 }
 
@@ -39,6 +40,7 @@ pub returns-in-Nothing : goal.returns-in-Nothing
 returns-in-Nothing g c =
     let few : c.moves.taken ≤ most_steps = omega (arith, c.if-taken-gt-MAX_SLOT_STEPS.false) in
     record {
+      notes_are = c.in_ok-made.ensures.notes_are ∙ c.moves.invariant.notes;
       ends = λ machine first begins runs. ends-nothing c.slot_ends.ensures.quiet machine first begins c.moves.taken c.in_ok-made.made c.moves.self c.make_move.new.self c.moves.log c.make_move.new.log c.in_ok-made.ensures c.in-Nothing.is few
           (c.moves.invariant.runs machine first begins runs);
     }

@@ -1,5 +1,5 @@
 -- The slot begins, its moves are made, and it ends.
-use Rattle.std.proofs.Common.{◌≡◌, ◌≤◌, ◌^◌, ◌∙◌, refl, sym, ap, subst}
+use Rattle.std.proofs.Common.{◌≡◌, ◌≤◌, ◌^◌, ◌∙◌, refl, sym, ap, subst, arith}
 use Rattle.v_design.specs.States.{State}
 use Rattle.machine_laws.specs.SlotLoop.{slot_from}
 use Rattle.machine.specs.Standing.{machine_kept, state_kept, begins_next, first_turn}
@@ -37,13 +37,17 @@ returns-clause-slot g c = λ begins next.
     c.in_ok-end.ensures.runs (machine_kept m) (first_turn m.stage) begins (c.in_ok-hyper.ensures.ends (machine_kept m) (first_turn m.stage) begins (c.in_ok-begin_slot.ensures.runs begins next))
 
 pub returns-clause-every_order : goal.returns-clause-every_order
-returns-clause-every_order g c = λ begins next fine time number stands moves final leads ends.
+returns-clause-every_order g c = λ begins next fine moves final leads ends.
     let m = c.args.self.now in
-    c.fine_slots.ensures (machine_kept m) time number (slot_from (machine_kept m) begins) (rules-of m) stands fine moves final leads ends
+    let within = c.requires.standing.reached begins next in
+    c.fine_slots.ensures (machine_kept m) begins.time within.number (slot_from (machine_kept m) begins) (rules-of m) (within.stands begins.time (omega arith)) fine moves final leads ends
     ∙ sym (c.in_ok-end.ensures.runs (machine_kept m) (first_turn m.stage) begins (c.in_ok-hyper.ensures.ends (machine_kept m) (first_turn m.stage) begins (c.in_ok-begin_slot.ensures.runs begins next))).state
 
 pub returns-clause-standing : goal.returns-clause-standing
 returns-clause-standing g c =
     let m = c.args.self.now in
     let f = found-some (begins_next m) (λ begins. begins.time ≤ 2 ^ 63) c.requires.left in
-    c.in_ok-end.ensures.standing (machine_kept m) (first_turn m.stage) f.0 (c.in_ok-hyper.ensures.ends (machine_kept m) (first_turn m.stage) f.0 (c.in_ok-begin_slot.ensures.runs f.0 f.1))
+    c.in_ok-end.ensures.standing (machine_kept m) (first_turn m.stage) f.0 (c.requires.standing.reached f.0 f.1) (c.in_ok-hyper.ensures.ends (machine_kept m) (first_turn m.stage) f.0 (c.in_ok-begin_slot.ensures.runs f.0 f.1))
+
+pub returns-clause-notes : goal.returns-clause-notes
+returns-clause-notes g c = c.in_ok-end.ensures.notes_are ∙ c.in_ok-hyper.ensures.notes_are ∙ c.in_ok-begin_slot.ensures.notes_are

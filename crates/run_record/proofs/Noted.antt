@@ -1,0 +1,313 @@
+-- Notes of process runs go on with the events of a slot (phases by IEEE 1364-2001, clause 5; processes by clause 9).
+use Rattle.std.proofs.Common.{◌≡◌, ℕ, zero, suc, ◌+◌, ◌<◌, List, [], ◌∷◌, ◌++◌, map, length, get_or, set, Bool, true, false, ◌&&◌, ◌⊎◌, inl, inr, refl, sym, ap, subst, ◌∙◌, append-nil, length-append, arith}
+use Rattle.std.specs.Prelude.{◌≢◌, Option, Some, cond, nat_eq, slice_get}
+use Rattle.std.specs.List.{All}
+use Rattle.std.specs.Option.{option_to_list}
+use Rattle.std.proofs.lemmas.Bool.{eqb-true, eq-eqb}
+use Rattle.std.proofs.lemmas.List.{map_push, get_or-set_same, get_or-set_other, length-set}
+use Rattle.std.proofs.lemmas.List.Elements.{All-nil, All-push, filter-append}
+use Rattle.std.proofs.lemmas.Option.{slice_get_within}
+use Rattle.vf_base.specs.Base.{process_number}
+use Rattle.v_design.specs.Designs.{FlatDesign, Machine}
+use Rattle.v_design.specs.Assignments.{ValueUpdate}
+use Rattle.v_design.specs.States.{LaterUpdate, Event, Step, LaneStep, Evaluation, NetUpdate, appended, write_of, step_of, is_ready}
+use Rattle.v_design.specs.PhaseLogs.{is_step_of}
+use Rattle.v_design.specs.Grades.{Phase}
+use Rattle.v_design.specs.OwnSteps.{StepSeen, seen_step, process_runs}
+use Rattle.process_code.specs.Points.{activity_of}
+use Rattle.process_code.specs.RunEnds.{told_by}
+use Rattle.process_code.specs.StatesOf.{IsStateOf}
+use Rattle.process_code.specs.declared.code.Code.{Code}
+use Rattle.process_code.specs.declared.state.ProcState.{ProcState}
+use Rattle.process_code.specs.declared.state.RunEnd.{RunEnd}
+use Rattle.copy_laws.specs.OwnRuns.{last_goes_on, grow}
+use Rattle.copy_laws.specs.SharedRuns.{appended_by, written_by, read-next}
+use Rattle.slot_record.specs.SlotRecords.{one_more, state_in}
+use Rattle.run_ends.specs.RunEnds.{IsCodeAt, told_of, is_end_of, ends_of, ender_of, ender_if, ender_told, slot_enders}
+use Rattle.run_record.specs.Notes.{ended_runs, present_steps, SoFar, so_far_of, nothing_so_far, with_step, StepSays, StandsAfter, IsNotedIn, AreNotes}
+use Rattle.run_record.specs.RunRecords.{runs_so_far, IsEndOf, EventsNoteNothing, NoneReady, PhasesNoteNothing, SlotsBeginNotes, SlotsEndNotes}
+use Rattle.run_record.proofs.Growing.{Laws, joined-last, told_after, GoesOn, goes-on, Ends, ends, all-ended, none-present, next_seen, own-step, other-step, ender, enders-phase, enders-event}
+
+-- Tests
+
+not-true : (b : Bool) → (b ≡ true → ⊥) → b ≡ false
+not-true true never = absurd (never refl)
+not-true false never = refl
+
+unequal : (m n : ℕ) → (m ≡ n → ⊥) → nat_eq m n ≡ false
+unequal m n never = not-true (nat_eq m n) (λ e. never (eqb-true m n e))
+
+-- what holds of a process and of all others
+each-process : (P : ℕ → Type 0) (process : ℕ) → P process → ((other : ℕ) → nat_eq other process ≡ false → P other) → (any : ℕ) → P any
+each-process P process own others any = go (nat_eq any process) refl
+  where
+    go : (b : Bool) → nat_eq any process ≡ b → P any
+    go true is = subst P (sym (eqb-true any process is)) own
+    go false is = others any is
+
+apart : (other process : ℕ) → nat_eq other process ≡ false → other ≢ process
+apart other process is e = let no : true ≡ false = sym (eq-eqb other process e) ∙ is in cc
+
+-- an element of a list with one more
+at-last : {A : Type 0} (xs : List A) (x y : A) (n : ℕ) → slice_get (xs ++ x ∷ []) n ≡ Some y → (slice_get xs n ≡ Some y) ⊎ ((n ≡ length xs) × (x ≡ y))
+at-last [] x y zero e = inr (refl, cc)
+at-last [] x y (suc n) e = cc
+at-last (z ∷ xs) x y zero e = inl e
+at-last (z ∷ xs) x y (suc n) e = elim (at-last xs x y n e) [ inl h ↦ inl h | inr h ↦ inr (ap suc h.0, h.1) ]
+
+-- The ends of one more run
+
+-- the end of a run of another phase, of another process, and of this one
+ends-behind : (number process : ℕ) (ended : List RunEnd) (run : RunEnd) → is_end_of number process run ≡ false → ends_of number process (ended ++ run ∷ []) ≡ ends_of number process ended
+ends-behind number process ended run fails =
+    filter-append (is_end_of number process) ended (run ∷ []) ∙ ap (λ b. ends_of number process ended ++ cond b (run ∷ []) []) fails ∙ append-nil (ends_of number process ended)
+
+ends-own : (number process : ℕ) (ended : List RunEnd) (run : RunEnd) → is_end_of number process run ≡ true → ends_of number process (ended ++ run ∷ []) ≡ ends_of number process ended ++ run ∷ []
+ends-own number process ended run passes = filter-append (is_end_of number process) ended (run ∷ []) ∙ ap (λ b. ends_of number process ended ++ cond b (run ∷ []) []) passes
+
+and-false : (a b : Bool) → b ≡ false → (a && b) ≡ false
+and-false true b e = e
+and-false false b e = refl
+
+other-phase : (number process : ℕ) (run : RunEnd) → (run.phase ≡ number → ⊥) → is_end_of number process run ≡ false
+other-phase number process run never = ap (λ b. b && nat_eq (process_number run.process) process) (unequal run.phase number never)
+
+-- no run ended in a later phase
+none-later : (design : FlatDesign) (most number process : ℕ) (ended : List RunEnd) → All (IsNotedIn design most) ended → most < number → ends_of number process ended ≡ []
+none-later design most number process [] within low = refl
+none-later design most number process (run ∷ ended) within low =
+    let here : IsNotedIn design most run = within 0 run (omega arith) in
+    ap (λ b. cond b (run ∷ ends_of number process ended) (ends_of number process ended)) (other-phase number process run (λ e. omega (arith, here.last, low, e)))
+    ∙ none-later design most number process ended (λ k d there. within (suc k) d (omega (arith, there))) low
+
+-- What a step more tells
+
+-- so the steps so far have appended and written
+so-far-more : (time : ℕ) (steps : List StepSeen) (seen : StepSeen) (later : Option LaterUpdate) (write : Option ValueUpdate) → option_to_list later ≡ appended time seen.step.action → write ≡ write_of seen.step.action →
+    with_step later write (so_far_of time steps) ≡ so_far_of time (steps ++ seen ∷ [])
+so-far-more time steps seen later write laters writes =
+    λ i. record {
+      later = (ap (λ l. appended_by time steps ++ l) laters ∙ sym (joined-last (λ (s : StepSeen). appended time s.step.action) steps seen)) i;
+      writes = (ap (λ w. written_by steps ++ option_to_list w) writes ∙ sym (joined-last (λ (s : StepSeen). option_to_list (write_of s.step.action)) steps seen)) i;
+    }
+
+-- where a step of a phase says so
+step-more : Laws → (machine : Machine) (phase : Phase) (process : ℕ) (steps : List StepSeen) (later : Option LaterUpdate) (write : Option ValueUpdate) → StepSays machine (state_in machine phase) process later write →
+    with_step later write (so_far_of phase.begins.time steps) ≡ so_far_of phase.begins.time (steps ++ seen_step machine (state_in machine phase) process ∷ [])
+step-more laws machine phase process steps later write says =
+    so-far-more phase.begins.time steps (seen_step machine (state_in machine phase) process) later write
+    (says.later_is ∙ ap (λ time. appended time (step_of machine (state_in machine phase) process).action) (laws.time machine phase.begins phase.events)) says.write_is
+
+-- An event that is no process step
+
+quiet-event : Laws → (machine : Machine) (before : List Phase) (phase : Phase) (event : Event) (present : List SoFar) (ended : List RunEnd) → ((process : ℕ) → is_step_of process event ≡ false) →
+    ender_of machine (state_in machine phase) event ≡ [] → AreNotes machine before phase present ended → AreNotes machine before (one_more event phase) present ended
+quiet-event laws machine before phase event present ended others none notes = record {
+  count = notes.count;
+  present_are = λ process low. notes.present_are process low ∙ ap (λ runs. so_far_of phase.begins.time (present_steps runs)) (sym (other-step laws machine process phase event (others process)));
+  within = notes.within;
+  order =
+      notes.order
+      ∙ sym (enders-event machine before phase event ∙ ap (λ l. slot_enders machine (before ++ phase ∷ []) ++ map (ender (length before + 1)) l) none ∙ append-nil (slot_enders machine (before ++ phase ∷ [])));
+  told_before = notes.told_before;
+  told_now = λ process code at. notes.told_now process code at ∙ ap (λ runs. map (told_of phase.begins.time) (ended_runs runs)) (sym (other-step laws machine process phase event (others process)));
+}
+
+pub events-note-nothing : Laws → EventsNoteNothing
+events-note-nothing laws machine before phase (Step process) kept quiet notes = cc
+events-note-nothing laws machine before phase (LaneStep process) kept quiet notes = quiet-event laws machine before phase (LaneStep process) (runs_so_far kept) kept.ended.items (λ p. refl) refl notes
+events-note-nothing laws machine before phase (Evaluation node) kept quiet notes = quiet-event laws machine before phase (Evaluation node) (runs_so_far kept) kept.ended.items (λ p. refl) refl notes
+events-note-nothing laws machine before phase (NetUpdate node) kept quiet notes = quiet-event laws machine before phase (NetUpdate node) (runs_so_far kept) kept.ended.items (λ p. refl) refl notes
+
+-- A process step
+
+-- the runs so far where that of one process is set
+module _ (laws : Laws) (machine : Machine) (before : List Phase) (phase : Phase) (process : ℕ) (present : List SoFar) (ended : List RunEnd) (there : process < length present) (notes : AreNotes machine before phase present ended) where
+  -- the runs of another process stay
+  others-present : (told : SoFar) (other : ℕ) → nat_eq other process ≡ false → other < length (set present process told) →
+      get_or (set present process told) other nothing_so_far ≡ so_far_of phase.begins.time (present_steps (process_runs machine other (one_more (Step process) phase)))
+  others-present told other is low =
+      get_or-set_other present process other told nothing_so_far (apart other process is) ∙ notes.present_are other (subst (λ n. other < n) (length-set present process told) low)
+      ∙ ap (λ runs. so_far_of phase.begins.time (present_steps runs)) (sym (other-step laws machine other phase (Step process) is))
+
+  -- that of the process is told
+  all-present : (told : SoFar) → told ≡ so_far_of phase.begins.time (present_steps (process_runs machine process (one_more (Step process) phase))) → (any : ℕ) → any < length (set present process told) →
+      get_or (set present process told) any nothing_so_far ≡ so_far_of phase.begins.time (present_steps (process_runs machine any (one_more (Step process) phase)))
+  all-present told is =
+      each-process
+      (λ any. any < length (set present process told) → get_or (set present process told) any nothing_so_far ≡ so_far_of phase.begins.time (present_steps (process_runs machine any (one_more (Step process) phase)))) process
+      (λ low. get_or-set_same present process told nothing_so_far there ∙ is) (λ other no low. others-present told other no low)
+
+  -- what the step says of the present run
+  step-so-far : (later : Option LaterUpdate) (write : Option ValueUpdate) → StepSays machine (state_in machine phase) process later write →
+      with_step later write (get_or present process nothing_so_far)
+      ≡ so_far_of phase.begins.time (present_steps (process_runs machine process phase) ++ seen_step machine (state_in machine phase) process ∷ [])
+  step-so-far later write says =
+      ap (with_step later write) (notes.present_are process there) ∙ step-more laws machine phase process (present_steps (process_runs machine process phase)) later write says
+
+  -- a step after which the process is ready
+  pub step-noted : (later : Option LaterUpdate) (write : Option ValueUpdate) → StepSays machine (state_in machine phase) process later write → is_ready (step_of machine (state_in machine phase) process).next ≡ true →
+      AreNotes machine before (one_more (Step process) phase) (set present process (with_step later write (get_or present process nothing_so_far))) ended
+  step-noted later write says ready =
+      let told : SoFar = with_step later write (get_or present process nothing_so_far) in
+      let own : process_runs machine process (one_more (Step process) phase) ≡ grow (process_runs machine process phase) (next_seen machine phase process) = own-step laws machine process phase in
+      let goes : GoesOn (process_runs machine process phase) (grow (process_runs machine process phase) (next_seen machine phase process)) (seen_step machine (state_in machine phase) process) =
+      goes-on (process_runs machine process phase) (next_seen machine phase process) ready in
+      record {
+        count = length-set present process told ∙ notes.count;
+        present_are = all-present told
+            (step-so-far later write says ∙ ap (so_far_of phase.begins.time) (sym goes.present) ∙ ap (λ runs. so_far_of phase.begins.time (present_steps runs)) (sym own));
+        within = notes.within;
+        order =
+            notes.order
+            ∙ sym (enders-event machine before phase (Step process)
+            ∙ ap (λ b. slot_enders machine (before ++ phase ∷ []) ++ map (ender (length before + 1)) (ender_if b process)) ready ∙ append-nil (slot_enders machine (before ++ phase ∷ [])));
+        told_before = notes.told_before;
+        told_now = λ any.
+            each-process
+            (λ q. (code : Code) → IsCodeAt machine.design q code →
+            map (told_by code) (ends_of (length before + 1) q ended) ≡ map (told_of phase.begins.time) (ended_runs (process_runs machine q (one_more (Step process) phase)))) process
+            (λ code at.
+            notes.told_now process code at ∙ ap (map (told_of phase.begins.time)) (sym goes.ended) ∙ ap (λ runs. map (told_of phase.begins.time) (ended_runs runs)) (sym own))
+            (λ other no code at. notes.told_now other code at ∙ ap (λ runs. map (told_of phase.begins.time) (ended_runs runs)) (sym (other-step laws machine other phase (Step process) no))) any;
+      }
+
+  -- the end of the run that the step ends
+  module _ (later : Option LaterUpdate) (write : Option ValueUpdate) (stands : ProcState) (run : RunEnd) (says : StepSays machine (state_in machine phase) process later write)
+      (stops : is_ready (step_of machine (state_in machine phase) process).next ≡ false) (after : StandsAfter machine (state_in machine phase) process stands)
+      (end : IsEndOf (length before + 1) process stands (with_step later write (get_or present process nothing_so_far)) run) where
+    -- it tells of the run
+    run-told : (code : Code) → IsCodeAt machine.design process code →
+        told_by code run ≡ told_after phase.begins.time (present_steps (process_runs machine process phase)) (seen_step machine (state_in machine phase) process)
+    run-told code at =
+        let is = step-so-far later write says in
+        λ i. record {
+          activity = (ap (activity_of code) end.state_is ∙ after.activity code at
+              ∙ read-next (state_in machine phase) (step_of machine (state_in machine phase) process).action (step_of machine (state_in machine phase) process).next) i;
+          later = (end.later_is ∙ ap (λ (told : SoFar). told.later) is) i;
+          writes = (end.writes_are ∙ ap (λ (told : SoFar). told.writes) is) i;
+        }
+
+    own-test : is_end_of (length before + 1) process run ≡ true
+    own-test = λ i. eq-eqb run.phase (length before + 1) end.phase_is i && eq-eqb (process_number run.process) process end.process_is i
+
+    other-test : (other : ℕ) → nat_eq other process ≡ false → is_end_of (length before + 1) other run ≡ false
+    other-test other differs =
+        and-false (nat_eq run.phase (length before + 1)) (nat_eq (process_number run.process) other) (unequal (process_number run.process) other (λ e. apart other process differs (sym e ∙ end.process_is)))
+
+    low : process < length machine.design.processes
+    low = subst (λ n. process < n) notes.count there
+
+    noted-in : IsNotedIn machine.design (length before + 1) run
+    noted-in = record {
+      first = omega (arith, end.phase_is);
+      last = omega (arith, end.phase_is);
+      process = subst (λ q. q < length machine.design.processes) (sym end.process_is) low;
+      state = λ code at. subst (IsStateOf code) (sym end.state_is) (after.state_of code (subst (λ q. IsCodeAt machine.design q code) end.process_is at));
+    }
+
+    pub end-noted : AreNotes machine before (one_more (Step process) phase) (set present process nothing_so_far) (ended ++ run ∷ [])
+    end-noted =
+        let own : process_runs machine process (one_more (Step process) phase) ≡ grow (process_runs machine process phase) (next_seen machine phase process) = own-step laws machine process phase in
+        let stopped : Ends phase.begins.time (process_runs machine process phase) (grow (process_runs machine process phase) (next_seen machine phase process)) (seen_step machine (state_in machine phase) process) =
+        ends phase.begins.time (process_runs machine process phase) (next_seen machine phase process) stops in
+        record {
+          count = length-set present process nothing_so_far ∙ notes.count;
+          present_are = all-present nothing_so_far (ap (so_far_of phase.begins.time) (sym stopped.present) ∙ ap (λ runs. so_far_of phase.begins.time (present_steps runs)) (sym own));
+          within = All-push (IsNotedIn machine.design (length before + 1)) ended run notes.within noted-in;
+          order =
+              map_push ender_told ended run ∙ ap (λ l. l ++ ender_told run ∷ []) notes.order
+              ∙ ap (λ e. slot_enders machine (before ++ phase ∷ []) ++ e ∷ []) (λ i. record { phase = end.phase_is i; process = end.process_is i })
+              ∙ sym (enders-event machine before phase (Step process) ∙ ap (λ b. slot_enders machine (before ++ phase ∷ []) ++ map (ender (length before + 1)) (ender_if b process)) stops);
+          told_before = λ number q one code stood at.
+              ap (map (told_by code))
+              (ends-behind (number + 1) q ended run (other-phase (number + 1) q run (λ e. omega (arith, slice_get_within before number one stood, end.phase_is, e))))
+              ∙ notes.told_before number q one code stood at;
+          told_now = λ any.
+              each-process
+              (λ q. (code : Code) → IsCodeAt machine.design q code →
+              map (told_by code) (ends_of (length before + 1) q (ended ++ run ∷ [])) ≡ map (told_of phase.begins.time) (ended_runs (process_runs machine q (one_more (Step process) phase)))) process
+              (λ code at.
+              ap (map (told_by code)) (ends-own (length before + 1) process ended run own-test) ∙ map_push (told_by code) (ends_of (length before + 1) process ended) run
+              ∙ ap (λ l. l ++ told_by code run ∷ []) (notes.told_now process code at)
+              ∙ ap (λ t. map (told_of phase.begins.time) (ended_runs (process_runs machine process phase)) ++ t ∷ []) (run-told code at)
+              ∙ sym stopped.ended ∙ ap (λ runs. map (told_of phase.begins.time) (ended_runs runs)) (sym own))
+              (λ other no code at.
+              ap (map (told_by code)) (ends-behind (length before + 1) other ended run (other-test other no)) ∙ notes.told_now other code at
+              ∙ ap (λ runs. map (told_of phase.begins.time) (ended_runs runs)) (sym (other-step laws machine other phase (Step process) no))) any;
+        }
+
+-- The end of a phase
+
+-- where no process is ready, no run goes on
+none-goes : Laws → (machine : Machine) (phase : Phase) (process : ℕ) → NoneReady (state_in machine phase) → last_goes_on (process_runs machine process phase) ≡ false
+none-goes laws machine phase process none =
+    not-true (last_goes_on (process_runs machine process phase)) (λ goes. let no : true ≡ false = sym (laws.ready machine process phase.begins phase.events goes) ∙ none process in cc)
+
+-- so that all that is told is told of whole runs
+all-told : Laws → (machine : Machine) (before : List Phase) (phase : Phase) (present : List SoFar) (ended : List RunEnd) → NoneReady (state_in machine phase) → AreNotes machine before phase present ended →
+    (number process : ℕ) (one : Phase) (code : Code) → slice_get (before ++ phase ∷ []) number ≡ Some one → IsCodeAt machine.design process code →
+    map (told_by code) (ends_of (number + 1) process ended) ≡ map (told_of one.begins.time) (process_runs machine process one)
+all-told laws machine before phase present ended none notes number process one code stands at =
+    elim (at-last before phase one number stands) [
+      | inl earlier ↦ notes.told_before number process one code earlier at
+      | inr here ↦
+          subst (λ (x : Phase). map (told_by code) (ends_of (number + 1) process ended) ≡ map (told_of x.begins.time) (process_runs machine process x)) here.1
+          (ap (λ n. map (told_by code) (ends_of (n + 1) process ended)) here.0 ∙ notes.told_now process code at
+          ∙ ap (map (told_of phase.begins.time)) (all-ended (process_runs machine process phase) (none-goes laws machine phase process none)))
+    ]
+
+-- and nothing of a present run
+none-kept : Laws → (machine : Machine) (before : List Phase) (phase : Phase) (present : List SoFar) (ended : List RunEnd) → NoneReady (state_in machine phase) → AreNotes machine before phase present ended →
+    (process : ℕ) → process < length present → get_or present process nothing_so_far ≡ nothing_so_far
+none-kept laws machine before phase present ended none notes process low =
+    notes.present_are process low ∙ ap (so_far_of phase.begins.time) (none-present (process_runs machine process phase) (none-goes laws machine phase process none))
+
+longer : (before : List Phase) (phase : Phase) → length (before ++ phase ∷ []) ≡ length before + 1
+longer before phase = length-append before (phase ∷ [])
+
+pub phases-note-nothing : Laws → PhasesNoteNothing
+phases-note-nothing laws machine before phase turn begins kept none notes =
+    let present = runs_so_far kept in
+    let ended = kept.ended.items in
+    let next : Phase = record { turn = turn; begins = begins; events = [] } in
+    record {
+      count = notes.count;
+      present_are = λ process low. none-kept laws machine before phase present ended none notes process low;
+      within = λ k d low.
+          let h = notes.within k d low in
+          record { first = h.first; last = omega (arith, h.last, longer before phase); process = h.process; state = h.state };
+      order = notes.order ∙ sym (enders-phase machine (before ++ phase ∷ []) next ∙ append-nil (slot_enders machine (before ++ phase ∷ [])));
+      told_before = all-told laws machine before phase present ended none notes;
+      told_now = λ process code at.
+          ap (map (told_by code)) (none-later machine.design (length before + 1) (length (before ++ phase ∷ []) + 1) process ended notes.within (omega (arith, longer before phase)));
+    }
+
+-- A slot
+
+pub slots-begin-notes : SlotsBeginNotes
+slots-begin-notes machine begins kept rests none = record {
+  count = rests.count;
+  present_are = λ process low. rests.nothing process low;
+  within = subst (λ l. All (IsNotedIn machine.design 1) l) (sym none) (All-nil (IsNotedIn machine.design 1));
+  order = ap (map ender_told) none;
+  told_before = λ number process one code stands at. cc;
+  told_now = λ process code at. ap (λ l. map (told_by code) (ends_of 1 process l)) none;
+}
+
+pub slots-end-notes : Laws → SlotsEndNotes
+slots-end-notes laws machine before phase kept none notes = record {
+  rests = record { count = notes.count; nothing = λ process low. none-kept laws machine before phase (runs_so_far kept) kept.ended.items none notes process low };
+  ends = λ codes are. record {
+    within = λ k d low.
+        let h = notes.within k d low in
+        record {
+          first = h.first;
+          last = omega (arith, h.last, longer before phase);
+          process = omega (arith, h.process, are.count);
+          state = λ code at. h.state code (are.each _ code at);
+        };
+    order = notes.order;
+    told = λ number process one code stands at. all-told laws machine before phase (runs_so_far kept) kept.ended.items none notes number process one code stands (are.each process code at);
+  };
+}
