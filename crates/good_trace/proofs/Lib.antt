@@ -1,0 +1,4 @@
+mod Growing
+mod Counting
+mod Steps
+mod Keeping

@@ -1,0 +1,4 @@
+pub mod Setups
+pub mod Slots
+pub mod Counted
+pub mod Traces

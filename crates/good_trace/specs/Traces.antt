@@ -1,0 +1,45 @@
+-- The good first run as it is pushed, and its windows (slots by IEEE 1364-2001, clause 5).
+use Rattle.std.specs.Prelude.{◌≡◌, ℕ, ◌+◌, ◌^◌, ◌<◌, ◌≤◌, List, length, Some, slice_get}
+use Rattle.v_design.specs.Designs.{FlatDesign, TestPlan}
+use Rattle.process_code.specs.declared.code.Code.{Code}
+use Rattle.copy_laws.specs.Windows.{WindowEnd, IsWindow, good_slots, window_steps}
+use Rattle.good_trace.specs.declared.slot.PushedSlot.{PushedSlot}
+use Rattle.good_trace.specs.Slots.{IsSlotAt}
+
+-- what contracts see of a trace: the code of each process, how many slots were pushed, and how many of these stand in windows that were closed
+pub record TraceKept : Type 0 where
+  pub codes : List Code
+  pub pushed : ℕ
+  pub closed : ℕ
+
+-- what contracts see of a window: how many slots of the good first run stand before it, how many before its end, and how it ends
+pub record WindowKept : Type 0 where
+  pub before : ℕ
+  pub through : ℕ
+  pub ending : WindowEnd
+
+-- some slots in a row are those of the good first run, the first of which has a number
+pub record AreSlotsFrom (codes : List Code) (design : FlatDesign) (plan : TestPlan) (number : ℕ) (slots : List PushedSlot) : Type 0 where
+  pub each : (place : ℕ) (slot : PushedSlot) → slice_get slots place ≡ Some slot → IsSlotAt codes design plan (number + place) slot.log slot.runs.items
+
+-- a trace holds the slots since its last close and counts their process and lane steps; they are a window at most
+pub record IsTrace (codes : List Code) (design : FlatDesign) (plan : TestPlan) (pushed closed steps : ℕ) (slots : List PushedSlot) : Type 0 where
+  pub run_fits : length (good_slots design plan) < 2 ^ 63
+  pub held : closed + length slots ≡ pushed
+  pub slots_are : AreSlotsFrom codes design plan closed slots
+  pub counted : steps ≡ window_steps design plan closed pushed
+  pub few_slots : length slots ≤ 64
+  pub few_steps : steps ≤ 300000
+
+-- a window has the slots of the good first run from one number to before another; it is no greater than a trace lets it grow
+pub record IsWindowOf (codes : List Code) (design : FlatDesign) (plan : TestPlan) (before through : ℕ) (ending : WindowEnd) (slots : List PushedSlot) : Type 0 where
+  pub window : IsWindow design plan before through ending
+  pub held : before + length slots ≡ through
+  pub slots_are : AreSlotsFrom codes design plan before slots
+  pub few_slots : through ≤ before + 64
+  pub few_steps : window_steps design plan before through ≤ 300000
+
+-- the same, with some codes
+pub record IsTraceWindow (design : FlatDesign) (plan : TestPlan) (before through : ℕ) (ending : WindowEnd) (slots : List PushedSlot) : Type 0 where
+  pub codes : List Code
+  pub stands : IsWindowOf codes design plan before through ending slots

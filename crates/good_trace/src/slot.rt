@@ -1,0 +1,47 @@
+// A slot that was pushed, and its steps.
+
+ghost use Rattle.std.specs.Prelude.{◌≡◌, ◌≤◌, count_by};
+ghost use Rattle.good_trace.specs.Counted.{is_step, steps_logged};
+
+use causal_monitor::{Actor, SlotLog};
+use process_code::RunEnd;
+
+/// A slot of the good first run: its log, and the ends of its process runs in the order in which they ended.
+#[derive(Drop)]
+pub struct PushedSlot {
+    pub log: SlotLog,
+    pub runs: Vec<RunEnd>,
+}
+
+/// Whether an event is a step of a process or of its lane.
+fn is_step(actor: Actor) -> bool
+    ensures { result ≡ is_step actor }
+{
+    match actor {
+        Actor::Step(_) => true,
+        Actor::Lane(_) => true,
+        Actor::Eval(_) => false,
+        Actor::Move(_) => false,
+    }
+}
+
+/// How many process and lane steps some events have.
+fn count_in(actors: &[Actor]) -> u32
+    requires { count_by is_step actors.now ≤ 100000 }
+    ensures { result ≡ count_by is_step actors.now }
+{
+    actors.iter().filter(|actor| is_step(**actor)).count() as u32
+}
+
+/// How many process and lane steps a slot has, by its log.
+pub(crate) fn count_steps(log: &SlotLog) -> u32
+    requires { steps_logged log.now ≤ 100000 }
+    ensures { result ≡ steps_logged log.now }
+{
+    let mut steps = 0;
+    let phases = log.actors.as_slice();
+    'phases: for actors in phases {
+        steps += count_in(actors.as_slice());
+    }
+    steps
+}

@@ -1,0 +1,6 @@
+use Rattle.std.proofs.Common.{◌≡◌, take}
+use Rattle.trace_window.specs.Tables.{at_places}
+use Rattle.trace_window.proofs.changes.list_places.Given as goal
+
+abbrev pub invariant-changes : goal.invariant-changes
+invariant-changes l = l.occurrences.items ≡ at_places 0 (take l.place l.changes)

@@ -1,0 +1,13 @@
+pub mod Moments
+pub mod Kinds
+pub mod Writes
+pub mod Touched
+pub mod Gathered
+pub mod GatherLaws
+pub mod Tables
+pub mod Listed
+pub mod WriteLaws
+pub mod ValueLaws
+pub mod LogLaws
+pub mod TouchLaws
+pub mod Rising
