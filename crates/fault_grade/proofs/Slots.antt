@@ -7,11 +7,9 @@ use Rattle.v_design.specs.States.{State}
 use Rattle.machine.specs.Standing.{machine_kept, begins_next}
 use Rattle.machine.specs.declared.parts.Machine.{Machine as Simulated}
 use Rattle.fault_grade.specs.declared.stop.Stop.{Stop}
+use Rattle.fault_grade.specs.Beside.{some-is}
 use Rattle.fault_grade.specs.Stops.{stop_view}
 use Rattle.fault_grade.specs.Reached.{GoesOn, IsReached, next_of, IsPast, StopsFirst, RunsOn, Advanced, advanced, since-now}
-
-pub some-is : {A : Type 0} (one other : A) → Some one ≡ Some other → one ≡ other
-some-is one other e = cc
 
 -- the state in which the next slot begins
 pub next-is : (m : Simulated) (time : ℕ) → next_of m ≡ Some time → (begins : State) × (begins_next m ≡ Some begins) × (begins.time ≡ time)
@@ -51,7 +49,3 @@ stopped until time first old new stop same reached h runs =
       subst (λ t. t ≤ until) (sym s.0) h,
       subst (λ (machine : Machine). StopsFirst machine until stop) same (λ end k. s.1 end (omega (arith, h, k))),
     )
-
--- an answer that is known
-pub answered : (time : ℕ) (old new : Simulated) (stop known : Option Stop) → stop ≡ known → Advanced time old stop new → Advanced time old known new
-answered time old new stop known is a = subst (λ s. Advanced time old s new) is a

@@ -1,17 +1,13 @@
 -- The good machine from strobe to strobe.
-use Rattle.std.proofs.Common.{◌≡◌, ℕ, zero, suc, ◌<◌, ◌≤◌, ◌^◌, get_or, drop, List, [], ◌∷◌, ◌++◌, refl, sym, ap, subst, ◌∙◌, arith}
-use Rattle.std.specs.Prelude.{Option, Some, None, length, map}
+use Rattle.std.proofs.Common.{◌≡◌, ℕ, ◌≤◌, ◌^◌, List, [], ◌∷◌, ◌++◌, refl, ap, subst, ◌∙◌, arith}
+use Rattle.std.specs.Prelude.{Option, Some, None, map}
 use Rattle.four_value.specs.declared.logic.Bit.{Bit}
-use Rattle.four_value.specs.Values.{LogicValue}
-use Rattle.vf_base.specs.Base.{WatchedBit}
-use Rattle.vf_base.specs.Lists.{AllHold}
-use Rattle.v_design.specs.Designs.{FlatDesign, FlatObject, Machine, TestPlan, width_in, good_machine}
+use Rattle.v_design.specs.Designs.{FlatDesign, Machine, TestPlan, good_machine}
 use Rattle.v_design.specs.States.{start}
 use Rattle.v_design.specs.Runs.{first_run}
 use Rattle.v_design.specs.Grades.{samples, Sample, first_stop}
-use Rattle.v_design.specs.WellFormed.{KeepsRules, IsPlan, IsPlanOf}
+use Rattle.v_design.specs.WellFormed.{KeepsRules, IsPlan}
 use Rattle.order_laws.specs.FirstRuns.{FirstRunsGoOn}
-use Rattle.strobe_detect.specs.Graders.{IsWatched}
 use Rattle.grade_laws.specs.Ahead.{Shows}
 use Rattle.grade_laws.specs.Grading.{IsGoodRun}
 use Rattle.grade_laws.specs.Sampling.{IsSampling, sampling-start, sampling-more, sampling-stopped, sampling-ends}
@@ -20,8 +16,8 @@ use Rattle.machine.specs.declared.parts.Machine.{Machine as Simulated}
 use Rattle.fault_grade.specs.declared.stop.Stop.{Stop}
 use Rattle.fault_grade.specs.Stops.{stop_view}
 use Rattle.fault_grade.specs.Samples.{stop_if}
-use Rattle.fault_grade.specs.Benches.{IsObjectOf}
-use Rattle.fault_grade.specs.Reached.{GoesOn, IsReached, Advanced, goes-from-start}
+use Rattle.fault_grade.specs.Beside.{early, start-goes}
+use Rattle.fault_grade.specs.Reached.{GoesOn, IsReached, Advanced}
 
 -- the good machine went on, these samples of it were kept, and these strobes are next
 pub record SamplesAt (design : FlatDesign) (plan : TestPlan) (m : Simulated) (shown : List Sample) (next : List ℕ) : Type 0 where
@@ -30,26 +26,11 @@ pub record SamplesAt (design : FlatDesign) (plan : TestPlan) (m : Simulated) (sh
   pub goes : GoesOn now m
   pub sampling : IsSampling design plan now shown next
 
--- times up to a plan's end are early
-pub early : (plan : TestPlan) (time : ℕ) → IsPlan plan → time ≤ plan.end → time ≤ 2 ^ 63
-early plan time rules h = let e : plan.end ≤ 1000000000000 = rules.end in omega (arith, h, e)
-
--- the strobes after the last one
-pub drop-past : {A : Type 0} (number : ℕ) (xs : List A) → length xs ≤ number → drop number xs ≡ []
-drop-past zero [] h = refl
-drop-past zero (x ∷ xs) h = absurd (omega (arith, h))
-drop-past (suc number) [] h = refl
-drop-past (suc number) (x ∷ xs) h = drop-past number xs (omega (arith, h))
-
 pub map-more : {A B : Type 0} (f : A → B) (xs : List A) (x : A) → map f (xs ++ x ∷ []) ≡ map f xs ++ f x ∷ []
 map-more f [] x = refl
 map-more f (y ∷ xs) x = ap (λ ys. f y ∷ ys) (map-more f xs x)
 
 -- The start
-
-pub start-goes : FirstRunsGoOn → (m : Simulated) (machine : Machine) → machine_kept m ≡ machine → KeepsRules machine.design → begins_next m ≡ Some (start machine) → IsStanding m → GoesOn 0 m
-start-goes law m machine same rules begins standing =
-    goes-from-start law m (subst (λ (x : Machine). KeepsRules x.design) (sym same) rules) standing (begins ∙ ap (λ x. Some (start x)) (sym same))
 
 pub samples-start : FirstRunsGoOn → (design : FlatDesign) (plan : TestPlan) (m : Simulated) → KeepsRules design → IsPlan plan → machine_kept m ≡ good_machine design → begins_next m ≡ Some (start (good_machine design)) → IsStanding m →
     SamplesAt design plan m [] plan.strobes
@@ -93,25 +74,3 @@ samples-end design plan m new shown None at advanced =
 samples-end design plan m new shown (Some stop) at advanced =
     sampling-ends design plan at.now shown (Some (stop_view stop)) at.sampling
     (subst (λ (machine : Machine). first_stop machine (first_run machine plan.end) ≡ Some (stop_view stop)) at.same_machine (advanced.1 plan.end (omega arith))) advanced.0
-
--- What is watched
-
-object-there : (objects : List FlatObject) (object bit : ℕ) → bit < get_or (map (λ (o : FlatObject). o.width) objects) object 0 → object < length objects
-object-there [] object bit h = absurd (omega (arith, h))
-object-there (o ∷ objects) zero bit h = omega arith
-object-there (o ∷ objects) (suc object) bit h = let r : object < length objects = object-there objects object bit h in omega (arith, r)
-
--- what is watched are objects of the design
-pub objects-watched : (design : FlatDesign) (watched : List WatchedBit) → AllHold (λ (w : WatchedBit). w.bit < width_in design w.object) watched → AllHold (IsObjectOf design) watched
-objects-watched design [] h = tt
-objects-watched design (w ∷ watched) h = (object-there design.objects w.object w.bit h.0, objects-watched design watched h.1)
-
--- and so have values
-pub values-watched : (m : Simulated) (watched : List WatchedBit) → length (state_kept m).values ≡ length (machine_kept m).design.objects → AllHold (IsObjectOf (machine_kept m).design) watched → AllHold (IsWatched (state_kept m).values) watched
-values-watched m [] sized h = tt
-values-watched m (w ∷ watched) sized h = (let x : w.object < length (machine_kept m).design.objects = h.0 in omega (arith, sized, x), values-watched m watched sized h.1)
-
--- of a machine of a design, whose plan says what is watched
-pub plan-watched : (design : FlatDesign) (plan : TestPlan) (m : Simulated) → IsPlanOf design plan → (machine_kept m).design ≡ design → IsStanding m → AllHold (IsWatched (state_kept m).values) plan.watched
-plan-watched design plan m of_design same standing =
-    values-watched m plan.watched standing.values (subst (λ (d : FlatDesign). AllHold (IsObjectOf d) plan.watched) (sym same) (objects-watched design plan.watched of_design.watched))

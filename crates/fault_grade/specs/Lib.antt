@@ -3,4 +3,5 @@ pub mod Reached
 pub mod Benches
 pub mod Samples
 pub mod Gradings
+pub mod Beside
 pub mod Results

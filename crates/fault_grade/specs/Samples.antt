@@ -2,17 +2,13 @@
 use Rattle.std.specs.Prelude.{◌≡◌, List, map, Option, Some, None}
 use Rattle.v_design.specs.Designs.{FlatDesign, TestPlan}
 use Rattle.v_design.specs.Grades as plain
+use Rattle.kept_samples.specs.Plain.{sample_of}
 use Rattle.grade_laws.specs.Grading.{IsGoodRun, good_stop}
-use Rattle.fault_grade.specs.declared.good.Sample.{Sample}
 use Rattle.fault_grade.specs.declared.good.GoodSamples.{GoodSamples}
 use Rattle.fault_grade.specs.declared.good.GoodRun.{GoodRun}
 use Rattle.fault_grade.specs.declared.good.GoodRun.TheVariants.{Shown, Loop}
 use Rattle.fault_grade.specs.declared.stop.Stop.{Stop}
 use Rattle.fault_grade.specs.Stops.{loop_stop, race_if, stop_view}
-
--- the watched bits at a strobe
-abbrev pub sample_of : Sample → plain.Sample
-sample_of sample = record { time = sample.time; bits = sample.bits.items }
 
 -- the samples that were kept of the good machine
 abbrev pub samples_kept : GoodSamples → List plain.Sample

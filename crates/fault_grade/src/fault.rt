@@ -10,15 +10,17 @@ ghost use Rattle.grade_laws.specs.Grading.{IsGoodRun, StopsWithin, good_stop};
 ghost use Rattle.machine.specs.Standing.{machine_kept};
 ghost use Rattle.fault_grade.specs.Benches.{IsBench, IsObjectOf, bench_design, bench_plan};
 ghost use Rattle.fault_grade.specs.Reached.{IsReached};
-ghost use Rattle.fault_grade.specs.Samples.{sample_of, samples_kept};
+ghost use Rattle.kept_samples.specs.Plain.{sample_of};
+ghost use Rattle.fault_grade.specs.Samples.{samples_kept};
 ghost use Rattle.fault_grade.specs.Stops.{race_if};
 ghost use Rattle.fault_grade.specs.Gradings.{IsGradingAt, Passes, AdvancesTo, last_before};
 
 use crate::bench::Bench;
-use crate::good::{GoodSamples, Sample};
+use crate::good::GoodSamples;
 use crate::run::{advance, empty_log};
 use crate::stop::{Stop, end_by_faulty};
 use causal_monitor::SlotLog;
+use kept_samples::Sample;
 use machine::Machine;
 use std::alloc::Global;
 use std::sync::ledger::Ledger;
@@ -47,22 +49,22 @@ fn pass_strobe<L: Ledger>(
 ) -> Result<Option<End>, NoMemory>
     requires reached { IsReached sample.now.time machine.old }
     requires limit { sample.now.time ≤ 2 ^ 63 }
-    requires kept { length sample.now.bits.items ≡ length grader.old.watched }
+    requires kept { length sample.now.bits ≡ length grader.old.watched }
     requires watched { AllHold (IsObjectOf (machine_kept machine.old).design) grader.old.watched }
     ensures { IfOk result (λ end. Passes (sample_of sample.now) machine.old grader.old end machine.new grader.new) }
 {
     if let Some(stop) = advance(log, machine, sample.time, steps)? {
         return Ok(Some(end_by_faulty(stop)));
     }
-    let hard = grader.strobe_kept(sample.time, &sample.bits, machine);
+    let hard = grader.strobe_kept(sample.time, sample.bits.as_slice(), machine);
     if hard {
         return Ok(Some(End::Detected(sample.time)));
     }
     Ok(None)
 }
 
-/// The time to which the faulty machine runs after the last strobe: to the plan's end, or to the last time before the good machine's race, if there is one.
-fn last_time(race: Option<Pair>, end: u64) -> Option<u64>
+/// The time, in steps, to which a faulty machine runs after the last strobe: to the plan's end, or to the last time before the good machine's race, if there is one.
+pub fn last_time(race: Option<Pair>, end: u64) -> Option<u64>
     ensures { result ≡ last_before race end }
 {
     match race {
@@ -71,8 +73,12 @@ fn last_time(race: Option<Pair>, end: u64) -> Option<u64>
     }
 }
 
-/// Runs a machine to a time, if there is one.
-fn advance_to<L: Ledger>(
+/// Runs all slots of a machine up to a time, in steps, if there is one, or through the first that isn't fine. The answer is that slot.
+///
+/// # Errors
+///
+/// Want of memory.
+pub fn advance_to<L: Ledger>(
     log: &mut SlotLog,
     machine: &mut Machine<'_>,
     until: Option<u64>,

@@ -4,24 +4,18 @@ ghost use Rattle.std.specs.Prelude.{◌≡◌, map, IfOk};
 ghost use Rattle.v_design.specs.Designs.{FlatDesign, TestPlan};
 ghost use Rattle.grade_laws.specs.Grading.{IsGoodRun};
 ghost use Rattle.fault_grade.specs.Benches.{IsBench, bench_design, bench_plan};
-ghost use Rattle.fault_grade.specs.Samples.{sample_of, stop_if, IsGood};
+ghost use Rattle.kept_samples.specs.Plain.{sample_of};
+ghost use Rattle.fault_grade.specs.Samples.{stop_if, IsGood};
 
 use crate::bench::Bench;
 use crate::run::{advance, empty_log};
 use crate::stop::Stop;
-use four_value::Bit;
+use kept_samples::Sample;
 use machine::Machine;
 use std::alloc::Global;
 use std::sync::ledger::Ledger;
 use strobe_detect::watched_bits;
-use vf_base::{NoMemory, Pair, Steps};
-
-/// The watched bits at a strobe, whose time is in steps.
-#[derive(Drop)]
-pub struct Sample {
-    pub time: u64,
-    pub bits: Vec<Bit>,
-}
+use vf_base::{NoMemory, Pair, Seq, Steps};
 
 /// The watched bits of the good machine at each strobe before its first race, in order, and that race, if there is one up to the plan's end.
 #[derive(Drop)]
@@ -78,7 +72,7 @@ pub fn run_good<L: Ledger>(
         let bits = watched_bits(alloc, bench.plan.watched.as_slice(), &machine)?;
         samples.push(Sample {
             time: *strobe,
-            bits,
+            bits: Seq::from_vec(bits),
         })?;
     }
     let stop = advance(&mut log, &mut machine, bench.plan.end, steps)?;

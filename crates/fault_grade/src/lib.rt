@@ -13,7 +13,7 @@ mod run;
 mod stop;
 
 pub use bench::Bench;
-pub use fault::grade_fault;
-pub use good::{GoodRun, GoodSamples, Sample, run_good};
-pub use run::advance;
-pub use stop::Stop;
+pub use fault::{advance_to, grade_fault, last_time};
+pub use good::{GoodRun, GoodSamples, run_good};
+pub use run::{advance, empty_log};
+pub use stop::{Stop, end_by_faulty};

@@ -12,7 +12,7 @@ use std::sync::ledger::Ledger;
 use vf_base::{NoMemory, Seq, Steps};
 
 /// A log of no phases, which takes no memory. It is kept for all slots of a machine's run, whose phases then use its memory again.
-pub(crate) fn empty_log(alloc: Global) -> SlotLog {
+pub fn empty_log(alloc: Global) -> SlotLog {
     SlotLog {
         time: 0,
         phases: Seq::from_vec(Vec::new(alloc)),

@@ -27,7 +27,7 @@ pub(crate) fn stop_at(time: u64, end: SlotEnd) -> Option<Stop>
 }
 
 /// How a stop of the faulty machine ends a grading.
-pub(crate) fn end_by_faulty(stop: Stop) -> End
+pub fn end_by_faulty(stop: Stop) -> End
     ensures { Some (grade_of result) ≡ faulty_ending (stop_view stop).time (stop_view stop).outcome }
 {
     match stop {

@@ -12,4 +12,4 @@ mod kept;
 
 pub use grader::{Grade, Grader};
 pub use hard::Hard;
-pub use kept::watched_bits;
+pub use kept::{is_detected, shows_kept, watched_bits};

@@ -6,3 +6,4 @@ pub mod Noting
 pub mod Taking
 pub mod Needed
 pub mod Rows
+pub mod Lines

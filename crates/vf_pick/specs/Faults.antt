@@ -1,11 +1,17 @@
 -- Which faults have a strobe, and how many of a fault's hard strobes stand (nothing of the language).
 use Rattle.std.specs.Prelude.{◌≡◌, ℕ, ◌+◌, ◌<◌, Bool, true, false, List, [], ◌∷◌, map, filter, length, get_or}
+use Rattle.vf_base.specs.Base.{fault_number}
 use Rattle.vf_base.specs.Lists.{has}
+use Rattle.v_design.specs.Expressions.{up_from}
 use Rattle.strobe_detect.specs.declared.hard.Hard.{Hard}
 
 -- the hard strobes of each fault
 abbrev pub lists_of : List Hard → List (List ℕ)
 lists_of hard = map (λ (one : Hard). one.times) hard
+
+-- the hard strobes of so many faults, one after the other
+abbrev pub AreInOrder : ℕ → List Hard → Type 0
+AreInOrder count hard = map (λ (one : Hard). fault_number one.fault) hard ≡ up_from 0 count
 
 -- the place, where a test holds, before some others
 abbrev pub placed : Bool → ℕ → List ℕ → List ℕ

@@ -5,7 +5,8 @@ use Rattle.vf_base.specs.declared.finding.Pair.{Pair}
 use Rattle.grade_laws.specs.Grading.{StopsWithin}
 use Rattle.fault_grade.specs.Stops.{race_if}
 use Rattle.fault_grade.specs.Gradings.{last_before}
-use Rattle.fault_grade.proofs.Gradings.{advanced-to, ends-stopped, ends-race, ends-judged}
+use Rattle.fault_grade.specs.Beside.{advanced-to}
+use Rattle.fault_grade.proofs.Gradings.{ends-stopped, ends-race, ends-judged}
 use Rattle.fault_grade.proofs.fault.finish.Goals as goal
 
 pub returns-in-Some : goal.returns-in-Some

@@ -1,6 +1,6 @@
 -- The faulty machine from strobe to strobe, and to the end.
 use Rattle.std.proofs.Common.{◌≡◌, ◌<◌, ◌≤◌, ◌+◌, ℕ, List, [], ◌∷◌, Option, Some, None, length, get_or, drop, map, arith, refl, ap, sym, subst, ◌∙◌}
-use Rattle.std.proofs.lemmas.List.{drop_more}
+use Rattle.std.proofs.lemmas.List.{drop_more, drop_all}
 use Rattle.vf_base.specs.Base.{watched_bit, WatchedBit}
 use Rattle.vf_base.specs.declared.finding.End.{End}
 use Rattle.vf_base.specs.Lists.{AllHold}
@@ -11,12 +11,12 @@ use Rattle.strobe_detect.specs.Graders.{GraderState}
 use Rattle.machine.specs.Standing.{machine_kept}
 use Rattle.machine.specs.declared.parts.Machine.{Machine as Simulated}
 use Rattle.fault_grade.specs.declared.bench.Bench.{Bench}
-use Rattle.fault_grade.specs.declared.good.Sample.{Sample}
+use Rattle.kept_samples.specs.declared.kept.Sample.{Sample}
 use Rattle.fault_grade.specs.Benches.{IsObjectOf, bench_design, bench_plan}
 use Rattle.fault_grade.specs.Gradings.{IsGradingAt, LeadsTo}
-use Rattle.fault_grade.specs.Samples.{sample_of}
-use Rattle.fault_grade.proofs.Strobes.{drop-past, early, objects-watched}
-use Rattle.fault_grade.proofs.Gradings.{grading-begins, reached-sample, early-sample, sized-sample, reached-last, early-last}
+use Rattle.kept_samples.specs.Plain.{sample_of}
+use Rattle.fault_grade.specs.Beside.{early-late, objects-watched}
+use Rattle.fault_grade.proofs.Gradings.{grading-begins, reached-sample, early-sample, sized-sample, reached-last}
 use Rattle.fault_grade.proofs.fault.grade_fault.Goals as goal
 
 -- the sample that is next
@@ -96,7 +96,7 @@ strobes-preserved g c =
 -- after the last sample
 at-end : (bench : Bench) (fault : StuckAt) (m : Simulated) (grader : GraderState) (items : List Sample) (i : ℕ) → IsGradingAt (bench_design bench) (bench_plan bench) fault m (map sample_of (drop i items)) grader → length items ≤ i →
     IsGradingAt (bench_design bench) (bench_plan bench) fault m [] grader
-at-end bench fault m grader items i at past = subst (λ next. IsGradingAt (bench_design bench) (bench_plan bench) fault m (map sample_of next) grader) (drop-past i items past) at
+at-end bench fault m grader items i at past = subst (λ next. IsGradingAt (bench_design bench) (bench_plan bench) fault m (map sample_of next) grader) (drop_all i items past) at
 
 pub finish-requires-clause-reached : goal.finish-requires-clause-reached
 finish-requires-clause-reached g c = λ time last.
@@ -107,7 +107,7 @@ finish-requires-clause-reached g c = λ time last.
 
 pub finish-requires-clause-limit : goal.finish-requires-clause-limit
 finish-requires-clause-limit g c = λ time last.
-    early-last (bench_plan c.args.bench.now) c.args.good.now.race time (plan_rules_hold (bench_plan c.args.bench.now) c.args.bench.now.plan.now.rules) c.requires.good.within last
+    early-late (bench_plan c.args.bench.now) c.args.good.now.race time (plan_rules_hold (bench_plan c.args.bench.now) c.args.bench.now.plan.now.rules) c.requires.good.within last
 
 pub returns : goal.returns
 returns g c =

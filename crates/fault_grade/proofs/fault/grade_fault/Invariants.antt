@@ -3,7 +3,7 @@ use Rattle.std.proofs.Common.{◌≡◌, drop, map}
 use Rattle.v_design.specs.Plain.{fault_of}
 use Rattle.fault_grade.specs.Benches.{bench_design, bench_plan}
 use Rattle.fault_grade.specs.Gradings.{IsGradingAt}
-use Rattle.fault_grade.specs.Samples.{sample_of}
+use Rattle.kept_samples.specs.Plain.{sample_of}
 use Rattle.fault_grade.proofs.fault.grade_fault.Given as goal
 
 abbrev pub invariant-strobes : goal.invariant-strobes

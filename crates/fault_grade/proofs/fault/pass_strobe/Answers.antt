@@ -7,9 +7,8 @@ use Rattle.v_design.specs.Grades.{samples}
 use Rattle.strobe_detect.specs.Graders.{shown_at}
 use Rattle.machine.specs.Standing.{machine_kept, state_kept}
 use Rattle.fault_grade.specs.Benches.{IsObjectOf}
-use Rattle.fault_grade.specs.Samples.{sample_of}
-use Rattle.fault_grade.proofs.Slots.{answered}
-use Rattle.fault_grade.proofs.Strobes.{values-watched}
+use Rattle.kept_samples.specs.Plain.{sample_of}
+use Rattle.fault_grade.specs.Beside.{answered, values-watched}
 use Rattle.fault_grade.proofs.Gradings.{passes-stopped, passes-hard, passes-on}
 use Rattle.fault_grade.proofs.fault.pass_strobe.Goals as goal
 
@@ -28,12 +27,12 @@ pub returns-then-hard : goal.returns-then-hard
 returns-then-hard g c = λ design plan fault next at.
     passes-hard design plan fault c.args.machine.now c.advance.new.machine (sample_of c.args.sample.now) next c.args.grader.now at c.strobe_kept-hard.new.self
     (answered c.args.sample.now.time c.args.machine.now c.advance.new.machine c.in_ok-stop.field-0 None c.in_default.is c.in_ok-stop.ensures)
-    (c.strobe_kept-hard.ensures.state ∙ ap (λ bits. shown_at c.args.sample.now.time bits (samples c.args.grader.now.watched (state_kept c.advance.new.machine).values) c.args.grader.now) c.deref.ensures.value)
+    (c.strobe_kept-hard.ensures.state ∙ ap (λ bits. shown_at c.args.sample.now.time bits (samples c.args.grader.now.watched (state_kept c.advance.new.machine).values) c.args.grader.now) c.as_slice.ensures)
     (c.strobe_kept-hard.ensures.stands.0 c.if-hard.true)
 
 pub returns : goal.returns
 returns g c = λ design plan fault next at.
     passes-on design plan fault c.args.machine.now c.advance.new.machine (sample_of c.args.sample.now) next c.args.grader.now at c.strobe_kept-hard.new.self
     (answered c.args.sample.now.time c.args.machine.now c.advance.new.machine c.in_ok-stop.field-0 None c.in_default.is c.in_ok-stop.ensures)
-    (c.strobe_kept-hard.ensures.state ∙ ap (λ bits. shown_at c.args.sample.now.time bits (samples c.args.grader.now.watched (state_kept c.advance.new.machine).values) c.args.grader.now) c.deref.ensures.value)
+    (c.strobe_kept-hard.ensures.state ∙ ap (λ bits. shown_at c.args.sample.now.time bits (samples c.args.grader.now.watched (state_kept c.advance.new.machine).values) c.args.grader.now) c.as_slice.ensures)
     (λ some. let h = c.strobe_kept-hard.ensures.stands.1 some in let f = c.if-hard.false in cc)

@@ -1,6 +1,6 @@
 -- The good machine from strobe to strobe.
 use Rattle.std.proofs.Common.{◌≡◌, ◌<◌, ◌+◌, ◌++◌, ℕ, length, List, [], ◌∷◌, Option, Some, None, get_or, drop, map, arith, ap, sym, subst, ◌∙◌}
-use Rattle.std.proofs.lemmas.List.{drop_more}
+use Rattle.std.proofs.lemmas.List.{drop_more, drop_all}
 use Rattle.vf_base.specs.Base.{watched_bit}
 use Rattle.vf_base.specs.Lists.{AllHold}
 use Rattle.v_design.specs.Designs.{Machine}
@@ -11,9 +11,9 @@ use Rattle.machine.specs.Standing.{machine_kept, state_kept}
 use Rattle.machine.specs.declared.parts.Machine.{Machine as Simulated}
 use Rattle.fault_grade.specs.declared.bench.Bench.{Bench}
 use Rattle.fault_grade.specs.Benches.{bench_design, bench_plan}
-use Rattle.fault_grade.specs.Samples.{sample_of}
-use Rattle.fault_grade.proofs.Strobes.{SamplesAt, early, drop-past, map-more, samples-start, early-strobe, same-after, samples-more, samples-stopped, samples-end, plan-watched}
-use Rattle.fault_grade.proofs.Slots.{answered}
+use Rattle.kept_samples.specs.Plain.{sample_of}
+use Rattle.fault_grade.specs.Beside.{early, answered, plan-watched}
+use Rattle.fault_grade.proofs.Strobes.{SamplesAt, map-more, samples-start, early-strobe, same-after, samples-more, samples-stopped, samples-end}
 use Rattle.fault_grade.proofs.good.run_good.Goals as goal
 
 -- the strobe that is next
@@ -66,7 +66,7 @@ strobes-preserved g c =
     c.in_ok-bits.ensures ∙ ap (λ watched. samples (map watched_bit watched) (state_kept c.advance.new.machine).values) c.as_slice.ensures in
     subst (λ shown. SamplesAt (bench_design bench) (bench_plan bench) c.advance.new.machine shown later)
     (sym (ap (map sample_of) c.in_ok-push.ensures.items ∙ map-more sample_of c.strobes.samples.items _))
-    (samples-more (bench_design bench) (bench_plan bench) c.strobes.machine c.advance.new.machine (map sample_of c.strobes.samples.items) strobe later at c.in_ok-bits.bits.items advanced bits_are)
+    (samples-more (bench_design bench) (bench_plan bench) c.strobes.machine c.advance.new.machine (map sample_of c.strobes.samples.items) strobe later at c.from_vec.result advanced (c.from_vec.ensures ∙ bits_are))
 
 pub advance-requires-2-clause-limit : goal.advance-requires-2-clause-limit
 advance-requires-2-clause-limit g c = early (bench_plan c.args.bench.now) c.args.bench.now.plan.now.end (plan_rules_hold (bench_plan c.args.bench.now) c.args.bench.now.plan.now.rules) (omega arith)
@@ -74,6 +74,6 @@ advance-requires-2-clause-limit g c = early (bench_plan c.args.bench.now) c.args
 pub returns : goal.returns
 returns g c =
     let bench = c.args.bench.now in
-    let at = subst (λ next. SamplesAt (bench_design bench) (bench_plan bench) c.strobes.machine (map sample_of c.strobes.samples.items) next) (drop-past c.strobes.strobe-index c.as_slice-strobe-items.result.now c.strobes-test.false) c.strobes.invariant in
+    let at = subst (λ next. SamplesAt (bench_design bench) (bench_plan bench) c.strobes.machine (map sample_of c.strobes.samples.items) next) (drop_all c.strobes.strobe-index c.as_slice-strobe-items.result.now c.strobes-test.false) c.strobes.invariant in
     c.shown_by-2.ensures (bench_design bench) (bench_plan bench)
     (samples-end (bench_design bench) (bench_plan bench) c.strobes.machine c.advance-2.new.machine (map sample_of c.strobes.samples.items) c.in_ok-stop-2.stop at c.in_ok-stop-2.ensures)

@@ -1,7 +1,7 @@
 -- The good machine went on, and what it shows at the strobes so far is kept.
 use Rattle.std.proofs.Common.{drop, map}
 use Rattle.fault_grade.specs.Benches.{bench_design, bench_plan}
-use Rattle.fault_grade.specs.Samples.{sample_of}
+use Rattle.kept_samples.specs.Plain.{sample_of}
 use Rattle.fault_grade.proofs.Strobes.{SamplesAt}
 use Rattle.fault_grade.proofs.good.run_good.Given as goal
 

@@ -1,0 +1,4 @@
+pub mod Listings
+pub mod SideBySide
+pub mod HardStrobes
+pub mod Loops

@@ -1,0 +1,13 @@
+-- What is kept of some listed faults (slots and orders by IEEE 1364-2001, clause 5).
+use Rattle.std.specs.Prelude.{◌≡◌, List, map, length}
+use Rattle.std.specs.List.{AllZip}
+use Rattle.vf_base.specs.Base.{fault_number}
+use Rattle.v_design.specs.Designs.{FlatDesign, StuckAt, TestPlan}
+use Rattle.v_design.specs.Expressions.{up_from}
+use Rattle.kept_samples.specs.Kept.{Keeps}
+use Rattle.kept_samples.specs.declared.kept.Kept.{Kept}
+
+-- of each of some faults its full grade is kept, and they are numbered from 0 on
+pub record AreKept (design : FlatDesign) (plan : TestPlan) (faults : List StuckAt) (kept : List Kept) : Type 0 where
+  pub each : AllZip (Keeps design plan) faults kept
+  pub numbered : map (λ (one : Kept). fault_number one.fault) kept ≡ up_from 0 (length faults)

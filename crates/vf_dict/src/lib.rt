@@ -1,0 +1,16 @@
+//! Fault dictionaries: what the strobes see of each listed fault's machine where no hard detection ends it, and the strobes that detect it.
+//!
+//! `make_dictionary` runs the good machine once and, for each class of the listed faults, the faulty machine of the first one to its race or loop, to the good
+//! machine's race, or to the plan's end. Its main contract: the dictionary has the good samples and what is kept of each listed fault's full grade, in list
+//! order; or it answers the good machine's loop, exactly where the good machine is hyperactive before a race of its own (first runs, slots and races by
+//! IEEE 1364-2001, clause 5). `hard_strobes` takes from a dictionary the strobes at which each listed fault is detected, by a walk over its samples that
+//! differ beside the good ones.
+#![tactic(auto)]
+
+mod faults;
+mod hard;
+mod make;
+mod times;
+
+pub use hard::hard_strobes;
+pub use make::make_dictionary;
