@@ -14,7 +14,7 @@ use Rattle.fault_grade.specs.Results.{LoopsAt, SpeaksOfOrders}
 use Rattle.plan_report.specs.declared.fault.ReportFault.{ReportFault}
 use Rattle.plan_report.specs.declared.fault.ReportFault.TheVariants.{Plan, GoodLoop, NoMemory}
 use Rattle.plan_report.specs.Reports.{wanted_text, IsGoodLoop, Means, IsTheMeaning, HoldsInEveryOrder, plan_fault}
-use Rattle.plan_report.proofs.Plans.{one-reason, no-reason, one-plan}
+use Rattle.plan_report.specs.OneMeaning.{one-reason, no-reason, one-plan}
 
 -- the answer is want of memory, or what the text means
 abbrev pub Answers : Extent → FlatDesign → List ℕ → ReportFault → Type 0

@@ -1,3 +1,4 @@
 pub mod Puts
 pub mod OneAnswer
 pub mod Making
+pub mod OverTest

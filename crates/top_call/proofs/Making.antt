@@ -1,10 +1,10 @@
 -- From what each step gives to what the output's making gives.
-use Rattle.std.proofs.Common.{◌≡◌, ◌≢◌, ℕ, ◌+◌, ◌<◌, ◌≤◌, List, [], ◌++◌, length, codes, Option, Some, None, Result, Ok, Err, Vec, refl, sym, ap, subst, ◌∙◌, ◌⊎◌, inl, inr, arith}
+use Rattle.std.proofs.Common.{◌≡◌, ◌≢◌, ℕ, ◌+◌, ◌<◌, ◌≤◌, List, [], ◌++◌, length, codes, Option, Some, None, Result, Ok, Err, Vec, refl, sym, ap, subst, ◌∙◌, ◌⊎◌, inl, inr, arith, lit<}
 use Rattle.std.proofs.lemmas.Option.{none-some, same_Some}
 use Rattle.std.specs.Result.{IsErrAnd}
 use Rattle.std.specs.declared.alloc.Global.{Global}
 use Rattle.vf_base.specs.Counts.{raised, Rose}
-use Rattle.vf_base.specs.Shelf.{Files}
+use Rattle.vf_base.specs.Shelf.{Files, content_of}
 use Rattle.vf_base.specs.Sink.{Gains}
 use Rattle.v_scan.specs.Texts as tokens
 use Rattle.v_scan.specs.declared.fault.ScanFault.{ScanFault}
@@ -24,7 +24,7 @@ use Rattle.plan_report.specs.Reports as reports
 use Rattle.plan_report.specs.declared.extent.Extent.TheVariants.{Lines, Totals}
 use Rattle.soak_text.specs.Soak as soaks
 use Rattle.v_elab.specs.declared.Mode.TheVariants.{Usual}
-use Rattle.vf_words.specs.Words.{Source, Form, Grade, Check, Faults, Soak}
+use Rattle.vf_words.specs.Words.{Source, Form, Grade, Check, Faults, Soak, Dict, Diagnose, Pick}
 use Rattle.vf_status.specs.declared.status.Which.{Which}
 use Rattle.vf_status.specs.declared.status.Which.TheVariants as whiches
 use Rattle.vf_status.specs.declared.status.Refusal.{Refusal}
@@ -33,8 +33,8 @@ use Rattle.vf_status.specs.declared.status.Status.{Status}
 use Rattle.vf_status.specs.declared.status.Status.TheVariants.{Done, Refused, Usage, ReadFault, WriteFault, NoMemory, GoodLoop, TooLong}
 use Rattle.top_call.specs.Answers.{Answer, Outputs, Refuses, Lacks, Exceeds, Loops, status_of, most_of, IsFile, HoldDesign, AfterSource, refusal_of, by_workers, IsAnswer, IsTheAnswer}
 use Rattle.std.specs.Prelude.{IfSome, IfErr}
-use Rattle.top_call.specs.Outside.{IsOutput, IfTold, ShelfCounts, refused_file, IsReason, ComesTo, ReadFailed, ToldLong, PutGives, PutsInFew, Keeps, Names, CanEnd, files_of, files_named, files_for, as_answered, no_memory, no_read, no_put}
-use Rattle.top_call.specs.Making.{FileGives, DesignGives, status_if, design_status, report_status, soak_status, OutputGives}
+use Rattle.top_call.specs.Outside.{Answers, IsOutput, IfTold, ShelfCounts, reads_to, refused_file, IsReason, ComesTo, ReadFailed, ToldLong, PutGives, PutsInFew, Keeps, Names, MakesDictionary, CanRefuse, CanEnd, files_of, files_named, files_for, as_answered, no_memory, no_read, no_put}
+use Rattle.top_call.specs.Making.{IsLongFile, FileGives, TextFails, HoldRefused, DesignGives, status_if, design_status, report_status, soak_status, OutputGives}
 use Rattle.top_call.proofs.OneAnswer.{The, source-lacks, source-exceeds, source-refused, plan-lacks, plan-exceeds, plan-tells, check-tells, faults-tell, soak-tells}
 
 -- what is handed on
@@ -58,18 +58,30 @@ file-ends form held name which old new NoMemory names h = tt
 file-ends form held name which old new (GoodLoop time) names h = absurd h
 file-ends form held name which old new (TooLong file) names h = subst (Names form) (sym h.0) names
 
+can-refuse : (form : Form) (which : Which) (why : Refusal) → Names form which → (whiches.Plan ≡ which → MakesDictionary form) → refused_file why ≡ which → CanRefuse form why
+can-refuse form which (refusals.Scan fault) names makes e = subst (Names form) (sym e) names
+can-refuse form which (refusals.Parse fault) names makes e = subst (Names form) (sym e) names
+can-refuse form which (refusals.Elab fault) names makes e = subst (Names form) (sym e) names
+can-refuse form which (refusals.Plan fault) names makes e = subst (Names form) (sym e) names
+can-refuse form which (refusals.Response fault) names makes e = subst (Names form) (sym e) names
+can-refuse form which (refusals.TooLarge room) names makes e = makes e
+
+pub text-ends : (form : Form) (held : Option Files) (name : List ℕ) (which : Which) (refuses : Files → Refusal → Type 0) (old new : ShelfCounts) (status : Status) → Names form which →
+    (whiches.Plan ≡ which → MakesDictionary form) → TextFails held name which refuses old new status → CanEnd form status
+text-ends form held name which refuses old new Done names makes h = absurd h
+text-ends form held name which refuses old new (Refused why) names makes h = (can-refuse form which why names makes h.0, h.1)
+text-ends form held name which refuses old new Usage names makes h = absurd h
+text-ends form held name which refuses old new (ReadFault file) names makes h = subst (Names form) (sym h.0) names
+text-ends form held name which refuses old new WriteFault names makes h = absurd h
+text-ends form held name which refuses old new NoMemory names makes h = tt
+text-ends form held name which refuses old new (GoodLoop time) names makes h = absurd h
+text-ends form held name which refuses old new (TooLong file) names makes h = subst (Names form) (sym h.0) names
+
 pub source-ends : (form : Form) (held : Option Files) (source : Source) (old new : ShelfCounts) (status : Status) → Names form whiches.Design → DesignGives held source old new (Err status) → CanEnd form status
-source-ends form held source old new Done names h = absurd h
-source-ends form held source old new (Refused why) names h = (subst (Names form) (sym h.0) names, h.1)
-source-ends form held source old new Usage names h = absurd h
-source-ends form held source old new (ReadFault file) names h = subst (Names form) (sym h.0) names
-source-ends form held source old new WriteFault names h = absurd h
-source-ends form held source old new NoMemory names h = tt
-source-ends form held source old new (GoodLoop time) names h = absurd h
-source-ends form held source old new (TooLong file) names h = subst (Names form) (sym h.0) names
+source-ends form held source old new status names h = text-ends form held source.design whiches.Design (λ files why. HoldRefused files source why) old new status names (λ e. absurd (cc)) h
 
 -- a plan's text that was read isn't too long
-plan-reason : (design : FlatDesign) (text : List ℕ) (fault : PlanFault) → length text ≤ most_of whiches.Plan → plans.Refuses design text fault → fault ≢ plan_faults.NoMemory → IsReason (refusals.Plan fault)
+pub plan-reason : (design : FlatDesign) (text : List ℕ) (fault : PlanFault) → length text ≤ most_of whiches.Plan → plans.Refuses design text fault → fault ≢ plan_faults.NoMemory → IsReason (refusals.Plan fault)
 plan-reason design text fault short refuses other =
     ((λ e. let long : most_of whiches.Plan < length text = subst (plans.Refuses design text) e refuses in absurd (omega (arith, short, long))), other)
 
@@ -79,7 +91,7 @@ report-ends source plan workers design bytes text fault status short same is e =
   where
     by : (f : ReportFault) → (f ≡ reported.NoMemory) ⊎ reports.IsTheMeaning Lines design text (Err f) → CanEnd (Grade source plan workers) (report_status f)
     by (reported.Plan f) (inl none) = absurd (cc)
-    by (reported.Plan f) (inr m) = (tt, plan-reason design text f (subst (λ t. length t ≤ most_of whiches.Plan) (sym same) short) m.means.0 m.means.1)
+    by (reported.Plan f) (inr m) = (lit< tt, plan-reason design text f (subst (λ t. length t ≤ most_of whiches.Plan) (sym same) short) m.means.0 m.means.1)
     by (reported.GoodLoop time) h = tt
     by reported.NoMemory h = tt
 
@@ -138,64 +150,94 @@ module _ (held : Option Files) (source : Source) (old new : ShelfCounts) (bytes 
       by None f = tt
       by (Some files) f = record { bytes = bytes; file = f; meaning = means-here (Ok design) is }
 
--- Where the design isn't read
+-- Where a text isn't read
+
+-- a text of the form decides where it isn't read: its turn has come, and its file isn't there or is too long, or it is refused
+pub record Decides (form : Form) (name : List ℕ) (which : Which) (refuses : Files → Refusal → Type 0) (files : Files) : Type 0 where
+  pub due : ComesTo form files which
+  pub lacks : content_of files name ≡ None → IsTheAnswer form files (Lacks which)
+  pub exceeds : IsLongFile files name which → IsTheAnswer form files (Exceeds which)
+  pub refused : (why : Refusal) → refuses files why → IsTheAnswer form files (Refuses why)
+
+-- by the counts at the call's beginning and at that of the read
+module _ (form : Form) (name : List ℕ) (which : Which) (refuses : Files → Refusal → Type 0) (old mid new : ShelfCounts)
+    (faults : old.faults ≤ mid.faults) (longs : old.long_answers ≤ mid.long_answers) (reads : new.reads ≡ reads_to which old.reads) where
+  rose-from : (before later after : ℕ) → before ≤ later → Rose later after → Rose before after
+  rose-from before later after low rose = omega (arith, low, rose)
+
+  due-of : (held : Option Files) → IfTold held (Decides form name which refuses) → IfTold held (λ files. ComesTo form files which)
+  due-of None d = tt
+  due-of (Some files) d = d.due
+
+  abbrev Failed : Option Files → Which → Type 0
+  Failed held file = ReadFailed form held file old new ⊎ ((files : Files) × (held ≡ Some files) × IsTheAnswer form files (Lacks file))
+
+  abbrev Long : Option Files → Which → Type 0
+  Long held file = ToldLong held file old new ⊎ ((files : Files) × (held ≡ Some files) × IsTheAnswer form files (Exceeds file))
+
+  pub text-not-read : (held : Option Files) (status : Status) → IfTold held (Decides form name which refuses) → TextFails held name which refuses mid new status → OutputGives form held old new (Err status)
+  text-not-read held Done d h = absurd h
+  text-not-read None (Refused why) d h = tt
+  text-not-read (Some files) (Refused why) d h = d.refused why h.2
+  text-not-read held Usage d h = absurd h
+  text-not-read held (ReadFault file) d (same, inl rose) =
+      subst (Failed held) (sym same) (inl (record { faults = rose-from old.faults mid.faults new.faults faults rose; reads = reads; due = due-of held d }))
+  text-not-read None (ReadFault file) d (same, inr none) = absurd none
+  text-not-read (Some files) (ReadFault file) d (same, inr none) = subst (Failed (Some files)) (sym same) (inr (files, refl, d.lacks none))
+  text-not-read held WriteFault d h = absurd h
+  text-not-read held NoMemory d h = tt
+  text-not-read held (GoodLoop time) d h = absurd h
+  text-not-read None (TooLong file) d h =
+      subst (Long None) (sym h.0) (inl (record { untold = refl; long = rose-from old.long_answers mid.long_answers new.long_answers longs h.1; reads = reads }))
+  text-not-read (Some files) (TooLong file) d h = subst (Long (Some files)) (sym h.0) (inr (files, refl, d.exceeds h.1))
+
+-- reading a file fails as reading a text does
+pub file-fails : (held : Option Files) (name : List ℕ) (which : Which) (refuses : Files → Refusal → Type 0) (old new : ShelfCounts) (status : Status) →
+    FileGives held name which old new (Err status) → TextFails held name which refuses old new status
+file-fails held name which refuses old new Done h = absurd h
+file-fails held name which refuses old new (Refused why) h = absurd h
+file-fails held name which refuses old new Usage h = absurd h
+file-fails held name which refuses old new (ReadFault file) h = h
+file-fails held name which refuses old new WriteFault h = absurd h
+file-fails held name which refuses old new NoMemory h = tt
+file-fails held name which refuses old new (GoodLoop time) h = absurd h
+file-fails held name which refuses old new (TooLong file) h = h
+
+-- the design of a form
 
 module _ (form : Form) (source : Source) (next : Files → FlatDesign → Answer → Type 0) (as_form : (files : Files) (answer : Answer) → The (AfterSource source files (next files)) answer → IsTheAnswer form files answer) where
-  due-first : (held : Option Files) → IfTold held (λ files. ComesTo form files whiches.Design)
-  due-first None = tt
-  due-first (Some files) = tt
+  source-decides : (held : Option Files) → IfTold held (Decides form source.design whiches.Design (λ files why. HoldRefused files source why))
+  source-decides None = tt
+  source-decides (Some files) = record {
+    due = tt;
+    lacks = λ none. as_form files (Lacks whiches.Design) (source-lacks source (next files) files none);
+    exceeds = λ long. as_form files (Exceeds whiches.Design) (source-exceeds source (next files) files long);
+    refused = λ why r. as_form files (Refuses why) (source-refused source (next files) files why r);
+  }
 
   pub not-read : (held : Option Files) (old new : ShelfCounts) (status : Status) → new.reads ≡ raised old.reads → DesignGives held source old new (Err status) → OutputGives form held old new (Err status)
-  not-read held old new Done reads h = absurd h
-  not-read None old new (Refused why) reads h = tt
-  not-read (Some files) old new (Refused why) reads h = as_form files (Refuses why) (source-refused source (next files) files why h.2)
-  not-read held old new Usage reads h = absurd h
-  not-read held old new (ReadFault which) reads (same, inl rose) =
-      subst (λ w. ReadFailed form held w old new ⊎ ((files : Files) × (held ≡ Some files) × IsTheAnswer form files (Lacks w))) (sym same) (inl (record { faults = rose; reads = reads; due = due-first held }))
-  not-read None old new (ReadFault which) reads (same, inr none) = absurd none
-  not-read (Some files) old new (ReadFault which) reads (same, inr none) =
-      subst (λ w. ReadFailed form (Some files) w old new ⊎ ((found : Files) × (Some files ≡ Some found) × IsTheAnswer form found (Lacks w))) (sym same)
-      (inr (files, refl, as_form files (Lacks whiches.Design) (source-lacks source (next files) files none)))
-  not-read held old new WriteFault reads h = absurd h
-  not-read held old new NoMemory reads h = tt
-  not-read held old new (GoodLoop time) reads h = absurd h
-  not-read None old new (TooLong which) reads h =
-      subst (λ w. ToldLong None w old new ⊎ ((files : Files) × (None ≡ Some files) × IsTheAnswer form files (Exceeds w))) (sym h.0) (inl (record { untold = refl; long = h.1; reads = reads }))
-  not-read (Some files) old new (TooLong which) reads h =
-      subst (λ w. ToldLong (Some files) w old new ⊎ ((found : Files) × (Some files ≡ Some found) × IsTheAnswer form found (Exceeds w))) (sym h.0)
-      (inr (files, refl, as_form files (Exceeds whiches.Design) (source-exceeds source (next files) files h.1)))
+  not-read held old new status reads h =
+      text-not-read form source.design whiches.Design (λ files why. HoldRefused files source why) old old new (omega arith) (omega arith) reads held status (source-decides held) h
 
--- Where the plan isn't read
+-- Where the plan of a report isn't read
 
 module _ (source : Source) (plan : List ℕ) (workers : ℕ) (design : FlatDesign) where
-  rose-from : (before mid after : ℕ) → before ≤ mid → Rose mid after → Rose before after
-  rose-from before mid after low rose = omega (arith, low, rose)
+  abbrev NoRefusal : Files → Refusal → Type 0
+  NoRefusal files why = ⊥
 
-  due-plan : (held : Option Files) → IfTold held (λ files. HoldDesign files source design) → IfTold held (λ files. ComesTo (Grade source plan workers) files whiches.Plan)
-  due-plan None d = tt
-  due-plan (Some files) d = (design, d)
+  plan-decides : (held : Option Files) → IfTold held (λ files. HoldDesign files source design) → IfTold held (Decides (Grade source plan workers) plan whiches.Plan NoRefusal)
+  plan-decides None d = tt
+  plan-decides (Some files) d = record {
+    due = (design, d);
+    lacks = λ none. plan-lacks source plan workers files design d none;
+    exceeds = λ long. plan-exceeds source plan workers files design d long;
+    refused = λ why r. absurd r;
+  }
 
   pub plan-not-read : (held : Option Files) (old mid new : ShelfCounts) (status : Status) → old.faults ≤ mid.faults → old.long_answers ≤ mid.long_answers → mid.reads ≡ raised old.reads → new.reads ≡ raised mid.reads →
       IfTold held (λ files. HoldDesign files source design) → FileGives held plan whiches.Plan mid new (Err status) → OutputGives (Grade source plan workers) held old new (Err status)
-  plan-not-read held old mid new Done faults longs one two d h = absurd h
-  plan-not-read held old mid new (Refused why) faults longs one two d h = absurd h
-  plan-not-read held old mid new Usage faults longs one two d h = absurd h
-  plan-not-read held old mid new (ReadFault which) faults longs one two d (same, inl rose) =
-      subst (λ w. ReadFailed (Grade source plan workers) held w old new ⊎ ((files : Files) × (held ≡ Some files) × IsTheAnswer (Grade source plan workers) files (Lacks w))) (sym same)
-      (inl (record { faults = rose-from old.faults mid.faults new.faults faults rose; reads = two ∙ ap raised one; due = due-plan held d }))
-  plan-not-read None old mid new (ReadFault which) faults longs one two d (same, inr none) = absurd none
-  plan-not-read (Some files) old mid new (ReadFault which) faults longs one two d (same, inr none) =
-      subst (λ w. ReadFailed (Grade source plan workers) (Some files) w old new ⊎ ((found : Files) × (Some files ≡ Some found) × IsTheAnswer (Grade source plan workers) found (Lacks w))) (sym same)
-      (inr (files, refl, plan-lacks source plan workers files design d none))
-  plan-not-read held old mid new WriteFault faults longs one two d h = absurd h
-  plan-not-read held old mid new NoMemory faults longs one two d h = tt
-  plan-not-read held old mid new (GoodLoop time) faults longs one two d h = absurd h
-  plan-not-read None old mid new (TooLong which) faults longs one two d h =
-      subst (λ w. ToldLong None w old new ⊎ ((files : Files) × (None ≡ Some files) × IsTheAnswer (Grade source plan workers) files (Exceeds w))) (sym h.0)
-      (inl (record { untold = refl; long = rose-from old.long_answers mid.long_answers new.long_answers longs h.1; reads = two ∙ ap raised one }))
-  plan-not-read (Some files) old mid new (TooLong which) faults longs one two d h =
-      subst (λ w. ToldLong (Some files) w old new ⊎ ((found : Files) × (Some files ≡ Some found) × IsTheAnswer (Grade source plan workers) found (Exceeds w))) (sym h.0)
-      (inr (files, refl, plan-exceeds source plan workers files design d h.1))
+  plan-not-read held old mid new status faults longs one two d h =
+      text-not-read (Grade source plan workers) plan whiches.Plan NoRefusal old mid new faults longs (two ∙ ap raised one) held status (plan-decides held d) (file-fails held plan whiches.Plan NoRefusal mid new status h)
 
   -- Where both are read
 
@@ -297,6 +339,9 @@ any-workers (Grade source plan count) workers files answer is = is
 any-workers (Check source) workers files answer is = is
 any-workers (Faults source) workers files answer is = is
 any-workers (Soak number size count) workers files answer is = is
+any-workers (Dict source plan) workers files answer is = is
+any-workers (Diagnose source plan response) workers files answer is = is
+any-workers (Pick source plan) workers files answer is = is
 
 one-output : (form : Form) (files : Files) (text : List ℕ) → IsOutput form files text → (workers : ℕ) (other : List ℕ) → IsAnswer (by_workers workers form) files (Outputs other) → other ≡ text
 one-output form files text m workers other is = let same : Outputs other ≡ Outputs text = m.answers.only (Outputs other) (any-workers form workers files (Outputs other) is) in cc
@@ -336,6 +381,15 @@ module _ (asked : Option Form) (form : Form) (is_form : Some form ≡ asked) (he
       by NoMemory p = no_memory refl
       by (GoodLoop time) p = absurd p
       by (TooLong which) p = absurd p
+
+  -- a loop is the answer to the form
+  pub loops-at-err : (status : Status) → OutputGives form (files_for form held) old new (Err status) → (time : ℕ) → status ≡ GoodLoop time → Answers asked held (Loops time)
+  loops-at-err status h time e =
+      subst (λ o. Answers o held (Loops time)) is_form (by (files_for form held) (subst (λ s. OutputGives form (files_for form held) old new (Err s)) e h))
+    where
+      by : (told : Option Files) → IfTold told (λ files. IsTheAnswer form files (Loops time)) → IfTold told (λ files. IsAnswer form files (Loops time))
+      by None is = tt
+      by (Some files) is = is.is
 
   -- What a sink gained is the one output
 

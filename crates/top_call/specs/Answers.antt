@@ -1,18 +1,30 @@
 -- What the program answers to a form over files, where no outside fails and there is memory (orders by IEEE 1364-2001, clause 5; the rest is this program's own).
-use Rattle.std.specs.Prelude.{◌≡◌, ℕ, ◌<◌, ◌≤◌, ◌⊎◌, List, length, codes, Option, Some, None, Result, Ok, Err}
+use Rattle.std.specs.Prelude.{◌≡◌, ◌≢◌, ℕ, ◌<◌, ◌≤◌, ◌⊎◌, List, length, codes, Option, Some, None, Result, Ok, Err}
 use Rattle.vf_base.specs.Shelf.{Files, content_of}
-use Rattle.v_design.specs.Designs.{FlatDesign}
+use Rattle.v_design.specs.Designs.{FlatDesign, TestPlan}
+use Rattle.v_design.specs.Grades.{Sample}
 use Rattle.elaborate.specs.declared.design_fault.DesignFault.{DesignFault}
 use Rattle.elaborate.specs.declared.design_fault.DesignFault.TheVariants as designs
 use Rattle.elaborate.specs.Meanings as texts
 use Rattle.design_report.specs.Texts.{check_text, IsFaultsText}
 use Rattle.v_elab.specs.declared.Mode.TheVariants.{Usual}
 use Rattle.soak_text.specs.Soak as soaks
+use Rattle.plan_read.specs.Spelled as plans
+use Rattle.plan_read.specs.declared.fault.PlanFault.{PlanFault}
+use Rattle.plan_read.specs.declared.fault.PlanFault.TheVariants as plan_faults
+use Rattle.response_text.specs.Spelled as responses
+use Rattle.response_text.specs.declared.fault.ResponseFault.{ResponseFault}
+use Rattle.response_text.specs.declared.fault.ResponseFault.TheVariants as response_faults
+use Rattle.dict_text.specs.Dictionaries.{too_large}
+use Rattle.dict_report.specs.declared.fault.OutputFault.{OutputFault}
+use Rattle.dict_report.specs.declared.fault.OutputFault.TheVariants as output_faults
+use Rattle.dict_report.specs.Outputs as outputs
+use Rattle.dict_report.specs.Orders as orders
 use Rattle.plan_report.specs.declared.extent.Extent.TheVariants.{Lines, Totals}
 use Rattle.plan_report.specs.declared.fault.ReportFault.{ReportFault}
 use Rattle.plan_report.specs.declared.fault.ReportFault.TheVariants as reported
 use Rattle.plan_report.specs.Reports as reports
-use Rattle.vf_words.specs.Words.{Source, Form, Grade, Check, Faults, Soak}
+use Rattle.vf_words.specs.Words.{Source, Form, Grade, Check, Faults, Soak, Dict, Diagnose, Pick}
 use Rattle.vf_status.specs.declared.status.Which.{Which}
 use Rattle.vf_status.specs.declared.status.Which.TheVariants as whiches
 use Rattle.vf_status.specs.declared.status.Refusal.{Refusal}
@@ -40,6 +52,7 @@ status_of (Loops time) = statuses.GoodLoop time
 abbrev pub most_of : Which → ℕ
 most_of whiches.Design = 1048576
 most_of whiches.Plan = 262144
+most_of whiches.Response = 1048576
 
 -- What the files hold
 
@@ -53,6 +66,19 @@ pub record HoldDesign (files : Files) (source : Source) (design : FlatDesign) : 
   pub bytes : List ℕ
   pub file : IsFile files source.design whiches.Design bytes
   pub meaning : texts.IsTheMeaning bytes source.top source.mode (Ok design)
+
+-- a text that spells the plan over the design, whose dictionary isn't too large; a text spells one plan
+pub record HoldPlan (files : Files) (name : List ℕ) (design : FlatDesign) (plan : TestPlan) : Type 0 where
+  pub bytes : List ℕ
+  pub file : IsFile files name whiches.Plan bytes
+  pub spelled : plans.Spells design bytes plan
+  pub roomy : too_large plan ≡ None
+
+-- a text that spells the response to the plan; a text spells one response
+pub record HoldResponse (files : Files) (name : List ℕ) (plan : TestPlan) (observed : List Sample) : Type 0 where
+  pub bytes : List ℕ
+  pub file : IsFile files name whiches.Response bytes
+  pub spelled : responses.Spells plan bytes observed
 
 -- Step by step: what comes first decides
 
@@ -96,6 +122,58 @@ IsReported (Err reported.NoMemory) answer = ⊥
 abbrev pub AfterPlan : FlatDesign → List ℕ → Answer → Type 0
 AfterPlan design bytes answer = (meaning : Result (List ℕ) ReportFault) × reports.Means Lines design bytes meaning × IsReported meaning answer
 
+-- what a plan's text means over the design: a plan, or the reason why it spells none
+abbrev pub PlanMeans : FlatDesign → List ℕ → Result TestPlan PlanFault → Type 0
+PlanMeans design bytes (Ok plan) = plans.Spells design bytes plan
+PlanMeans design bytes (Err fault) = plans.Refuses design bytes fault × (fault ≢ plan_faults.NoMemory)
+
+-- what comes next decides, or the dictionary is refused as too large
+abbrev pub AfterRoom : Option ℕ → (Answer → Type 0) → Answer → Type 0
+AfterRoom None next answer = next answer
+AfterRoom (Some room) next answer = answer ≡ Refuses (refusals.TooLarge room)
+
+-- the plan decides, if its dictionary isn't too large, or its text is refused
+abbrev pub PlanGoesOn : (TestPlan → Answer → Type 0) → Result TestPlan PlanFault → Answer → Type 0
+PlanGoesOn next (Ok plan) answer = AfterRoom (too_large plan) (next plan) answer
+PlanGoesOn next (Err fault) answer = answer ≡ Refuses (refusals.Plan fault)
+
+-- the text of a plan for a dictionary is read over the design
+abbrev pub AfterPlanText : FlatDesign → (TestPlan → Answer → Type 0) → List ℕ → Answer → Type 0
+AfterPlanText design next bytes answer = (meaning : Result TestPlan PlanFault) × PlanMeans design bytes meaning × PlanGoesOn next meaning answer
+
+-- the plan of a form over a dictionary is read: first its file, then its text
+abbrev pub AfterTest : Files → List ℕ → (FlatDesign → TestPlan → Answer → Type 0) → FlatDesign → Answer → Type 0
+AfterTest files plan next design answer = AfterFile whiches.Plan (content_of files plan) (AfterPlanText design (next design)) answer
+
+-- what a response's text means for a plan: what was observed, or the reason why it spells no response
+abbrev pub ResponseMeans : TestPlan → List ℕ → Result (List Sample) ResponseFault → Type 0
+ResponseMeans plan bytes (Ok observed) = responses.Spells plan bytes observed
+ResponseMeans plan bytes (Err fault) = responses.Refuses plan bytes fault × (fault ≢ response_faults.NoMemory)
+
+-- what was observed decides, or the response's text is refused
+abbrev pub ResponseGoesOn : (List Sample → Answer → Type 0) → Result (List Sample) ResponseFault → Answer → Type 0
+ResponseGoesOn next (Ok observed) answer = next observed answer
+ResponseGoesOn next (Err fault) answer = answer ≡ Refuses (refusals.Response fault)
+
+-- the response's text is read for the plan
+abbrev pub AfterResponse : TestPlan → (List Sample → Answer → Type 0) → List ℕ → Answer → Type 0
+AfterResponse plan next bytes answer = (meaning : Result (List Sample) ResponseFault) × ResponseMeans plan bytes meaning × ResponseGoesOn next meaning answer
+
+-- what an output over a dictionary means, as an answer
+abbrev pub IsMade : Result (List ℕ) OutputFault → Answer → Type 0
+IsMade (Ok text) answer = answer ≡ Outputs text
+IsMade (Err (output_faults.GoodLoop time)) answer = answer ≡ Loops time
+IsMade (Err output_faults.NoMemory) answer = ⊥
+
+-- an output over the dictionary of the design and the plan is made
+abbrev pub AfterOutput : outputs.Output → FlatDesign → TestPlan → Answer → Type 0
+AfterOutput output design plan answer = (meaning : Result (List ℕ) OutputFault) × outputs.Means output design plan meaning × IsMade meaning answer
+
+-- a diagnosis is made: first the response is read, its file and then its text
+abbrev pub AfterObserved : Files → List ℕ → FlatDesign → TestPlan → Answer → Type 0
+AfterObserved files response design plan answer =
+    AfterFile whiches.Response (content_of files response) (AfterResponse plan (λ observed. AfterOutput (outputs.Diagnosis observed) design plan)) answer
+
 -- what the text of a generated plan means, as an answer
 abbrev pub IsCounted : Result (List ℕ) ReportFault → Answer → Type 0
 IsCounted (Ok totals) answer = answer ≡ Outputs totals
@@ -119,12 +197,18 @@ by_workers count (Grade source plan workers) = Grade source plan count
 by_workers count (Check source) = Check source
 by_workers count (Faults source) = Faults source
 by_workers count (Soak number size workers) = Soak number size count
+by_workers count (Dict source plan) = Dict source plan
+by_workers count (Diagnose source plan response) = Diagnose source plan response
+by_workers count (Pick source plan) = Pick source plan
 
 abbrev pub IsAnswer : Form → Files → Answer → Type 0
 IsAnswer (Grade source plan workers) files answer = AfterSource source files (λ design. AfterFile whiches.Plan (content_of files plan) (AfterPlan design)) answer
 IsAnswer (Check source) files answer = AfterSource source files (λ design answer. answer ≡ Outputs (check_text design)) answer
 IsAnswer (Faults source) files answer = AfterSource source files (λ design answer. (text : List ℕ) × IsFaultsText design text × (answer ≡ Outputs text)) answer
 IsAnswer (Soak number size workers) files answer = IsSoaked number size answer
+IsAnswer (Dict source plan) files answer = AfterSource source files (AfterTest files plan (AfterOutput outputs.DictText)) answer
+IsAnswer (Diagnose source plan response) files answer = AfterSource source files (AfterTest files plan (AfterObserved files response)) answer
+IsAnswer (Pick source plan) files answer = AfterSource source files (AfterTest files plan (AfterOutput outputs.PickText)) answer
 
 -- this is the answer, and there is no other
 pub record IsTheAnswer (form : Form) (files : Files) (answer : Answer) : Type 0 where
@@ -149,8 +233,29 @@ pub record CountsInEveryOrder (number size : ℕ) (totals : List ℕ) : Type 0 w
   pub is_design : texts.IsDesignOf (soaks.design_text number size) (codes "top") Usual design
   pub holds : reports.HoldsInEveryOrder Totals design (soaks.plan_text size) totals
 
+-- the output is that over the dictionary of the design and the plan of the files, and what its lines say holds in every legal order
+pub record TellsInEveryOrder (output : outputs.Output) (source : Source) (plan : List ℕ) (files : Files) (text : List ℕ) : Type 0 where
+  pub design : FlatDesign
+  pub design_held : HoldDesign files source design
+  pub test : TestPlan
+  pub plan_held : HoldPlan files plan design test
+  pub holds : orders.HoldsInEveryOrder output design test text
+
+-- the diagnosis is that of the response of the files over their design and plan, and what its lines say holds in every legal order
+pub record DiagnosesInEveryOrder (source : Source) (plan response : List ℕ) (files : Files) (text : List ℕ) : Type 0 where
+  pub design : FlatDesign
+  pub design_held : HoldDesign files source design
+  pub test : TestPlan
+  pub plan_held : HoldPlan files plan design test
+  pub observed : List Sample
+  pub response_held : HoldResponse files response test observed
+  pub holds : orders.HoldsInEveryOrder (outputs.Diagnosis observed) design test text
+
 abbrev pub Stands : Form → Files → List ℕ → Type 0
 Stands (Grade source plan workers) files text = StandsInEveryOrder source plan files text
 Stands (Check source) files text = Unit {0}
 Stands (Faults source) files text = Unit {0}
 Stands (Soak number size workers) files text = CountsInEveryOrder number size text
+Stands (Dict source plan) files text = TellsInEveryOrder outputs.DictText source plan files text
+Stands (Diagnose source plan response) files text = DiagnosesInEveryOrder source plan response files text
+Stands (Pick source plan) files text = TellsInEveryOrder outputs.PickText source plan files text

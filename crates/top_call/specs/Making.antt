@@ -1,13 +1,25 @@
 -- What each step towards an output gives (nothing of the language).
-use Rattle.std.specs.Prelude.{◌≡◌, ℕ, ◌<◌, ◌≤◌, ◌⊎◌, List, length, Option, Some, None, Result, Ok, Err, Vec}
+use Rattle.std.specs.Prelude.{◌≡◌, ◌≢◌, ℕ, ◌<◌, ◌≤◌, ◌⊎◌, List, length, Option, Some, None, Result, Ok, Err, Vec}
 use Rattle.std.specs.declared.alloc.Global.{Global}
 use Rattle.vf_base.specs.Counts.{Rose}
 use Rattle.vf_base.specs.Shelf.{Files, content_of}
-use Rattle.v_design.specs.Designs.{FlatDesign}
-use Rattle.v_design.specs.PlainDesigns.{design_of}
+use Rattle.v_design.specs.Designs.{FlatDesign, TestPlan}
+use Rattle.v_design.specs.PlainDesigns.{design_of, plan_of}
 use Rattle.v_design.specs.declared.plan.Design.{Design}
+use Rattle.v_design.specs.declared.plan.Plan.{Plan}
 use Rattle.elaborate.specs.declared.design_fault.DesignFault.{DesignFault}
 use Rattle.elaborate.specs.Meanings as texts
+use Rattle.plan_read.specs.Spelled as plans
+use Rattle.plan_read.specs.declared.fault.PlanFault.{PlanFault}
+use Rattle.plan_read.specs.declared.fault.PlanFault.TheVariants as plan_faults
+use Rattle.kept_samples.specs.Kept.{samples_kept}
+use Rattle.kept_samples.specs.declared.kept.Sample.{Sample}
+use Rattle.response_text.specs.Spelled as responses
+use Rattle.response_text.specs.declared.fault.ResponseFault.{ResponseFault}
+use Rattle.response_text.specs.declared.fault.ResponseFault.TheVariants as response_faults
+use Rattle.dict_text.specs.Dictionaries.{too_large}
+use Rattle.dict_report.specs.declared.fault.OutputFault.{OutputFault}
+use Rattle.dict_report.specs.declared.fault.OutputFault.TheVariants as output_faults
 use Rattle.plan_report.specs.declared.fault.ReportFault.{ReportFault}
 use Rattle.plan_report.specs.declared.fault.ReportFault.TheVariants as reported
 use Rattle.vf_words.specs.Words.{Source, Form}
@@ -17,7 +29,7 @@ use Rattle.vf_status.specs.declared.status.Refusal.{Refusal}
 use Rattle.vf_status.specs.declared.status.Refusal.TheVariants as refusals
 use Rattle.vf_status.specs.declared.status.Status.{Status}
 use Rattle.vf_status.specs.declared.status.Status.TheVariants.{Done, Refused, Usage, ReadFault, WriteFault, NoMemory, GoodLoop, TooLong}
-use Rattle.top_call.specs.Answers.{Refuses, Lacks, Exceeds, Loops, refusal_of, most_of, IsFile, HoldDesign, IsTheAnswer}
+use Rattle.top_call.specs.Answers.{Refuses, Lacks, Exceeds, Loops, refusal_of, most_of, IsFile, HoldDesign, HoldPlan, HoldResponse, IsTheAnswer}
 use Rattle.top_call.specs.Outside.{IfTold, ShelfCounts, IsOutput, ReadFailed, ToldLong, refused_file, IsReason}
 
 -- Files
@@ -49,6 +61,19 @@ FileGives held name which old new (Err NoMemory) = Unit {0}
 FileGives held name which old new (Err (GoodLoop time)) = ⊥
 FileGives held name which old new (Err (TooLong file)) = (file ≡ which) × LongFile held name which old.long_answers new.long_answers
 
+-- Texts
+
+-- how reading a text of the form can end without what it says: it is refused for a reason of that text, or as reading its file can
+abbrev pub TextFails : Option Files → List ℕ → Which → (Files → Refusal → Type 0) → ShelfCounts → ShelfCounts → Status → Type 0
+TextFails held name which refuses old new Done = ⊥
+TextFails held name which refuses old new (Refused why) = (refused_file why ≡ which) × IsReason why × IfTold held (λ files. refuses files why)
+TextFails held name which refuses old new Usage = ⊥
+TextFails held name which refuses old new (ReadFault file) = (file ≡ which) × (Rose old.faults new.faults ⊎ NoFile held name)
+TextFails held name which refuses old new WriteFault = ⊥
+TextFails held name which refuses old new NoMemory = Unit {0}
+TextFails held name which refuses old new (GoodLoop time) = ⊥
+TextFails held name which refuses old new (TooLong file) = (file ≡ which) × LongFile held name which old.long_answers new.long_answers
+
 -- Designs
 
 -- the files hold a text that is refused
@@ -70,14 +95,79 @@ design_status fault = status_if (refusal_of fault)
 -- what reading the design of a form answers
 abbrev pub DesignGives : Option Files → Source → ShelfCounts → ShelfCounts → Result Design Status → Type 0
 DesignGives held source old new (Ok design) = IfTold held (λ files. HoldDesign files source (design_of design))
-DesignGives held source old new (Err Done) = ⊥
-DesignGives held source old new (Err (Refused why)) = (refused_file why ≡ whiches.Design) × IsReason why × IfTold held (λ files. HoldRefused files source why)
-DesignGives held source old new (Err Usage) = ⊥
-DesignGives held source old new (Err (ReadFault file)) = (file ≡ whiches.Design) × (Rose old.faults new.faults ⊎ NoFile held source.design)
-DesignGives held source old new (Err WriteFault) = ⊥
-DesignGives held source old new (Err NoMemory) = Unit {0}
-DesignGives held source old new (Err (GoodLoop time)) = ⊥
-DesignGives held source old new (Err (TooLong file)) = (file ≡ whiches.Design) × LongFile held source.design whiches.Design old.long_answers new.long_answers
+DesignGives held source old new (Err status) = TextFails held source.design whiches.Design (λ files why. HoldRefused files source why) old new status
+
+-- Plans of a dictionary
+
+-- the status of a plan's text without a plan
+abbrev pub plan_status : PlanFault → Status
+plan_status (plan_faults.BadLine line) = Refused (refusals.Plan (plan_faults.BadLine line))
+plan_status (plan_faults.UnknownSite line) = Refused (refusals.Plan (plan_faults.UnknownSite line))
+plan_status (plan_faults.TooMany line) = Refused (refusals.Plan (plan_faults.TooMany line))
+plan_status plan_faults.TooLong = Refused (refusals.Plan plan_faults.TooLong)
+plan_status plan_faults.NoMemory = NoMemory
+
+-- why a plan's text is refused for a dictionary: it spells no plan, or one whose dictionary is too large
+abbrev pub RefusesText : FlatDesign → List ℕ → Refusal → Type 0
+RefusesText design bytes (refusals.Scan fault) = ⊥
+RefusesText design bytes (refusals.Parse fault) = ⊥
+RefusesText design bytes (refusals.Elab fault) = ⊥
+RefusesText design bytes (refusals.Plan fault) = plans.Refuses design bytes fault × (fault ≢ plan_faults.NoMemory)
+RefusesText design bytes (refusals.Response fault) = ⊥
+RefusesText design bytes (refusals.TooLarge room) = (plan : TestPlan) × plans.Spells design bytes plan × (too_large plan ≡ Some room)
+
+-- what reading a plan's text for a dictionary answers
+abbrev pub PlanTextGives : FlatDesign → List ℕ → Result Plan Status → Type 0
+PlanTextGives design bytes (Ok plan) = plans.Spells design bytes (plan_of plan) × (too_large (plan_of plan) ≡ None)
+PlanTextGives design bytes (Err Done) = ⊥
+PlanTextGives design bytes (Err (Refused why)) = RefusesText design bytes why
+PlanTextGives design bytes (Err Usage) = ⊥
+PlanTextGives design bytes (Err (ReadFault file)) = ⊥
+PlanTextGives design bytes (Err WriteFault) = ⊥
+PlanTextGives design bytes (Err NoMemory) = Unit {0}
+PlanTextGives design bytes (Err (GoodLoop time)) = ⊥
+PlanTextGives design bytes (Err (TooLong file)) = ⊥
+
+-- the files hold a plan's text that is refused for a dictionary
+pub record HoldRefusedPlan (files : Files) (name : List ℕ) (design : FlatDesign) (why : Refusal) : Type 0 where
+  pub bytes : List ℕ
+  pub file : IsFile files name whiches.Plan bytes
+  pub refused : RefusesText design bytes why
+
+-- what reading the plan of a form over a dictionary answers
+abbrev pub PlanGives : Option Files → List ℕ → FlatDesign → ShelfCounts → ShelfCounts → Result Plan Status → Type 0
+PlanGives held name design old new (Ok plan) = IfTold held (λ files. HoldPlan files name design (plan_of plan))
+PlanGives held name design old new (Err status) = TextFails held name whiches.Plan (λ files why. HoldRefusedPlan files name design why) old new status
+
+-- Responses
+
+-- the status of a response's text that is refused
+abbrev pub response_status : ResponseFault → Status
+response_status (response_faults.BadLine line) = Refused (refusals.Response (response_faults.BadLine line))
+response_status response_faults.TooLong = Refused (refusals.Response response_faults.TooLong)
+response_status response_faults.NoMemory = NoMemory
+
+-- why a response's text is refused
+abbrev pub RefusesObserved : TestPlan → List ℕ → Refusal → Type 0
+RefusesObserved plan bytes (refusals.Scan fault) = ⊥
+RefusesObserved plan bytes (refusals.Parse fault) = ⊥
+RefusesObserved plan bytes (refusals.Elab fault) = ⊥
+RefusesObserved plan bytes (refusals.Plan fault) = ⊥
+RefusesObserved plan bytes (refusals.Response fault) = responses.Refuses plan bytes fault × (fault ≢ response_faults.NoMemory)
+RefusesObserved plan bytes (refusals.TooLarge room) = ⊥
+
+-- the files hold a response's text that is refused
+pub record HoldRefusedResponse (files : Files) (name : List ℕ) (plan : TestPlan) (why : Refusal) : Type 0 where
+  pub bytes : List ℕ
+  pub file : IsFile files name whiches.Response bytes
+  pub refused : RefusesObserved plan bytes why
+
+-- what reading the response of a form answers
+abbrev pub ResponseGives : Option Files → List ℕ → TestPlan → ShelfCounts → ShelfCounts → Result (Vec Sample Global) Status → Type 0
+ResponseGives held name plan old new (Ok observed) = IfTold held (λ files. HoldResponse files name plan (samples_kept observed.items))
+ResponseGives held name plan old new (Err status) = TextFails held name whiches.Response (λ files why. HoldRefusedResponse files name plan why) old new status
+
+-- Reports
 
 -- the status of a plan's text without a report
 abbrev pub report_status : ReportFault → Status
@@ -90,6 +180,11 @@ abbrev pub soak_status : ReportFault → Status
 soak_status (reported.Plan fault) = NoMemory
 soak_status (reported.GoodLoop time) = GoodLoop time
 soak_status reported.NoMemory = NoMemory
+
+-- the status of an output over a dictionary that isn't made
+abbrev pub output_status : OutputFault → Status
+output_status (output_faults.GoodLoop time) = GoodLoop time
+output_status output_faults.NoMemory = NoMemory
 
 -- Outputs
 

@@ -6,17 +6,19 @@ use Rattle.vf_base.specs.Sink.{Gains}
 use Rattle.vf_base.specs.declared.shelf.Shelf.{Ghosts}
 use Rattle.v_scan.specs.declared.fault.ScanFault.TheVariants as scans
 use Rattle.v_parse.specs.declared.fault.ParseFault.TheVariants as parses
-use Rattle.v_design.specs.Designs.{FlatDesign}
+use Rattle.v_design.specs.Designs.{FlatDesign, TestPlan}
 use Rattle.elaborate.specs.declared.fault.ElabFault.TheVariants as elabs
 use Rattle.plan_read.specs.declared.fault.PlanFault.TheVariants as plans
-use Rattle.vf_words.specs.Words.{Form, Grade, Check, Faults, Soak}
+use Rattle.response_text.specs.declared.fault.ResponseFault.TheVariants as responses
+use Rattle.dict_text.specs.Dictionaries.{most_room}
+use Rattle.vf_words.specs.Words.{Form, Grade, Check, Faults, Soak, Dict, Diagnose, Pick}
 use Rattle.vf_status.specs.declared.status.Which.{Which}
 use Rattle.vf_status.specs.declared.status.Which.TheVariants as whiches
 use Rattle.vf_status.specs.declared.status.Refusal.{Refusal}
 use Rattle.vf_status.specs.declared.status.Refusal.TheVariants as refusals
 use Rattle.vf_status.specs.declared.status.Status.{Status}
 use Rattle.vf_status.specs.declared.status.Status.TheVariants.{Done, Refused, Usage, ReadFault, WriteFault, NoMemory, GoodLoop, TooLong}
-use Rattle.top_call.specs.Answers.{Answer, Outputs, status_of, HoldDesign, IsAnswer, IsTheAnswer, Stands}
+use Rattle.top_call.specs.Answers.{Answer, Outputs, status_of, HoldDesign, HoldPlan, IsAnswer, IsTheAnswer, Stands}
 
 -- a fact about what is told, where it is told
 abbrev pub IfTold : {X : Type 0} → Option X → (X → Type 0) → Type 0
@@ -36,6 +38,7 @@ counts_of told shelf = record { faults = told.faults shelf; reads = told.reads s
 abbrev pub reads_to : Which → ℕ → ℕ
 reads_to whiches.Design reads = raised reads
 reads_to whiches.Plan reads = raised (raised reads)
+reads_to whiches.Response reads = raised (raised (raised reads))
 
 -- how many files a form names
 abbrev pub files_of : Form → ℕ
@@ -43,6 +46,9 @@ files_of (Grade source plan workers) = 2
 files_of (Check source) = 1
 files_of (Faults source) = 1
 files_of (Soak number size workers) = 0
+files_of (Dict source plan) = 2
+files_of (Diagnose source plan response) = 3
+files_of (Pick source plan) = 2
 
 -- how many files the words name, which may be of no form
 abbrev pub files_named : Option Form → ℕ
@@ -55,15 +61,35 @@ files_for (Grade source plan workers) held = held
 files_for (Check source) held = held
 files_for (Faults source) held = held
 files_for (Soak number size workers) held = Some []
+files_for (Dict source plan) held = held
+files_for (Diagnose source plan response) held = held
+files_for (Pick source plan) held = held
 
--- a form names a file of this place
+-- a form names a response
+abbrev pub NamesResponse : Form → Type 0
+NamesResponse (Grade source plan workers) = ⊥
+NamesResponse (Check source) = ⊥
+NamesResponse (Faults source) = ⊥
+NamesResponse (Soak number size workers) = ⊥
+NamesResponse (Dict source plan) = ⊥
+NamesResponse (Diagnose source plan response) = Unit {0}
+NamesResponse (Pick source plan) = ⊥
+
+-- a form names a file of this place: the first is the design, the second the plan
 abbrev pub Names : Form → Which → Type 0
-Names (Grade source plan workers) which = Unit {0}
-Names (Check source) whiches.Design = Unit {0}
-Names (Check source) whiches.Plan = ⊥
-Names (Faults source) whiches.Design = Unit {0}
-Names (Faults source) whiches.Plan = ⊥
-Names (Soak number size workers) which = ⊥
+Names form whiches.Design = 0 < files_of form
+Names form whiches.Plan = 1 < files_of form
+Names form whiches.Response = NamesResponse form
+
+-- a form makes a dictionary
+abbrev pub MakesDictionary : Form → Type 0
+MakesDictionary (Grade source plan workers) = ⊥
+MakesDictionary (Check source) = ⊥
+MakesDictionary (Faults source) = ⊥
+MakesDictionary (Soak number size workers) = ⊥
+MakesDictionary (Dict source plan) = Unit {0}
+MakesDictionary (Diagnose source plan response) = Unit {0}
+MakesDictionary (Pick source plan) = Unit {0}
 
 -- a form runs the good machine
 abbrev pub RunsGood : Form → Type 0
@@ -71,26 +97,42 @@ RunsGood (Grade source plan workers) = Unit {0}
 RunsGood (Check source) = ⊥
 RunsGood (Faults source) = ⊥
 RunsGood (Soak number size workers) = Unit {0}
+RunsGood (Dict source plan) = Unit {0}
+RunsGood (Diagnose source plan response) = Unit {0}
+RunsGood (Pick source plan) = Unit {0}
 
--- the file whose text is refused
+-- the file whose text is refused; a dictionary is too large by its plan
 abbrev pub refused_file : Refusal → Which
 refused_file (refusals.Scan fault) = whiches.Design
 refused_file (refusals.Parse fault) = whiches.Design
 refused_file (refusals.Elab fault) = whiches.Design
 refused_file (refusals.Plan fault) = whiches.Plan
+refused_file (refusals.Response fault) = whiches.Response
+refused_file (refusals.TooLarge room) = whiches.Plan
 
--- the reason is one of the text: a length and want of memory have statuses of their own
+-- the reason is one of the text: a length and want of memory have statuses of their own; and a dictionary is too large only over the most room
 abbrev pub IsReason : Refusal → Type 0
 IsReason (refusals.Scan fault) = (fault ≢ scans.TooLong) × (fault ≢ scans.NoMemory)
 IsReason (refusals.Parse fault) = fault ≢ parses.NoMemory
 IsReason (refusals.Elab fault) = fault ≢ elabs.NoMemory
 IsReason (refusals.Plan fault) = (fault ≢ plans.TooLong) × (fault ≢ plans.NoMemory)
+IsReason (refusals.Response fault) = (fault ≢ responses.TooLong) × (fault ≢ responses.NoMemory)
+IsReason (refusals.TooLarge room) = most_room < room
 
--- the statuses with which a form can end: a file's only where it names that file, a refusal only for a reason of a text that it names, a loop only where it runs
--- the good machine
+-- the reasons for which a form can be refused: those of the texts that it names, and the room of a dictionary only where it makes one
+abbrev pub CanRefuse : Form → Refusal → Type 0
+CanRefuse form (refusals.Scan fault) = Names form whiches.Design
+CanRefuse form (refusals.Parse fault) = Names form whiches.Design
+CanRefuse form (refusals.Elab fault) = Names form whiches.Design
+CanRefuse form (refusals.Plan fault) = Names form whiches.Plan
+CanRefuse form (refusals.Response fault) = Names form whiches.Response
+CanRefuse form (refusals.TooLarge room) = MakesDictionary form
+
+-- the statuses with which a form can end: a file's only where it names that file, a refusal only for a reason that it can have, a loop only where it runs the good
+-- machine
 abbrev pub CanEnd : Form → Status → Type 0
 CanEnd form Done = Unit {0}
-CanEnd form (Refused why) = Names form (refused_file why) × IsReason why
+CanEnd form (Refused why) = CanRefuse form why × IsReason why
 CanEnd form Usage = ⊥
 CanEnd form (ReadFault which) = Names form which
 CanEnd form WriteFault = Unit {0}
@@ -104,11 +146,26 @@ HoldItsDesign (Grade source plan workers) files = (design : FlatDesign) × HoldD
 HoldItsDesign (Check source) files = (design : FlatDesign) × HoldDesign files source design
 HoldItsDesign (Faults source) files = (design : FlatDesign) × HoldDesign files source design
 HoldItsDesign (Soak number size workers) files = ⊥
+HoldItsDesign (Dict source plan) files = (design : FlatDesign) × HoldDesign files source design
+HoldItsDesign (Diagnose source plan response) files = (design : FlatDesign) × HoldDesign files source design
+HoldItsDesign (Pick source plan) files = (design : FlatDesign) × HoldDesign files source design
 
--- nothing decides before the file of this place is read: the design comes first, and the plan where the design is there and is read
+-- the files hold the design and the plan over it that the form names before a response, and the dictionary isn't too large
+abbrev pub HoldItsPlan : Form → Files → Type 0
+HoldItsPlan (Grade source plan workers) files = ⊥
+HoldItsPlan (Check source) files = ⊥
+HoldItsPlan (Faults source) files = ⊥
+HoldItsPlan (Soak number size workers) files = ⊥
+HoldItsPlan (Dict source plan) files = ⊥
+HoldItsPlan (Diagnose source plan response) files = (design : FlatDesign) × (test : TestPlan) × HoldDesign files source design × HoldPlan files plan design test
+HoldItsPlan (Pick source plan) files = ⊥
+
+-- nothing decides before the file of this place is read: the design comes first, the plan where the design is there and is read, and the response where the plan
+-- is there too and is read, and its dictionary isn't too large
 abbrev pub ComesTo : Form → Files → Which → Type 0
 ComesTo form files whiches.Design = Unit {0}
 ComesTo form files whiches.Plan = HoldItsDesign form files
+ComesTo form files whiches.Response = HoldItsPlan form files
 
 -- the shelf's fault count rose at the read of the file of this place, and nothing had decided before
 pub record ReadFailed (form : Form) (held : Option Files) (which : Which) (old new : ShelfCounts) : Type 0 where

@@ -6,6 +6,8 @@ ghost use Rattle.vf_words.specs.Forms.{plain_source, plain_form};
 ghost use Rattle.top_call.specs.Outside.{counts_of, files_of, files_for, CanEnd};
 ghost use Rattle.top_call.specs.Making as making;
 
+use crate::diagnosis::diagnosis_output;
+use crate::dictionary::{dictionary_output, picked_output};
 use crate::grade::grade_output;
 use crate::soak::soak_output;
 use crate::source::read_source;
@@ -85,5 +87,14 @@ pub(crate) fn make_output<R: Threads + Sync, S: Shelf, G: Gate + Sync, L: Ledger
             size,
             workers,
         } => soak_output(rt, alloc, number, size, workers, gate, steps),
+        Form::Dict { source, plan } => {
+            dictionary_output(alloc, shelf, source, plan, &mut steps[0])
+        }
+        Form::Diagnose {
+            source,
+            plan,
+            response,
+        } => diagnosis_output(alloc, shelf, source, plan, response, &mut steps[0]),
+        Form::Pick { source, plan } => picked_output(alloc, shelf, source, plan, &mut steps[0]),
     }
 }

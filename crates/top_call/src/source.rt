@@ -8,6 +8,7 @@ ghost use Rattle.top_call.specs.Outside.{counts_of};
 ghost use Rattle.top_call.specs.Making as making;
 
 use elaborate::{DesignFault, read_design};
+use response_text::MAX_RESPONSE_BYTES;
 use std::alloc::Global;
 use v_design::Design;
 use vf_base::{MAX_DESIGN_BYTES, MAX_PLAN_BYTES, Shelf, ShelfFault};
@@ -21,6 +22,7 @@ fn most_of(which: Which) -> u64
     match which {
         Which::Design => MAX_DESIGN_BYTES,
         Which::Plan => MAX_PLAN_BYTES,
+        Which::Response => MAX_RESPONSE_BYTES,
     }
 }
 

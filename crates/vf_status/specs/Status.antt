@@ -12,8 +12,10 @@ use Rattle.elaborate.specs.declared.fault.ElabFault.{ElabFault}
 use Rattle.elaborate.specs.declared.fault.ElabFault.TheVariants as elabs
 use Rattle.plan_read.specs.declared.fault.PlanFault.{PlanFault}
 use Rattle.plan_read.specs.declared.fault.PlanFault.TheVariants as plans
+use Rattle.response_text.specs.declared.fault.ResponseFault.{ResponseFault}
+use Rattle.response_text.specs.declared.fault.ResponseFault.TheVariants as responses
 use Rattle.vf_status.specs.declared.status.Which.{Which}
-use Rattle.vf_status.specs.declared.status.Which.TheVariants.{Design, Plan}
+use Rattle.vf_status.specs.declared.status.Which.TheVariants.{Design, Plan, Response}
 use Rattle.vf_status.specs.declared.status.Refusal.{Refusal}
 use Rattle.vf_status.specs.declared.status.Refusal.TheVariants as refusals
 use Rattle.vf_status.specs.declared.status.Status.{Status}
@@ -34,6 +36,7 @@ number_of (TooLong which) = 7
 abbrev pub file_word : Which → List ℕ
 file_word Design = codes "design"
 file_word Plan = codes "plan"
+file_word Response = codes "response"
 
 -- a place, as it is printed
 abbrev pub place_text : Place → List ℕ
@@ -81,17 +84,27 @@ elab_text (elabs.TooMany what number) = codes "vfault: design: too many " ++ wha
 elab_text (elabs.Loop place) = at_place place (codes ": loop")
 elab_text elabs.NoMemory = []
 
--- a plan's line, and what is wrong with it
-abbrev pub plan_line_text : ℕ → List ℕ → List ℕ
-plan_line_text line words = codes "vfault: plan " ++ decimal line ++ words
+-- a line of a file, and what is wrong with it
+abbrev pub numbered_text : Which → ℕ → List ℕ → List ℕ
+numbered_text which line words = codes "vfault: " ++ file_word which ++ codes " " ++ decimal line ++ words
 
 -- the line of a plan's fault
 abbrev pub plan_text : PlanFault → List ℕ
-plan_text (plans.BadLine line) = plan_line_text line (codes ": bad line")
-plan_text (plans.UnknownSite line) = plan_line_text line (codes ": unknown name")
-plan_text (plans.TooMany line) = plan_line_text line (codes ": too many")
+plan_text (plans.BadLine line) = numbered_text Plan line (codes ": bad line")
+plan_text (plans.UnknownSite line) = numbered_text Plan line (codes ": unknown name")
+plan_text (plans.TooMany line) = numbered_text Plan line (codes ": too many")
 plan_text plans.TooLong = []
 plan_text plans.NoMemory = []
+
+-- the line of a response's fault
+abbrev pub response_text : ResponseFault → List ℕ
+response_text (responses.BadLine line) = numbered_text Response line (codes ": bad line")
+response_text responses.TooLong = []
+response_text responses.NoMemory = []
+
+-- the line of a dictionary that is too large
+abbrev pub too_large_text : ℕ → List ℕ
+too_large_text room = codes "vfault: the dictionary is too large (" ++ decimal room ++ codes ")"
 
 -- the line of a refusal
 abbrev pub refusal_text : Refusal → List ℕ
@@ -99,12 +112,20 @@ refusal_text (refusals.Scan fault) = scan_text fault
 refusal_text (refusals.Parse fault) = parse_text fault
 refusal_text (refusals.Elab fault) = elab_text fault
 refusal_text (refusals.Plan fault) = plan_text fault
+refusal_text (refusals.Response fault) = response_text fault
+refusal_text (refusals.TooLarge room) = too_large_text room
+
+-- the line of words that are of no form: all forms
+abbrev pub usage_text : List ℕ
+usage_text =
+    codes "vfault: usage: grade DESIGN PLAN TOP WORKERS [strict] | check DESIGN TOP [strict] | faults DESIGN TOP [strict] | soak NUMBER SIZE WORKERS"
+    ++ codes " | dict DESIGN PLAN TOP [strict] | diagnose DESIGN PLAN TOP RESPONSE [strict] | pick DESIGN PLAN TOP [strict]"
 
 -- the line that tells a status, without its end; there is none where all went well
 abbrev pub status_text : Status → List ℕ
 status_text Done = []
 status_text (Refused why) = refusal_text why
-status_text Usage = codes "vfault: usage: grade DESIGN PLAN TOP WORKERS [strict] | check DESIGN TOP [strict] | faults DESIGN TOP [strict] | soak NUMBER SIZE WORKERS"
+status_text Usage = usage_text
 status_text (ReadFault which) = codes "vfault: cannot read the " ++ file_word which
 status_text WriteFault = codes "vfault: cannot write"
 status_text NoMemory = codes "vfault: out of memory"

@@ -1,7 +1,7 @@
 //! The statuses with which the program ends, each with its number and its line.
 //!
-//! `specs/Status` says which number and line a status has (both are this program's own): the line of a refusal names the place in the design, or the plan's
-//! line, and what is wrong there.
+//! `specs/Status` says which number and line a status has (both are this program's own): the line of a refusal names the place in the design, or the line of the
+//! plan or the response, and what is wrong there.
 #![tactic(auto)]
 
 mod message;

@@ -2,20 +2,25 @@
 
 ghost use Rattle.std.specs.Prelude.{◌≡◌, ◌++◌, IfOk, OnOk, codes};
 ghost use Rattle.std.specs.Fmt.{decimal};
-ghost use Rattle.vf_status.specs.Status.{status_text, refusal_text, scan_text, parse_text, elab_text, plan_text, plan_line_text, place_text, at_place, what_word, file_word};
+ghost use Rattle.vf_status.specs.Status.{status_text, refusal_text, scan_text, parse_text, elab_text, plan_text, response_text, too_large_text, numbered_text, place_text, at_place, what_word, file_word, usage_text};
 
 use crate::status::{Refusal, Status, Which};
 use elaborate::ElabFault;
 use plan_read::PlanFault;
+use response_text::ResponseFault;
 use std::alloc::Global;
 use v_elab::What;
 use v_parse::ParseFault;
 use v_scan::ScanFault;
 use vf_base::{NoMemory, Place, Text};
 
-/// The usage line.
+/// The usage line as far as the form that makes up a design.
 const USAGE: &[u8] =
     b"vfault: usage: grade DESIGN PLAN TOP WORKERS [strict] | check DESIGN TOP [strict] | faults DESIGN TOP [strict] | soak NUMBER SIZE WORKERS";
+
+/// The rest of the usage line: the forms over a dictionary.
+const DICTIONARY_USAGE: &[u8] =
+    b" | dict DESIGN PLAN TOP [strict] | diagnose DESIGN PLAN TOP RESPONSE [strict] | pick DESIGN PLAN TOP [strict]";
 
 /// Adds bytes.
 fn append(out: &mut Vec<u8>, bytes: &[u8]) -> Result<(), NoMemory>
@@ -50,6 +55,7 @@ fn file_word(which: Which) -> &'static [u8]
     match which {
         Which::Design => b"design",
         Which::Plan => b"plan",
+        Which::Response => b"response",
     }
 }
 
@@ -144,11 +150,13 @@ fn elab_line(alloc: Global, fault: ElabFault) -> Result<Vec<u8>, NoMemory>
     }
 }
 
-/// A plan's line, and what is wrong with it.
-fn numbered_line(alloc: Global, line: u32, words: &[u8]) -> Result<Vec<u8>, NoMemory>
-    ensures { IfOk result (λ text. text.items ≡ plan_line_text line words.now) }
+/// A line of a file, and what is wrong with it.
+fn numbered_line(alloc: Global, which: Which, line: u32, words: &[u8]) -> Result<Vec<u8>, NoMemory>
+    ensures { IfOk result (λ text. text.items ≡ numbered_text which line words.now) }
 {
-    let mut text = bytes_of(alloc, b"vfault: plan ")?;
+    let mut text = bytes_of(alloc, b"vfault: ")?;
+    append(&mut text, file_word(which))?;
+    append(&mut text, b" ")?;
     append_number(alloc, &mut text, u64::from(line))?;
     append(&mut text, words)?;
     Ok(text)
@@ -159,12 +167,33 @@ fn plan_line(alloc: Global, fault: PlanFault) -> Result<Vec<u8>, NoMemory>
     ensures { IfOk result (λ text. text.items ≡ plan_text fault) }
 {
     match fault {
-        PlanFault::BadLine(line) => numbered_line(alloc, line, b": bad line"),
-        PlanFault::UnknownSite(line) => numbered_line(alloc, line, b": unknown name"),
-        PlanFault::TooMany(line) => numbered_line(alloc, line, b": too many"),
+        PlanFault::BadLine(line) => numbered_line(alloc, Which::Plan, line, b": bad line"),
+        PlanFault::UnknownSite(line) => numbered_line(alloc, Which::Plan, line, b": unknown name"),
+        PlanFault::TooMany(line) => numbered_line(alloc, Which::Plan, line, b": too many"),
         PlanFault::TooLong => Ok(Vec::new(alloc)),
         PlanFault::NoMemory => Ok(Vec::new(alloc)),
     }
+}
+
+/// The line of a response's fault.
+fn response_line(alloc: Global, fault: ResponseFault) -> Result<Vec<u8>, NoMemory>
+    ensures { IfOk result (λ text. text.items ≡ response_text fault) }
+{
+    match fault {
+        ResponseFault::BadLine(line) => numbered_line(alloc, Which::Response, line, b": bad line"),
+        ResponseFault::TooLong => Ok(Vec::new(alloc)),
+        ResponseFault::NoMemory => Ok(Vec::new(alloc)),
+    }
+}
+
+/// The line of a dictionary that is too large.
+fn too_large(alloc: Global, room: u64) -> Result<Vec<u8>, NoMemory>
+    ensures { IfOk result (λ text. text.items ≡ too_large_text room) }
+{
+    let mut text = bytes_of(alloc, b"vfault: the dictionary is too large (")?;
+    append_number(alloc, &mut text, room)?;
+    append(&mut text, b")")?;
+    Ok(text)
 }
 
 /// The line of a refusal.
@@ -176,6 +205,8 @@ fn refusal_line(alloc: Global, refusal: Refusal) -> Result<Vec<u8>, NoMemory>
         Refusal::Parse(fault) => parse_line(alloc, fault),
         Refusal::Elab(fault) => elab_line(alloc, fault),
         Refusal::Plan(fault) => plan_line(alloc, fault),
+        Refusal::Response(fault) => response_line(alloc, fault),
+        Refusal::TooLarge(room) => too_large(alloc, room),
     }
 }
 
@@ -207,6 +238,15 @@ fn too_long(alloc: Global, which: Which) -> Result<Vec<u8>, NoMemory>
     Ok(text)
 }
 
+/// The usage line.
+fn usage(alloc: Global) -> Result<Vec<u8>, NoMemory>
+    ensures { IfOk result (λ text. text.items ≡ usage_text) }
+{
+    let mut text = bytes_of(alloc, USAGE)?;
+    append(&mut text, DICTIONARY_USAGE)?;
+    Ok(text)
+}
+
 /// The bytes of the line that tells a status.
 fn status_line(alloc: Global, status: Status) -> Result<Vec<u8>, NoMemory>
     ensures { IfOk result (λ text. text.items ≡ status_text status) }
@@ -214,7 +254,7 @@ fn status_line(alloc: Global, status: Status) -> Result<Vec<u8>, NoMemory>
     match status {
         Status::Done => Ok(Vec::new(alloc)),
         Status::Refused(refusal) => refusal_line(alloc, refusal),
-        Status::Usage => bytes_of(alloc, USAGE),
+        Status::Usage => usage(alloc),
         Status::ReadFault(which) => cannot_read(alloc, which),
         Status::WriteFault => bytes_of(alloc, b"vfault: cannot write"),
         Status::NoMemory => bytes_of(alloc, b"vfault: out of memory"),

@@ -5,6 +5,7 @@ ghost use Rattle.vf_status.specs.Status.{number_of};
 
 use elaborate::ElabFault;
 use plan_read::PlanFault;
+use response_text::ResponseFault;
 use v_parse::ParseFault;
 use v_scan::ScanFault;
 
@@ -13,9 +14,10 @@ use v_scan::ScanFault;
 pub enum Which {
     Design,
     Plan,
+    Response,
 }
 
-/// Why a design or a plan is refused; never for a text's length or for want of memory.
+/// Why a design, a plan or a response is refused; never for a text's length or for want of memory.
 #[derive(Clone, Copy, Debug, PartialEq, Eq)]
 pub enum Refusal {
     /// The design's text has no tokens.
@@ -26,6 +28,10 @@ pub enum Refusal {
     Elab(ElabFault),
     /// The plan isn't defined over the design.
     Plan(PlanFault),
+    /// The response isn't one to the plan.
+    Response(ResponseFault),
+    /// The dictionary of the design and the plan would be too large: strobes times watched bits and sixteen, times faults.
+    TooLarge(u64),
 }
 
 /// How a run of the program ends.
@@ -33,7 +39,7 @@ pub enum Refusal {
 pub enum Status {
     /// The whole output was put.
     Done,
-    /// The design or the plan is refused.
+    /// The design, the plan or the response is refused.
     Refused(Refusal),
     /// The words are of no form.
     Usage,

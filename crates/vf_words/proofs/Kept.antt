@@ -5,7 +5,7 @@ use Rattle.std.specs.Str.{bytes_eq}
 use Rattle.v_elab.specs.declared.Mode.{Mode}
 use Rattle.v_elab.specs.declared.Mode.TheVariants.{Usual, Strict}
 use Rattle.vf_words.specs.NumberLaws.{number-is}
-use Rattle.vf_words.specs.Words.{Source, Form, Grade, Check, Faults, Soak, Fits, is_word, source_of, workers_of, seed_of, size_of, design_form_if, grade_form_if, soak_form, three_words, four_words, five_words, form_of}
+use Rattle.vf_words.specs.Words.{Source, Form, Check, Faults, Dict, Diagnose, Pick, Fits, is_word, source_of, workers_of, seed_of, size_of, design_form_if, is_plan_form, dictionary_form_if, grade_form, last_form_if, soak_form, three_words, plan_words, last_words, form_of}
 use Rattle.vf_words.specs.declared.words.Form.{Form as FormWords}
 use Rattle.vf_words.specs.Forms.{plain_form}
 
@@ -27,12 +27,28 @@ three-keep form (Some source) =
     if-keeps (bytes_eq form (codes "check")) (Some (Check source)) (if bytes_eq form (codes "faults") then Some (Faults source) else None) tt
     (if-keeps (bytes_eq form (codes "faults")) (Some (Faults source)) None tt tt)
 
+-- `dict` and `pick`
+plan-keep : (form plan : List ℕ) (source : Option Source) → IfSome (dictionary_form_if form source plan) Fits
+plan-keep form plan None = tt
+plan-keep form plan (Some source) =
+    if-keeps (is_word plan) (if bytes_eq form (codes "dict") then Some (Dict source plan) else if bytes_eq form (codes "pick") then Some (Pick source plan) else None) None
+    (if-keeps (bytes_eq form (codes "dict")) (Some (Dict source plan)) (if bytes_eq form (codes "pick") then Some (Pick source plan) else None) tt
+    (if-keeps (bytes_eq form (codes "pick")) (Some (Pick source plan)) None tt tt)) tt
+
 -- `grade`
-five-keep : (form plan : List ℕ) (source : Option Source) (workers : Option ℕ) → ((n : ℕ) → workers ≡ Some n → (1 ≤ n) × (n ≤ 64)) → IfSome (grade_form_if form source plan workers) Fits
-five-keep form plan None workers keep = tt
-five-keep form plan (Some source) None keep = tt
-five-keep form plan (Some source) (Some workers) keep =
-    if-keeps (bytes_eq form (codes "grade") && is_word plan) (Some (Grade source plan workers)) None (keep workers refl) tt
+grade-keeps : (source : Source) (plan : List ℕ) (workers : Option ℕ) → ((n : ℕ) → workers ≡ Some n → (1 ≤ n) × (n ≤ 64)) → IfSome (grade_form source plan workers) Fits
+grade-keeps source plan None keep = tt
+grade-keeps source plan (Some workers) keep = keep workers refl
+
+-- `grade` and `diagnose`
+last-keep : (form plan last : List ℕ) (source : Option Source) → IfSome (last_form_if form source plan last) Fits
+last-keep form plan last None = tt
+last-keep form plan last (Some source) =
+    if-keeps (is_word plan && is_word last)
+    (if bytes_eq form (codes "grade") then grade_form source plan (workers_of last) else if bytes_eq form (codes "diagnose") then Some (Diagnose source plan last) else None) None
+    (if-keeps (bytes_eq form (codes "grade")) (grade_form source plan (workers_of last)) (if bytes_eq form (codes "diagnose") then Some (Diagnose source plan last) else None)
+    (grade-keeps source plan (workers_of last) (workers-keep last))
+    (if-keeps (bytes_eq form (codes "diagnose")) (Some (Diagnose source plan last)) None tt tt)) tt
 
 -- `soak`
 soak-keeps : (number size workers : Option ℕ) → ((n : ℕ) → size ≡ Some n → (1 ≤ n) × (n ≤ 4000)) → ((n : ℕ) → workers ≡ Some n → (1 ≤ n) × (n ≤ 64)) → IfSome (soak_form number size workers) Fits
@@ -47,13 +63,18 @@ form-keeps (a ∷ []) = tt
 form-keeps (a ∷ b ∷ []) = tt
 form-keeps (form ∷ design ∷ top ∷ []) = three-keep form (source_of design top Usual)
 form-keeps (form ∷ first ∷ second ∷ third ∷ []) =
-    if-keeps (bytes_eq form (codes "soak")) (soak_form (seed_of first) (size_of second) (workers_of third)) (if bytes_eq third (codes "strict") then three_words form first second Strict else None)
+    if-keeps (bytes_eq form (codes "soak")) (soak_form (seed_of first) (size_of second) (workers_of third))
+    (if is_plan_form form then plan_words form first second third Usual else if bytes_eq third (codes "strict") then three_words form first second Strict else None)
     (soak-keeps (seed_of first) (size_of second) (workers_of third) (size-keeps second) (workers-keep third))
-    (if-keeps (bytes_eq third (codes "strict")) (three_words form first second Strict) None (three-keep form (source_of first second Strict)) tt)
-form-keeps (form ∷ design ∷ plan ∷ top ∷ workers ∷ []) = five-keep form plan (source_of design top Usual) (workers_of workers) (workers-keep workers)
-form-keeps (form ∷ design ∷ plan ∷ top ∷ workers ∷ mode ∷ []) =
-    if-keeps (bytes_eq mode (codes "strict")) (five_words form design plan top workers Strict) None
-    (five-keep form plan (source_of design top Strict) (workers_of workers) (workers-keep workers)) tt
+    (if-keeps (is_plan_form form) (plan_words form first second third Usual) (if bytes_eq third (codes "strict") then three_words form first second Strict else None)
+    (plan-keep form second (source_of first third Usual))
+    (if-keeps (bytes_eq third (codes "strict")) (three_words form first second Strict) None (three-keep form (source_of first second Strict)) tt))
+form-keeps (form ∷ design ∷ plan ∷ top ∷ last ∷ []) =
+    if-keeps (is_plan_form form) (if bytes_eq last (codes "strict") then plan_words form design plan top Strict else None) (last_words form design plan top last Usual)
+    (if-keeps (bytes_eq last (codes "strict")) (plan_words form design plan top Strict) None (plan-keep form plan (source_of design top Strict)) tt)
+    (last-keep form plan last (source_of design top Usual))
+form-keeps (form ∷ design ∷ plan ∷ top ∷ last ∷ mode ∷ []) =
+    if-keeps (bytes_eq mode (codes "strict")) (last_words form design plan top last Strict) None (last-keep form plan last (source_of design top Strict)) tt
 form-keeps (a ∷ b ∷ c ∷ d ∷ e ∷ f ∷ g ∷ rest) = tt
 
 -- the same of the form that the code has

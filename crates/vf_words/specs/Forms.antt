@@ -1,7 +1,7 @@
 -- What the code's forms stand for (nothing of the language).
 use Rattle.vf_words.specs.declared.words.Source.{Source}
 use Rattle.vf_words.specs.declared.words.Form.{Form}
-use Rattle.vf_words.specs.declared.words.Form.TheVariants.{Grade as GradeWords, Check as CheckWords, Faults as FaultsWords, Soak as SoakWords}
+use Rattle.vf_words.specs.declared.words.Form.TheVariants.{Grade as GradeWords, Check as CheckWords, Faults as FaultsWords, Soak as SoakWords, Dict as DictWords, Diagnose as DiagnoseWords, Pick as PickWords}
 use Rattle.vf_words.specs.Words as plain
 
 -- a design
@@ -10,7 +10,10 @@ plain_source source = record { design = source.design.now; top = source.top.now;
 
 -- a form
 abbrev pub plain_form : Form → plain.Form
-plain_form (GradeWords source design workers) = plain.Grade (plain_source source) design.now workers
+plain_form (GradeWords source plan workers) = plain.Grade (plain_source source) plan.now workers
 plain_form (CheckWords source) = plain.Check (plain_source source)
 plain_form (FaultsWords source) = plain.Faults (plain_source source)
 plain_form (SoakWords number size workers) = plain.Soak number size workers
+plain_form (DictWords source plan) = plain.Dict (plain_source source) plan.now
+plain_form (DiagnoseWords source plan response) = plain.Diagnose (plain_source source) plan.now response.now
+plain_form (PickWords source plan) = plain.Pick (plain_source source) plan.now

@@ -1,7 +1,7 @@
 // The words of the command line.
 
 ghost use Rattle.std.specs.Prelude.{◌≡◌, IfSome, option_map};
-ghost use Rattle.vf_words.specs.Words.{workers_of, seed_of, size_of, source_of, design_form, grade_form, soak_form, three_words, four_words, five_words, form_of, bytes_of, Fits};
+ghost use Rattle.vf_words.specs.Words.{workers_of, seed_of, size_of, source_of, design_form, is_plan_form, dictionary_form, grade_form, last_form, soak_form, three_words, plan_words, last_words, four_words, five_words, form_of, bytes_of, Fits};
 ghost use Rattle.vf_words.specs.Forms.{plain_source, plain_form};
 
 use crate::number::number_between;
@@ -35,6 +35,22 @@ pub enum Form<'w> {
         size: u32,
         workers: u32,
     },
+    /// The dictionary of the faults that a plan's file lists.
+    Dict {
+        source: Source<'w>,
+        plan: &'w str,
+    },
+    /// The faults of a plan's file that fit what the response's file says a tester observed.
+    Diagnose {
+        source: Source<'w>,
+        plan: &'w str,
+        response: &'w str,
+    },
+    /// The strobes of a plan's file that are enough.
+    Pick {
+        source: Source<'w>,
+        plan: &'w str,
+    },
 }
 
 /// So many workers as a word says.
@@ -67,13 +83,33 @@ fn design_form<'w>(form: &str, source: Source<'w>) -> Option<Form<'w>>
     None
 }
 
-/// The form over a design and a plan, where the words are of it.
-fn grade_form<'w>(form: &str, source: Source<'w>, plan: &'w str, workers: &str) -> Option<Form<'w>>
-    ensures { option_map plain_form result ≡ grade_form form.now (plain_source source.entry) plan.now (workers_of workers.now) }
+/// Whether the word names a form over a design and a plan with no word behind the top's name.
+fn is_plan_form(form: &str) -> bool
+    ensures { result ≡ is_plan_form form.now }
 {
-    if form != "grade" || plan.is_empty() {
+    form == "dict" || form == "pick"
+}
+
+/// The form over the dictionary of a design and a plan that the word names.
+fn dictionary_form<'w>(form: &str, source: Source<'w>, plan: &'w str) -> Option<Form<'w>>
+    ensures { option_map plain_form result ≡ dictionary_form form.now (plain_source source.entry) plan.now }
+{
+    if plan.is_empty() {
         return None;
     }
+    if form == "dict" {
+        return Some(Form::Dict { source, plan });
+    }
+    if form == "pick" {
+        return Some(Form::Pick { source, plan });
+    }
+    None
+}
+
+/// The report on a design and a plan, where the last word is a number of workers.
+fn grade_form<'w>(source: Source<'w>, plan: &'w str, workers: &str) -> Option<Form<'w>>
+    ensures { option_map plain_form result ≡ grade_form (plain_source source.entry) plan.now (workers_of workers.now) }
+{
     let workers = workers_of(workers)?;
     Some(Form::Grade {
         source,
@@ -82,12 +118,65 @@ fn grade_form<'w>(form: &str, source: Source<'w>, plan: &'w str, workers: &str) 
     })
 }
 
+/// The form over a design, a plan and a last word, where the words are of it.
+fn last_form<'w>(form: &str, source: Source<'w>, plan: &'w str, last: &'w str) -> Option<Form<'w>>
+    ensures { option_map plain_form result ≡ last_form form.now (plain_source source.entry) plan.now last.now }
+{
+    if plan.is_empty() || last.is_empty() {
+        return None;
+    }
+    if form == "grade" {
+        return grade_form(source, plan, last);
+    }
+    if form == "diagnose" {
+        return Some(Form::Diagnose {
+            source,
+            plan,
+            response: last,
+        });
+    }
+    None
+}
+
 /// Three words of a form, if they are of it, in a mode.
 fn three_words<'w>(form: &str, design: &'w str, top: &'w str, mode: Mode) -> Option<Form<'w>>
     ensures { option_map plain_form result ≡ three_words form.now design.now top.now mode }
 {
     match source_of(design, top, mode) {
         Some(source) => design_form(form, source),
+        None => None,
+    }
+}
+
+/// Four words of a form over a design and a plan, if they are of it, in a mode.
+fn plan_words<'w>(
+    form: &str,
+    design: &'w str,
+    plan: &'w str,
+    top: &'w str,
+    mode: Mode,
+) -> Option<Form<'w>>
+    ensures { option_map plain_form result ≡ plan_words form.now design.now plan.now top.now mode }
+{
+    match source_of(design, top, mode) {
+        Some(source) => dictionary_form(form, source, plan),
+        None => None,
+    }
+}
+
+/// Five words of a form over a design, a plan and a last word, if they are of it, in a mode.
+fn last_words<'w>(
+    form: &str,
+    design: &'w str,
+    plan: &'w str,
+    top: &'w str,
+    last: &'w str,
+    mode: Mode,
+) -> Option<Form<'w>>
+    ensures { option_map plain_form result ≡ last_words form.now design.now plan.now top.now last.now mode }
+{
+    match source_of(design, top, mode) {
+        Some(source) => last_form(form, source, plan, last),
         None => None,
     }
 }
@@ -107,11 +196,14 @@ fn soak_form<'w>(number: &str, size: &str, workers: &str) -> Option<Form<'w>>
 }
 
 /// Four words of a form, if they are of it.
-fn four_words<'w>(form: &str, first: &'w str, second: &'w str, third: &str) -> Option<Form<'w>>
+fn four_words<'w>(form: &str, first: &'w str, second: &'w str, third: &'w str) -> Option<Form<'w>>
     ensures { option_map plain_form result ≡ four_words form.now first.now second.now third.now }
 {
     if form == "soak" {
         return soak_form(first, second, third);
+    }
+    if is_plan_form(form) {
+        return plan_words(form, first, second, third, Mode::Usual);
     }
     if third != "strict" {
         return None;
@@ -119,21 +211,23 @@ fn four_words<'w>(form: &str, first: &'w str, second: &'w str, third: &str) -> O
     three_words(form, first, second, Mode::Strict)
 }
 
-/// Five words of a form, if they are of it, in a mode.
+/// Five words of a form, if they are of it.
 fn five_words<'w>(
     form: &str,
     design: &'w str,
     plan: &'w str,
     top: &'w str,
-    workers: &str,
-    mode: Mode,
+    last: &'w str,
 ) -> Option<Form<'w>>
-    ensures { option_map plain_form result ≡ five_words form.now design.now plan.now top.now workers.now mode }
+    ensures { option_map plain_form result ≡ five_words form.now design.now plan.now top.now last.now }
 {
-    match source_of(design, top, mode) {
-        Some(source) => grade_form(form, source, plan, workers),
-        None => None,
+    if !is_plan_form(form) {
+        return last_words(form, design, plan, top, last, Mode::Usual);
     }
+    if last != "strict" {
+        return None;
+    }
+    plan_words(form, design, plan, top, Mode::Strict)
 }
 
 /// The form of the words, if they are of one.
@@ -150,24 +244,23 @@ fn form_of(words: &[String]) -> Option<Form<'_>>
             second.as_str(),
             third.as_str(),
         ),
-        [form, design, plan, top, workers] => five_words(
+        [form, design, plan, top, last] => five_words(
             form.as_str(),
             design.as_str(),
             plan.as_str(),
             top.as_str(),
-            workers.as_str(),
-            Mode::Usual,
+            last.as_str(),
         ),
-        [form, design, plan, top, workers, mode] => {
+        [form, design, plan, top, last, mode] => {
             if mode.as_str() != "strict" {
                 return None;
             }
-            five_words(
+            last_words(
                 form.as_str(),
                 design.as_str(),
                 plan.as_str(),
                 top.as_str(),
-                workers.as_str(),
+                last.as_str(),
                 Mode::Strict,
             )
         }

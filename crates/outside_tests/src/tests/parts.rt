@@ -3,18 +3,21 @@
 ghost use Rattle.std.specs.Prelude.{◌≡◌};
 
 use copy_state::FaultCopy;
+use elaborate::read_design;
 use expr_sizes::size_expr;
 use four_value::Vec4;
+use net_graph::Graph;
 use soak_text::{design_text, plan_text};
 use std::test::Fail;
 use v_copy::copy_tree;
+use v_elab::Mode;
 use v_names::Scope;
 use v_parse::parse;
 use v_ports::{PortFault, PortUse, join_ports};
 use v_scan::scan;
 use v_tree::{Expr, NumberForm};
 use v_width::SizedExpr;
-use vf_base::{FaultId, ObjectId, Place};
+use vf_base::{FaultId, NodeId, ObjectId, Place};
 use window_index::{Occurrence, WindowIndex};
 
 /// Number 0 at 3 and 9, number 2 at 1, 3 and 3, number 1 never.
@@ -189,5 +192,28 @@ fn a_number_takes_the_size_of_its_context(rt: HostRuntime) -> Result<(), Fail> {
     let scope = Scope::new(rt.alloc());
     let sized = size_expr(rt.alloc(), &five, &scope, 40, true)?;
     assert!(rt; matches!(&sized, SizedExpr::Constant { size, .. } if size.width == 40));
+    Ok(())
+}
+
+/// Two gates of which the second one reads the first; no path leads from `d`.
+const TWO_GATES: &[u8] =
+    b"module top; reg a, b, c, d; wire y, z; or h(z, y, c); and g(y, a, b); endmodule\n";
+
+#[test]
+fn cones_and_ranks_of_two_gates(rt: HostRuntime) -> Result<(), Fail> {
+    let alloc = rt.alloc();
+    let design = read_design(alloc, TWO_GATES, b"top", Mode::Usual)?;
+    assert_eq!(rt; design.objects.as_slice().len(), 6);
+    assert_eq!(rt; design.nodes.as_slice().len(), 2);
+    let graph = Graph::new(alloc, &design)?;
+    let of_first = graph.sources(alloc, ObjectId(4))?;
+    assert_eq!(rt; of_first.as_slice(), [ObjectId(0), ObjectId(1)].as_slice());
+    let of_second = graph.sources(alloc, ObjectId(5))?;
+    assert_eq!(rt;
+        of_second.as_slice(),
+        [ObjectId(0), ObjectId(1), ObjectId(2)].as_slice()
+    );
+    assert_eq!(rt; graph.rank(NodeId(0)), 0);
+    assert_eq!(rt; graph.rank(NodeId(1)), 1);
     Ok(())
 }

@@ -1,4 +1,4 @@
-use Rattle.std.proofs.Common.{subst, Err}
+use Rattle.std.proofs.Common.{subst, Err, lit<}
 use Rattle.v_design.specs.PlainDesigns.{design_of}
 use Rattle.vf_words.specs.Forms.{plain_source}
 use Rattle.vf_words.specs.Words.{Grade}
@@ -23,7 +23,7 @@ returns-in_err-design-clause-ends g c =
     let held = g.S.Shelf.held c.args.shelf.now in let source = plain_source c.args.source in let plan = c.args.plan.now in let workers = c.args.workers in let status = c.in_err-design.field-0.0 in
     let old = counts_of g.S.Shelf c.args.shelf.now in
     let new = counts_of g.S.Shelf c.read_source.new.shelf in
-    err-ends (Grade source plan workers) c.from_residual.result status c.from_residual.ensures.1 (source-ends (Grade source plan workers) held source old new status tt c.in_err-design.ensures.gives)
+    err-ends (Grade source plan workers) c.from_residual.result status c.from_residual.ensures.1 (source-ends (Grade source plan workers) held source old new status (lit< tt) c.in_err-design.ensures.gives)
 
 pub returns-in_err-text-clause-gives : goal.returns-in_err-text-clause-gives
 returns-in_err-text-clause-gives g c =
@@ -40,7 +40,7 @@ returns-in_err-text-clause-ends g c =
     let held = g.S.Shelf.held c.read_source.new.shelf in let source = plain_source c.args.source in let plan = c.args.plan.now in let workers = c.args.workers in let status = c.in_err-text.field-0.0 in
     let mid = counts_of g.S.Shelf c.read_source.new.shelf in
     let new = counts_of g.S.Shelf c.read_file.new.shelf in
-    err-ends (Grade source plan workers) c.from_residual-in_err-text.result status c.from_residual-in_err-text.ensures.1 (file-ends (Grade source plan workers) held plan whiches.Plan mid new status tt c.in_err-text.ensures.gives)
+    err-ends (Grade source plan workers) c.from_residual-in_err-text.result status c.from_residual-in_err-text.ensures.1 (file-ends (Grade source plan workers) held plan whiches.Plan mid new status (lit< tt) c.in_err-text.ensures.gives)
 
 pub returns-in-Ok-clause-gives : goal.returns-in-Ok-clause-gives
 returns-in-Ok-clause-gives g c =

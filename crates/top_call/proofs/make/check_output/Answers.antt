@@ -1,3 +1,4 @@
+use Rattle.std.proofs.Common.{lit<}
 use Rattle.v_design.specs.PlainDesigns.{design_of}
 use Rattle.vf_words.specs.Forms.{plain_source}
 use Rattle.vf_words.specs.Words.{Check}
@@ -20,7 +21,7 @@ returns-in_err-design-clause-ends g c =
     let held = g.S.Shelf.held c.args.shelf.now in let source = plain_source c.args.source in let status = c.in_err-design.field-0.0 in
     let old = counts_of g.S.Shelf c.args.shelf.now in
     let new = counts_of g.S.Shelf c.read_source.new.shelf in
-    err-ends (Check source) c.from_residual.result status c.from_residual.ensures.1 (source-ends (Check source) held source old new status tt c.in_err-design.ensures.gives)
+    err-ends (Check source) c.from_residual.result status c.from_residual.ensures.1 (source-ends (Check source) held source old new status (lit< tt) c.in_err-design.ensures.gives)
 
 pub returns-in-Ok-clause-gives : goal.returns-in-Ok-clause-gives
 returns-in-Ok-clause-gives g c = check-made (g.S.Shelf.held c.args.shelf.now) (plain_source c.args.source) (design_of c.in_ok-design.design) c.in-Ok.text.items c.in_ok-design.ensures.gives c.in-Ok.ensures

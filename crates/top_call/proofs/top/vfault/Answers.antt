@@ -2,7 +2,7 @@ use Rattle.std.proofs.Common.{sym, subst}
 use Rattle.vf_words.specs.Words.{form_of, bytes_of}
 use Rattle.vf_words.specs.Forms.{plain_form}
 use Rattle.top_call.specs.Outside.{IfTold, counts_of, files_for, IsOutput}
-use Rattle.top_call.proofs.Making.{keeps-at-err, keeps-at-end, same-at-end, reads-at-end, puts-at-err, puts-at-end}
+use Rattle.top_call.proofs.Making.{keeps-at-err, loops-at-err, keeps-at-end, same-at-end, reads-at-end, puts-at-err, puts-at-end}
 use Rattle.top_call.proofs.top.vfault.Goals as goal
 
 pub returns-in-Err-clause-exactly : goal.returns-in-Err-clause-exactly
@@ -53,3 +53,9 @@ returns-clause-few_reads g c =
     let old = counts_of g.S.Shelf c.args.shelf.now in
     reads-at-end (form_of (bytes_of c.args.words.now)) (plain_form c.in-Some.form) c.in-Some.ensures.form (g.S.Shelf.held c.args.shelf.now) old old
     (g.S.Shelf.reads c.args.shelf.now) (g.S.Shelf.reads c.make_output.new.shelf) c.in-Ok.ensures.reads
+
+pub returns-in-Err-clause-loops : goal.returns-in-Err-clause-loops
+returns-in-Err-clause-loops g c =
+    let old = counts_of g.S.Shelf c.args.shelf.now in
+    let new = counts_of g.S.Shelf c.make_output.new.shelf in
+    loops-at-err (form_of (bytes_of c.args.words.now)) (plain_form c.in-Some.form) c.in-Some.ensures.form (g.S.Shelf.held c.args.shelf.now) old new c.in-Err.status c.in-Err.ensures.gives

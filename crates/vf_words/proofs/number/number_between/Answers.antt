@@ -1,4 +1,4 @@
-use Rattle.std.proofs.Common.{◌≡◌, false, true, sym, ◌∙◌}
+use Rattle.std.proofs.Common.{◌≡◌, true}
 use Rattle.vf_words.specs.Number.{is_plain}
 use Rattle.vf_words.proofs.Parsed.{refused, ornate, taken, too-low, too-high, within}
 use Rattle.vf_words.proofs.number.number_between.Goals as goal
