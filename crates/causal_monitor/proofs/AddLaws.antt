@@ -1,5 +1,6 @@
 -- Laws on a list that gains the accesses of a phase (nothing of the language).
-use Rattle.std.proofs.Common.{◌≡◌, ℕ, zero, suc, ◌+◌, ◌<◌, ◌≤◌, Bool, true, false, List, [], ◌∷◌, ◌++◌, length, get_or, map, filter, take, Option, Some, None, cond, refl, ap, sym, subst, ◌∙◌, arith, inl, inr, append-nil, append_assoc}
+use Rattle.std.proofs.Common.{◌≡◌, ℕ, zero, suc, ◌+◌, ◌<◌, ◌≤◌, Bool, true, false, List, [], ◌∷◌, ◌++◌, length, get_or, map, filter, take, Option, Some, None, cond, refl, ap, sym, subst, ◌∙◌, arith}
+use Rattle.std.proofs.Common.{inl, inr, append-nil, append_assoc}
 use Rattle.std.specs.Prelude.{nat_eq, nat_lt, ◌&&◌}
 use Rattle.std.specs.List.{All}
 use Rattle.std.specs.Option.{ForSome}

@@ -1,5 +1,6 @@
 -- Laws on the changes of a phase (nothing of the language).
-use Rattle.std.proofs.Common.{◌≡◌, ℕ, zero, suc, ◌+◌, ◌*◌, ◌<◌, ◌≤◌, Bool, true, false, List, [], ◌∷◌, ◌++◌, length, get_or, set, map, take, None, min, replicate, refl, ap, sym, subst, ◌∙◌, arith, inl, inr, append-nil, append_assoc}
+use Rattle.std.proofs.Common.{◌≡◌, ℕ, zero, suc, ◌+◌, ◌*◌, ◌<◌, ◌≤◌, Bool, true, false, List, [], ◌∷◌, ◌++◌, length, get_or, set, map, take, None, min, replicate, refl, ap, sym, subst, ◌∙◌, arith}
+use Rattle.std.proofs.Common.{inl, inr, append-nil, append_assoc}
 use Rattle.std.specs.Prelude.{nat_eq, ◌||◌, sum_by, slice_get}
 use Rattle.std.proofs.lemmas.Bool.{ne_eqb, eq-eqb, cases_eq}
 use Rattle.std.proofs.lemmas.List.{get_or-set_same, get_or-set_other, take_more, map_push, take_all, get_or-map, length-map}
@@ -129,7 +130,8 @@ CountChanges-here changes counts o low had = record {
       seen_more changes counts (set counts o (get_or counts o 0 + 1)) o had.seen
       (λ p. elim (cases_eq p o) [
         | inl same ↦
-            let now : get_or (set counts o (get_or counts o 0 + 1)) p 0 ≡ get_or counts o 0 + 1 = ap (λ q. get_or (set counts o (get_or counts o 0 + 1)) q 0) same ∙ get_or-set_same counts o (get_or counts o 0 + 1) 0 low in
+            let now : get_or (set counts o (get_or counts o 0 + 1)) p 0 ≡ get_or counts o 0 + 1 = ap (λ q. get_or (set counts o (get_or counts o 0 + 1)) q 0) same
+            ∙ get_or-set_same counts o (get_or counts o 0 + 1) 0 low in
             let was : get_or counts p 0 ≡ get_or counts o 0 = ap (λ q. get_or counts q 0) same in
             omega (arith, now, was)
         | inr other ↦ let kept = get_or-set_other counts o p (get_or counts o 0 + 1) 0 other in omega (arith, kept)
@@ -209,7 +211,8 @@ counts_more design accesses i access before counts later low is had step changes
 abbrev pub changes_before : FlatDesign → LoggedPhase → ℕ → List ℕ
 changes_before design log n = joined (map (λ (event : LoggedEvent). changes_of design event.accesses) (take n log.events))
 
-pub changes_before-more : (design : FlatDesign) (log : LoggedPhase) (n : ℕ) → n < length log.events → changes_before design log (n + 1) ≡ changes_before design log n ++ changes_of design (accesses_at log n)
+pub changes_before-more : (design : FlatDesign) (log : LoggedPhase) (n : ℕ) → n < length log.events →
+    changes_before design log (n + 1) ≡ changes_before design log n ++ changes_of design (accesses_at log n)
 changes_before-more design log n low =
     joined-more (λ (event : LoggedEvent). changes_of design event.accesses) log.events n no_event low
     ∙ ap (λ l. changes_before design log n ++ changes_of design l) (sym (event_at log n low))
@@ -218,7 +221,8 @@ pub changes_before-all : (design : FlatDesign) (log : LoggedPhase) (n : ℕ) →
 changes_before-all design log n past = joined-all (λ (event : LoggedEvent). changes_of design event.accesses) log.events n past
 
 -- an access that is read, as plain data
-pub read_noted : (accesses : List Noted) (i : ℕ) (noted : Noted) → i < length accesses → noted ≡ get_or accesses i noted → noted_access noted ≡ get_or (map noted_access accesses) i (noted_access noted)
+pub read_noted : (accesses : List Noted) (i : ℕ) (noted : Noted) → i < length accesses → noted ≡ get_or accesses i noted →
+    noted_access noted ≡ get_or (map noted_access accesses) i (noted_access noted)
 read_noted accesses i noted low is = ap noted_access is ∙ sym (get_or-map noted_access accesses i noted (noted_access noted) low)
 
 -- an access that is read is of an object of the design

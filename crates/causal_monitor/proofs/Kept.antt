@@ -59,7 +59,8 @@ range-last xs ys =
     ∙ take_all (length (xs ++ ys) - length xs) ys (let long = length-append xs ys in omega (arith, long))
 
 -- events stay while accesses of others come
-pub logged-same : (accesses more : List Noted) (entries : List Entry) → AllHold (StandsWithin (length accesses)) entries → map (logged_event (accesses ++ more)) entries ≡ map (logged_event accesses) entries
+pub logged-same : (accesses more : List Noted) (entries : List Entry) → AllHold (StandsWithin (length accesses)) entries →
+    map (logged_event (accesses ++ more)) entries ≡ map (logged_event accesses) entries
 logged-same accesses more [] h = refl
 logged-same accesses more (x ∷ entries) h =
     λ i. record { cause = x.cause; accesses = map noted_access (range-more accesses more x.start x.end h.0.0 h.0.1 i) } ∷ logged-same accesses more entries h.1 i
@@ -86,11 +87,16 @@ map-push f [] y = refl
 map-push f (x ∷ xs) y = ap (λ ys. f x ∷ ys) (map-push f xs y)
 
 -- the events with one more, whose accesses come to the others
-pub logged-more : (accesses more : List Noted) (entries : List Entry) (entry : Entry) → AllHold (StandsWithin (length accesses)) entries → entry.start ≡ length accesses → entry.end ≡ length (accesses ++ more) →
+pub logged-more : (accesses more : List Noted) (entries : List Entry) (entry : Entry) → AllHold (StandsWithin (length accesses)) entries → entry.start ≡ length accesses →
+    entry.end ≡ length (accesses ++ more) →
     map (logged_event (accesses ++ more)) (entries ++ entry ∷ []) ≡ map (logged_event accesses) entries ++ record { cause = entry.cause; accesses = map noted_access more } ∷ []
 logged-more accesses more entries entry stand start end =
     map-push (logged_event (accesses ++ more)) entries entry
-    ∙ (λ i. logged-same accesses more entries stand i ++ record { cause = entry.cause; accesses = map noted_access ((ap (λ n. slice_range (accesses ++ more) n entry.end) start ∙ ap (slice_range (accesses ++ more) (length accesses)) end ∙ range-last accesses more) i) } ∷ [])
+    ∙ (λ i. logged-same accesses more entries stand i ++ record {
+      cause = entry.cause;
+      accesses =
+          map noted_access ((ap (λ n. slice_range (accesses ++ more) n entry.end) start ∙ ap (slice_range (accesses ++ more) (length accesses)) end ∙ range-last accesses more) i);
+    } ∷ [])
 
 -- the cause of an event is that of its entry
 pub cause_at-entry : (held accesses : List Noted) (entries : List Entry) (event : ℕ) (d : Entry) → event < length entries
@@ -123,7 +129,8 @@ IsKept-more held accesses more entries had noted = record {
 }
 
 -- and an event
-pub IsKept-event : (held accesses : List Noted) (entries : List Entry) (entry : Entry) → IsKept held accesses entries → StandsWithin (length accesses) entry → ForSome entry.cause (λ cause. cause < length entries) →
+pub IsKept-event : (held accesses : List Noted) (entries : List Entry) (entry : Entry) → IsKept held accesses entries → StandsWithin (length accesses) entry →
+    ForSome entry.cause (λ cause. cause < length entries) →
     IsKept held accesses (entries ++ entry ∷ [])
 IsKept-event held accesses entries entry had stands earlier = record {
   held_are = had.held_are;

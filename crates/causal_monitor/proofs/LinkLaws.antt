@@ -1,10 +1,12 @@
 -- Laws on links, and on the search along them (nothing of the language).
-use Rattle.std.proofs.Common.{◌≡◌, ℕ, zero, suc, ◌+◌, ◌<◌, ◌≤◌, Bool, true, false, List, [], ◌∷◌, ◌++◌, length, get_or, set, map, take, drop, Option, Some, None, cond, refl, ap, sym, subst, ◌∙◌, arith, inl, inr}
+use Rattle.std.proofs.Common.{◌≡◌, ℕ, zero, suc, ◌+◌, ◌<◌, ◌≤◌, Bool, true, false, List, [], ◌∷◌, ◌++◌, length, get_or, set, map, take, drop, Option, Some, None, cond, refl, ap, sym, subst, ◌∙◌}
+use Rattle.std.proofs.Common.{arith, inl, inr}
 use Rattle.std.specs.Prelude.{nat_eq, not, ◌&&◌}
 use Rattle.std.specs.List.{find}
 use Rattle.std.specs.Option.{option_map, ForSome}
 use Rattle.std.proofs.lemmas.Bool.{ne_eqb, eq-eqb, cases_eq, cases_lt, eqb-true}
-use Rattle.std.proofs.lemmas.List.{get_or-set_same, get_or-set_other, length-set, drop_more, get_or-take, length-take-le, drop_all, take_more, get_or_push, length_push, get_or_append_left, get_or_read, get_or-map}
+use Rattle.std.proofs.lemmas.List.{get_or-set_same, get_or-set_other, length-set, drop_more, get_or-take, length-take-le, drop_all, take_more, get_or_push, length_push, get_or_append_left}
+use Rattle.std.proofs.lemmas.List.{get_or_read, get_or-map}
 use Rattle.v_design.specs.Accesses.{AccessAct, Reading, Writing, Awaiting, Ending, Holding, Settling}
 use Rattle.v_design.specs.Logs.{LoggedPhase, PhaseAccess, acts_clash, access_orders, conflict, events_ordered, least_pair_from, or_pair}
 use Rattle.causal_monitor.specs.declared.group.Group.{Group}
@@ -120,7 +122,8 @@ AreLatest-here group accesses end object table is within passes had o low =
           subst (IsLatest (stands_in group accesses o) (end + 1)) (sym read) (IsLatest-here (stands_in group accesses o) end here)
       | inr other ↦
           subst (IsLatest (stands_in group accesses o) (end + 1)) (sym (get_or-set_other table object o (Some end) None other))
-          (IsLatest-more (stands_in group accesses o) end (get_or table o None) (had o (omega (arith, length-set table object (Some end)))) (other_object group accesses o end (λ e. other (sym e ∙ is))))
+          (IsLatest-more (stands_in group accesses o) end (get_or table o None) (had o (omega (arith, length-set table object (Some end))))
+          (other_object group accesses o end (λ e. other (sym e ∙ is))))
     ]
 
 -- one more access, not of the group
@@ -193,7 +196,8 @@ find_at_front p x rest low end test xs (Some best) false is at fails less h more
       | inr other ↦ more (let le = h.0 in omega arith, h.1, h.2, λ place le low'. h.3 place (omega arith) low')
     ]
 
-find_from : (p : PhaseAccess → Bool) (xs : List PhaseAccess) (end : ℕ) → end ≤ length xs → (left low : ℕ) → low + left ≡ end → (best : Option ℕ) → IsFirst (λ place. p (access_at xs place)) low end best →
+find_from : (p : PhaseAccess → Bool) (xs : List PhaseAccess) (end : ℕ) → end ≤ length xs → (left low : ℕ) → low + left ≡ end → (best : Option ℕ) →
+    IsFirst (λ place. p (access_at xs place)) low end best →
     find p (drop low (take end xs)) ≡ option_map (access_at xs) best
 find_from p xs end within zero low all None h = ap (find p) (drop_all low (take end xs) (let long = length-take-le end xs within in omega arith))
 find_from p xs end within zero low all (Some best) h = absurd (let from = h.0 in let less = h.1 in omega arith)
@@ -223,13 +227,15 @@ latest_stands group accesses object end None h = λ place e. absurd (let none : 
 latest_stands group accesses object end (Some latest) h = λ place e.
     subst (λ p. (p < end) × (object_at accesses p ≡ object)) (some_same latest place e) (h.0, eqb-true (object_at accesses latest) object (and_true _ _ h.1).0)
 
-pub link_read : (group : Group) (accesses : List PhaseAccess) (links : List (Option ℕ)) (place : ℕ) (link : Option ℕ) → AreLinks group accesses links → place < length links → link ≡ get_or links place link →
+pub link_read : (group : Group) (accesses : List PhaseAccess) (links : List (Option ℕ)) (place : ℕ) (link : Option ℕ) → AreLinks group accesses links → place < length links →
+    link ≡ get_or links place link →
     IsLatest (stands_in group accesses (object_at accesses place)) place link
 link_read group accesses links place link are within is =
     subst (IsLatest (stands_in group accesses (object_at accesses place)) place) (sym (get_or_read links place link within is None)) (are place within)
 
 -- the search begins at the link of its access
-pub search_start : (log : LoggedPhase) (accesses : List PhaseAccess) (links : List (Option ℕ)) (number : ℕ) (at : Option ℕ) → AreLinks (group_against (access_at accesses number).access.act) accesses links →
+pub search_start : (log : LoggedPhase) (accesses : List PhaseAccess) (links : List (Option ℕ)) (number : ℕ) (at : Option ℕ) →
+    AreLinks (group_against (access_at accesses number).access.act) accesses links →
     number < length links → at ≡ get_or links number at → IsSearch log accesses number at None
 search_start log accesses links number at are within is =
     let group = group_against (access_at accesses number).access.act in
@@ -298,7 +304,8 @@ IsChained-none log accesses number h earlier low same = absurd (true_false (sym 
 
 -- an access that the latest earlier one of its object orders, where each one before orders that
 pub IsChained-more : (log : LoggedPhase) → CausesComeBefore log → (accesses : List PhaseAccess) (number latest : ℕ) → ForSome (access_at accesses number).event (λ event. event < length log.events) →
-    IsLatest (stands_in All accesses (object_at accesses number)) number (Some latest) → IsChained log accesses latest → access_orders log (access_at accesses latest) (access_at accesses number) ≡ true →
+    IsLatest (stands_in All accesses (object_at accesses number)) number (Some latest) → IsChained log accesses latest →
+    access_orders log (access_at accesses latest) (access_at accesses number) ≡ true →
     IsChained log accesses number
 IsChained-more log before accesses number latest low h chained ordered earlier less same =
     elim (cases_lt earlier latest) [
@@ -349,7 +356,8 @@ pair_step log accesses number best within h =
     ap (least_pair_from log (take number accesses)) (drop_more accesses number no_access within)
     ∙ ap (λ found. or_pair found (access_at accesses number) (least_pair_from log (take number accesses ++ access_at accesses number ∷ []) (drop (number + 1) accesses)))
     (find_first (λ first. conflict log first (access_at accesses number)) accesses number (omega arith) best h)
-    ∙ ap (λ earlier. or_pair (option_map (access_at accesses) best) (access_at accesses number) (least_pair_from log earlier (drop (number + 1) accesses))) (sym (take_more accesses number no_access within))
+    ∙ ap (λ earlier. or_pair (option_map (access_at accesses) best) (access_at accesses number) (least_pair_from log earlier (drop (number + 1) accesses)))
+    (sym (take_more accesses number no_access within))
 
 -- an access that conflicts with an earlier one is the later one of the least pair
 pub pair_found : (log : LoggedPhase) (accesses : List PhaseAccess) (number first : ℕ) → number < length accesses →

@@ -35,7 +35,8 @@ pub orders-step : (log : LoggedPhase) → CausesComeBefore log → (first second
     orders log first second ≡ (nat_eq second first || reached log (cause_at log second) first)
 orders-step log before first second low =
     ap (λ l. has l first)
-    (same_causes log before (length log.events) (suc (length log.events)) (Some second) (λ n e. let same : second ≡ n = some_is second n e in omega arith) (λ n e. let same : second ≡ n = some_is second n e in omega arith))
+    (same_causes log before (length log.events) (suc (length log.events)) (Some second) (λ n e. let same : second ≡ n = some_is second n e in omega arith)
+    (λ n e. let same : second ≡ n = some_is second n e in omega arith))
   where
     some_is : (m n : ℕ) → Some m ≡ Some n → m ≡ n
     some_is m n e = cc
@@ -141,6 +142,7 @@ pub jump_orders : (log : LoggedPhase) (jumps : List ℕ) → AreJumps log jumps 
 jump_orders log jumps are event jump within is = subst (λ j. orders log j event ≡ true) (sym (get_or_read jumps event jump within is 0)) (are event within)
 
 -- and comes no later
-pub jump_le : (log : LoggedPhase) → CausesComeBefore log → (jumps : List ℕ) → AreJumps log jumps → (event jump : ℕ) → event < length jumps → event ≤ length log.events → jump ≡ get_or jumps event jump →
+pub jump_le : (log : LoggedPhase) → CausesComeBefore log → (jumps : List ℕ) → AreJumps log jumps → (event jump : ℕ) → event < length jumps → event ≤ length log.events →
+    jump ≡ get_or jumps event jump →
     jump ≤ event
 jump_le log before jumps are event jump within low is = orders_le log before jump event low (jump_orders log jumps are event jump within is)

@@ -32,7 +32,8 @@ wild_total t (suc zero) e = le-ltb 1 t (omega (arith, e))
 wild_total t (suc (suc n)) e = lt-ltb 1 t (omega (arith, e))
 
 -- an object is wild where its total is 2
-pub is_wild-total : (design : FlatDesign) (changes totals : List ℕ) (object : ℕ) → AreTotals design changes totals → object < length totals → nat_lt 1 (get_or totals object 0) ≡ is_wild design changes object
+pub is_wild-total : (design : FlatDesign) (changes totals : List ℕ) (object : ℕ) → AreTotals design changes totals → object < length totals →
+    nat_lt 1 (get_or totals object 0) ≡ is_wild design changes object
 is_wild-total design changes totals object had low = wild_total (get_or totals object 0) (sum_by (λ changed. paths design changed object) changes) (had object low)
 
 -- The wild net pieces that an object reaches
@@ -44,7 +45,8 @@ numbers_of-push test number [] object =
 numbers_of-push test number (first ∷ objects) object =
     let rest : List ℕ = numbers_of test (number + 1) objects in
     let step : numbers_of test (number + 1) (objects ++ object ∷ []) ≡ numbers_of test (number + 1) objects ++ before_if (test object) (number + suc (length objects)) [] =
-    numbers_of-push test (number + 1) objects object ∙ ap (λ n. numbers_of test (number + 1) objects ++ before_if (test object) n []) (let e : number + 1 + length objects ≡ number + suc (length objects) = omega arith in e) in
+    numbers_of-push test (number + 1) objects object ∙ ap (λ n. numbers_of test (number + 1) objects ++ before_if (test object) n [])
+    (let e : number + 1 + length objects ≡ number + suc (length objects) = omega arith in e) in
     elim (test first) as (λ b.
     (elim b [ true ↦ number ∷ numbers_of test (number + 1) (objects ++ object ∷ []) | false ↦ numbers_of test (number + 1) (objects ++ object ∷ []) ])
     ≡ (elim b [ true ↦ number ∷ numbers_of test (number + 1) objects | false ↦ numbers_of test (number + 1) objects ]) ++ before_if (test object) (number + suc (length objects)) []) [
@@ -101,7 +103,8 @@ none_pass test (x ∷ xs) none =
     ap (λ b. cond b (x ∷ filter test xs) (filter test xs)) (none x (or_left (nat_eq x x) (has xs x) (eq-eqb x x refl))) ∙ none_pass test xs (λ y e. none y (or_right (nat_eq x y) (has xs y) e))
 
 -- an object that reaches no wild net piece settles none
-pub settled-none : (design : FlatDesign) (changes wild : List ℕ) (from : ℕ) → wild ≡ filter (is_wild design changes) (net_pieces design) → ReachesNone design from wild → [] ≡ settled_nets design changes from
+pub settled-none : (design : FlatDesign) (changes wild : List ℕ) (from : ℕ) → wild ≡ filter (is_wild design changes) (net_pieces design) → ReachesNone design from wild →
+    [] ≡ settled_nets design changes from
 settled-none design changes wild from is none =
     sym (sym (filter_filter (is_wild design changes) (λ n. nat_lt 0 (paths design from n)) (net_pieces design)) ∙ ap (filter (λ n. nat_lt 0 (paths design from n))) (sym is)
     ∙ none_pass (λ n. nat_lt 0 (paths design from n)) wild (λ net there. no_path net there))
@@ -110,7 +113,8 @@ settled-none design changes wild from is none =
     no_path net there = elim (cases_lt 0 (paths design from net)) [ inl some ↦ absurd (none net there some) | inr past ↦ le-ltb 0 (paths design from net) past ]
 
 -- marks of what reaches the wild net pieces tell so
-pub reaches-none : (design : FlatDesign) (nets : List ℕ) (marked : List Bool) (from : ℕ) (reaches : Bool) → ReachSome design nets marked → from < length marked → reaches ≡ get_or marked from false → reaches ≡ false → ReachesNone design from nets
+pub reaches-none : (design : FlatDesign) (nets : List ℕ) (marked : List Bool) (from : ℕ) (reaches : Bool) → ReachSome design nets marked → from < length marked → reaches ≡ get_or marked from false →
+    reaches ≡ false → ReachesNone design from nets
 reaches-none design nets marked from reaches had low is unmarked net there path = both_ways (get_or marked from false) (sym is ∙ unmarked) (had.reaching from net low there path)
 
 -- one more of some net pieces, where it passes
@@ -132,7 +136,8 @@ pub SettledBefore-set : (design : FlatDesign) (changes counts : List ℕ) (numbe
 SettledBefore-set design changes counts number lists list within here had object low counted =
     elim (cases_eq object number) [
       | inl same ↦
-          ap (λ o. get_or (set lists number list) o []) same ∙ get_or-set_same lists number list [] within ∙ here (subst (λ o. 0 < get_or counts o 0) same counted) ∙ ap (settled_nets design changes) (sym same)
+          ap (λ o. get_or (set lists number list) o []) same ∙ get_or-set_same lists number list [] within ∙ here (subst (λ o. 0 < get_or counts o 0) same counted)
+          ∙ ap (settled_nets design changes) (sym same)
       | inr other ↦ get_or-set_other lists number object list [] other ∙ had object (omega arith) counted
     ]
 

@@ -3,7 +3,8 @@ use Rattle.std.proofs.Common.{◌≡◌, ℕ, List, [], ◌∷◌, Bool, true, f
 use Rattle.std.specs.Prelude.{Option, Some, None, nat_le}
 use Rattle.v_design.specs.Designs.{FlatDesign, Machine, StuckAt, TestPlan, faulty_machine}
 use Rattle.v_design.specs.Runs.{FirstSlot, first_run}
-use Rattle.v_design.specs.Grades.{Samples, samples_at, SlotOutcome, Fine, Race, Hyper, slot_outcome, Stop, first_stop, good_ending, faulty_ending, FaultGrade, FullGrade, ended_in_full, ended_by_good, full_faulty, full_of, full_grade}
+use Rattle.v_design.specs.Grades.{Samples, samples_at, SlotOutcome, Fine, Race, Hyper, slot_outcome, Stop, first_stop, good_ending, faulty_ending, FaultGrade, FullGrade, ended_in_full}
+use Rattle.v_design.specs.Grades.{ended_by_good, full_faulty, full_of, full_grade}
 use Rattle.dict_laws.specs.Filled.{good_stop, faulty_stop, faulty_seen}
 
 -- neither machine stops, and these are a fault's samples at all strobes
@@ -45,7 +46,8 @@ some-none end e = cc
 
 -- a stop of either machine gives an end
 
-faulty-has : {A : Type 0} (stop : Stop) (seen : Samples) (strobes : List ℕ) (full : FullGrade) → (stop.outcome ≡ Fine → ⊥) → Some (full_faulty (Some stop) seen strobes) ≡ Some full → full.end ≡ None → A
+faulty-has : {A : Type 0} (stop : Stop) (seen : Samples) (strobes : List ℕ) (full : FullGrade) → (stop.outcome ≡ Fine → ⊥) → Some (full_faulty (Some stop) seen strobes) ≡ Some full →
+    full.end ≡ None → A
 faulty-has stop seen strobes full s e n = absurd (faulty-ends stop.time stop.outcome s (ap (λ (f : FullGrade). f.end) (some-full (full_faulty (Some stop) seen strobes) full e) ∙ n))
 
 good-has : {A : Type 0} (time : ℕ) (end : Option FaultGrade) (seen : Samples) (strobes : List ℕ) (full : FullGrade) → ended_by_good time end seen strobes ≡ Some full → full.end ≡ None → A
@@ -55,7 +57,8 @@ good-has time (Some end) seen strobes full e n = some-none end (ap (λ (f : Full
 abbrev AreNone : Option Stop → Option Stop → Samples → List ℕ → FullGrade → Type 0
 AreNone good faulty seen strobes full = (good ≡ None) × (faulty ≡ None) × (full.samples ≡ samples_at seen strobes)
 
-full-none : (good faulty : Option Stop) (seen : Samples) (strobes : List ℕ) (full : FullGrade) → IsStop faulty → full_of good faulty seen strobes ≡ Some full → full.end ≡ None → AreNone good faulty seen strobes full
+full-none : (good faulty : Option Stop) (seen : Samples) (strobes : List ℕ) (full : FullGrade) → IsStop faulty → full_of good faulty seen strobes ≡ Some full → full.end ≡ None →
+    AreNone good faulty seen strobes full
 full-none None None seen strobes full s e n = (refl, refl, ap (λ (f : FullGrade). f.samples) (sym (some-full (full_faulty None seen strobes) full e)))
 full-none None (Some stop) seen strobes full s e n = faulty-has stop seen strobes full s e n
 full-none (Some stop) None seen strobes full s e n = good-has stop.time (good_ending stop.outcome) seen strobes full e n
@@ -70,5 +73,6 @@ full-none (Some stop) (Some other) seen strobes full s e n = go (nat_le stop.tim
 pub neither_stops : (design : FlatDesign) (plan : TestPlan) (fault : StuckAt) (full : FullGrade) → full_grade design plan fault ≡ Some full → full.end ≡ None → IsEndless design plan fault full
 neither_stops design plan fault full e n =
     let found : AreNone (good_stop design plan) (faulty_stop design plan fault) (faulty_seen design plan fault) plan.strobes full =
-    full-none (good_stop design plan) (faulty_stop design plan fault) (faulty_seen design plan fault) plan.strobes full (stop-is (faulty_machine design fault) (first_run (faulty_machine design fault) plan.end)) e n in
+    full-none (good_stop design plan) (faulty_stop design plan fault) (faulty_seen design plan fault) plan.strobes full
+    (stop-is (faulty_machine design fault) (first_run (faulty_machine design fault) plan.end)) e n in
     record { good = found.0; faulty = found.1; samples = found.2 }

@@ -24,19 +24,24 @@ use Rattle.driver_checks.specs.TwoDrivers.{two_among, signal_two_by, first_two_b
 -- The drivers of one object
 
 -- a second variable that drives
-pub second-found : (drives : List (Identifier × ObjectDrive)) (driving : List (Identifier × plain.Signal)) (s second : plain.Signal) (variables : List plain.Signal) (place : SourcePlace) → Some second ≡ second_by_depth variables →
+pub second-found : (drives : List (Identifier × ObjectDrive)) (driving : List (Identifier × plain.Signal)) (s second : plain.Signal) (variables : List plain.Signal) (place : SourcePlace) →
+    Some second ≡ second_by_depth variables →
     variables ≡ items_under driving s.name → place ≡ join_place second → signal_two_by drives driving s ≡ Some (refusals.TwoDrivers place 0)
 second-found drives driving s second variables place e found at =
     ap (λ vs. two_among s (items_under drives s.name) (by_depth vs)) (sym found)
-    ∙ ap (λ r. refusal_or r (refusal_of (second_driver (taken_bits (range_width s.range) (by_depth variables)) (map run_of (items_under drives s.name))))) (second-refused (by_depth variables) ∙ ap second_refusal (sym e))
+    ∙ ap (λ r. refusal_or r (refusal_of (second_driver (taken_bits (range_width s.range) (by_depth variables)) (map run_of (items_under drives s.name)))))
+    (second-refused (by_depth variables) ∙ ap second_refusal (sym e))
     ∙ ap (λ p. Some (refusals.TwoDrivers p 0)) (sym at)
 
 -- where there is none, the selects are what is left
-pub selects-left : (drives : List (Identifier × ObjectDrive)) (driving : List (Identifier × plain.Signal)) (s : plain.Signal) (variables : List plain.Signal) (selects : List ObjectDrive) → None ≡ second_by_depth variables →
-    variables ≡ items_under driving s.name → selects ≡ items_under drives s.name → signal_two_by drives driving s ≡ refusal_of (second_driver (taken_bits (range_width s.range) (by_depth variables)) (map run_of selects))
+pub selects-left : (drives : List (Identifier × ObjectDrive)) (driving : List (Identifier × plain.Signal)) (s : plain.Signal) (variables : List plain.Signal) (selects : List ObjectDrive) →
+    None ≡ second_by_depth variables →
+    variables ≡ items_under driving s.name → selects ≡ items_under drives s.name → signal_two_by drives driving s ≡ refusal_of
+    (second_driver (taken_bits (range_width s.range) (by_depth variables)) (map run_of selects))
 selects-left drives driving s variables selects none found under =
     ap₂ (λ ds vs. two_among s ds (by_depth vs)) (sym under) (sym found)
-    ∙ ap (λ r. refusal_or r (refusal_of (second_driver (taken_bits (range_width s.range) (by_depth variables)) (map run_of selects)))) (second-refused (by_depth variables) ∙ ap second_refusal (sym none))
+    ∙ ap (λ r. refusal_or r (refusal_of (second_driver (taken_bits (range_width s.range) (by_depth variables)) (map run_of selects))))
+    (second-refused (by_depth variables) ∙ ap second_refusal (sym none))
 
 -- Lists of objects
 
@@ -44,22 +49,26 @@ or-assoc : (one two three : Option Refusal) → refusal_or (refusal_or one two) 
 or-assoc None two three = refl
 or-assoc (Some refusal) two three = refl
 
-first-append : (drives : List (Identifier × ObjectDrive)) (driving : List (Identifier × plain.Signal)) (xs ys : List plain.Signal) → first_two_by drives driving (xs ++ ys) ≡ refusal_or (first_two_by drives driving xs) (first_two_by drives driving ys)
+first-append : (drives : List (Identifier × ObjectDrive)) (driving : List (Identifier × plain.Signal)) (xs ys : List plain.Signal) →
+    first_two_by drives driving (xs ++ ys) ≡ refusal_or (first_two_by drives driving xs) (first_two_by drives driving ys)
 first-append drives driving [] ys = refl
 first-append drives driving (s ∷ xs) ys =
-    ap (refusal_or (signal_two_by drives driving s)) (first-append drives driving xs ys) ∙ sym (or-assoc (signal_two_by drives driving s) (first_two_by drives driving xs) (first_two_by drives driving ys))
+    ap (refusal_or (signal_two_by drives driving s)) (first-append drives driving xs ys) ∙ sym
+    (or-assoc (signal_two_by drives driving s) (first_two_by drives driving xs) (first_two_by drives driving ys))
 
 -- two drivers among some parts
 abbrev pub parts_two_by : List (Identifier × ObjectDrive) → List (Identifier × plain.Signal) → List plain.Part → Option Refusal
 parts_two_by drives driving parts = two_drivers_by drives driving (signals_of parts)
 
-parts-append : (drives : List (Identifier × ObjectDrive)) (driving : List (Identifier × plain.Signal)) (xs ys : List plain.Part) → parts_two_by drives driving (xs ++ ys) ≡ refusal_or (parts_two_by drives driving xs) (parts_two_by drives driving ys)
+parts-append : (drives : List (Identifier × ObjectDrive)) (driving : List (Identifier × plain.Signal)) (xs ys : List plain.Part) →
+    parts_two_by drives driving (xs ++ ys) ≡ refusal_or (parts_two_by drives driving xs) (parts_two_by drives driving ys)
 parts-append drives driving xs ys =
     ap (first_two_by drives driving) (ap (filter is_unjoined) (signals-append xs ys) ∙ filter-append is_unjoined (signals_of xs) (signals_of ys))
     ∙ first-append drives driving (filter is_unjoined (signals_of xs)) (filter is_unjoined (signals_of ys))
 
 -- a part that has none
-pub part-turn : (drives : List (Identifier × ObjectDrive)) (driving : List (Identifier × plain.Signal)) (xs : List Part) (i : ℕ) (x : Part) → i < length xs → x ≡ get_or xs i x → parts_two_by drives driving (map part_of (take i xs)) ≡ None →
+pub part-turn : (drives : List (Identifier × ObjectDrive)) (driving : List (Identifier × plain.Signal)) (xs : List Part) (i : ℕ) (x : Part) → i < length xs → x ≡ get_or xs i x →
+    parts_two_by drives driving (map part_of (take i xs)) ≡ None →
     parts_two_by drives driving (part_of x ∷ []) ≡ None → parts_two_by drives driving (map part_of (take (i + 1) xs)) ≡ None
 part-turn drives driving xs i x low is before here =
     ap (parts_two_by drives driving) (taken-more part_of xs i x low is) ∙ parts-append drives driving (map part_of (take i xs)) (part_of x ∷ []) ∙ ap₂ refusal_or before here

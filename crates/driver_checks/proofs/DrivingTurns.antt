@@ -27,7 +27,8 @@ name_of d = d.signal
 pub no-target : (d : Drive) (old : List Identifier) → d.bits.width ≡ 0 → old ≡ old ++ drive_signals (drive_of d ∷ [])
 no-target d old e = sym (append-nil old) ∙ ap (λ t. old ++ map name_of (cond t (drive_of d ∷ []) [])) (sym (drives-none d e))
 
-pub one-target : (d : Drive) (old more : List (Bor Identifier)) (name : Bor Identifier) → (d.bits.width ≡ 0 → ⊥) → name.now ≡ d.signal → more ≡ old ++ name ∷ [] → keys_of more ≡ keys_of old ++ drive_signals (drive_of d ∷ [])
+pub one-target : (d : Drive) (old more : List (Bor Identifier)) (name : Bor Identifier) → (d.bits.width ≡ 0 → ⊥) → name.now ≡ d.signal → more ≡ old ++ name ∷ [] →
+    keys_of more ≡ keys_of old ++ drive_signals (drive_of d ∷ [])
 one-target d old more name e is pushed =
     ap keys_of pushed ∙ map_push (λ key. key.now) old name ∙ ap (λ n. keys_of old ++ n ∷ []) is
     ∙ ap (λ t. keys_of old ++ map name_of (cond t (drive_of d ∷ []) [])) (sym (drives-bits d e))
@@ -38,11 +39,13 @@ targets-append xs ys = ap (map name_of) (filter-append drives_some xs ys) ∙ ma
 -- Variables that drive
 
 -- a variable is no target where it has no place among them
-pub no-place-among : (targets : List Identifier) (name : Identifier) (found : Option ℕ) (reg there : Bool) → reg ≡ true → found ≡ key_from targets name 0 → there ≡ is_some found → not there ≡ (reg && not (has_name targets name))
+pub no-place-among : (targets : List Identifier) (name : Identifier) (found : Option ℕ) (reg there : Bool) → reg ≡ true → found ≡ key_from targets name 0 → there ≡ is_some found →
+    not there ≡ (reg && not (has_name targets name))
 no-place-among targets name found reg there is e t =
     ap not (t ∙ ap is_some e ∙ key-there targets name) ∙ sym (ap (λ r. r && not (has_name targets name)) is)
 
-pub not-driving : (signals : List plain.Signal) (targets : List Identifier) (s : plain.Signal) (old : List (Identifier × plain.Signal)) (driving : Bool) → driving ≡ (s.is_reg && not (has_name targets s.name)) → driving ≡ false →
+pub not-driving : (signals : List plain.Signal) (targets : List Identifier) (s : plain.Signal) (old : List (Identifier × plain.Signal)) (driving : Bool) →
+    driving ≡ (s.is_reg && not (has_name targets s.name)) → driving ≡ false →
     old ≡ old ++ driving_besides signals targets (s ∷ [])
 not-driving signals targets s old driving is fails = sym (append-nil old) ∙ ap (λ t. old ++ driving_if t (outermost signals s.name) s []) (sym fails ∙ is)
 
@@ -54,12 +57,14 @@ one-driving signals targets s old more k driving is holds key item pushed =
     ∙ ap₂ (λ (name : Identifier) (variable : Bor Signal). driving_listed old ++ (name, signal_of variable.now) ∷ []) key item
     ∙ ap (λ t. driving_listed old ++ driving_if t (outermost signals (signal_of s.now).name) (signal_of s.now) []) (sym holds ∙ is)
 
-besides-over : (signals : List plain.Signal) (targets : List Identifier) (xs ys : List plain.Signal) → driving_besides signals targets (xs ++ ys) ≡ driving_besides signals targets xs ++ driving_besides signals targets ys
+besides-over : (signals : List plain.Signal) (targets : List Identifier) (xs ys : List plain.Signal) →
+    driving_besides signals targets (xs ++ ys) ≡ driving_besides signals targets xs ++ driving_besides signals targets ys
 besides-over signals targets [] ys = refl
 besides-over signals targets (s ∷ xs) ys = by_test (s.is_reg && not (has_name targets s.name)) (besides-over signals targets xs ys)
   where
     by_test : (test : Bool) → driving_besides signals targets (xs ++ ys) ≡ driving_besides signals targets xs ++ driving_besides signals targets ys →
-        driving_if test (outermost signals s.name) s (driving_besides signals targets (xs ++ ys)) ≡ driving_if test (outermost signals s.name) s (driving_besides signals targets xs) ++ driving_besides signals targets ys
+        driving_if test (outermost signals s.name) s (driving_besides signals targets (xs ++ ys)) ≡ driving_if test (outermost signals s.name) s (driving_besides signals targets xs)
+        ++ driving_besides signals targets ys
     by_test true e = ap (λ rest. (outermost signals s.name, s) ∷ rest) e
     by_test false e = e
 

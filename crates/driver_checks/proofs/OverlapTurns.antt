@@ -1,5 +1,6 @@
 -- Runs of bits that are taken, and drives that overlap them, one more at a time.
-use Rattle.std.proofs.Common.{◌≡◌, ℕ, zero, suc, ◌+◌, ◌<◌, ◌≤◌, Bool, true, false, List, [], ◌∷◌, ◌++◌, length, get_or, take, drop, map, flat_map, Option, Some, None, refl, sym, ap, ap₂, ◌∙◌, append-nil, arith, drop-cons}
+use Rattle.std.proofs.Common.{◌≡◌, ℕ, zero, suc, ◌+◌, ◌<◌, ◌≤◌, Bool, true, false, List, [], ◌∷◌, ◌++◌, length, get_or, take, drop, map, flat_map, Option, Some, None, refl, sym, ap, ap₂, ◌∙◌}
+use Rattle.std.proofs.Common.{append-nil, arith, drop-cons}
 use Rattle.std.specs.Prelude.{nat_le}
 use Rattle.std.proofs.lemmas.List.{take_more}
 use Rattle.std.proofs.lemmas.Grind.{flat_map-append}
@@ -16,12 +17,14 @@ use Rattle.elab_wires.specs.declared.drives.ObjectDrive.{ObjectDrive}
 use Rattle.driver_checks.specs.Overlaps.{bits_of, lesser, among-either}
 
 -- one run more
-pub taken-turn : (xs : List DrivenBits) (i : ℕ) (x : DrivenBits) (bits : List ℕ) (least shared next : Option ℕ) → i < length xs → x ≡ get_or xs i x → least ≡ least_among (flat_map bits_of (take i xs)) bits →
+pub taken-turn : (xs : List DrivenBits) (i : ℕ) (x : DrivenBits) (bits : List ℕ) (least shared next : Option ℕ) → i < length xs → x ≡ get_or xs i x →
+    least ≡ least_among (flat_map bits_of (take i xs)) bits →
     shared ≡ least_among (bits_of x) bits → next ≡ lesser least shared → next ≡ least_among (flat_map bits_of (take (i + 1) xs)) bits
 taken-turn xs i x bits least shared next low is had with_x n =
     n ∙ ap₂ lesser had with_x ∙ sym (among-either (flat_map bits_of (take i xs)) (bits_of x) bits)
     ∙ ap (λ others. least_among others bits)
-    (sym (ap (flat_map bits_of) (take_more xs i x low ∙ ap (λ y. take i xs ++ y ∷ []) (sym is)) ∙ flat_map-append bits_of (take i xs) (x ∷ []) ∙ ap (λ l. flat_map bits_of (take i xs) ++ l) (append-nil (bits_of x))))
+    (sym (ap (flat_map bits_of) (take_more xs i x low ∙ ap (λ y. take i xs ++ y ∷ []) (sym is)) ∙ flat_map-append bits_of (take i xs) (x ∷ [])
+    ∙ ap (λ l. flat_map bits_of (take i xs) ++ l) (append-nil (bits_of x))))
 
 -- The drives that are left
 
@@ -31,19 +34,22 @@ runs_of drives = map run_of (map object_drive_of drives)
 run-is : (d : ObjectDrive) → run_of (object_drive_of d) ≡ record { bits = bits_of d.bits; place = source_place d.place }
 run-is d = ap (λ bits. record { bits = bits; place = source_place d.place }) (bits-driven d.bits)
 
-left-here : (xs : List ObjectDrive) (i : ℕ) (x : ObjectDrive) → i < length xs → x ≡ get_or xs i x → runs_of (drop i xs) ≡ record { bits = bits_of x.bits; place = source_place x.place } ∷ runs_of (drop (i + 1) xs)
+left-here : (xs : List ObjectDrive) (i : ℕ) (x : ObjectDrive) → i < length xs → x ≡ get_or xs i x →
+    runs_of (drop i xs) ≡ record { bits = bits_of x.bits; place = source_place x.place } ∷ runs_of (drop (i + 1) xs)
 left-here xs i x low is =
     ap runs_of (drop-cons xs i x low ∙ ap₂ (λ y k. y ∷ drop k xs) (sym is) (let e : suc i ≡ i + 1 = omega arith in e)) ∙ ap (λ r. r ∷ runs_of (drop (i + 1) xs)) (run-is x)
 
 -- a drive that overlaps what is taken
-pub overlap-here : (taken : List ℕ) (xs : List ObjectDrive) (i : ℕ) (x : ObjectDrive) (bit : ℕ) (second : Option SecondDriver) → i < length xs → x ≡ get_or xs i x → second_driver taken (runs_of (drop i xs)) ≡ second →
+pub overlap-here : (taken : List ℕ) (xs : List ObjectDrive) (i : ℕ) (x : ObjectDrive) (bit : ℕ) (second : Option SecondDriver) → i < length xs → x ≡ get_or xs i x →
+    second_driver taken (runs_of (drop i xs)) ≡ second →
     Some bit ≡ least_among taken (bits_of x.bits) → Some (record { place = source_place x.place; bit = bit }) ≡ second
 overlap-here taken xs i x bit second low is had found =
     let rest = second_driver (taken ++ bits_of x.bits) (runs_of (drop (i + 1) xs)) in
     ap (λ b. second_if (source_place x.place) b rest) found ∙ sym (ap (second_driver taken) (left-here xs i x low is)) ∙ had
 
 -- a drive that overlaps nothing
-pub none-here : (taken more : List ℕ) (xs : List ObjectDrive) (i : ℕ) (x : ObjectDrive) (second : Option SecondDriver) → i < length xs → x ≡ get_or xs i x → second_driver taken (runs_of (drop i xs)) ≡ second →
+pub none-here : (taken more : List ℕ) (xs : List ObjectDrive) (i : ℕ) (x : ObjectDrive) (second : Option SecondDriver) → i < length xs → x ≡ get_or xs i x →
+    second_driver taken (runs_of (drop i xs)) ≡ second →
     None ≡ least_among taken (bits_of x.bits) → more ≡ taken ++ bits_of x.bits → second_driver more (runs_of (drop (i + 1) xs)) ≡ second
 none-here taken more xs i x second low is had none now =
     let rest = second_driver (taken ++ bits_of x.bits) (runs_of (drop (i + 1) xs)) in

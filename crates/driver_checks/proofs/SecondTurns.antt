@@ -10,7 +10,8 @@ use Rattle.elab_wires.specs.Turns.{taken-more}
 use Rattle.elab_wires.specs.Depths.{first_two, sooner}
 use Rattle.driver_checks.specs.Seconds.{two_of, second_with, two-more}
 
-pub signals-turn : (signals : List (Bor Signal)) (i : ℕ) (x : Bor Signal) (first second : Option (Bor Signal)) (sooner_one : Bor Signal) (later : Option (Bor Signal)) → i < length signals → x ≡ get_or signals i x →
+pub signals-turn : (signals : List (Bor Signal)) (i : ℕ) (x : Bor Signal) (first second : Option (Bor Signal)) (sooner_one : Bor Signal) (later : Option (Bor Signal)) → i < length signals →
+    x ≡ get_or signals i x →
     two_of (option_map signal_borrowed first) (option_map signal_borrowed second) ≡ first_two (by_depth (map signal_borrowed (take i signals))) →
     signal_borrowed sooner_one ≡ sooner (signal_borrowed x) (option_map signal_borrowed first) →
     option_map signal_borrowed later ≡ second_with (option_map signal_borrowed first) (option_map signal_borrowed second) (signal_borrowed x) →

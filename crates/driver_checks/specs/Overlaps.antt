@@ -90,7 +90,8 @@ among-above others start (suc count) other e = by_test (has others start) e (amo
     lesser-above None above d = let same : start ≡ other = cc in omega arith
     lesser-above (Some n) above d = let same : min start n ≡ other = cc in let high = above n refl in omega arith
 
-    by_test : (here : Bool) → lesser_if here start (least_among others (up_from (start + 1) count)) ≡ Some other → ((n : ℕ) → least_among others (up_from (start + 1) count) ≡ Some n → start + 1 ≤ n) → start ≤ other
+    by_test : (here : Bool) → lesser_if here start (least_among others (up_from (start + 1) count)) ≡ Some other →
+        ((n : ℕ) → least_among others (up_from (start + 1) count) ≡ Some n → start + 1 ≤ n) → start ≤ other
     by_test true d rest = lesser-above (least_among others (up_from (start + 1) count)) rest d
     by_test false d rest = let high = rest other d in omega arith
 
@@ -101,7 +102,8 @@ pub runs-share : (a n b m : ℕ) → max a b < min (a + n) (b + m) → least_amo
 runs-share a n b zero share = absurd (omega arith)
 runs-share a n b (suc m) share = by_order (order a b) (runs-share a n (b + 1) m)
   where
-    by_order : (a ≤ b) ⊎ (b < a) → (max a (b + 1) < min (a + n) ((b + 1) + m) → least_among (up_from a n) (up_from (b + 1) m) ≡ Some (max a (b + 1))) → lesser_if (has (up_from a n) b) b (least_among (up_from a n) (up_from (b + 1) m)) ≡ Some (max a b)
+    by_order : (a ≤ b) ⊎ (b < a) → (max a (b + 1) < min (a + n) ((b + 1) + m) → least_among (up_from a n) (up_from (b + 1) m) ≡ Some (max a (b + 1))) →
+        lesser_if (has (up_from a n) b) b (least_among (up_from a n) (up_from (b + 1) m)) ≡ Some (max a b)
     by_order (inl above) rest =
         ap (λ t. lesser_if t b (least_among (up_from a n) (up_from (b + 1) m))) (has-in a n b above (omega arith))
         ∙ least-first b (least_among (up_from a n) (up_from (b + 1) m)) (λ other e. let high = among-above (up_from a n) (b + 1) m other e in omega arith)

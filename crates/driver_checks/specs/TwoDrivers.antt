@@ -31,10 +31,12 @@ first_two_by drives driving (signal ∷ rest) = refusal_or (signal_two_by drives
 abbrev pub two_drivers_by : List (Identifier × ObjectDrive) → List (Identifier × Signal) → List Signal → Option Refusal
 two_drivers_by drives driving signals = first_two_by drives driving (filter is_unjoined signals)
 
-signal-by : (signals : List Signal) (nodes : List WalkedNode) (signal : Signal) → signal_two_by (all_drives signals 0 nodes) (all_driving signals nodes signals) signal ≡ signal_two_drivers signals nodes signal
+signal-by : (signals : List Signal) (nodes : List WalkedNode) (signal : Signal) → signal_two_by (all_drives signals 0 nodes)
+    (all_driving signals nodes signals) signal ≡ signal_two_drivers signals nodes signal
 signal-by signals nodes signal = ap₂ (two_among signal) (object-under signals nodes signal.name) (driving-by-depth signals nodes signal.name)
 
-some-by : (signals : List Signal) (nodes : List WalkedNode) (some : List Signal) → first_two_by (all_drives signals 0 nodes) (all_driving signals nodes signals) some ≡ first_two_drivers signals nodes some
+some-by : (signals : List Signal) (nodes : List WalkedNode) (some : List Signal) → first_two_by (all_drives signals 0 nodes)
+    (all_driving signals nodes signals) some ≡ first_two_drivers signals nodes some
 some-by signals nodes [] = refl
 some-by signals nodes (signal ∷ rest) = ap₂ refusal_or (signal-by signals nodes signal) (some-by signals nodes rest)
 

@@ -44,7 +44,8 @@ pub case-assigned : (place : Place) (kind : CaseKind) (value : Expr) (items : Ve
 case-assigned place kind value items = ap assigned_names (statement_of-Case place kind value items) ∙ items-assigned items.items
 
 -- one name more
-pub assigned-push : (old new : List (Keyed Place)) (k : Keyed Place) (n : NamedPlace) → new ≡ old ++ k ∷ [] → k.key.now ≡ n.name → source_place k.item ≡ n.place → assignments_listed new ≡ assignments_listed old ++ n ∷ []
+pub assigned-push : (old new : List (Keyed Place)) (k : Keyed Place) (n : NamedPlace) → new ≡ old ++ k ∷ [] → k.key.now ≡ n.name → source_place k.item ≡ n.place →
+    assignments_listed new ≡ assignments_listed old ++ n ∷ []
 assigned-push old new k n pushed name place =
     ap (map assignment_of) (ap (map keyed_of) pushed ∙ map_push keyed_of old k) ∙ map_push assignment_of (map keyed_of old) (keyed_of k)
     ∙ ap₂ (λ (a : Identifier) (p : SourcePlace). assignments_listed old ++ record { name = a; place = p } ∷ []) name place
@@ -55,18 +56,21 @@ abbrev pub place_or : SourcePlace → Option Place → SourcePlace
 place_or default None = default
 place_or default (Some place) = source_place place
 
-first-assigned : (places : List (List ℕ × Place)) (default : SourcePlace) (name : Identifier) → place_or default (first_under places name) ≡ place_of_first default (filter (λ (n : NamedPlace). same_name n.name name) (map assignment_of places))
+first-assigned : (places : List (List ℕ × Place)) (default : SourcePlace) (name : Identifier) →
+    place_or default (first_under places name) ≡ place_of_first default (filter (λ (n : NamedPlace). same_name n.name name) (map assignment_of places))
 first-assigned [] default name = refl
 first-assigned (p ∷ places) default name =
     ap (λ t. place_or default (first_of (item_if t p.1 (items_under places name)))) (key-name name p.0) ∙ by_test (same_name p.0 name) (first-assigned places default name)
   where
     by_test : (test : Bool) → place_or default (first_under places name) ≡ place_of_first default (filter (λ (n : NamedPlace). same_name n.name name) (map assignment_of places)) →
         place_or default (first_of (item_if test p.1 (items_under places name)))
-        ≡ place_of_first default (cond test (assignment_of p ∷ filter (λ (n : NamedPlace). same_name n.name name) (map assignment_of places)) (filter (λ (n : NamedPlace). same_name n.name name) (map assignment_of places)))
+        ≡ place_of_first default (cond test (assignment_of p ∷ filter (λ (n : NamedPlace). same_name n.name name) (map assignment_of places))
+        (filter (λ (n : NamedPlace). same_name n.name name) (map assignment_of places)))
     by_test true e = refl
     by_test false e = e
 
-pub place-found : (places : List (List ℕ × Place)) (process : plain.WalkedProcess) (name : Identifier) (found : Option Place) → map assignment_of places ≡ assigned_names process.body → found ≡ first_under places name →
+pub place-found : (places : List (List ℕ × Place)) (process : plain.WalkedProcess) (name : Identifier) (found : Option Place) → map assignment_of places ≡ assigned_names process.body →
+    found ≡ first_under places name →
     place_or process.place found ≡ assigned_place process name
 place-found places process name found all e =
     ap (place_or process.place) e ∙ (first-assigned places process.place name ∙ ap (λ ns. place_of_first process.place (filter (λ (n : NamedPlace). same_name n.name name) ns)) all)

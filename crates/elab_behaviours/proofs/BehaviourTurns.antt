@@ -31,7 +31,8 @@ behaviours-push f n (x ∷ xs) y =
 abbrev pub behaviours_so_far : List plain.Part → List Part → ℕ → List Behaviour
 behaviours_so_far parts xs i = joined (map_numbered (part_behaviour parts) 0 (map part_of (take i xs)))
 
-behaviours-more : (parts : List plain.Part) (xs : List Part) (i : ℕ) (x : Part) → i < length xs → x ≡ get_or xs i x → behaviours_so_far parts xs (i + 1) ≡ behaviours_so_far parts xs i ++ part_behaviour parts i (part_of x)
+behaviours-more : (parts : List plain.Part) (xs : List Part) (i : ℕ) (x : Part) → i < length xs → x ≡ get_or xs i x →
+    behaviours_so_far parts xs (i + 1) ≡ behaviours_so_far parts xs i ++ part_behaviour parts i (part_of x)
 behaviours-more parts xs i x low is =
     let long : length (map part_of (take i xs)) ≡ i = length-map (take i xs) part_of ∙ length-take-le i xs (omega arith) in
     ap (λ ps. joined (map_numbered (part_behaviour parts) 0 ps)) (taken-more part_of xs i x low is)
@@ -39,7 +40,8 @@ behaviours-more parts xs i x low is =
     ∙ ap (λ k. behaviours_so_far parts xs i ++ part_behaviour parts k (part_of x)) (let e : 0 + length (map part_of (take i xs)) ≡ i = omega (arith, long) in e)
 
 -- one part more, for what is taken of behaviours
-pub part-turn : {A : Type 0} (of : List Behaviour → List A) → ((xs ys : List Behaviour) → of (xs ++ ys) ≡ of xs ++ of ys) → (parts : List plain.Part) (xs : List Part) (i : ℕ) (x : Part) (old more : List A) → i < length xs → x ≡ get_or xs i x →
+pub part-turn : {A : Type 0} (of : List Behaviour → List A) → ((xs ys : List Behaviour) → of (xs ++ ys) ≡ of xs ++ of ys) →
+    (parts : List plain.Part) (xs : List Part) (i : ℕ) (x : Part) (old more : List A) → i < length xs → x ≡ get_or xs i x →
     old ≡ of (behaviours_so_far parts xs i) → more ≡ old ++ of (part_behaviour parts i (part_of x)) → more ≡ of (behaviours_so_far parts xs (i + 1))
 part-turn of over parts xs i x old more low is had pushed =
     pushed ∙ ap (λ l. l ++ of (part_behaviour parts i (part_of x))) had

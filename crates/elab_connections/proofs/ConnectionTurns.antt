@@ -2,7 +2,8 @@
 use Rattle.std.proofs.Common.{◌≡◌, ℕ, ◌+◌, ◌<◌, ◌≤◌, List, [], ◌∷◌, ◌++◌, drop, get_or, length, sym, ap, ◌∙◌, append_assoc, append-nil}
 use Rattle.name_checks.specs.Rows.{drop-step, drop-past}
 
-pub turn-more : {A D : Type 0} (g : A → List D) (h : ℕ → List A → List D) (xs : List A) (i : ℕ) (x : A) (list new whole : List D) → ((y : A) (ys : List A) → h i (y ∷ ys) ≡ g y ++ h (i + 1) ys) → i < length xs → x ≡ get_or xs i x
+pub turn-more : {A D : Type 0} (g : A → List D) (h : ℕ → List A → List D) (xs : List A) (i : ℕ) (x : A) (list new whole : List D) → ((y : A) (ys : List A) → h i (y ∷ ys) ≡ g y ++ h (i + 1) ys) →
+    i < length xs → x ≡ get_or xs i x
     → new ≡ list ++ g x → list ++ h i (drop i xs) ≡ whole → new ++ h (i + 1) (drop (i + 1) xs) ≡ whole
 turn-more {A} g h xs i x list new whole c below at e k =
     ap (λ n. n ++ h (i + 1) (drop (i + 1) xs)) e ∙ append_assoc list (g x) (h (i + 1) (drop (i + 1) xs))

@@ -7,7 +7,8 @@ use Rattle.four_value.specs.declared.operator.BinaryOperator.TheVariants.{Bitwis
 use Rattle.v_design.specs.Designs.{VariableBit, TestPlan}
 use Rattle.v_design.specs.Grades.{Raced}
 use Rattle.v_tree.specs.declared.token.NumberForm.TheVariants.{Plain}
-use Rattle.v_tree.specs.Trees.{Number, Selected, Infixed, NoIndex, OneSelect, OnAnyRead, BlockStatement, EventStatement, DelayStatement, BlockingStatement, NoContent, FirstContent, RegItem, InitialItem, AlwaysItem, PlainHeads, SourceUnit}
+use Rattle.v_tree.specs.Trees.{Number, Selected, Infixed, NoIndex, OneSelect, OnAnyRead, BlockStatement, EventStatement, DelayStatement, BlockingStatement, NoContent, FirstContent, RegItem}
+use Rattle.v_tree.specs.Trees.{InitialItem, AlwaysItem, PlainHeads, SourceUnit}
 use Rattle.v_elab.specs.declared.Mode.TheVariants.{Strict}
 use Rattle.v_elab.specs.Flat.{flat}
 use Rattle.elab_examples.specs.Build.{at, steps, summary_of, grades_of}
@@ -25,15 +26,27 @@ source = record {
     parameters = ([]);
     heads = (PlainHeads ([]));
     items =
-        ((RegItem (at 2 1) false None (record { name = (codes "a"); place = (at 2 5); content = (FirstContent (Number (at 2 9) Plain (bits_of 32 0))) } ∷ record { name = (codes "b"); place = (at 2 12); content = (FirstContent (Number (at 2 16) Plain (bits_of 32 0))) } ∷ record { name = (codes "y"); place = (at 2 19); content = NoContent } ∷ [])) ∷
-        (InitialItem (at 3 1) (DelayStatement (at 3 9) (Number (at 3 10) Plain (bits_of 32 5)) (BlockStatement (at 3 12) (steps ((BlockingStatement (at 3 18) (OneSelect (record { place = (at 3 18); name = (codes "a"); index = NoIndex })) None (Number (at 3 22) Plain (bits_of 32 1))) ∷ (BlockingStatement (at 3 25) (OneSelect (record { place = (at 3 25); name = (codes "b"); index = NoIndex })) None (Number (at 3 29) Plain (bits_of 32 1))) ∷ []))))) ∷
-        (AlwaysItem (at 4 1) (EventStatement (at 4 8) OnAnyRead (BlockingStatement (at 4 11) (OneSelect (record { place = (at 4 11); name = (codes "y"); index = NoIndex })) None (Infixed (at 4 15) BitwiseAnd (Selected (at 4 15) (codes "a") NoIndex) (Selected (at 4 19) (codes "b") NoIndex))))) ∷
+        ((RegItem (at 2 1) false None (record { name = (codes "a"); place = (at 2 5); content = (FirstContent (Number (at 2 9) Plain (bits_of 32 0))) } ∷
+        record { name = (codes "b"); place = (at 2 12); content = (FirstContent (Number (at 2 16) Plain (bits_of 32 0))) } ∷
+        record { name = (codes "y"); place = (at 2 19); content = NoContent } ∷ [])) ∷
+        (InitialItem (at 3 1) (DelayStatement (at 3 9) (Number (at 3 10) Plain (bits_of 32 5))
+        (BlockStatement (at 3 12) (steps ((BlockingStatement (at 3 18) (OneSelect (record { place = (at 3 18); name = (codes "a"); index = NoIndex })) None
+        (Number (at 3 22) Plain (bits_of 32 1))) ∷ (BlockingStatement (at 3 25) (OneSelect (record { place = (at 3 25); name = (codes "b"); index = NoIndex })) None
+        (Number (at 3 29) Plain (bits_of 32 1))) ∷ []))))) ∷
+        (AlwaysItem (at 4 1) (EventStatement (at 4 8) OnAnyRead (BlockingStatement (at 4 11) (OneSelect (record { place = (at 4 11); name = (codes "y"); index = NoIndex })) None
+        (Infixed (at 4 15) BitwiseAnd (Selected (at 4 15) (codes "a") NoIndex) (Selected (at 4 19) (codes "b") NoIndex))))) ∷
         []);
   } ∷ []);
 }
 
 abbrev pub Found : Type 0
-Found = summary_of (flat source (codes "top") Strict) ≡ Ok (record { objects = (record { name = (codes "a"); kind = Var; width = 1; indexes = ([]); place = (at 2 5) } ∷ record { name = (codes "b"); kind = Var; width = 1; indexes = ([]); place = (at 2 12) } ∷ record { name = (codes "y"); kind = Var; width = 1; indexes = ([]); place = (at 2 19) } ∷ []); nodes = ([]); processes = (false ∷ true ∷ []); joined = ([]) })
+Found = summary_of (flat source (codes "top") Strict) ≡ Ok (record {
+  objects = (record { name = (codes "a"); kind = Var; width = 1; indexes = ([]); place = (at 2 5) } ∷
+      record { name = (codes "b"); kind = Var; width = 1; indexes = ([]); place = (at 2 12) } ∷ record { name = (codes "y"); kind = Var; width = 1; indexes = ([]); place = (at 2 19) } ∷ []);
+  nodes = ([]);
+  processes = (false ∷ true ∷ []);
+  joined = ([]);
+})
 
 found : Found
 found = refl
@@ -42,7 +55,12 @@ abbrev plan : TestPlan
 plan = record { end = 9; strobes = (8 ∷ []); watched = (record { object = 2; bit = 0 } ∷ []); faults = (record { site = (VariableBit 2 0); value = false } ∷ []) }
 
 abbrev pub Graded : Type 0
-Graded = grades_of (flat source (codes "top") Strict) plan ≡ Ok (Some (Raced Good (record { time = 5; phase = 1; first = record { kind = Write; object = 1; process = 0; line = 3 }; second = record { kind = Read; object = 1; process = 1; line = 4 } })) ∷ [])
+Graded = grades_of (flat source (codes "top") Strict) plan ≡ Ok (Some (Raced Good (record {
+  time = 5;
+  phase = 1;
+  first = record { kind = Write; object = 1; process = 0; line = 3 };
+  second = record { kind = Read; object = 1; process = 1; line = 4 };
+})) ∷ [])
 
 graded : Graded
 graded = refl

@@ -4,7 +4,8 @@ use Rattle.four_value.specs.Values.{bits_of}
 use Rattle.four_value.specs.declared.logic.Bit.TheVariants.{Zero, X}
 use Rattle.four_value.specs.declared.operator.BinaryOperator.TheVariants.{Add, Less, ShiftLeft}
 use Rattle.v_tree.specs.declared.token.NumberForm.TheVariants.{Plain, Sized}
-use Rattle.v_tree.specs.Trees.{SourceExpression, Number, Selected, Infixed, Concatenated, Prefixed, NoIndex, IndexAt, PlainHeads, ParameterItem, RegItem, NoContent, EventStatement, OnEntries, OneSelect, NullStatement, AlwaysItem, SourceStatement, BlockStatement, IfStatement, BlockingStatement}
+use Rattle.v_tree.specs.Trees.{SourceExpression, Number, Selected, Infixed, Concatenated, Prefixed, NoIndex, IndexAt, PlainHeads, ParameterItem, RegItem, NoContent, EventStatement, OnEntries}
+use Rattle.v_tree.specs.Trees.{OneSelect, NullStatement, AlwaysItem, SourceStatement, BlockStatement, IfStatement, BlockingStatement}
 use Rattle.four_value.specs.declared.operator.UnaryOperator.TheVariants.{Minus}
 use Rattle.four_value.specs.declared.logic.Edge.TheVariants.{Any}
 use Rattle.v_names.specs.Faults.{NoConstant, BadWidth, BadConnection}
@@ -21,14 +22,16 @@ use Rattle.elab_examples.specs.Build.{at, parts, steps, faulty}
 
 -- object 2 is joined into 1, and 1 into 0
 abbrev pub Joins : Type 0
-Joins = joined_objects 4 (record { formal = 2; actual = Some 1; place = at 1 1 } ∷ record { formal = 3; actual = None; place = at 1 2 } ∷ record { formal = 1; actual = Some 0; place = at 1 3 } ∷ []) ≡ Ok (0 ∷ 0 ∷ 0 ∷ 3 ∷ [])
+Joins = joined_objects 4 (record { formal = 2; actual = Some 1; place = at 1 1 } ∷ record { formal = 3; actual = None; place = at 1 2 } ∷ record { formal = 1; actual = Some 0; place = at 1 3 } ∷ [])
+    ≡ Ok (0 ∷ 0 ∷ 0 ∷ 3 ∷ [])
 
 joins : Joins
 joins = refl
 
 -- one port is connected twice
 abbrev pub JoinsTwice : Type 0
-JoinsTwice = joined_objects 2 (record { formal = 1; actual = Some 0; place = at 1 1 } ∷ record { formal = 1; actual = None; place = at 1 2 } ∷ []) ≡ Err (record { place = at 1 2; wrong = BadConnection })
+JoinsTwice = joined_objects 2 (record { formal = 1; actual = Some 0; place = at 1 1 } ∷ record { formal = 1; actual = None; place = at 1 2 } ∷ []) ≡ Err
+    (record { place = at 1 2; wrong = BadConnection })
 
 joins_twice : JoinsTwice
 joins_twice = refl
@@ -36,7 +39,8 @@ joins_twice = refl
 -- eight bits with drivers of [3:2] and [5]
 abbrev pub Cut : Type 0
 Cut = cut_pieces 8 (record { low = 5; width = 1; place = at 1 1 } ∷ record { low = 2; width = 2; place = at 1 2 } ∷ [])
-    ≡ Ok (record { low = 0; width = 2; driver = None } ∷ record { low = 2; width = 2; driver = Some 1 } ∷ record { low = 4; width = 1; driver = None } ∷ record { low = 5; width = 1; driver = Some 0 } ∷ record { low = 6; width = 2; driver = None } ∷ [])
+    ≡ Ok (record { low = 0; width = 2; driver = None } ∷ record { low = 2; width = 2; driver = Some 1 } ∷ record { low = 4; width = 1; driver = None } ∷
+    record { low = 5; width = 1; driver = Some 0 } ∷ record { low = 6; width = 2; driver = None } ∷ [])
 
 cut : Cut
 cut = refl
@@ -49,7 +53,8 @@ cut_twice = refl
 
 -- a four bit net and a signed variable of two bits
 abbrev pub scope : Scope
-scope = record { name = codes "a"; entry = NetEntry (record { ranged = true; high = 3; low = 0 }) false } ∷ record { name = codes "s"; entry = RegEntry (record { ranged = true; high = 1; low = 0 }) true } ∷ []
+scope = record { name = codes "a"; entry = NetEntry (record { ranged = true; high = 3; low = 0 }) false } ∷
+    record { name = codes "s"; entry = RegEntry (record { ranged = true; high = 1; low = 0 }) true } ∷ []
 
 abbrev pub name : ℕ → List ℕ → SourceExpression
 name column n = Selected (at 1 column) n NoIndex
@@ -104,8 +109,13 @@ NegativeIndex = flat (record {
     parameters = [];
     heads = PlainHeads [];
     items =
-        RegItem (at 2 1) false (Some (record { place = at 2 5; high = Number (at 2 6) Plain (bits_of 32 3); low = Number (at 2 8) Plain (bits_of 32 0) })) (record { name = codes "v"; place = at 2 11; content = NoContent } ∷ []) ∷
-        AlwaysItem (at 3 1) (EventStatement (at 3 8) (OnEntries (record { edge = Any; select = record { place = at 3 10; name = codes "v"; index = IndexAt (Prefixed (at 3 12) Minus (Number (at 3 13) Plain (bits_of 32 1))) } } ∷ [])) (NullStatement (at 3 16))) ∷ [];
+        RegItem (at 2 1) false (Some (record { place = at 2 5; high = Number (at 2 6) Plain (bits_of 32 3); low = Number (at 2 8) Plain (bits_of 32 0) }))
+        (record { name = codes "v"; place = at 2 11; content = NoContent } ∷ []) ∷
+        AlwaysItem (at 3 1) (EventStatement (at 3 8) (OnEntries (record {
+          edge = Any;
+          select =
+              record { place = at 3 10; name = codes "v"; index = IndexAt (Prefixed (at 3 12) Minus (Number (at 3 13) Plain (bits_of 32 1))) };
+        } ∷ [])) (NullStatement (at 3 16))) ∷ [];
   } ∷ [];
 })
     (codes "top") Usual ≡ Err (faulty 3 12 NoConstant)
@@ -127,7 +137,12 @@ UnknownParameter = flat (record {
           is_local = false;
           signed = false;
           range = Some (record { place = at 1 23; high = Number (at 1 24) Plain (bits_of 32 7); low = Number (at 1 26) Plain (bits_of 32 0) });
-          parameters = record { name = codes "P"; place = at 1 29; value = Infixed (at 1 33) ShiftLeft (Number (at 1 33) Sized (Zero ∷ Zero ∷ Zero ∷ X ∷ [])) (Number (at 1 43) Plain (bits_of 32 1)) } ∷ [];
+          parameters = record {
+            name = codes "P";
+            place = at 1 29;
+            value = Infixed (at 1 33) ShiftLeft (Number (at 1 33) Sized (Zero ∷ Zero ∷ Zero ∷ X ∷ []))
+                (Number (at 1 43) Plain (bits_of 32 1));
+          } ∷ [];
         }) ∷ [];
   } ∷ [];
 })

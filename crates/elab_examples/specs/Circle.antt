@@ -19,8 +19,17 @@ source = record {
     parameters = ([]);
     heads = (PlainHeads ([]));
     items =
-        ((ParameterItem (record { place = (at 2 1); is_local = false; signed = false; range = None; parameters = (record { name = (codes "A"); place = (at 2 11); value = (Selected (at 2 15) (codes "B") NoIndex) } ∷ record { name = (codes "B"); place = (at 2 18); value = (Selected (at 2 22) (codes "A") NoIndex) } ∷ record { name = (codes "C"); place = (at 2 25); value = (Selected (at 2 29) (codes "A") NoIndex) } ∷ []) })) ∷
-        (WireItem (at 3 1) false (Some (record { place = (at 3 6); high = (Selected (at 3 7) (codes "C") NoIndex); low = (Number (at 3 9) Plain (bits_of 32 0)) })) (record { name = (codes "w"); place = (at 3 12); value = None } ∷ [])) ∷
+        ((ParameterItem (record {
+          place = (at 2 1);
+          is_local = false;
+          signed = false;
+          range = None;
+          parameters = (record { name = (codes "A"); place = (at 2 11); value = (Selected (at 2 15) (codes "B") NoIndex) } ∷
+              record { name = (codes "B"); place = (at 2 18); value = (Selected (at 2 22) (codes "A") NoIndex) } ∷
+              record { name = (codes "C"); place = (at 2 25); value = (Selected (at 2 29) (codes "A") NoIndex) } ∷ []);
+        })) ∷
+        (WireItem (at 3 1) false (Some (record { place = (at 3 6); high = (Selected (at 3 7) (codes "C") NoIndex); low = (Number (at 3 9) Plain (bits_of 32 0)) }))
+        (record { name = (codes "w"); place = (at 3 12); value = None } ∷ [])) ∷
         []);
   } ∷ []);
 }

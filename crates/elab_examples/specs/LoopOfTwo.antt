@@ -16,8 +16,14 @@ source = record {
     heads = (PlainHeads ([]));
     items =
         ((WireItem (at 1 13) false None (record { name = (codes "a"); place = (at 1 18); value = None } ∷ record { name = (codes "b"); place = (at 1 21); value = None } ∷ [])) ∷
-        (AssignItem (at 1 24) (record { target = (OneSelect (record { place = (at 1 31); name = (codes "a"); index = NoIndex })); value = (Prefixed (at 1 35) BitwiseNot (Selected (at 1 36) (codes "b") NoIndex)) } ∷ [])) ∷
-        (AssignItem (at 1 39) (record { target = (OneSelect (record { place = (at 1 46); name = (codes "b"); index = NoIndex })); value = (Prefixed (at 1 50) BitwiseNot (Selected (at 1 51) (codes "a") NoIndex)) } ∷ [])) ∷
+        (AssignItem (at 1 24) (record {
+          target = (OneSelect (record { place = (at 1 31); name = (codes "a"); index = NoIndex }));
+          value = (Prefixed (at 1 35) BitwiseNot (Selected (at 1 36) (codes "b") NoIndex));
+        } ∷ [])) ∷
+        (AssignItem (at 1 39) (record {
+          target = (OneSelect (record { place = (at 1 46); name = (codes "b"); index = NoIndex }));
+          value = (Prefixed (at 1 50) BitwiseNot (Selected (at 1 51) (codes "a") NoIndex));
+        } ∷ [])) ∷
         []);
   } ∷ []);
 }

@@ -17,7 +17,16 @@ source = record {
     parameters = ([]);
     heads = (PlainHeads ([]));
     items =
-        ((RegItem (at 1 13) false (Some (record { place = (at 1 17); high = (Number (at 1 18) Plain (bits_of 32 7)); low = (Number (at 1 20) Plain (bits_of 32 0)) })) (record { name = (codes "m"); place = (at 1 23); content = (MemoryBounds (record { place = (at 1 25); high = (Number (at 1 26) Plain (bits_of 32 0)); low = (Number (at 1 28) Plain (bits_of 32 65536)) })) } ∷ [])) ∷
+        ((RegItem (at 1 13) false (Some (record { place = (at 1 17); high = (Number (at 1 18) Plain (bits_of 32 7)); low = (Number (at 1 20) Plain (bits_of 32 0)) }))
+        (record {
+          name = (codes "m");
+          place = (at 1 23);
+          content = (MemoryBounds (record {
+            place = (at 1 25);
+            high = (Number (at 1 26) Plain (bits_of 32 0));
+            low = (Number (at 1 28) Plain (bits_of 32 65536));
+          }));
+        } ∷ [])) ∷
         []);
   } ∷ []);
 }

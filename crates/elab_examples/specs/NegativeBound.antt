@@ -17,7 +17,8 @@ source = record {
     parameters = ([]);
     heads = (PlainHeads ([]));
     items =
-        ((WireItem (at 1 13) false (Some (record { place = (at 1 18); high = (Prefixed (at 1 19) Minus (Number (at 1 20) Plain (bits_of 32 1))); low = (Number (at 1 22) Plain (bits_of 32 0)) })) (record { name = (codes "w"); place = (at 1 25); value = None } ∷ [])) ∷
+        ((WireItem (at 1 13) false (Some (record { place = (at 1 18); high = (Prefixed (at 1 19) Minus (Number (at 1 20) Plain (bits_of 32 1))); low = (Number (at 1 22) Plain (bits_of 32 0)) }))
+        (record { name = (codes "w"); place = (at 1 25); value = None } ∷ [])) ∷
         []);
   } ∷ []);
 }

@@ -2,7 +2,8 @@ use Rattle.std.specs.Prelude.{◌≡◌, refl, false, [], ◌∷◌, Some, None,
 use Rattle.four_value.specs.Values.{bits_of}
 use Rattle.four_value.specs.declared.logic.Edge.TheVariants.{Any}
 use Rattle.v_tree.specs.declared.token.NumberForm.TheVariants.{Plain}
-use Rattle.v_tree.specs.Trees.{Number, Selected, NoIndex, IndexAt, OneSelect, OnEntries, EventStatement, DelayStatement, BlockingStatement, NoContent, MemoryBounds, WireItem, RegItem, AssignItem, InitialItem, PlainHeads, SourceUnit}
+use Rattle.v_tree.specs.Trees.{Number, Selected, NoIndex, IndexAt, OneSelect, OnEntries, EventStatement, DelayStatement, BlockingStatement, NoContent, MemoryBounds, WireItem, RegItem, AssignItem}
+use Rattle.v_tree.specs.Trees.{InitialItem, PlainHeads, SourceUnit}
 use Rattle.v_elab.specs.declared.Mode.TheVariants.{Usual}
 use Rattle.v_names.specs.Faults.{UnknownName, DeclaredTwice}
 use Rattle.v_elab.specs.Refusals.{NoTop}
@@ -110,9 +111,21 @@ source4 = record {
     parameters = ([]);
     heads = (PlainHeads ([]));
     items =
-        ((RegItem (at 2 1) false None (record { name = (codes "q"); place = (at 2 5); content = NoContent } ∷ record { name = (codes "r"); place = (at 2 8); content = NoContent } ∷ record { name = (codes "a"); place = (at 2 11); content = NoContent } ∷ record { name = (codes "b"); place = (at 2 14); content = NoContent } ∷ record { name = (codes "c"); place = (at 2 17); content = NoContent } ∷ [])) ∷
-        (RegItem (at 2 20) false (Some (record { place = (at 2 24); high = (Number (at 2 25) Plain (bits_of 32 3)); low = (Number (at 2 27) Plain (bits_of 32 0)) })) (record { name = (codes "v"); place = (at 2 30); content = NoContent } ∷ record { name = (codes "w"); place = (at 2 33); content = NoContent } ∷ [])) ∷
-        (RegItem (at 2 36) false (Some (record { place = (at 2 40); high = (Number (at 2 41) Plain (bits_of 32 7)); low = (Number (at 2 43) Plain (bits_of 32 0)) })) (record { name = (codes "m"); place = (at 2 46); content = (MemoryBounds (record { place = (at 2 48); high = (Number (at 2 49) Plain (bits_of 32 0)); low = (Number (at 2 51) Plain (bits_of 32 3)) })) } ∷ [])) ∷
+        ((RegItem (at 2 1) false None (record { name = (codes "q"); place = (at 2 5); content = NoContent } ∷ record { name = (codes "r"); place = (at 2 8); content = NoContent } ∷
+        record { name = (codes "a"); place = (at 2 11); content = NoContent } ∷ record { name = (codes "b"); place = (at 2 14); content = NoContent } ∷
+        record { name = (codes "c"); place = (at 2 17); content = NoContent } ∷ [])) ∷
+        (RegItem (at 2 20) false (Some (record { place = (at 2 24); high = (Number (at 2 25) Plain (bits_of 32 3)); low = (Number (at 2 27) Plain (bits_of 32 0)) }))
+        (record { name = (codes "v"); place = (at 2 30); content = NoContent } ∷ record { name = (codes "w"); place = (at 2 33); content = NoContent } ∷ [])) ∷
+        (RegItem (at 2 36) false (Some (record { place = (at 2 40); high = (Number (at 2 41) Plain (bits_of 32 7)); low = (Number (at 2 43) Plain (bits_of 32 0)) }))
+        (record {
+          name = (codes "m");
+          place = (at 2 46);
+          content = (MemoryBounds (record {
+            place = (at 2 48);
+            high = (Number (at 2 49) Plain (bits_of 32 0));
+            low = (Number (at 2 51) Plain (bits_of 32 3));
+          }));
+        } ∷ [])) ∷
         (WireItem (at 2 55) false None (record { name = (codes "n"); place = (at 2 60); value = None } ∷ [])) ∷
         (InitialItem (at 3 1) (BlockingStatement (at 3 9) (OneSelect (record { place = (at 3 9); name = (codes "zz"); index = NoIndex })) None (Number (at 3 14) Plain (bits_of 32 1)))) ∷
         []);
@@ -137,9 +150,21 @@ source5 = record {
     parameters = ([]);
     heads = (PlainHeads ([]));
     items =
-        ((RegItem (at 2 1) false None (record { name = (codes "q"); place = (at 2 5); content = NoContent } ∷ record { name = (codes "r"); place = (at 2 8); content = NoContent } ∷ record { name = (codes "a"); place = (at 2 11); content = NoContent } ∷ record { name = (codes "b"); place = (at 2 14); content = NoContent } ∷ record { name = (codes "c"); place = (at 2 17); content = NoContent } ∷ [])) ∷
-        (RegItem (at 2 20) false (Some (record { place = (at 2 24); high = (Number (at 2 25) Plain (bits_of 32 3)); low = (Number (at 2 27) Plain (bits_of 32 0)) })) (record { name = (codes "v"); place = (at 2 30); content = NoContent } ∷ record { name = (codes "w"); place = (at 2 33); content = NoContent } ∷ [])) ∷
-        (RegItem (at 2 36) false (Some (record { place = (at 2 40); high = (Number (at 2 41) Plain (bits_of 32 7)); low = (Number (at 2 43) Plain (bits_of 32 0)) })) (record { name = (codes "m"); place = (at 2 46); content = (MemoryBounds (record { place = (at 2 48); high = (Number (at 2 49) Plain (bits_of 32 0)); low = (Number (at 2 51) Plain (bits_of 32 3)) })) } ∷ [])) ∷
+        ((RegItem (at 2 1) false None (record { name = (codes "q"); place = (at 2 5); content = NoContent } ∷ record { name = (codes "r"); place = (at 2 8); content = NoContent } ∷
+        record { name = (codes "a"); place = (at 2 11); content = NoContent } ∷ record { name = (codes "b"); place = (at 2 14); content = NoContent } ∷
+        record { name = (codes "c"); place = (at 2 17); content = NoContent } ∷ [])) ∷
+        (RegItem (at 2 20) false (Some (record { place = (at 2 24); high = (Number (at 2 25) Plain (bits_of 32 3)); low = (Number (at 2 27) Plain (bits_of 32 0)) }))
+        (record { name = (codes "v"); place = (at 2 30); content = NoContent } ∷ record { name = (codes "w"); place = (at 2 33); content = NoContent } ∷ [])) ∷
+        (RegItem (at 2 36) false (Some (record { place = (at 2 40); high = (Number (at 2 41) Plain (bits_of 32 7)); low = (Number (at 2 43) Plain (bits_of 32 0)) }))
+        (record {
+          name = (codes "m");
+          place = (at 2 46);
+          content = (MemoryBounds (record {
+            place = (at 2 48);
+            high = (Number (at 2 49) Plain (bits_of 32 0));
+            low = (Number (at 2 51) Plain (bits_of 32 3));
+          }));
+        } ∷ [])) ∷
         (WireItem (at 2 55) false None (record { name = (codes "n"); place = (at 2 60); value = None } ∷ [])) ∷
         (InitialItem (at 3 1) (BlockingStatement (at 3 9) (OneSelect (record { place = (at 3 9); name = (codes "q"); index = NoIndex })) None (Selected (at 3 13) (codes "zz") NoIndex))) ∷
         []);
@@ -164,11 +189,24 @@ source6 = record {
     parameters = ([]);
     heads = (PlainHeads ([]));
     items =
-        ((RegItem (at 2 1) false None (record { name = (codes "q"); place = (at 2 5); content = NoContent } ∷ record { name = (codes "r"); place = (at 2 8); content = NoContent } ∷ record { name = (codes "a"); place = (at 2 11); content = NoContent } ∷ record { name = (codes "b"); place = (at 2 14); content = NoContent } ∷ record { name = (codes "c"); place = (at 2 17); content = NoContent } ∷ [])) ∷
-        (RegItem (at 2 20) false (Some (record { place = (at 2 24); high = (Number (at 2 25) Plain (bits_of 32 3)); low = (Number (at 2 27) Plain (bits_of 32 0)) })) (record { name = (codes "v"); place = (at 2 30); content = NoContent } ∷ record { name = (codes "w"); place = (at 2 33); content = NoContent } ∷ [])) ∷
-        (RegItem (at 2 36) false (Some (record { place = (at 2 40); high = (Number (at 2 41) Plain (bits_of 32 7)); low = (Number (at 2 43) Plain (bits_of 32 0)) })) (record { name = (codes "m"); place = (at 2 46); content = (MemoryBounds (record { place = (at 2 48); high = (Number (at 2 49) Plain (bits_of 32 0)); low = (Number (at 2 51) Plain (bits_of 32 3)) })) } ∷ [])) ∷
+        ((RegItem (at 2 1) false None (record { name = (codes "q"); place = (at 2 5); content = NoContent } ∷ record { name = (codes "r"); place = (at 2 8); content = NoContent } ∷
+        record { name = (codes "a"); place = (at 2 11); content = NoContent } ∷ record { name = (codes "b"); place = (at 2 14); content = NoContent } ∷
+        record { name = (codes "c"); place = (at 2 17); content = NoContent } ∷ [])) ∷
+        (RegItem (at 2 20) false (Some (record { place = (at 2 24); high = (Number (at 2 25) Plain (bits_of 32 3)); low = (Number (at 2 27) Plain (bits_of 32 0)) }))
+        (record { name = (codes "v"); place = (at 2 30); content = NoContent } ∷ record { name = (codes "w"); place = (at 2 33); content = NoContent } ∷ [])) ∷
+        (RegItem (at 2 36) false (Some (record { place = (at 2 40); high = (Number (at 2 41) Plain (bits_of 32 7)); low = (Number (at 2 43) Plain (bits_of 32 0)) }))
+        (record {
+          name = (codes "m");
+          place = (at 2 46);
+          content = (MemoryBounds (record {
+            place = (at 2 48);
+            high = (Number (at 2 49) Plain (bits_of 32 0));
+            low = (Number (at 2 51) Plain (bits_of 32 3));
+          }));
+        } ∷ [])) ∷
         (WireItem (at 2 55) false None (record { name = (codes "n"); place = (at 2 60); value = None } ∷ [])) ∷
-        (InitialItem (at 3 1) (BlockingStatement (at 3 9) (OneSelect (record { place = (at 3 9); name = (codes "v"); index = (IndexAt (Selected (at 3 11) (codes "zz") NoIndex)) })) None (Number (at 3 17) Plain (bits_of 32 1)))) ∷
+        (InitialItem (at 3 1) (BlockingStatement (at 3 9) (OneSelect (record { place = (at 3 9); name = (codes "v"); index = (IndexAt (Selected (at 3 11) (codes "zz") NoIndex)) })) None
+        (Number (at 3 17) Plain (bits_of 32 1)))) ∷
         []);
   } ∷ []);
 }
@@ -191,11 +229,24 @@ source7 = record {
     parameters = ([]);
     heads = (PlainHeads ([]));
     items =
-        ((RegItem (at 2 1) false None (record { name = (codes "q"); place = (at 2 5); content = NoContent } ∷ record { name = (codes "r"); place = (at 2 8); content = NoContent } ∷ record { name = (codes "a"); place = (at 2 11); content = NoContent } ∷ record { name = (codes "b"); place = (at 2 14); content = NoContent } ∷ record { name = (codes "c"); place = (at 2 17); content = NoContent } ∷ [])) ∷
-        (RegItem (at 2 20) false (Some (record { place = (at 2 24); high = (Number (at 2 25) Plain (bits_of 32 3)); low = (Number (at 2 27) Plain (bits_of 32 0)) })) (record { name = (codes "v"); place = (at 2 30); content = NoContent } ∷ record { name = (codes "w"); place = (at 2 33); content = NoContent } ∷ [])) ∷
-        (RegItem (at 2 36) false (Some (record { place = (at 2 40); high = (Number (at 2 41) Plain (bits_of 32 7)); low = (Number (at 2 43) Plain (bits_of 32 0)) })) (record { name = (codes "m"); place = (at 2 46); content = (MemoryBounds (record { place = (at 2 48); high = (Number (at 2 49) Plain (bits_of 32 0)); low = (Number (at 2 51) Plain (bits_of 32 3)) })) } ∷ [])) ∷
+        ((RegItem (at 2 1) false None (record { name = (codes "q"); place = (at 2 5); content = NoContent } ∷ record { name = (codes "r"); place = (at 2 8); content = NoContent } ∷
+        record { name = (codes "a"); place = (at 2 11); content = NoContent } ∷ record { name = (codes "b"); place = (at 2 14); content = NoContent } ∷
+        record { name = (codes "c"); place = (at 2 17); content = NoContent } ∷ [])) ∷
+        (RegItem (at 2 20) false (Some (record { place = (at 2 24); high = (Number (at 2 25) Plain (bits_of 32 3)); low = (Number (at 2 27) Plain (bits_of 32 0)) }))
+        (record { name = (codes "v"); place = (at 2 30); content = NoContent } ∷ record { name = (codes "w"); place = (at 2 33); content = NoContent } ∷ [])) ∷
+        (RegItem (at 2 36) false (Some (record { place = (at 2 40); high = (Number (at 2 41) Plain (bits_of 32 7)); low = (Number (at 2 43) Plain (bits_of 32 0)) }))
+        (record {
+          name = (codes "m");
+          place = (at 2 46);
+          content = (MemoryBounds (record {
+            place = (at 2 48);
+            high = (Number (at 2 49) Plain (bits_of 32 0));
+            low = (Number (at 2 51) Plain (bits_of 32 3));
+          }));
+        } ∷ [])) ∷
         (WireItem (at 2 55) false None (record { name = (codes "n"); place = (at 2 60); value = None } ∷ [])) ∷
-        (InitialItem (at 3 1) (EventStatement (at 3 9) (OnEntries (record { edge = Any; select = record { place = (at 3 11); name = (codes "zz"); index = NoIndex } } ∷ [])) (BlockingStatement (at 3 15) (OneSelect (record { place = (at 3 15); name = (codes "q"); index = NoIndex })) None (Number (at 3 19) Plain (bits_of 32 1))))) ∷
+        (InitialItem (at 3 1) (EventStatement (at 3 9) (OnEntries (record { edge = Any; select = record { place = (at 3 11); name = (codes "zz"); index = NoIndex } } ∷ []))
+        (BlockingStatement (at 3 15) (OneSelect (record { place = (at 3 15); name = (codes "q"); index = NoIndex })) None (Number (at 3 19) Plain (bits_of 32 1))))) ∷
         []);
   } ∷ []);
 }
@@ -218,11 +269,24 @@ source8 = record {
     parameters = ([]);
     heads = (PlainHeads ([]));
     items =
-        ((RegItem (at 2 1) false None (record { name = (codes "q"); place = (at 2 5); content = NoContent } ∷ record { name = (codes "r"); place = (at 2 8); content = NoContent } ∷ record { name = (codes "a"); place = (at 2 11); content = NoContent } ∷ record { name = (codes "b"); place = (at 2 14); content = NoContent } ∷ record { name = (codes "c"); place = (at 2 17); content = NoContent } ∷ [])) ∷
-        (RegItem (at 2 20) false (Some (record { place = (at 2 24); high = (Number (at 2 25) Plain (bits_of 32 3)); low = (Number (at 2 27) Plain (bits_of 32 0)) })) (record { name = (codes "v"); place = (at 2 30); content = NoContent } ∷ record { name = (codes "w"); place = (at 2 33); content = NoContent } ∷ [])) ∷
-        (RegItem (at 2 36) false (Some (record { place = (at 2 40); high = (Number (at 2 41) Plain (bits_of 32 7)); low = (Number (at 2 43) Plain (bits_of 32 0)) })) (record { name = (codes "m"); place = (at 2 46); content = (MemoryBounds (record { place = (at 2 48); high = (Number (at 2 49) Plain (bits_of 32 0)); low = (Number (at 2 51) Plain (bits_of 32 3)) })) } ∷ [])) ∷
+        ((RegItem (at 2 1) false None (record { name = (codes "q"); place = (at 2 5); content = NoContent } ∷ record { name = (codes "r"); place = (at 2 8); content = NoContent } ∷
+        record { name = (codes "a"); place = (at 2 11); content = NoContent } ∷ record { name = (codes "b"); place = (at 2 14); content = NoContent } ∷
+        record { name = (codes "c"); place = (at 2 17); content = NoContent } ∷ [])) ∷
+        (RegItem (at 2 20) false (Some (record { place = (at 2 24); high = (Number (at 2 25) Plain (bits_of 32 3)); low = (Number (at 2 27) Plain (bits_of 32 0)) }))
+        (record { name = (codes "v"); place = (at 2 30); content = NoContent } ∷ record { name = (codes "w"); place = (at 2 33); content = NoContent } ∷ [])) ∷
+        (RegItem (at 2 36) false (Some (record { place = (at 2 40); high = (Number (at 2 41) Plain (bits_of 32 7)); low = (Number (at 2 43) Plain (bits_of 32 0)) }))
+        (record {
+          name = (codes "m");
+          place = (at 2 46);
+          content = (MemoryBounds (record {
+            place = (at 2 48);
+            high = (Number (at 2 49) Plain (bits_of 32 0));
+            low = (Number (at 2 51) Plain (bits_of 32 3));
+          }));
+        } ∷ [])) ∷
         (WireItem (at 2 55) false None (record { name = (codes "n"); place = (at 2 60); value = None } ∷ [])) ∷
-        (InitialItem (at 3 1) (DelayStatement (at 3 9) (Selected (at 3 10) (codes "zz") NoIndex) (BlockingStatement (at 3 13) (OneSelect (record { place = (at 3 13); name = (codes "q"); index = NoIndex })) None (Number (at 3 17) Plain (bits_of 32 1))))) ∷
+        (InitialItem (at 3 1) (DelayStatement (at 3 9) (Selected (at 3 10) (codes "zz") NoIndex)
+        (BlockingStatement (at 3 13) (OneSelect (record { place = (at 3 13); name = (codes "q"); index = NoIndex })) None (Number (at 3 17) Plain (bits_of 32 1))))) ∷
         []);
   } ∷ []);
 }

@@ -110,7 +110,13 @@ source14 = record {
     heads = (PlainHeads ([]));
     items =
         ((WireItem (at 2 1) false None (record { name = (codes "a"); place = (at 2 6); value = None } ∷ [])) ∷
-        (ParameterItem (record { place = (at 2 9); is_local = false; signed = false; range = None; parameters = (record { name = (codes "a"); place = (at 2 19); value = (Number (at 2 23) Plain (bits_of 32 1)) } ∷ []) })) ∷
+        (ParameterItem (record {
+          place = (at 2 9);
+          is_local = false;
+          signed = false;
+          range = None;
+          parameters = (record { name = (codes "a"); place = (at 2 19); value = (Number (at 2 23) Plain (bits_of 32 1)) } ∷ []);
+        })) ∷
         []);
   } ∷ []);
 }
@@ -133,7 +139,11 @@ source15 = record {
     heads = (PlainHeads ([]));
     items =
         ((WireItem (at 2 1) false None (record { name = (codes "a"); place = (at 2 6); value = None } ∷ record { name = (codes "b"); place = (at 2 9); value = None } ∷ [])) ∷
-        (GateItem (at 2 12) And (record { name = (Some (record { name = (codes "a"); place = (at 2 16) })); output = (OneSelect (record { place = (at 2 18); name = (codes "b"); index = NoIndex })); inputs = ((Selected (at 2 21) (codes "b") NoIndex) ∷ []) } ∷ [])) ∷
+        (GateItem (at 2 12) And (record {
+          name = (Some (record { name = (codes "a"); place = (at 2 16) }));
+          output = (OneSelect (record { place = (at 2 18); name = (codes "b"); index = NoIndex }));
+          inputs = ((Selected (at 2 21) (codes "b") NoIndex) ∷ []);
+        } ∷ [])) ∷
         []);
   } ∷ []);
 }
@@ -160,7 +170,12 @@ source16 = record {
 }
 
 abbrev pub Found16 : Type 0
-Found16 = summary_of (flat source16 (codes "top") Usual) ≡ Ok (record { objects = (record { name = (codes "a"); kind = Net; width = 1; indexes = ([]); place = (at 1 22) } ∷ []); nodes = ([]); processes = ([]); joined = ([]) })
+Found16 = summary_of (flat source16 (codes "top") Usual) ≡ Ok (record {
+  objects = (record { name = (codes "a"); kind = Net; width = 1; indexes = ([]); place = (at 1 22) } ∷ []);
+  nodes = ([]);
+  processes = ([]);
+  joined = ([]);
+})
 
 found16 : Found16
 found16 = refl
@@ -181,7 +196,12 @@ source17 = record {
 }
 
 abbrev pub Found17 : Type 0
-Found17 = summary_of (flat source17 (codes "top") Usual) ≡ Ok (record { objects = (record { name = (codes "a"); kind = Var; width = 1; indexes = ([]); place = (at 1 23) } ∷ []); nodes = ([]); processes = ([]); joined = ([]) })
+Found17 = summary_of (flat source17 (codes "top") Usual) ≡ Ok (record {
+  objects = (record { name = (codes "a"); kind = Var; width = 1; indexes = ([]); place = (at 1 23) } ∷ []);
+  nodes = ([]);
+  processes = ([]);
+  joined = ([]);
+})
 
 found17 : Found17
 found17 = refl
@@ -195,7 +215,14 @@ source18 = record {
     parameters = ([]);
     heads = (PlainHeads (record { name = (codes "a"); place = (at 1 12) } ∷ []));
     items =
-        ((PortItem (record { place = (at 1 16); direction = Output; is_reg = false; signed = false; range = (Some (record { place = (at 1 23); high = (Number (at 1 24) Plain (bits_of 32 1)); low = (Number (at 1 26) Plain (bits_of 32 0)) })); names = (record { name = (codes "a"); place = (at 1 29) } ∷ []) })) ∷
+        ((PortItem (record {
+          place = (at 1 16);
+          direction = Output;
+          is_reg = false;
+          signed = false;
+          range = (Some (record { place = (at 1 23); high = (Number (at 1 24) Plain (bits_of 32 1)); low = (Number (at 1 26) Plain (bits_of 32 0)) }));
+          names = (record { name = (codes "a"); place = (at 1 29) } ∷ []);
+        })) ∷
         (RegItem (at 1 32) false None (record { name = (codes "a"); place = (at 1 36); content = NoContent } ∷ [])) ∷
         []);
   } ∷ []);
@@ -216,14 +243,30 @@ source19 = record {
     parameters = ([]);
     heads = (PlainHeads (record { name = (codes "a"); place = (at 1 12) } ∷ []));
     items =
-        ((PortItem (record { place = (at 1 16); direction = Output; is_reg = false; signed = false; range = (Some (record { place = (at 1 23); high = (Number (at 1 24) Plain (bits_of 32 1)); low = (Number (at 1 26) Plain (bits_of 32 0)) })); names = (record { name = (codes "a"); place = (at 1 29) } ∷ []) })) ∷
-        (RegItem (at 1 32) false (Some (record { place = (at 1 36); high = (Infixed (at 1 37) Subtract (Number (at 1 37) Plain (bits_of 32 2)) (Number (at 1 39) Plain (bits_of 32 1))); low = (Number (at 1 41) Plain (bits_of 32 0)) })) (record { name = (codes "a"); place = (at 1 44); content = NoContent } ∷ [])) ∷
+        ((PortItem (record {
+          place = (at 1 16);
+          direction = Output;
+          is_reg = false;
+          signed = false;
+          range = (Some (record { place = (at 1 23); high = (Number (at 1 24) Plain (bits_of 32 1)); low = (Number (at 1 26) Plain (bits_of 32 0)) }));
+          names = (record { name = (codes "a"); place = (at 1 29) } ∷ []);
+        })) ∷
+        (RegItem (at 1 32) false (Some (record {
+          place = (at 1 36);
+          high = (Infixed (at 1 37) Subtract (Number (at 1 37) Plain (bits_of 32 2)) (Number (at 1 39) Plain (bits_of 32 1)));
+          low = (Number (at 1 41) Plain (bits_of 32 0));
+        })) (record { name = (codes "a"); place = (at 1 44); content = NoContent } ∷ [])) ∷
         []);
   } ∷ []);
 }
 
 abbrev pub Found19 : Type 0
-Found19 = summary_of (flat source19 (codes "top") Usual) ≡ Ok (record { objects = (record { name = (codes "a"); kind = Var; width = 2; indexes = (1 ∷ 0 ∷ []); place = (at 1 29) } ∷ []); nodes = ([]); processes = ([]); joined = ([]) })
+Found19 = summary_of (flat source19 (codes "top") Usual) ≡ Ok (record {
+  objects = (record { name = (codes "a"); kind = Var; width = 2; indexes = (1 ∷ 0 ∷ []); place = (at 1 29) } ∷ []);
+  nodes = ([]);
+  processes = ([]);
+  joined = ([]);
+})
 
 found19 : Found19
 found19 = refl

@@ -5,7 +5,8 @@ use Rattle.v_design.specs.declared.logic.ObjectKind.TheVariants.{Var, Word, Net}
 use Rattle.four_value.specs.declared.operator.GateKind.TheVariants.{And}
 use Rattle.four_value.specs.declared.operator.BinaryOperator.TheVariants.{Add}
 use Rattle.v_tree.specs.declared.token.NumberForm.TheVariants.{Plain}
-use Rattle.v_tree.specs.Trees.{Number, Selected, Infixed, NoIndex, IndexAt, IndexRange, OneSelect, OnEntries, WaitStatement, EventStatement, BlockingStatement, NoContent, MemoryBounds, ParameterItem, WireItem, RegItem, AssignItem, GateItem, InitialItem, PlainHeads, SourceUnit}
+use Rattle.v_tree.specs.Trees.{Number, Selected, Infixed, NoIndex, IndexAt, IndexRange, OneSelect, OnEntries, WaitStatement, EventStatement, BlockingStatement, NoContent, MemoryBounds}
+use Rattle.v_tree.specs.Trees.{ParameterItem, WireItem, RegItem, AssignItem, GateItem, InitialItem, PlainHeads, SourceUnit}
 use Rattle.v_elab.specs.declared.Mode.TheVariants.{Usual}
 use Rattle.v_names.specs.Faults.{WrongKind}
 use Rattle.v_elab.specs.Flat.{flat}
@@ -23,11 +24,24 @@ source100 = record {
     parameters = ([]);
     heads = (PlainHeads ([]));
     items =
-        ((RegItem (at 2 1) false None (record { name = (codes "q"); place = (at 2 5); content = NoContent } ∷ record { name = (codes "r"); place = (at 2 8); content = NoContent } ∷ record { name = (codes "a"); place = (at 2 11); content = NoContent } ∷ record { name = (codes "b"); place = (at 2 14); content = NoContent } ∷ record { name = (codes "c"); place = (at 2 17); content = NoContent } ∷ [])) ∷
-        (RegItem (at 2 20) false (Some (record { place = (at 2 24); high = (Number (at 2 25) Plain (bits_of 32 3)); low = (Number (at 2 27) Plain (bits_of 32 0)) })) (record { name = (codes "v"); place = (at 2 30); content = NoContent } ∷ record { name = (codes "w"); place = (at 2 33); content = NoContent } ∷ [])) ∷
-        (RegItem (at 2 36) false (Some (record { place = (at 2 40); high = (Number (at 2 41) Plain (bits_of 32 7)); low = (Number (at 2 43) Plain (bits_of 32 0)) })) (record { name = (codes "m"); place = (at 2 46); content = (MemoryBounds (record { place = (at 2 48); high = (Number (at 2 49) Plain (bits_of 32 0)); low = (Number (at 2 51) Plain (bits_of 32 3)) })) } ∷ [])) ∷
+        ((RegItem (at 2 1) false None (record { name = (codes "q"); place = (at 2 5); content = NoContent } ∷ record { name = (codes "r"); place = (at 2 8); content = NoContent } ∷
+        record { name = (codes "a"); place = (at 2 11); content = NoContent } ∷ record { name = (codes "b"); place = (at 2 14); content = NoContent } ∷
+        record { name = (codes "c"); place = (at 2 17); content = NoContent } ∷ [])) ∷
+        (RegItem (at 2 20) false (Some (record { place = (at 2 24); high = (Number (at 2 25) Plain (bits_of 32 3)); low = (Number (at 2 27) Plain (bits_of 32 0)) }))
+        (record { name = (codes "v"); place = (at 2 30); content = NoContent } ∷ record { name = (codes "w"); place = (at 2 33); content = NoContent } ∷ [])) ∷
+        (RegItem (at 2 36) false (Some (record { place = (at 2 40); high = (Number (at 2 41) Plain (bits_of 32 7)); low = (Number (at 2 43) Plain (bits_of 32 0)) }))
+        (record {
+          name = (codes "m");
+          place = (at 2 46);
+          content = (MemoryBounds (record {
+            place = (at 2 48);
+            high = (Number (at 2 49) Plain (bits_of 32 0));
+            low = (Number (at 2 51) Plain (bits_of 32 3));
+          }));
+        } ∷ [])) ∷
         (WireItem (at 2 55) false None (record { name = (codes "n"); place = (at 2 60); value = None } ∷ [])) ∷
-        (InitialItem (at 3 1) (BlockingStatement (at 3 9) (OneSelect (record { place = (at 3 9); name = (codes "q"); index = NoIndex })) None (Selected (at 3 13) (codes "a") (IndexAt (Number (at 3 15) Plain (bits_of 32 0)))))) ∷
+        (InitialItem (at 3 1) (BlockingStatement (at 3 9) (OneSelect (record { place = (at 3 9); name = (codes "q"); index = NoIndex })) None
+        (Selected (at 3 13) (codes "a") (IndexAt (Number (at 3 15) Plain (bits_of 32 0)))))) ∷
         []);
   } ∷ []);
 }
@@ -50,11 +64,24 @@ source101 = record {
     parameters = ([]);
     heads = (PlainHeads ([]));
     items =
-        ((RegItem (at 2 1) false None (record { name = (codes "q"); place = (at 2 5); content = NoContent } ∷ record { name = (codes "r"); place = (at 2 8); content = NoContent } ∷ record { name = (codes "a"); place = (at 2 11); content = NoContent } ∷ record { name = (codes "b"); place = (at 2 14); content = NoContent } ∷ record { name = (codes "c"); place = (at 2 17); content = NoContent } ∷ [])) ∷
-        (RegItem (at 2 20) false (Some (record { place = (at 2 24); high = (Number (at 2 25) Plain (bits_of 32 3)); low = (Number (at 2 27) Plain (bits_of 32 0)) })) (record { name = (codes "v"); place = (at 2 30); content = NoContent } ∷ record { name = (codes "w"); place = (at 2 33); content = NoContent } ∷ [])) ∷
-        (RegItem (at 2 36) false (Some (record { place = (at 2 40); high = (Number (at 2 41) Plain (bits_of 32 7)); low = (Number (at 2 43) Plain (bits_of 32 0)) })) (record { name = (codes "m"); place = (at 2 46); content = (MemoryBounds (record { place = (at 2 48); high = (Number (at 2 49) Plain (bits_of 32 0)); low = (Number (at 2 51) Plain (bits_of 32 3)) })) } ∷ [])) ∷
+        ((RegItem (at 2 1) false None (record { name = (codes "q"); place = (at 2 5); content = NoContent } ∷ record { name = (codes "r"); place = (at 2 8); content = NoContent } ∷
+        record { name = (codes "a"); place = (at 2 11); content = NoContent } ∷ record { name = (codes "b"); place = (at 2 14); content = NoContent } ∷
+        record { name = (codes "c"); place = (at 2 17); content = NoContent } ∷ [])) ∷
+        (RegItem (at 2 20) false (Some (record { place = (at 2 24); high = (Number (at 2 25) Plain (bits_of 32 3)); low = (Number (at 2 27) Plain (bits_of 32 0)) }))
+        (record { name = (codes "v"); place = (at 2 30); content = NoContent } ∷ record { name = (codes "w"); place = (at 2 33); content = NoContent } ∷ [])) ∷
+        (RegItem (at 2 36) false (Some (record { place = (at 2 40); high = (Number (at 2 41) Plain (bits_of 32 7)); low = (Number (at 2 43) Plain (bits_of 32 0)) }))
+        (record {
+          name = (codes "m");
+          place = (at 2 46);
+          content = (MemoryBounds (record {
+            place = (at 2 48);
+            high = (Number (at 2 49) Plain (bits_of 32 0));
+            low = (Number (at 2 51) Plain (bits_of 32 3));
+          }));
+        } ∷ [])) ∷
         (WireItem (at 2 55) false None (record { name = (codes "n"); place = (at 2 60); value = None } ∷ [])) ∷
-        (InitialItem (at 3 1) (BlockingStatement (at 3 9) (OneSelect (record { place = (at 3 9); name = (codes "a"); index = (IndexAt (Number (at 3 11) Plain (bits_of 32 0))) })) None (Number (at 3 16) Plain (bits_of 32 1)))) ∷
+        (InitialItem (at 3 1) (BlockingStatement (at 3 9) (OneSelect (record { place = (at 3 9); name = (codes "a"); index = (IndexAt (Number (at 3 11) Plain (bits_of 32 0))) })) None
+        (Number (at 3 16) Plain (bits_of 32 1)))) ∷
         []);
   } ∷ []);
 }
@@ -77,11 +104,24 @@ source102 = record {
     parameters = ([]);
     heads = (PlainHeads ([]));
     items =
-        ((RegItem (at 2 1) false None (record { name = (codes "q"); place = (at 2 5); content = NoContent } ∷ record { name = (codes "r"); place = (at 2 8); content = NoContent } ∷ record { name = (codes "a"); place = (at 2 11); content = NoContent } ∷ record { name = (codes "b"); place = (at 2 14); content = NoContent } ∷ record { name = (codes "c"); place = (at 2 17); content = NoContent } ∷ [])) ∷
-        (RegItem (at 2 20) false (Some (record { place = (at 2 24); high = (Number (at 2 25) Plain (bits_of 32 3)); low = (Number (at 2 27) Plain (bits_of 32 0)) })) (record { name = (codes "v"); place = (at 2 30); content = NoContent } ∷ record { name = (codes "w"); place = (at 2 33); content = NoContent } ∷ [])) ∷
-        (RegItem (at 2 36) false (Some (record { place = (at 2 40); high = (Number (at 2 41) Plain (bits_of 32 7)); low = (Number (at 2 43) Plain (bits_of 32 0)) })) (record { name = (codes "m"); place = (at 2 46); content = (MemoryBounds (record { place = (at 2 48); high = (Number (at 2 49) Plain (bits_of 32 0)); low = (Number (at 2 51) Plain (bits_of 32 3)) })) } ∷ [])) ∷
+        ((RegItem (at 2 1) false None (record { name = (codes "q"); place = (at 2 5); content = NoContent } ∷ record { name = (codes "r"); place = (at 2 8); content = NoContent } ∷
+        record { name = (codes "a"); place = (at 2 11); content = NoContent } ∷ record { name = (codes "b"); place = (at 2 14); content = NoContent } ∷
+        record { name = (codes "c"); place = (at 2 17); content = NoContent } ∷ [])) ∷
+        (RegItem (at 2 20) false (Some (record { place = (at 2 24); high = (Number (at 2 25) Plain (bits_of 32 3)); low = (Number (at 2 27) Plain (bits_of 32 0)) }))
+        (record { name = (codes "v"); place = (at 2 30); content = NoContent } ∷ record { name = (codes "w"); place = (at 2 33); content = NoContent } ∷ [])) ∷
+        (RegItem (at 2 36) false (Some (record { place = (at 2 40); high = (Number (at 2 41) Plain (bits_of 32 7)); low = (Number (at 2 43) Plain (bits_of 32 0)) }))
+        (record {
+          name = (codes "m");
+          place = (at 2 46);
+          content = (MemoryBounds (record {
+            place = (at 2 48);
+            high = (Number (at 2 49) Plain (bits_of 32 0));
+            low = (Number (at 2 51) Plain (bits_of 32 3));
+          }));
+        } ∷ [])) ∷
         (WireItem (at 2 55) false None (record { name = (codes "n"); place = (at 2 60); value = None } ∷ [])) ∷
-        (InitialItem (at 3 1) (BlockingStatement (at 3 9) (OneSelect (record { place = (at 3 9); name = (codes "q"); index = NoIndex })) None (Selected (at 3 13) (codes "v") (IndexRange (Number (at 3 15) Plain (bits_of 32 0)) (Number (at 3 17) Plain (bits_of 32 3)))))) ∷
+        (InitialItem (at 3 1) (BlockingStatement (at 3 9) (OneSelect (record { place = (at 3 9); name = (codes "q"); index = NoIndex })) None
+        (Selected (at 3 13) (codes "v") (IndexRange (Number (at 3 15) Plain (bits_of 32 0)) (Number (at 3 17) Plain (bits_of 32 3)))))) ∷
         []);
   } ∷ []);
 }
@@ -104,17 +144,42 @@ source103 = record {
     parameters = ([]);
     heads = (PlainHeads ([]));
     items =
-        ((RegItem (at 2 1) false None (record { name = (codes "q"); place = (at 2 5); content = NoContent } ∷ record { name = (codes "r"); place = (at 2 8); content = NoContent } ∷ record { name = (codes "a"); place = (at 2 11); content = NoContent } ∷ record { name = (codes "b"); place = (at 2 14); content = NoContent } ∷ record { name = (codes "c"); place = (at 2 17); content = NoContent } ∷ [])) ∷
-        (RegItem (at 2 20) false (Some (record { place = (at 2 24); high = (Number (at 2 25) Plain (bits_of 32 3)); low = (Number (at 2 27) Plain (bits_of 32 0)) })) (record { name = (codes "v"); place = (at 2 30); content = NoContent } ∷ record { name = (codes "w"); place = (at 2 33); content = NoContent } ∷ [])) ∷
-        (RegItem (at 2 36) false (Some (record { place = (at 2 40); high = (Number (at 2 41) Plain (bits_of 32 7)); low = (Number (at 2 43) Plain (bits_of 32 0)) })) (record { name = (codes "m"); place = (at 2 46); content = (MemoryBounds (record { place = (at 2 48); high = (Number (at 2 49) Plain (bits_of 32 0)); low = (Number (at 2 51) Plain (bits_of 32 3)) })) } ∷ [])) ∷
+        ((RegItem (at 2 1) false None (record { name = (codes "q"); place = (at 2 5); content = NoContent } ∷ record { name = (codes "r"); place = (at 2 8); content = NoContent } ∷
+        record { name = (codes "a"); place = (at 2 11); content = NoContent } ∷ record { name = (codes "b"); place = (at 2 14); content = NoContent } ∷
+        record { name = (codes "c"); place = (at 2 17); content = NoContent } ∷ [])) ∷
+        (RegItem (at 2 20) false (Some (record { place = (at 2 24); high = (Number (at 2 25) Plain (bits_of 32 3)); low = (Number (at 2 27) Plain (bits_of 32 0)) }))
+        (record { name = (codes "v"); place = (at 2 30); content = NoContent } ∷ record { name = (codes "w"); place = (at 2 33); content = NoContent } ∷ [])) ∷
+        (RegItem (at 2 36) false (Some (record { place = (at 2 40); high = (Number (at 2 41) Plain (bits_of 32 7)); low = (Number (at 2 43) Plain (bits_of 32 0)) }))
+        (record {
+          name = (codes "m");
+          place = (at 2 46);
+          content = (MemoryBounds (record {
+            place = (at 2 48);
+            high = (Number (at 2 49) Plain (bits_of 32 0));
+            low = (Number (at 2 51) Plain (bits_of 32 3));
+          }));
+        } ∷ [])) ∷
         (WireItem (at 2 55) false None (record { name = (codes "n"); place = (at 2 60); value = None } ∷ [])) ∷
-        (InitialItem (at 3 1) (BlockingStatement (at 3 9) (OneSelect (record { place = (at 3 9); name = (codes "q"); index = NoIndex })) None (Infixed (at 3 13) Add (Selected (at 3 13) (codes "v") (IndexRange (Number (at 3 15) Plain (bits_of 32 2)) (Number (at 3 17) Plain (bits_of 32 2)))) (Selected (at 3 22) (codes "v") (IndexAt (Number (at 3 24) Plain (bits_of 32 9))))))) ∷
+        (InitialItem (at 3 1) (BlockingStatement (at 3 9) (OneSelect (record { place = (at 3 9); name = (codes "q"); index = NoIndex })) None
+        (Infixed (at 3 13) Add (Selected (at 3 13) (codes "v") (IndexRange (Number (at 3 15) Plain (bits_of 32 2)) (Number (at 3 17) Plain (bits_of 32 2))))
+        (Selected (at 3 22) (codes "v") (IndexAt (Number (at 3 24) Plain (bits_of 32 9))))))) ∷
         []);
   } ∷ []);
 }
 
 abbrev pub Found103 : Type 0
-Found103 = summary_of (flat source103 (codes "top") Usual) ≡ Ok (record { objects = (record { name = (codes "q"); kind = Var; width = 1; indexes = ([]); place = (at 2 5) } ∷ record { name = (codes "r"); kind = Var; width = 1; indexes = ([]); place = (at 2 8) } ∷ record { name = (codes "a"); kind = Var; width = 1; indexes = ([]); place = (at 2 11) } ∷ record { name = (codes "b"); kind = Var; width = 1; indexes = ([]); place = (at 2 14) } ∷ record { name = (codes "c"); kind = Var; width = 1; indexes = ([]); place = (at 2 17) } ∷ record { name = (codes "v"); kind = Var; width = 4; indexes = (3 ∷ 0 ∷ []); place = (at 2 30) } ∷ record { name = (codes "w"); kind = Var; width = 4; indexes = (3 ∷ 0 ∷ []); place = (at 2 33) } ∷ record { name = (codes "m"); kind = Word; width = 8; indexes = (0 ∷ []); place = (at 2 46) } ∷ record { name = (codes "m"); kind = Word; width = 8; indexes = (1 ∷ []); place = (at 2 46) } ∷ record { name = (codes "m"); kind = Word; width = 8; indexes = (2 ∷ []); place = (at 2 46) } ∷ record { name = (codes "m"); kind = Word; width = 8; indexes = (3 ∷ []); place = (at 2 46) } ∷ record { name = (codes "n"); kind = Net; width = 1; indexes = ([]); place = (at 2 60) } ∷ []); nodes = ([]); processes = (false ∷ []); joined = ([]) })
+Found103 = summary_of (flat source103 (codes "top") Usual) ≡ Ok (record {
+  objects = (record { name = (codes "q"); kind = Var; width = 1; indexes = ([]); place = (at 2 5) } ∷
+      record { name = (codes "r"); kind = Var; width = 1; indexes = ([]); place = (at 2 8) } ∷ record { name = (codes "a"); kind = Var; width = 1; indexes = ([]); place = (at 2 11) } ∷
+      record { name = (codes "b"); kind = Var; width = 1; indexes = ([]); place = (at 2 14) } ∷ record { name = (codes "c"); kind = Var; width = 1; indexes = ([]); place = (at 2 17) } ∷
+      record { name = (codes "v"); kind = Var; width = 4; indexes = (3 ∷ 0 ∷ []); place = (at 2 30) } ∷
+      record { name = (codes "w"); kind = Var; width = 4; indexes = (3 ∷ 0 ∷ []); place = (at 2 33) } ∷ record { name = (codes "m"); kind = Word; width = 8; indexes = (0 ∷ []); place = (at 2 46) } ∷
+      record { name = (codes "m"); kind = Word; width = 8; indexes = (1 ∷ []); place = (at 2 46) } ∷ record { name = (codes "m"); kind = Word; width = 8; indexes = (2 ∷ []); place = (at 2 46) } ∷
+      record { name = (codes "m"); kind = Word; width = 8; indexes = (3 ∷ []); place = (at 2 46) } ∷ record { name = (codes "n"); kind = Net; width = 1; indexes = ([]); place = (at 2 60) } ∷ []);
+  nodes = ([]);
+  processes = (false ∷ []);
+  joined = ([]);
+})
 
 found103 : Found103
 found103 = refl
@@ -131,11 +196,28 @@ source104 = record {
     parameters = ([]);
     heads = (PlainHeads ([]));
     items =
-        ((RegItem (at 2 1) false None (record { name = (codes "q"); place = (at 2 5); content = NoContent } ∷ record { name = (codes "r"); place = (at 2 8); content = NoContent } ∷ record { name = (codes "a"); place = (at 2 11); content = NoContent } ∷ record { name = (codes "b"); place = (at 2 14); content = NoContent } ∷ record { name = (codes "c"); place = (at 2 17); content = NoContent } ∷ [])) ∷
-        (RegItem (at 2 20) false (Some (record { place = (at 2 24); high = (Number (at 2 25) Plain (bits_of 32 3)); low = (Number (at 2 27) Plain (bits_of 32 0)) })) (record { name = (codes "v"); place = (at 2 30); content = NoContent } ∷ record { name = (codes "w"); place = (at 2 33); content = NoContent } ∷ [])) ∷
-        (RegItem (at 2 36) false (Some (record { place = (at 2 40); high = (Number (at 2 41) Plain (bits_of 32 7)); low = (Number (at 2 43) Plain (bits_of 32 0)) })) (record { name = (codes "m"); place = (at 2 46); content = (MemoryBounds (record { place = (at 2 48); high = (Number (at 2 49) Plain (bits_of 32 0)); low = (Number (at 2 51) Plain (bits_of 32 3)) })) } ∷ [])) ∷
+        ((RegItem (at 2 1) false None (record { name = (codes "q"); place = (at 2 5); content = NoContent } ∷ record { name = (codes "r"); place = (at 2 8); content = NoContent } ∷
+        record { name = (codes "a"); place = (at 2 11); content = NoContent } ∷ record { name = (codes "b"); place = (at 2 14); content = NoContent } ∷
+        record { name = (codes "c"); place = (at 2 17); content = NoContent } ∷ [])) ∷
+        (RegItem (at 2 20) false (Some (record { place = (at 2 24); high = (Number (at 2 25) Plain (bits_of 32 3)); low = (Number (at 2 27) Plain (bits_of 32 0)) }))
+        (record { name = (codes "v"); place = (at 2 30); content = NoContent } ∷ record { name = (codes "w"); place = (at 2 33); content = NoContent } ∷ [])) ∷
+        (RegItem (at 2 36) false (Some (record { place = (at 2 40); high = (Number (at 2 41) Plain (bits_of 32 7)); low = (Number (at 2 43) Plain (bits_of 32 0)) }))
+        (record {
+          name = (codes "m");
+          place = (at 2 46);
+          content = (MemoryBounds (record {
+            place = (at 2 48);
+            high = (Number (at 2 49) Plain (bits_of 32 0));
+            low = (Number (at 2 51) Plain (bits_of 32 3));
+          }));
+        } ∷ [])) ∷
         (WireItem (at 2 55) false None (record { name = (codes "n"); place = (at 2 60); value = None } ∷ [])) ∷
-        (InitialItem (at 3 1) (EventStatement (at 3 9) (OnEntries (record { edge = Any; select = record { place = (at 3 11); name = (codes "m"); index = (IndexAt (Number (at 3 13) Plain (bits_of 32 0))) } } ∷ [])) (BlockingStatement (at 3 17) (OneSelect (record { place = (at 3 17); name = (codes "q"); index = NoIndex })) None (Number (at 3 21) Plain (bits_of 32 1))))) ∷
+        (InitialItem (at 3 1) (EventStatement (at 3 9) (OnEntries (record {
+          edge = Any;
+          select =
+              record { place = (at 3 11); name = (codes "m"); index = (IndexAt (Number (at 3 13) Plain (bits_of 32 0))) };
+        } ∷ []))
+        (BlockingStatement (at 3 17) (OneSelect (record { place = (at 3 17); name = (codes "q"); index = NoIndex })) None (Number (at 3 21) Plain (bits_of 32 1))))) ∷
         []);
   } ∷ []);
 }
@@ -158,11 +240,24 @@ source105 = record {
     parameters = ([]);
     heads = (PlainHeads ([]));
     items =
-        ((RegItem (at 2 1) false None (record { name = (codes "q"); place = (at 2 5); content = NoContent } ∷ record { name = (codes "r"); place = (at 2 8); content = NoContent } ∷ record { name = (codes "a"); place = (at 2 11); content = NoContent } ∷ record { name = (codes "b"); place = (at 2 14); content = NoContent } ∷ record { name = (codes "c"); place = (at 2 17); content = NoContent } ∷ [])) ∷
-        (RegItem (at 2 20) false (Some (record { place = (at 2 24); high = (Number (at 2 25) Plain (bits_of 32 3)); low = (Number (at 2 27) Plain (bits_of 32 0)) })) (record { name = (codes "v"); place = (at 2 30); content = NoContent } ∷ record { name = (codes "w"); place = (at 2 33); content = NoContent } ∷ [])) ∷
-        (RegItem (at 2 36) false (Some (record { place = (at 2 40); high = (Number (at 2 41) Plain (bits_of 32 7)); low = (Number (at 2 43) Plain (bits_of 32 0)) })) (record { name = (codes "m"); place = (at 2 46); content = (MemoryBounds (record { place = (at 2 48); high = (Number (at 2 49) Plain (bits_of 32 0)); low = (Number (at 2 51) Plain (bits_of 32 3)) })) } ∷ [])) ∷
+        ((RegItem (at 2 1) false None (record { name = (codes "q"); place = (at 2 5); content = NoContent } ∷ record { name = (codes "r"); place = (at 2 8); content = NoContent } ∷
+        record { name = (codes "a"); place = (at 2 11); content = NoContent } ∷ record { name = (codes "b"); place = (at 2 14); content = NoContent } ∷
+        record { name = (codes "c"); place = (at 2 17); content = NoContent } ∷ [])) ∷
+        (RegItem (at 2 20) false (Some (record { place = (at 2 24); high = (Number (at 2 25) Plain (bits_of 32 3)); low = (Number (at 2 27) Plain (bits_of 32 0)) }))
+        (record { name = (codes "v"); place = (at 2 30); content = NoContent } ∷ record { name = (codes "w"); place = (at 2 33); content = NoContent } ∷ [])) ∷
+        (RegItem (at 2 36) false (Some (record { place = (at 2 40); high = (Number (at 2 41) Plain (bits_of 32 7)); low = (Number (at 2 43) Plain (bits_of 32 0)) }))
+        (record {
+          name = (codes "m");
+          place = (at 2 46);
+          content = (MemoryBounds (record {
+            place = (at 2 48);
+            high = (Number (at 2 49) Plain (bits_of 32 0));
+            low = (Number (at 2 51) Plain (bits_of 32 3));
+          }));
+        } ∷ [])) ∷
         (WireItem (at 2 55) false None (record { name = (codes "n"); place = (at 2 60); value = None } ∷ [])) ∷
-        (InitialItem (at 3 1) (WaitStatement (at 3 9) (Selected (at 3 15) (codes "m") (IndexAt (Number (at 3 17) Plain (bits_of 32 0)))) (BlockingStatement (at 3 21) (OneSelect (record { place = (at 3 21); name = (codes "q"); index = NoIndex })) None (Number (at 3 25) Plain (bits_of 32 1))))) ∷
+        (InitialItem (at 3 1) (WaitStatement (at 3 9) (Selected (at 3 15) (codes "m") (IndexAt (Number (at 3 17) Plain (bits_of 32 0))))
+        (BlockingStatement (at 3 21) (OneSelect (record { place = (at 3 21); name = (codes "q"); index = NoIndex })) None (Number (at 3 25) Plain (bits_of 32 1))))) ∷
         []);
   } ∷ []);
 }
@@ -185,11 +280,24 @@ source106 = record {
     parameters = ([]);
     heads = (PlainHeads ([]));
     items =
-        ((RegItem (at 2 1) false None (record { name = (codes "q"); place = (at 2 5); content = NoContent } ∷ record { name = (codes "r"); place = (at 2 8); content = NoContent } ∷ record { name = (codes "a"); place = (at 2 11); content = NoContent } ∷ record { name = (codes "b"); place = (at 2 14); content = NoContent } ∷ record { name = (codes "c"); place = (at 2 17); content = NoContent } ∷ [])) ∷
-        (RegItem (at 2 20) false (Some (record { place = (at 2 24); high = (Number (at 2 25) Plain (bits_of 32 3)); low = (Number (at 2 27) Plain (bits_of 32 0)) })) (record { name = (codes "v"); place = (at 2 30); content = NoContent } ∷ record { name = (codes "w"); place = (at 2 33); content = NoContent } ∷ [])) ∷
-        (RegItem (at 2 36) false (Some (record { place = (at 2 40); high = (Number (at 2 41) Plain (bits_of 32 7)); low = (Number (at 2 43) Plain (bits_of 32 0)) })) (record { name = (codes "m"); place = (at 2 46); content = (MemoryBounds (record { place = (at 2 48); high = (Number (at 2 49) Plain (bits_of 32 0)); low = (Number (at 2 51) Plain (bits_of 32 3)) })) } ∷ [])) ∷
+        ((RegItem (at 2 1) false None (record { name = (codes "q"); place = (at 2 5); content = NoContent } ∷ record { name = (codes "r"); place = (at 2 8); content = NoContent } ∷
+        record { name = (codes "a"); place = (at 2 11); content = NoContent } ∷ record { name = (codes "b"); place = (at 2 14); content = NoContent } ∷
+        record { name = (codes "c"); place = (at 2 17); content = NoContent } ∷ [])) ∷
+        (RegItem (at 2 20) false (Some (record { place = (at 2 24); high = (Number (at 2 25) Plain (bits_of 32 3)); low = (Number (at 2 27) Plain (bits_of 32 0)) }))
+        (record { name = (codes "v"); place = (at 2 30); content = NoContent } ∷ record { name = (codes "w"); place = (at 2 33); content = NoContent } ∷ [])) ∷
+        (RegItem (at 2 36) false (Some (record { place = (at 2 40); high = (Number (at 2 41) Plain (bits_of 32 7)); low = (Number (at 2 43) Plain (bits_of 32 0)) }))
+        (record {
+          name = (codes "m");
+          place = (at 2 46);
+          content = (MemoryBounds (record {
+            place = (at 2 48);
+            high = (Number (at 2 49) Plain (bits_of 32 0));
+            low = (Number (at 2 51) Plain (bits_of 32 3));
+          }));
+        } ∷ [])) ∷
         (WireItem (at 2 55) false None (record { name = (codes "n"); place = (at 2 60); value = None } ∷ [])) ∷
-        (InitialItem (at 3 1) (WaitStatement (at 3 9) (Selected (at 3 15) (codes "v") (IndexAt (Selected (at 3 17) (codes "m") (IndexAt (Number (at 3 19) Plain (bits_of 32 0)))))) (BlockingStatement (at 3 24) (OneSelect (record { place = (at 3 24); name = (codes "q"); index = NoIndex })) None (Number (at 3 28) Plain (bits_of 32 1))))) ∷
+        (InitialItem (at 3 1) (WaitStatement (at 3 9) (Selected (at 3 15) (codes "v") (IndexAt (Selected (at 3 17) (codes "m") (IndexAt (Number (at 3 19) Plain (bits_of 32 0))))))
+        (BlockingStatement (at 3 24) (OneSelect (record { place = (at 3 24); name = (codes "q"); index = NoIndex })) None (Number (at 3 28) Plain (bits_of 32 1))))) ∷
         []);
   } ∷ []);
 }
@@ -236,7 +344,11 @@ source108 = record {
     items =
         ((RegItem (at 2 1) false None (record { name = (codes "r"); place = (at 2 5); content = NoContent } ∷ [])) ∷
         (WireItem (at 2 8) false None (record { name = (codes "a"); place = (at 2 13); value = None } ∷ [])) ∷
-        (GateItem (at 2 16) And (record { name = (Some (record { name = (codes "g"); place = (at 2 20) })); output = (OneSelect (record { place = (at 2 22); name = (codes "r"); index = NoIndex })); inputs = ((Selected (at 2 25) (codes "a") NoIndex) ∷ []) } ∷ [])) ∷
+        (GateItem (at 2 16) And (record {
+          name = (Some (record { name = (codes "g"); place = (at 2 20) }));
+          output = (OneSelect (record { place = (at 2 22); name = (codes "r"); index = NoIndex }));
+          inputs = ((Selected (at 2 25) (codes "a") NoIndex) ∷ []);
+        } ∷ [])) ∷
         []);
   } ∷ []);
 }
@@ -258,7 +370,13 @@ source109 = record {
     parameters = ([]);
     heads = (PlainHeads ([]));
     items =
-        ((ParameterItem (record { place = (at 2 1); is_local = false; signed = false; range = None; parameters = (record { name = (codes "P"); place = (at 2 11); value = (Number (at 2 15) Plain (bits_of 32 1)) } ∷ []) })) ∷
+        ((ParameterItem (record {
+          place = (at 2 1);
+          is_local = false;
+          signed = false;
+          range = None;
+          parameters = (record { name = (codes "P"); place = (at 2 11); value = (Number (at 2 15) Plain (bits_of 32 1)) } ∷ []);
+        })) ∷
         (InitialItem (at 2 18) (BlockingStatement (at 2 26) (OneSelect (record { place = (at 2 26); name = (codes "P"); index = NoIndex })) None (Number (at 2 30) Plain (bits_of 32 2)))) ∷
         []);
   } ∷ []);

@@ -4,7 +4,8 @@ use Rattle.four_value.specs.declared.operator.BinaryOperator.TheVariants.{Add}
 use Rattle.four_value.specs.declared.operator.GateKind.TheVariants.{Buf}
 use Rattle.v_tree.specs.declared.item.Direction.TheVariants.{Input}
 use Rattle.v_tree.specs.declared.token.NumberForm.TheVariants.{Plain}
-use Rattle.v_tree.specs.Trees.{Number, Selected, Infixed, Replicated, NoIndex, IndexAt, OneSelect, OnAnyRead, EventStatement, BlockingStatement, NoContent, MemoryBounds, WireItem, RegItem, AssignItem, GateItem, InstanceItem, AlwaysItem, PlainHeads, DeclaredHeads, SourceUnit}
+use Rattle.v_tree.specs.Trees.{Number, Selected, Infixed, Replicated, NoIndex, IndexAt, OneSelect, OnAnyRead, EventStatement, BlockingStatement, NoContent, MemoryBounds, WireItem, RegItem}
+use Rattle.v_tree.specs.Trees.{AssignItem, GateItem, InstanceItem, AlwaysItem, PlainHeads, DeclaredHeads, SourceUnit}
 use Rattle.v_names.specs.Faults.{BadWidth}
 use Rattle.v_elab.specs.declared.Mode.TheVariants.{Usual, Strict}
 use Rattle.v_elab.specs.declared.What.TheVariants.{Inputs}
@@ -24,9 +25,25 @@ source130 = record {
     parameters = ([]);
     heads = (PlainHeads ([]));
     items =
-        ((RegItem (at 2 1) false (Some (record { place = (at 2 5); high = (Number (at 2 6) Plain (bits_of 32 7)); low = (Number (at 2 8) Plain (bits_of 32 0)) })) (record { name = (codes "m"); place = (at 2 11); content = (MemoryBounds (record { place = (at 2 13); high = (Number (at 2 14) Plain (bits_of 32 0)); low = (Number (at 2 16) Plain (bits_of 32 4096)) })) } ∷ [])) ∷
-        (WireItem (at 2 23) false (Some (record { place = (at 2 28); high = (Number (at 2 29) Plain (bits_of 32 7)); low = (Number (at 2 31) Plain (bits_of 32 0)) })) (record { name = (codes "w"); place = (at 2 34); value = (Some (Selected (at 2 38) (codes "m") (IndexAt (Number (at 2 40) Plain (bits_of 32 0))))) } ∷ [])) ∷
-        (WireItem (at 3 1) false None (record { name = (codes "zz"); place = (at 3 6); value = (Some (Infixed (at 3 11) Add (Number (at 3 11) Plain (bits_of 32 1)) (Replicated (at 3 15) (Number (at 3 16) Plain (bits_of 32 65)) (parts ((Selected (at 3 19) (codes "w") NoIndex) ∷ []))))) } ∷ [])) ∷
+        ((RegItem (at 2 1) false (Some (record { place = (at 2 5); high = (Number (at 2 6) Plain (bits_of 32 7)); low = (Number (at 2 8) Plain (bits_of 32 0)) }))
+        (record {
+          name = (codes "m");
+          place = (at 2 11);
+          content = (MemoryBounds (record {
+            place = (at 2 13);
+            high = (Number (at 2 14) Plain (bits_of 32 0));
+            low = (Number (at 2 16) Plain (bits_of 32 4096));
+          }));
+        } ∷ [])) ∷
+        (WireItem (at 2 23) false (Some (record { place = (at 2 28); high = (Number (at 2 29) Plain (bits_of 32 7)); low = (Number (at 2 31) Plain (bits_of 32 0)) }))
+        (record { name = (codes "w"); place = (at 2 34); value = (Some (Selected (at 2 38) (codes "m") (IndexAt (Number (at 2 40) Plain (bits_of 32 0))))) } ∷ [])) ∷
+        (WireItem (at 3 1) false None (record {
+          name = (codes "zz");
+          place = (at 3 6);
+          value =
+              (Some (Infixed (at 3 11) Add (Number (at 3 11) Plain (bits_of 32 1)) (Replicated (at 3 15) (Number (at 3 16) Plain (bits_of 32 65))
+              (parts ((Selected (at 3 19) (codes "w") NoIndex) ∷ [])))));
+        } ∷ [])) ∷
         []);
   } ∷ []);
 }
@@ -49,9 +66,19 @@ source131 = record {
     parameters = ([]);
     heads = (PlainHeads ([]));
     items =
-        ((RegItem (at 2 1) false None (record { name = (codes "m"); place = (at 2 5); content = (MemoryBounds (record { place = (at 2 7); high = (Number (at 2 8) Plain (bits_of 32 0)); low = (Number (at 2 10) Plain (bits_of 32 4095)) })) } ∷ [])) ∷
+        ((RegItem (at 2 1) false None (record {
+          name = (codes "m");
+          place = (at 2 5);
+          content =
+              (MemoryBounds (record { place = (at 2 7); high = (Number (at 2 8) Plain (bits_of 32 0)); low = (Number (at 2 10) Plain (bits_of 32 4095)) }));
+        } ∷ [])) ∷
         (WireItem (at 2 17) false None (record { name = (codes "w"); place = (at 2 22); value = (Some (Selected (at 2 26) (codes "m") (IndexAt (Number (at 2 28) Plain (bits_of 32 0))))) } ∷ [])) ∷
-        (WireItem (at 3 1) false None (record { name = (codes "zz"); place = (at 3 6); value = (Some (Replicated (at 3 11) (Number (at 3 12) Plain (bits_of 32 129)) (parts ((Selected (at 3 16) (codes "w") NoIndex) ∷ [])))) } ∷ [])) ∷
+        (WireItem (at 3 1) false None (record {
+          name = (codes "zz");
+          place = (at 3 6);
+          value =
+              (Some (Replicated (at 3 11) (Number (at 3 12) Plain (bits_of 32 129)) (parts ((Selected (at 3 16) (codes "w") NoIndex) ∷ []))));
+        } ∷ [])) ∷
         []);
   } ∷ []);
 }
@@ -74,9 +101,25 @@ source132 = record {
     parameters = ([]);
     heads = (PlainHeads ([]));
     items =
-        ((RegItem (at 2 1) false None (record { name = (codes "m"); place = (at 2 5); content = (MemoryBounds (record { place = (at 2 7); high = (Number (at 2 8) Plain (bits_of 32 0)); low = (Number (at 2 10) Plain (bits_of 32 2047)) })) } ∷ [])) ∷
-        (WireItem (at 2 17) false None (record { name = (codes "w"); place = (at 2 22); value = (Some (Infixed (at 2 26) Add (Infixed (at 2 26) Add (Selected (at 2 26) (codes "m") (IndexAt (Number (at 2 28) Plain (bits_of 32 0)))) (Selected (at 2 33) (codes "m") (IndexAt (Number (at 2 35) Plain (bits_of 32 1))))) (Selected (at 2 40) (codes "m") (IndexAt (Number (at 2 42) Plain (bits_of 32 2)))))) } ∷ [])) ∷
-        (WireItem (at 3 1) false None (record { name = (codes "zz"); place = (at 3 6); value = (Some (Replicated (at 3 11) (Number (at 3 12) Plain (bits_of 32 129)) (parts ((Selected (at 3 16) (codes "w") NoIndex) ∷ [])))) } ∷ [])) ∷
+        ((RegItem (at 2 1) false None (record {
+          name = (codes "m");
+          place = (at 2 5);
+          content =
+              (MemoryBounds (record { place = (at 2 7); high = (Number (at 2 8) Plain (bits_of 32 0)); low = (Number (at 2 10) Plain (bits_of 32 2047)) }));
+        } ∷ [])) ∷
+        (WireItem (at 2 17) false None (record {
+          name = (codes "w");
+          place = (at 2 22);
+          value =
+              (Some (Infixed (at 2 26) Add (Infixed (at 2 26) Add (Selected (at 2 26) (codes "m") (IndexAt (Number (at 2 28) Plain (bits_of 32 0))))
+              (Selected (at 2 33) (codes "m") (IndexAt (Number (at 2 35) Plain (bits_of 32 1))))) (Selected (at 2 40) (codes "m") (IndexAt (Number (at 2 42) Plain (bits_of 32 2))))));
+        } ∷ [])) ∷
+        (WireItem (at 3 1) false None (record {
+          name = (codes "zz");
+          place = (at 3 6);
+          value =
+              (Some (Replicated (at 3 11) (Number (at 3 12) Plain (bits_of 32 129)) (parts ((Selected (at 3 16) (codes "w") NoIndex) ∷ []))));
+        } ∷ [])) ∷
         []);
   } ∷ []);
 }
@@ -99,9 +142,17 @@ source133 = record {
     parameters = ([]);
     heads = (PlainHeads ([]));
     items =
-        ((RegItem (at 2 1) false None (record { name = (codes "m"); place = (at 2 5); content = (MemoryBounds (record { place = (at 2 7); high = (Number (at 2 8) Plain (bits_of 32 0)); low = (Number (at 2 10) Plain (bits_of 32 4096)) })) } ∷ [])) ∷
+        ((RegItem (at 2 1) false None (record {
+          name = (codes "m");
+          place = (at 2 5);
+          content =
+              (MemoryBounds (record { place = (at 2 7); high = (Number (at 2 8) Plain (bits_of 32 0)); low = (Number (at 2 10) Plain (bits_of 32 4096)) }));
+        } ∷ [])) ∷
         (WireItem (at 2 17) false None (record { name = (codes "w"); place = (at 2 22); value = None } ∷ [])) ∷
-        (AssignItem (at 3 1) (record { target = (OneSelect (record { place = (at 3 8); name = (codes "w"); index = NoIndex })); value = (Replicated (at 3 12) (Number (at 3 13) Plain (bits_of 32 129)) (parts ((Selected (at 3 17) (codes "m") (IndexAt (Number (at 3 19) Plain (bits_of 32 0)))) ∷ []))) } ∷ [])) ∷
+        (AssignItem (at 3 1) (record {
+          target = (OneSelect (record { place = (at 3 8); name = (codes "w"); index = NoIndex }));
+          value = (Replicated (at 3 12) (Number (at 3 13) Plain (bits_of 32 129)) (parts ((Selected (at 3 17) (codes "m") (IndexAt (Number (at 3 19) Plain (bits_of 32 0)))) ∷ [])));
+        } ∷ [])) ∷
         []);
   } ∷ []);
 }
@@ -124,10 +175,23 @@ source134 = record {
     parameters = ([]);
     heads = (PlainHeads ([]));
     items =
-        ((RegItem (at 2 1) false None (record { name = (codes "m"); place = (at 2 5); content = (MemoryBounds (record { place = (at 2 7); high = (Number (at 2 8) Plain (bits_of 32 0)); low = (Number (at 2 10) Plain (bits_of 32 4096)) })) } ∷ [])) ∷
+        ((RegItem (at 2 1) false None (record {
+          name = (codes "m");
+          place = (at 2 5);
+          content =
+              (MemoryBounds (record { place = (at 2 7); high = (Number (at 2 8) Plain (bits_of 32 0)); low = (Number (at 2 10) Plain (bits_of 32 4096)) }));
+        } ∷ [])) ∷
         (WireItem (at 2 17) false None (record { name = (codes "w"); place = (at 2 22); value = None } ∷ [])) ∷
-        (AssignItem (at 2 25) (record { target = (OneSelect (record { place = (at 2 32); name = (codes "w"); index = NoIndex })); value = (Selected (at 2 36) (codes "m") (IndexAt (Number (at 2 38) Plain (bits_of 32 0)))) } ∷ [])) ∷
-        (WireItem (at 3 1) false None (record { name = (codes "zz"); place = (at 3 6); value = (Some (Replicated (at 3 11) (Number (at 3 12) Plain (bits_of 32 129)) (parts ((Selected (at 3 16) (codes "w") NoIndex) ∷ [])))) } ∷ [])) ∷
+        (AssignItem (at 2 25) (record {
+          target = (OneSelect (record { place = (at 2 32); name = (codes "w"); index = NoIndex }));
+          value = (Selected (at 2 36) (codes "m") (IndexAt (Number (at 2 38) Plain (bits_of 32 0))));
+        } ∷ [])) ∷
+        (WireItem (at 3 1) false None (record {
+          name = (codes "zz");
+          place = (at 3 6);
+          value =
+              (Some (Replicated (at 3 11) (Number (at 3 12) Plain (bits_of 32 129)) (parts ((Selected (at 3 16) (codes "w") NoIndex) ∷ []))));
+        } ∷ [])) ∷
         []);
   } ∷ []);
 }
@@ -150,10 +214,24 @@ source135 = record {
     parameters = ([]);
     heads = (PlainHeads ([]));
     items =
-        ((RegItem (at 2 1) false None (record { name = (codes "m"); place = (at 2 5); content = (MemoryBounds (record { place = (at 2 7); high = (Number (at 2 8) Plain (bits_of 32 0)); low = (Number (at 2 10) Plain (bits_of 32 4096)) })) } ∷ [])) ∷
+        ((RegItem (at 2 1) false None (record {
+          name = (codes "m");
+          place = (at 2 5);
+          content =
+              (MemoryBounds (record { place = (at 2 7); high = (Number (at 2 8) Plain (bits_of 32 0)); low = (Number (at 2 10) Plain (bits_of 32 4096)) }));
+        } ∷ [])) ∷
         (WireItem (at 2 17) false None (record { name = (codes "y"); place = (at 2 22); value = None } ∷ [])) ∷
-        (GateItem (at 2 25) Buf (record { name = (Some (record { name = (codes "g"); place = (at 2 29) })); output = (OneSelect (record { place = (at 2 31); name = (codes "y"); index = NoIndex })); inputs = ((Selected (at 2 34) (codes "m") (IndexAt (Number (at 2 36) Plain (bits_of 32 0)))) ∷ []) } ∷ [])) ∷
-        (WireItem (at 3 1) false None (record { name = (codes "zz"); place = (at 3 6); value = (Some (Replicated (at 3 11) (Number (at 3 12) Plain (bits_of 32 129)) (parts ((Selected (at 3 16) (codes "y") NoIndex) ∷ [])))) } ∷ [])) ∷
+        (GateItem (at 2 25) Buf (record {
+          name = (Some (record { name = (codes "g"); place = (at 2 29) }));
+          output = (OneSelect (record { place = (at 2 31); name = (codes "y"); index = NoIndex }));
+          inputs = ((Selected (at 2 34) (codes "m") (IndexAt (Number (at 2 36) Plain (bits_of 32 0)))) ∷ []);
+        } ∷ [])) ∷
+        (WireItem (at 3 1) false None (record {
+          name = (codes "zz");
+          place = (at 3 6);
+          value =
+              (Some (Replicated (at 3 11) (Number (at 3 12) Plain (bits_of 32 129)) (parts ((Selected (at 3 16) (codes "y") NoIndex) ∷ []))));
+        } ∷ [])) ∷
         []);
   } ∷ []);
 }
@@ -176,10 +254,21 @@ source136 = record {
     parameters = ([]);
     heads = (PlainHeads ([]));
     items =
-        ((RegItem (at 2 1) false None (record { name = (codes "m"); place = (at 2 5); content = (MemoryBounds (record { place = (at 2 7); high = (Number (at 2 8) Plain (bits_of 32 0)); low = (Number (at 2 10) Plain (bits_of 32 4096)) })) } ∷ [])) ∷
+        ((RegItem (at 2 1) false None (record {
+          name = (codes "m");
+          place = (at 2 5);
+          content =
+              (MemoryBounds (record { place = (at 2 7); high = (Number (at 2 8) Plain (bits_of 32 0)); low = (Number (at 2 10) Plain (bits_of 32 4096)) }));
+        } ∷ [])) ∷
         (RegItem (at 2 17) false None (record { name = (codes "q"); place = (at 2 21); content = NoContent } ∷ [])) ∷
-        (AlwaysItem (at 2 24) (EventStatement (at 2 31) OnAnyRead (BlockingStatement (at 2 34) (OneSelect (record { place = (at 2 34); name = (codes "q"); index = NoIndex })) None (Selected (at 2 38) (codes "m") (IndexAt (Number (at 2 40) Plain (bits_of 32 0))))))) ∷
-        (WireItem (at 3 1) false None (record { name = (codes "zz"); place = (at 3 6); value = (Some (Replicated (at 3 11) (Number (at 3 12) Plain (bits_of 32 129)) (parts ((Selected (at 3 16) (codes "q") NoIndex) ∷ [])))) } ∷ [])) ∷
+        (AlwaysItem (at 2 24) (EventStatement (at 2 31) OnAnyRead (BlockingStatement (at 2 34) (OneSelect (record { place = (at 2 34); name = (codes "q"); index = NoIndex })) None
+        (Selected (at 2 38) (codes "m") (IndexAt (Number (at 2 40) Plain (bits_of 32 0))))))) ∷
+        (WireItem (at 3 1) false None (record {
+          name = (codes "zz");
+          place = (at 3 6);
+          value =
+              (Some (Replicated (at 3 11) (Number (at 3 12) Plain (bits_of 32 129)) (parts ((Selected (at 3 16) (codes "q") NoIndex) ∷ []))));
+        } ∷ [])) ∷
         []);
   } ∷ []);
 }
@@ -203,10 +292,21 @@ source137 = record {
     parameters = ([]);
     heads = (PlainHeads ([]));
     items =
-        ((RegItem (at 2 1) false None (record { name = (codes "m"); place = (at 2 5); content = (MemoryBounds (record { place = (at 2 7); high = (Number (at 2 8) Plain (bits_of 32 0)); low = (Number (at 2 10) Plain (bits_of 32 4096)) })) } ∷ [])) ∷
+        ((RegItem (at 2 1) false None (record {
+          name = (codes "m");
+          place = (at 2 5);
+          content =
+              (MemoryBounds (record { place = (at 2 7); high = (Number (at 2 8) Plain (bits_of 32 0)); low = (Number (at 2 10) Plain (bits_of 32 4096)) }));
+        } ∷ [])) ∷
         (RegItem (at 2 17) false None (record { name = (codes "q"); place = (at 2 21); content = NoContent } ∷ [])) ∷
-        (AlwaysItem (at 2 24) (EventStatement (at 2 31) OnAnyRead (BlockingStatement (at 2 34) (OneSelect (record { place = (at 2 34); name = (codes "q"); index = NoIndex })) None (Selected (at 2 38) (codes "m") (IndexAt (Number (at 2 40) Plain (bits_of 32 0))))))) ∷
-        (WireItem (at 3 1) false None (record { name = (codes "zz"); place = (at 3 6); value = (Some (Replicated (at 3 11) (Number (at 3 12) Plain (bits_of 32 129)) (parts ((Selected (at 3 16) (codes "q") NoIndex) ∷ [])))) } ∷ [])) ∷
+        (AlwaysItem (at 2 24) (EventStatement (at 2 31) OnAnyRead (BlockingStatement (at 2 34) (OneSelect (record { place = (at 2 34); name = (codes "q"); index = NoIndex })) None
+        (Selected (at 2 38) (codes "m") (IndexAt (Number (at 2 40) Plain (bits_of 32 0))))))) ∷
+        (WireItem (at 3 1) false None (record {
+          name = (codes "zz");
+          place = (at 3 6);
+          value =
+              (Some (Replicated (at 3 11) (Number (at 3 12) Plain (bits_of 32 129)) (parts ((Selected (at 3 16) (codes "q") NoIndex) ∷ []))));
+        } ∷ [])) ∷
         []);
   } ∷ []);
 }
@@ -237,10 +337,24 @@ source138 = record {
     parameters = ([]);
     heads = (PlainHeads ([]));
     items =
-        ((RegItem (at 3 1) false None (record { name = (codes "m"); place = (at 3 5); content = (MemoryBounds (record { place = (at 3 7); high = (Number (at 3 8) Plain (bits_of 32 0)); low = (Number (at 3 10) Plain (bits_of 32 4096)) })) } ∷ [])) ∷
-        (InstanceItem (at 3 17) (codes "s") ([]) (record { name = (codes "a"); place = (at 3 19); connections = (record { name = None; place = (at 3 21); actual = (Some (Selected (at 3 21) (codes "m") (IndexAt (Number (at 3 23) Plain (bits_of 32 0))))) } ∷ []) } ∷ [])) ∷
+        ((RegItem (at 3 1) false None (record {
+          name = (codes "m");
+          place = (at 3 5);
+          content =
+              (MemoryBounds (record { place = (at 3 7); high = (Number (at 3 8) Plain (bits_of 32 0)); low = (Number (at 3 10) Plain (bits_of 32 4096)) }));
+        } ∷ [])) ∷
+        (InstanceItem (at 3 17) (codes "s") ([]) (record {
+          name = (codes "a");
+          place = (at 3 19);
+          connections = (record { name = None; place = (at 3 21); actual = (Some (Selected (at 3 21) (codes "m") (IndexAt (Number (at 3 23) Plain (bits_of 32 0))))) } ∷ []);
+        } ∷ [])) ∷
         (WireItem (at 3 28) false None (record { name = (codes "y"); place = (at 3 33); value = None } ∷ [])) ∷
-        (WireItem (at 4 1) false None (record { name = (codes "zz"); place = (at 4 6); value = (Some (Replicated (at 4 11) (Number (at 4 12) Plain (bits_of 32 129)) (parts ((Selected (at 4 16) (codes "y") NoIndex) ∷ [])))) } ∷ [])) ∷
+        (WireItem (at 4 1) false None (record {
+          name = (codes "zz");
+          place = (at 4 6);
+          value =
+              (Some (Replicated (at 4 11) (Number (at 4 12) Plain (bits_of 32 129)) (parts ((Selected (at 4 16) (codes "y") NoIndex) ∷ []))));
+        } ∷ [])) ∷
         []);
   } ∷ []);
 }

@@ -60,7 +60,8 @@ source22 = record {
     name = (codes "top");
     place = (at 1 8);
     parameters = ([]);
-    heads = (DeclaredHeads (record { place = (at 1 12); direction = Input; is_reg = false; signed = false; range = None; names = (record { name = (codes "a"); place = (at 1 18) } ∷ []) } ∷ record { place = (at 1 21); direction = Output; is_reg = false; signed = false; range = None; names = (record { name = (codes "a"); place = (at 1 28) } ∷ []) } ∷ []));
+    heads = (DeclaredHeads (record { place = (at 1 12); direction = Input; is_reg = false; signed = false; range = None; names = (record { name = (codes "a"); place = (at 1 18) } ∷ []) } ∷
+        record { place = (at 1 21); direction = Output; is_reg = false; signed = false; range = None; names = (record { name = (codes "a"); place = (at 1 28) } ∷ []) } ∷ []));
     items =
         ([]);
   } ∷ []);
@@ -83,7 +84,8 @@ source23 = record {
     parameters = ([]);
     heads = (PlainHeads ([]));
     items =
-        ((RegItem (at 2 1) false (Some (record { place = (at 2 5); high = (Number (at 2 6) Plain (bits_of 32 64)); low = (Number (at 2 9) Plain (bits_of 32 0)) })) (record { name = (codes "w"); place = (at 2 12); content = NoContent } ∷ [])) ∷
+        ((RegItem (at 2 1) false (Some (record { place = (at 2 5); high = (Number (at 2 6) Plain (bits_of 32 64)); low = (Number (at 2 9) Plain (bits_of 32 0)) }))
+        (record { name = (codes "w"); place = (at 2 12); content = NoContent } ∷ [])) ∷
         (WireItem (at 2 15) false None (record { name = (codes "b"); place = (at 2 20); value = (Some (Selected (at 2 24) (codes "zz") NoIndex)) } ∷ [])) ∷
         []);
   } ∷ []);
@@ -131,7 +133,8 @@ source25 = record {
     heads = (PlainHeads ([]));
     items =
         ((RegItem (at 2 1) false None (record { name = (codes "r"); place = (at 2 5); content = NoContent } ∷ [])) ∷
-        (WireItem (at 2 8) false (Some (record { place = (at 2 13); high = (Selected (at 2 14) (codes "r") NoIndex); low = (Number (at 2 16) Plain (bits_of 32 0)) })) (record { name = (codes "w"); place = (at 2 19); value = None } ∷ [])) ∷
+        (WireItem (at 2 8) false (Some (record { place = (at 2 13); high = (Selected (at 2 14) (codes "r") NoIndex); low = (Number (at 2 16) Plain (bits_of 32 0)) }))
+        (record { name = (codes "w"); place = (at 2 19); value = None } ∷ [])) ∷
         []);
   } ∷ []);
 }
@@ -177,7 +180,13 @@ source27 = record {
     heads = (PlainHeads ([]));
     items =
         ((RegItem (at 2 1) false None (record { name = (codes "r"); place = (at 2 5); content = NoContent } ∷ [])) ∷
-        (ParameterItem (record { place = (at 2 8); is_local = false; signed = false; range = None; parameters = (record { name = (codes "P"); place = (at 2 18); value = (Infixed (at 2 22) Add (Number (at 2 22) Plain (bits_of 32 1)) (Selected (at 2 26) (codes "r") NoIndex)) } ∷ []) })) ∷
+        (ParameterItem (record {
+          place = (at 2 8);
+          is_local = false;
+          signed = false;
+          range = None;
+          parameters = (record { name = (codes "P"); place = (at 2 18); value = (Infixed (at 2 22) Add (Number (at 2 22) Plain (bits_of 32 1)) (Selected (at 2 26) (codes "r") NoIndex)) } ∷ []);
+        })) ∷
         []);
   } ∷ []);
 }
@@ -199,7 +208,8 @@ source28 = record {
     parameters = ([]);
     heads = (PlainHeads ([]));
     items =
-        ((WireItem (at 2 1) false (Some (record { place = (at 2 6); high = (Number (at 2 7) Sized (X ∷ [])); low = (Number (at 2 12) Plain (bits_of 32 0)) })) (record { name = (codes "w"); place = (at 2 15); value = None } ∷ [])) ∷
+        ((WireItem (at 2 1) false (Some (record { place = (at 2 6); high = (Number (at 2 7) Sized (X ∷ [])); low = (Number (at 2 12) Plain (bits_of 32 0)) }))
+        (record { name = (codes "w"); place = (at 2 15); value = None } ∷ [])) ∷
         []);
   } ∷ []);
 }
@@ -221,7 +231,13 @@ source29 = record {
     parameters = ([]);
     heads = (PlainHeads ([]));
     items =
-        ((ParameterItem (record { place = (at 2 1); is_local = false; signed = false; range = None; parameters = (record { name = (codes "P"); place = (at 2 11); value = (Number (at 2 15) Sized (X ∷ One ∷ Zero ∷ Zero ∷ [])) } ∷ []) })) ∷
+        ((ParameterItem (record {
+          place = (at 2 1);
+          is_local = false;
+          signed = false;
+          range = None;
+          parameters = (record { name = (codes "P"); place = (at 2 11); value = (Number (at 2 15) Sized (X ∷ One ∷ Zero ∷ Zero ∷ [])) } ∷ []);
+        })) ∷
         []);
   } ∷ []);
 }

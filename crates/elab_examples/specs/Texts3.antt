@@ -5,7 +5,8 @@ use Rattle.v_design.specs.declared.logic.ObjectKind.TheVariants.{Var, Word, Net}
 use Rattle.four_value.specs.declared.operator.UnaryOperator.TheVariants.{Minus}
 use Rattle.four_value.specs.declared.operator.BinaryOperator.TheVariants.{Add}
 use Rattle.v_tree.specs.declared.token.NumberForm.TheVariants.{Plain, Sized}
-use Rattle.v_tree.specs.Trees.{Number, Selected, Prefixed, Infixed, NoIndex, OneSelect, DelayStatement, BlockingStatement, NoContent, FirstContent, MemoryBounds, WireItem, RegItem, InitialItem, PlainHeads, SourceUnit}
+use Rattle.v_tree.specs.Trees.{Number, Selected, Prefixed, Infixed, NoIndex, OneSelect, DelayStatement, BlockingStatement, NoContent, FirstContent, MemoryBounds, WireItem, RegItem, InitialItem}
+use Rattle.v_tree.specs.Trees.{PlainHeads, SourceUnit}
 use Rattle.v_elab.specs.declared.Mode.TheVariants.{Usual}
 use Rattle.v_names.specs.Faults.{NoConstant}
 use Rattle.v_elab.specs.Flat.{flat}
@@ -28,7 +29,12 @@ source30 = record {
 }
 
 abbrev pub Found30 : Type 0
-Found30 = summary_of (flat source30 (codes "top") Usual) ≡ Ok (record { objects = (record { name = (codes "q"); kind = Var; width = 1; indexes = ([]); place = (at 2 5) } ∷ []); nodes = ([]); processes = ([]); joined = ([]) })
+Found30 = summary_of (flat source30 (codes "top") Usual) ≡ Ok (record {
+  objects = (record { name = (codes "q"); kind = Var; width = 1; indexes = ([]); place = (at 2 5) } ∷ []);
+  nodes = ([]);
+  processes = ([]);
+  joined = ([]);
+})
 
 found30 : Found30
 found30 = refl
@@ -44,13 +50,19 @@ source31 = record {
     parameters = ([]);
     heads = (PlainHeads ([]));
     items =
-        ((WireItem (at 2 1) false (Some (record { place = (at 2 6); high = (Number (at 2 7) Plain (bits_of 32 65536)); low = (Number (at 2 13) Plain (bits_of 32 65536)) })) (record { name = (codes "w"); place = (at 2 20); value = None } ∷ [])) ∷
+        ((WireItem (at 2 1) false (Some (record { place = (at 2 6); high = (Number (at 2 7) Plain (bits_of 32 65536)); low = (Number (at 2 13) Plain (bits_of 32 65536)) }))
+        (record { name = (codes "w"); place = (at 2 20); value = None } ∷ [])) ∷
         []);
   } ∷ []);
 }
 
 abbrev pub Found31 : Type 0
-Found31 = summary_of (flat source31 (codes "top") Usual) ≡ Ok (record { objects = (record { name = (codes "w"); kind = Net; width = 1; indexes = (65536 ∷ 65536 ∷ []); place = (at 2 20) } ∷ []); nodes = ([]); processes = ([]); joined = ([]) })
+Found31 = summary_of (flat source31 (codes "top") Usual) ≡ Ok (record {
+  objects = (record { name = (codes "w"); kind = Net; width = 1; indexes = (65536 ∷ 65536 ∷ []); place = (at 2 20) } ∷ []);
+  nodes = ([]);
+  processes = ([]);
+  joined = ([]);
+})
 
 found31 : Found31
 found31 = refl
@@ -66,7 +78,8 @@ source32 = record {
     parameters = ([]);
     heads = (PlainHeads ([]));
     items =
-        ((WireItem (at 2 1) false (Some (record { place = (at 2 6); high = (Number (at 2 7) Plain (bits_of 32 65537)); low = (Number (at 2 13) Plain (bits_of 32 65537)) })) (record { name = (codes "w"); place = (at 2 20); value = None } ∷ [])) ∷
+        ((WireItem (at 2 1) false (Some (record { place = (at 2 6); high = (Number (at 2 7) Plain (bits_of 32 65537)); low = (Number (at 2 13) Plain (bits_of 32 65537)) }))
+        (record { name = (codes "w"); place = (at 2 20); value = None } ∷ [])) ∷
         []);
   } ∷ []);
 }
@@ -88,7 +101,8 @@ source33 = record {
     parameters = ([]);
     heads = (PlainHeads ([]));
     items =
-        ((WireItem (at 2 1) false (Some (record { place = (at 2 6); high = (Prefixed (at 2 7) Minus (Number (at 2 8) Plain (bits_of 32 1))); low = (Number (at 2 10) Plain (bits_of 32 0)) })) (record { name = (codes "w"); place = (at 2 13); value = None } ∷ [])) ∷
+        ((WireItem (at 2 1) false (Some (record { place = (at 2 6); high = (Prefixed (at 2 7) Minus (Number (at 2 8) Plain (bits_of 32 1))); low = (Number (at 2 10) Plain (bits_of 32 0)) }))
+        (record { name = (codes "w"); place = (at 2 13); value = None } ∷ [])) ∷
         []);
   } ∷ []);
 }
@@ -110,13 +124,28 @@ source34 = record {
     parameters = ([]);
     heads = (PlainHeads ([]));
     items =
-        ((RegItem (at 2 1) false (Some (record { place = (at 2 5); high = (Number (at 2 6) Plain (bits_of 32 7)); low = (Number (at 2 8) Plain (bits_of 32 0)) })) (record { name = (codes "m"); place = (at 2 11); content = (MemoryBounds (record { place = (at 2 13); high = (Number (at 2 14) Plain (bits_of 32 1048575)); low = (Number (at 2 22) Plain (bits_of 32 1048574)) })) } ∷ [])) ∷
+        ((RegItem (at 2 1) false (Some (record { place = (at 2 5); high = (Number (at 2 6) Plain (bits_of 32 7)); low = (Number (at 2 8) Plain (bits_of 32 0)) }))
+        (record {
+          name = (codes "m");
+          place = (at 2 11);
+          content = (MemoryBounds (record {
+            place = (at 2 13);
+            high = (Number (at 2 14) Plain (bits_of 32 1048575));
+            low = (Number (at 2 22) Plain (bits_of 32 1048574));
+          }));
+        } ∷ [])) ∷
         []);
   } ∷ []);
 }
 
 abbrev pub Found34 : Type 0
-Found34 = summary_of (flat source34 (codes "top") Usual) ≡ Ok (record { objects = (record { name = (codes "m"); kind = Word; width = 8; indexes = (1048574 ∷ []); place = (at 2 11) } ∷ record { name = (codes "m"); kind = Word; width = 8; indexes = (1048575 ∷ []); place = (at 2 11) } ∷ []); nodes = ([]); processes = ([]); joined = ([]) })
+Found34 = summary_of (flat source34 (codes "top") Usual) ≡ Ok (record {
+  objects = (record { name = (codes "m"); kind = Word; width = 8; indexes = (1048574 ∷ []); place = (at 2 11) } ∷
+      record { name = (codes "m"); kind = Word; width = 8; indexes = (1048575 ∷ []); place = (at 2 11) } ∷ []);
+  nodes = ([]);
+  processes = ([]);
+  joined = ([]);
+})
 
 found34 : Found34
 found34 = refl
@@ -132,7 +161,16 @@ source35 = record {
     parameters = ([]);
     heads = (PlainHeads ([]));
     items =
-        ((RegItem (at 2 1) false (Some (record { place = (at 2 5); high = (Number (at 2 6) Plain (bits_of 32 7)); low = (Number (at 2 8) Plain (bits_of 32 0)) })) (record { name = (codes "m"); place = (at 2 11); content = (MemoryBounds (record { place = (at 2 13); high = (Number (at 2 14) Plain (bits_of 32 0)); low = (Number (at 2 16) Plain (bits_of 32 1048576)) })) } ∷ [])) ∷
+        ((RegItem (at 2 1) false (Some (record { place = (at 2 5); high = (Number (at 2 6) Plain (bits_of 32 7)); low = (Number (at 2 8) Plain (bits_of 32 0)) }))
+        (record {
+          name = (codes "m");
+          place = (at 2 11);
+          content = (MemoryBounds (record {
+            place = (at 2 13);
+            high = (Number (at 2 14) Plain (bits_of 32 0));
+            low = (Number (at 2 16) Plain (bits_of 32 1048576));
+          }));
+        } ∷ [])) ∷
         []);
   } ∷ []);
 }
@@ -155,11 +193,24 @@ source36 = record {
     parameters = ([]);
     heads = (PlainHeads ([]));
     items =
-        ((RegItem (at 2 1) false None (record { name = (codes "q"); place = (at 2 5); content = NoContent } ∷ record { name = (codes "r"); place = (at 2 8); content = NoContent } ∷ record { name = (codes "a"); place = (at 2 11); content = NoContent } ∷ record { name = (codes "b"); place = (at 2 14); content = NoContent } ∷ record { name = (codes "c"); place = (at 2 17); content = NoContent } ∷ [])) ∷
-        (RegItem (at 2 20) false (Some (record { place = (at 2 24); high = (Number (at 2 25) Plain (bits_of 32 3)); low = (Number (at 2 27) Plain (bits_of 32 0)) })) (record { name = (codes "v"); place = (at 2 30); content = NoContent } ∷ record { name = (codes "w"); place = (at 2 33); content = NoContent } ∷ [])) ∷
-        (RegItem (at 2 36) false (Some (record { place = (at 2 40); high = (Number (at 2 41) Plain (bits_of 32 7)); low = (Number (at 2 43) Plain (bits_of 32 0)) })) (record { name = (codes "m"); place = (at 2 46); content = (MemoryBounds (record { place = (at 2 48); high = (Number (at 2 49) Plain (bits_of 32 0)); low = (Number (at 2 51) Plain (bits_of 32 3)) })) } ∷ [])) ∷
+        ((RegItem (at 2 1) false None (record { name = (codes "q"); place = (at 2 5); content = NoContent } ∷ record { name = (codes "r"); place = (at 2 8); content = NoContent } ∷
+        record { name = (codes "a"); place = (at 2 11); content = NoContent } ∷ record { name = (codes "b"); place = (at 2 14); content = NoContent } ∷
+        record { name = (codes "c"); place = (at 2 17); content = NoContent } ∷ [])) ∷
+        (RegItem (at 2 20) false (Some (record { place = (at 2 24); high = (Number (at 2 25) Plain (bits_of 32 3)); low = (Number (at 2 27) Plain (bits_of 32 0)) }))
+        (record { name = (codes "v"); place = (at 2 30); content = NoContent } ∷ record { name = (codes "w"); place = (at 2 33); content = NoContent } ∷ [])) ∷
+        (RegItem (at 2 36) false (Some (record { place = (at 2 40); high = (Number (at 2 41) Plain (bits_of 32 7)); low = (Number (at 2 43) Plain (bits_of 32 0)) }))
+        (record {
+          name = (codes "m");
+          place = (at 2 46);
+          content = (MemoryBounds (record {
+            place = (at 2 48);
+            high = (Number (at 2 49) Plain (bits_of 32 0));
+            low = (Number (at 2 51) Plain (bits_of 32 3));
+          }));
+        } ∷ [])) ∷
         (WireItem (at 2 55) false None (record { name = (codes "n"); place = (at 2 60); value = None } ∷ [])) ∷
-        (InitialItem (at 3 1) (DelayStatement (at 3 9) (Selected (at 3 10) (codes "q") NoIndex) (BlockingStatement (at 3 12) (OneSelect (record { place = (at 3 12); name = (codes "q"); index = NoIndex })) None (Number (at 3 16) Plain (bits_of 32 1))))) ∷
+        (InitialItem (at 3 1) (DelayStatement (at 3 9) (Selected (at 3 10) (codes "q") NoIndex)
+        (BlockingStatement (at 3 12) (OneSelect (record { place = (at 3 12); name = (codes "q"); index = NoIndex })) None (Number (at 3 16) Plain (bits_of 32 1))))) ∷
         []);
   } ∷ []);
 }
@@ -182,17 +233,41 @@ source37 = record {
     parameters = ([]);
     heads = (PlainHeads ([]));
     items =
-        ((RegItem (at 2 1) false None (record { name = (codes "q"); place = (at 2 5); content = NoContent } ∷ record { name = (codes "r"); place = (at 2 8); content = NoContent } ∷ record { name = (codes "a"); place = (at 2 11); content = NoContent } ∷ record { name = (codes "b"); place = (at 2 14); content = NoContent } ∷ record { name = (codes "c"); place = (at 2 17); content = NoContent } ∷ [])) ∷
-        (RegItem (at 2 20) false (Some (record { place = (at 2 24); high = (Number (at 2 25) Plain (bits_of 32 3)); low = (Number (at 2 27) Plain (bits_of 32 0)) })) (record { name = (codes "v"); place = (at 2 30); content = NoContent } ∷ record { name = (codes "w"); place = (at 2 33); content = NoContent } ∷ [])) ∷
-        (RegItem (at 2 36) false (Some (record { place = (at 2 40); high = (Number (at 2 41) Plain (bits_of 32 7)); low = (Number (at 2 43) Plain (bits_of 32 0)) })) (record { name = (codes "m"); place = (at 2 46); content = (MemoryBounds (record { place = (at 2 48); high = (Number (at 2 49) Plain (bits_of 32 0)); low = (Number (at 2 51) Plain (bits_of 32 3)) })) } ∷ [])) ∷
+        ((RegItem (at 2 1) false None (record { name = (codes "q"); place = (at 2 5); content = NoContent } ∷ record { name = (codes "r"); place = (at 2 8); content = NoContent } ∷
+        record { name = (codes "a"); place = (at 2 11); content = NoContent } ∷ record { name = (codes "b"); place = (at 2 14); content = NoContent } ∷
+        record { name = (codes "c"); place = (at 2 17); content = NoContent } ∷ [])) ∷
+        (RegItem (at 2 20) false (Some (record { place = (at 2 24); high = (Number (at 2 25) Plain (bits_of 32 3)); low = (Number (at 2 27) Plain (bits_of 32 0)) }))
+        (record { name = (codes "v"); place = (at 2 30); content = NoContent } ∷ record { name = (codes "w"); place = (at 2 33); content = NoContent } ∷ [])) ∷
+        (RegItem (at 2 36) false (Some (record { place = (at 2 40); high = (Number (at 2 41) Plain (bits_of 32 7)); low = (Number (at 2 43) Plain (bits_of 32 0)) }))
+        (record {
+          name = (codes "m");
+          place = (at 2 46);
+          content = (MemoryBounds (record {
+            place = (at 2 48);
+            high = (Number (at 2 49) Plain (bits_of 32 0));
+            low = (Number (at 2 51) Plain (bits_of 32 3));
+          }));
+        } ∷ [])) ∷
         (WireItem (at 2 55) false None (record { name = (codes "n"); place = (at 2 60); value = None } ∷ [])) ∷
-        (InitialItem (at 3 1) (DelayStatement (at 3 9) (Number (at 3 10) Plain (bits_of 32 4294967295)) (BlockingStatement (at 3 21) (OneSelect (record { place = (at 3 21); name = (codes "q"); index = NoIndex })) None (Number (at 3 25) Plain (bits_of 32 1))))) ∷
+        (InitialItem (at 3 1) (DelayStatement (at 3 9) (Number (at 3 10) Plain (bits_of 32 4294967295))
+        (BlockingStatement (at 3 21) (OneSelect (record { place = (at 3 21); name = (codes "q"); index = NoIndex })) None (Number (at 3 25) Plain (bits_of 32 1))))) ∷
         []);
   } ∷ []);
 }
 
 abbrev pub Found37 : Type 0
-Found37 = summary_of (flat source37 (codes "top") Usual) ≡ Ok (record { objects = (record { name = (codes "q"); kind = Var; width = 1; indexes = ([]); place = (at 2 5) } ∷ record { name = (codes "r"); kind = Var; width = 1; indexes = ([]); place = (at 2 8) } ∷ record { name = (codes "a"); kind = Var; width = 1; indexes = ([]); place = (at 2 11) } ∷ record { name = (codes "b"); kind = Var; width = 1; indexes = ([]); place = (at 2 14) } ∷ record { name = (codes "c"); kind = Var; width = 1; indexes = ([]); place = (at 2 17) } ∷ record { name = (codes "v"); kind = Var; width = 4; indexes = (3 ∷ 0 ∷ []); place = (at 2 30) } ∷ record { name = (codes "w"); kind = Var; width = 4; indexes = (3 ∷ 0 ∷ []); place = (at 2 33) } ∷ record { name = (codes "m"); kind = Word; width = 8; indexes = (0 ∷ []); place = (at 2 46) } ∷ record { name = (codes "m"); kind = Word; width = 8; indexes = (1 ∷ []); place = (at 2 46) } ∷ record { name = (codes "m"); kind = Word; width = 8; indexes = (2 ∷ []); place = (at 2 46) } ∷ record { name = (codes "m"); kind = Word; width = 8; indexes = (3 ∷ []); place = (at 2 46) } ∷ record { name = (codes "n"); kind = Net; width = 1; indexes = ([]); place = (at 2 60) } ∷ []); nodes = ([]); processes = (false ∷ []); joined = ([]) })
+Found37 = summary_of (flat source37 (codes "top") Usual) ≡ Ok (record {
+  objects = (record { name = (codes "q"); kind = Var; width = 1; indexes = ([]); place = (at 2 5) } ∷
+      record { name = (codes "r"); kind = Var; width = 1; indexes = ([]); place = (at 2 8) } ∷ record { name = (codes "a"); kind = Var; width = 1; indexes = ([]); place = (at 2 11) } ∷
+      record { name = (codes "b"); kind = Var; width = 1; indexes = ([]); place = (at 2 14) } ∷ record { name = (codes "c"); kind = Var; width = 1; indexes = ([]); place = (at 2 17) } ∷
+      record { name = (codes "v"); kind = Var; width = 4; indexes = (3 ∷ 0 ∷ []); place = (at 2 30) } ∷
+      record { name = (codes "w"); kind = Var; width = 4; indexes = (3 ∷ 0 ∷ []); place = (at 2 33) } ∷ record { name = (codes "m"); kind = Word; width = 8; indexes = (0 ∷ []); place = (at 2 46) } ∷
+      record { name = (codes "m"); kind = Word; width = 8; indexes = (1 ∷ []); place = (at 2 46) } ∷ record { name = (codes "m"); kind = Word; width = 8; indexes = (2 ∷ []); place = (at 2 46) } ∷
+      record { name = (codes "m"); kind = Word; width = 8; indexes = (3 ∷ []); place = (at 2 46) } ∷ record { name = (codes "n"); kind = Net; width = 1; indexes = ([]); place = (at 2 60) } ∷ []);
+  nodes = ([]);
+  processes = (false ∷ []);
+  joined = ([]);
+})
 
 found37 : Found37
 found37 = refl
@@ -209,11 +284,24 @@ source38 = record {
     parameters = ([]);
     heads = (PlainHeads ([]));
     items =
-        ((RegItem (at 2 1) false None (record { name = (codes "q"); place = (at 2 5); content = NoContent } ∷ record { name = (codes "r"); place = (at 2 8); content = NoContent } ∷ record { name = (codes "a"); place = (at 2 11); content = NoContent } ∷ record { name = (codes "b"); place = (at 2 14); content = NoContent } ∷ record { name = (codes "c"); place = (at 2 17); content = NoContent } ∷ [])) ∷
-        (RegItem (at 2 20) false (Some (record { place = (at 2 24); high = (Number (at 2 25) Plain (bits_of 32 3)); low = (Number (at 2 27) Plain (bits_of 32 0)) })) (record { name = (codes "v"); place = (at 2 30); content = NoContent } ∷ record { name = (codes "w"); place = (at 2 33); content = NoContent } ∷ [])) ∷
-        (RegItem (at 2 36) false (Some (record { place = (at 2 40); high = (Number (at 2 41) Plain (bits_of 32 7)); low = (Number (at 2 43) Plain (bits_of 32 0)) })) (record { name = (codes "m"); place = (at 2 46); content = (MemoryBounds (record { place = (at 2 48); high = (Number (at 2 49) Plain (bits_of 32 0)); low = (Number (at 2 51) Plain (bits_of 32 3)) })) } ∷ [])) ∷
+        ((RegItem (at 2 1) false None (record { name = (codes "q"); place = (at 2 5); content = NoContent } ∷ record { name = (codes "r"); place = (at 2 8); content = NoContent } ∷
+        record { name = (codes "a"); place = (at 2 11); content = NoContent } ∷ record { name = (codes "b"); place = (at 2 14); content = NoContent } ∷
+        record { name = (codes "c"); place = (at 2 17); content = NoContent } ∷ [])) ∷
+        (RegItem (at 2 20) false (Some (record { place = (at 2 24); high = (Number (at 2 25) Plain (bits_of 32 3)); low = (Number (at 2 27) Plain (bits_of 32 0)) }))
+        (record { name = (codes "v"); place = (at 2 30); content = NoContent } ∷ record { name = (codes "w"); place = (at 2 33); content = NoContent } ∷ [])) ∷
+        (RegItem (at 2 36) false (Some (record { place = (at 2 40); high = (Number (at 2 41) Plain (bits_of 32 7)); low = (Number (at 2 43) Plain (bits_of 32 0)) }))
+        (record {
+          name = (codes "m");
+          place = (at 2 46);
+          content = (MemoryBounds (record {
+            place = (at 2 48);
+            high = (Number (at 2 49) Plain (bits_of 32 0));
+            low = (Number (at 2 51) Plain (bits_of 32 3));
+          }));
+        } ∷ [])) ∷
         (WireItem (at 2 55) false None (record { name = (codes "n"); place = (at 2 60); value = None } ∷ [])) ∷
-        (InitialItem (at 3 1) (DelayStatement (at 3 9) (Number (at 3 11) Sized (bits_of 64 4294967296)) (BlockingStatement (at 3 27) (OneSelect (record { place = (at 3 27); name = (codes "q"); index = NoIndex })) None (Number (at 3 31) Plain (bits_of 32 1))))) ∷
+        (InitialItem (at 3 1) (DelayStatement (at 3 9) (Number (at 3 11) Sized (bits_of 64 4294967296))
+        (BlockingStatement (at 3 27) (OneSelect (record { place = (at 3 27); name = (codes "q"); index = NoIndex })) None (Number (at 3 31) Plain (bits_of 32 1))))) ∷
         []);
   } ∷ []);
 }
@@ -236,17 +324,41 @@ source39 = record {
     parameters = ([]);
     heads = (PlainHeads ([]));
     items =
-        ((RegItem (at 2 1) false None (record { name = (codes "q"); place = (at 2 5); content = NoContent } ∷ record { name = (codes "r"); place = (at 2 8); content = NoContent } ∷ record { name = (codes "a"); place = (at 2 11); content = NoContent } ∷ record { name = (codes "b"); place = (at 2 14); content = NoContent } ∷ record { name = (codes "c"); place = (at 2 17); content = NoContent } ∷ [])) ∷
-        (RegItem (at 2 20) false (Some (record { place = (at 2 24); high = (Number (at 2 25) Plain (bits_of 32 3)); low = (Number (at 2 27) Plain (bits_of 32 0)) })) (record { name = (codes "v"); place = (at 2 30); content = NoContent } ∷ record { name = (codes "w"); place = (at 2 33); content = NoContent } ∷ [])) ∷
-        (RegItem (at 2 36) false (Some (record { place = (at 2 40); high = (Number (at 2 41) Plain (bits_of 32 7)); low = (Number (at 2 43) Plain (bits_of 32 0)) })) (record { name = (codes "m"); place = (at 2 46); content = (MemoryBounds (record { place = (at 2 48); high = (Number (at 2 49) Plain (bits_of 32 0)); low = (Number (at 2 51) Plain (bits_of 32 3)) })) } ∷ [])) ∷
+        ((RegItem (at 2 1) false None (record { name = (codes "q"); place = (at 2 5); content = NoContent } ∷ record { name = (codes "r"); place = (at 2 8); content = NoContent } ∷
+        record { name = (codes "a"); place = (at 2 11); content = NoContent } ∷ record { name = (codes "b"); place = (at 2 14); content = NoContent } ∷
+        record { name = (codes "c"); place = (at 2 17); content = NoContent } ∷ [])) ∷
+        (RegItem (at 2 20) false (Some (record { place = (at 2 24); high = (Number (at 2 25) Plain (bits_of 32 3)); low = (Number (at 2 27) Plain (bits_of 32 0)) }))
+        (record { name = (codes "v"); place = (at 2 30); content = NoContent } ∷ record { name = (codes "w"); place = (at 2 33); content = NoContent } ∷ [])) ∷
+        (RegItem (at 2 36) false (Some (record { place = (at 2 40); high = (Number (at 2 41) Plain (bits_of 32 7)); low = (Number (at 2 43) Plain (bits_of 32 0)) }))
+        (record {
+          name = (codes "m");
+          place = (at 2 46);
+          content = (MemoryBounds (record {
+            place = (at 2 48);
+            high = (Number (at 2 49) Plain (bits_of 32 0));
+            low = (Number (at 2 51) Plain (bits_of 32 3));
+          }));
+        } ∷ [])) ∷
         (WireItem (at 2 55) false None (record { name = (codes "n"); place = (at 2 60); value = None } ∷ [])) ∷
-        (InitialItem (at 3 1) (DelayStatement (at 3 9) (Infixed (at 3 11) Add (Number (at 3 11) Plain (bits_of 32 4294967295)) (Number (at 3 24) Plain (bits_of 32 1))) (BlockingStatement (at 3 27) (OneSelect (record { place = (at 3 27); name = (codes "q"); index = NoIndex })) None (Number (at 3 31) Plain (bits_of 32 1))))) ∷
+        (InitialItem (at 3 1) (DelayStatement (at 3 9) (Infixed (at 3 11) Add (Number (at 3 11) Plain (bits_of 32 4294967295)) (Number (at 3 24) Plain (bits_of 32 1)))
+        (BlockingStatement (at 3 27) (OneSelect (record { place = (at 3 27); name = (codes "q"); index = NoIndex })) None (Number (at 3 31) Plain (bits_of 32 1))))) ∷
         []);
   } ∷ []);
 }
 
 abbrev pub Found39 : Type 0
-Found39 = summary_of (flat source39 (codes "top") Usual) ≡ Ok (record { objects = (record { name = (codes "q"); kind = Var; width = 1; indexes = ([]); place = (at 2 5) } ∷ record { name = (codes "r"); kind = Var; width = 1; indexes = ([]); place = (at 2 8) } ∷ record { name = (codes "a"); kind = Var; width = 1; indexes = ([]); place = (at 2 11) } ∷ record { name = (codes "b"); kind = Var; width = 1; indexes = ([]); place = (at 2 14) } ∷ record { name = (codes "c"); kind = Var; width = 1; indexes = ([]); place = (at 2 17) } ∷ record { name = (codes "v"); kind = Var; width = 4; indexes = (3 ∷ 0 ∷ []); place = (at 2 30) } ∷ record { name = (codes "w"); kind = Var; width = 4; indexes = (3 ∷ 0 ∷ []); place = (at 2 33) } ∷ record { name = (codes "m"); kind = Word; width = 8; indexes = (0 ∷ []); place = (at 2 46) } ∷ record { name = (codes "m"); kind = Word; width = 8; indexes = (1 ∷ []); place = (at 2 46) } ∷ record { name = (codes "m"); kind = Word; width = 8; indexes = (2 ∷ []); place = (at 2 46) } ∷ record { name = (codes "m"); kind = Word; width = 8; indexes = (3 ∷ []); place = (at 2 46) } ∷ record { name = (codes "n"); kind = Net; width = 1; indexes = ([]); place = (at 2 60) } ∷ []); nodes = ([]); processes = (false ∷ []); joined = ([]) })
+Found39 = summary_of (flat source39 (codes "top") Usual) ≡ Ok (record {
+  objects = (record { name = (codes "q"); kind = Var; width = 1; indexes = ([]); place = (at 2 5) } ∷
+      record { name = (codes "r"); kind = Var; width = 1; indexes = ([]); place = (at 2 8) } ∷ record { name = (codes "a"); kind = Var; width = 1; indexes = ([]); place = (at 2 11) } ∷
+      record { name = (codes "b"); kind = Var; width = 1; indexes = ([]); place = (at 2 14) } ∷ record { name = (codes "c"); kind = Var; width = 1; indexes = ([]); place = (at 2 17) } ∷
+      record { name = (codes "v"); kind = Var; width = 4; indexes = (3 ∷ 0 ∷ []); place = (at 2 30) } ∷
+      record { name = (codes "w"); kind = Var; width = 4; indexes = (3 ∷ 0 ∷ []); place = (at 2 33) } ∷ record { name = (codes "m"); kind = Word; width = 8; indexes = (0 ∷ []); place = (at 2 46) } ∷
+      record { name = (codes "m"); kind = Word; width = 8; indexes = (1 ∷ []); place = (at 2 46) } ∷ record { name = (codes "m"); kind = Word; width = 8; indexes = (2 ∷ []); place = (at 2 46) } ∷
+      record { name = (codes "m"); kind = Word; width = 8; indexes = (3 ∷ []); place = (at 2 46) } ∷ record { name = (codes "n"); kind = Net; width = 1; indexes = ([]); place = (at 2 60) } ∷ []);
+  nodes = ([]);
+  processes = (false ∷ []);
+  joined = ([]);
+})
 
 found39 : Found39
 found39 = refl

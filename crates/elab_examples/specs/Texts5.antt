@@ -3,7 +3,8 @@ use Rattle.four_value.specs.Values.{bits_of}
 use Rattle.v_design.specs.declared.logic.ObjectKind.TheVariants.{Var, Word, Net}
 use Rattle.four_value.specs.declared.operator.BinaryOperator.TheVariants.{Add}
 use Rattle.v_tree.specs.declared.token.NumberForm.TheVariants.{Plain, Unsized, Sized}
-use Rattle.v_tree.specs.Trees.{Number, Selected, Infixed, Concatenated, Replicated, NoIndex, IndexRange, OneSelect, JoinedSelects, BlockingStatement, NoContent, MemoryBounds, WireItem, RegItem, InitialItem, PlainHeads, SourceUnit}
+use Rattle.v_tree.specs.Trees.{Number, Selected, Infixed, Concatenated, Replicated, NoIndex, IndexRange, OneSelect, JoinedSelects, BlockingStatement, NoContent, MemoryBounds, WireItem, RegItem}
+use Rattle.v_tree.specs.Trees.{InitialItem, PlainHeads, SourceUnit}
 use Rattle.v_elab.specs.declared.Mode.TheVariants.{Usual}
 use Rattle.v_names.specs.Faults.{BadWidth, WrongKind}
 use Rattle.v_elab.specs.Flat.{flat}
@@ -21,11 +22,24 @@ source50 = record {
     parameters = ([]);
     heads = (PlainHeads ([]));
     items =
-        ((RegItem (at 2 1) false None (record { name = (codes "q"); place = (at 2 5); content = NoContent } ∷ record { name = (codes "r"); place = (at 2 8); content = NoContent } ∷ record { name = (codes "a"); place = (at 2 11); content = NoContent } ∷ record { name = (codes "b"); place = (at 2 14); content = NoContent } ∷ record { name = (codes "c"); place = (at 2 17); content = NoContent } ∷ [])) ∷
-        (RegItem (at 2 20) false (Some (record { place = (at 2 24); high = (Number (at 2 25) Plain (bits_of 32 3)); low = (Number (at 2 27) Plain (bits_of 32 0)) })) (record { name = (codes "v"); place = (at 2 30); content = NoContent } ∷ record { name = (codes "w"); place = (at 2 33); content = NoContent } ∷ [])) ∷
-        (RegItem (at 2 36) false (Some (record { place = (at 2 40); high = (Number (at 2 41) Plain (bits_of 32 7)); low = (Number (at 2 43) Plain (bits_of 32 0)) })) (record { name = (codes "m"); place = (at 2 46); content = (MemoryBounds (record { place = (at 2 48); high = (Number (at 2 49) Plain (bits_of 32 0)); low = (Number (at 2 51) Plain (bits_of 32 3)) })) } ∷ [])) ∷
+        ((RegItem (at 2 1) false None (record { name = (codes "q"); place = (at 2 5); content = NoContent } ∷ record { name = (codes "r"); place = (at 2 8); content = NoContent } ∷
+        record { name = (codes "a"); place = (at 2 11); content = NoContent } ∷ record { name = (codes "b"); place = (at 2 14); content = NoContent } ∷
+        record { name = (codes "c"); place = (at 2 17); content = NoContent } ∷ [])) ∷
+        (RegItem (at 2 20) false (Some (record { place = (at 2 24); high = (Number (at 2 25) Plain (bits_of 32 3)); low = (Number (at 2 27) Plain (bits_of 32 0)) }))
+        (record { name = (codes "v"); place = (at 2 30); content = NoContent } ∷ record { name = (codes "w"); place = (at 2 33); content = NoContent } ∷ [])) ∷
+        (RegItem (at 2 36) false (Some (record { place = (at 2 40); high = (Number (at 2 41) Plain (bits_of 32 7)); low = (Number (at 2 43) Plain (bits_of 32 0)) }))
+        (record {
+          name = (codes "m");
+          place = (at 2 46);
+          content = (MemoryBounds (record {
+            place = (at 2 48);
+            high = (Number (at 2 49) Plain (bits_of 32 0));
+            low = (Number (at 2 51) Plain (bits_of 32 3));
+          }));
+        } ∷ [])) ∷
         (WireItem (at 2 55) false None (record { name = (codes "n"); place = (at 2 60); value = None } ∷ [])) ∷
-        (InitialItem (at 3 1) (BlockingStatement (at 3 9) (OneSelect (record { place = (at 3 9); name = (codes "v"); index = NoIndex })) None (Concatenated (at 3 13) (parts ((Selected (at 3 14) (codes "v") NoIndex) ∷ (Number (at 3 17) Plain (bits_of 32 1)) ∷ []))))) ∷
+        (InitialItem (at 3 1) (BlockingStatement (at 3 9) (OneSelect (record { place = (at 3 9); name = (codes "v"); index = NoIndex })) None
+        (Concatenated (at 3 13) (parts ((Selected (at 3 14) (codes "v") NoIndex) ∷ (Number (at 3 17) Plain (bits_of 32 1)) ∷ []))))) ∷
         []);
   } ∷ []);
 }
@@ -48,11 +62,24 @@ source51 = record {
     parameters = ([]);
     heads = (PlainHeads ([]));
     items =
-        ((RegItem (at 2 1) false None (record { name = (codes "q"); place = (at 2 5); content = NoContent } ∷ record { name = (codes "r"); place = (at 2 8); content = NoContent } ∷ record { name = (codes "a"); place = (at 2 11); content = NoContent } ∷ record { name = (codes "b"); place = (at 2 14); content = NoContent } ∷ record { name = (codes "c"); place = (at 2 17); content = NoContent } ∷ [])) ∷
-        (RegItem (at 2 20) false (Some (record { place = (at 2 24); high = (Number (at 2 25) Plain (bits_of 32 3)); low = (Number (at 2 27) Plain (bits_of 32 0)) })) (record { name = (codes "v"); place = (at 2 30); content = NoContent } ∷ record { name = (codes "w"); place = (at 2 33); content = NoContent } ∷ [])) ∷
-        (RegItem (at 2 36) false (Some (record { place = (at 2 40); high = (Number (at 2 41) Plain (bits_of 32 7)); low = (Number (at 2 43) Plain (bits_of 32 0)) })) (record { name = (codes "m"); place = (at 2 46); content = (MemoryBounds (record { place = (at 2 48); high = (Number (at 2 49) Plain (bits_of 32 0)); low = (Number (at 2 51) Plain (bits_of 32 3)) })) } ∷ [])) ∷
+        ((RegItem (at 2 1) false None (record { name = (codes "q"); place = (at 2 5); content = NoContent } ∷ record { name = (codes "r"); place = (at 2 8); content = NoContent } ∷
+        record { name = (codes "a"); place = (at 2 11); content = NoContent } ∷ record { name = (codes "b"); place = (at 2 14); content = NoContent } ∷
+        record { name = (codes "c"); place = (at 2 17); content = NoContent } ∷ [])) ∷
+        (RegItem (at 2 20) false (Some (record { place = (at 2 24); high = (Number (at 2 25) Plain (bits_of 32 3)); low = (Number (at 2 27) Plain (bits_of 32 0)) }))
+        (record { name = (codes "v"); place = (at 2 30); content = NoContent } ∷ record { name = (codes "w"); place = (at 2 33); content = NoContent } ∷ [])) ∷
+        (RegItem (at 2 36) false (Some (record { place = (at 2 40); high = (Number (at 2 41) Plain (bits_of 32 7)); low = (Number (at 2 43) Plain (bits_of 32 0)) }))
+        (record {
+          name = (codes "m");
+          place = (at 2 46);
+          content = (MemoryBounds (record {
+            place = (at 2 48);
+            high = (Number (at 2 49) Plain (bits_of 32 0));
+            low = (Number (at 2 51) Plain (bits_of 32 3));
+          }));
+        } ∷ [])) ∷
         (WireItem (at 2 55) false None (record { name = (codes "n"); place = (at 2 60); value = None } ∷ [])) ∷
-        (InitialItem (at 3 1) (BlockingStatement (at 3 9) (OneSelect (record { place = (at 3 9); name = (codes "v"); index = NoIndex })) None (Concatenated (at 3 13) (parts ((Selected (at 3 14) (codes "v") NoIndex) ∷ (Number (at 3 17) Unsized (bits_of 32 1)) ∷ []))))) ∷
+        (InitialItem (at 3 1) (BlockingStatement (at 3 9) (OneSelect (record { place = (at 3 9); name = (codes "v"); index = NoIndex })) None
+        (Concatenated (at 3 13) (parts ((Selected (at 3 14) (codes "v") NoIndex) ∷ (Number (at 3 17) Unsized (bits_of 32 1)) ∷ []))))) ∷
         []);
   } ∷ []);
 }
@@ -75,17 +102,41 @@ source52 = record {
     parameters = ([]);
     heads = (PlainHeads ([]));
     items =
-        ((RegItem (at 2 1) false None (record { name = (codes "q"); place = (at 2 5); content = NoContent } ∷ record { name = (codes "r"); place = (at 2 8); content = NoContent } ∷ record { name = (codes "a"); place = (at 2 11); content = NoContent } ∷ record { name = (codes "b"); place = (at 2 14); content = NoContent } ∷ record { name = (codes "c"); place = (at 2 17); content = NoContent } ∷ [])) ∷
-        (RegItem (at 2 20) false (Some (record { place = (at 2 24); high = (Number (at 2 25) Plain (bits_of 32 3)); low = (Number (at 2 27) Plain (bits_of 32 0)) })) (record { name = (codes "v"); place = (at 2 30); content = NoContent } ∷ record { name = (codes "w"); place = (at 2 33); content = NoContent } ∷ [])) ∷
-        (RegItem (at 2 36) false (Some (record { place = (at 2 40); high = (Number (at 2 41) Plain (bits_of 32 7)); low = (Number (at 2 43) Plain (bits_of 32 0)) })) (record { name = (codes "m"); place = (at 2 46); content = (MemoryBounds (record { place = (at 2 48); high = (Number (at 2 49) Plain (bits_of 32 0)); low = (Number (at 2 51) Plain (bits_of 32 3)) })) } ∷ [])) ∷
+        ((RegItem (at 2 1) false None (record { name = (codes "q"); place = (at 2 5); content = NoContent } ∷ record { name = (codes "r"); place = (at 2 8); content = NoContent } ∷
+        record { name = (codes "a"); place = (at 2 11); content = NoContent } ∷ record { name = (codes "b"); place = (at 2 14); content = NoContent } ∷
+        record { name = (codes "c"); place = (at 2 17); content = NoContent } ∷ [])) ∷
+        (RegItem (at 2 20) false (Some (record { place = (at 2 24); high = (Number (at 2 25) Plain (bits_of 32 3)); low = (Number (at 2 27) Plain (bits_of 32 0)) }))
+        (record { name = (codes "v"); place = (at 2 30); content = NoContent } ∷ record { name = (codes "w"); place = (at 2 33); content = NoContent } ∷ [])) ∷
+        (RegItem (at 2 36) false (Some (record { place = (at 2 40); high = (Number (at 2 41) Plain (bits_of 32 7)); low = (Number (at 2 43) Plain (bits_of 32 0)) }))
+        (record {
+          name = (codes "m");
+          place = (at 2 46);
+          content = (MemoryBounds (record {
+            place = (at 2 48);
+            high = (Number (at 2 49) Plain (bits_of 32 0));
+            low = (Number (at 2 51) Plain (bits_of 32 3));
+          }));
+        } ∷ [])) ∷
         (WireItem (at 2 55) false None (record { name = (codes "n"); place = (at 2 60); value = None } ∷ [])) ∷
-        (InitialItem (at 3 1) (BlockingStatement (at 3 9) (OneSelect (record { place = (at 3 9); name = (codes "v"); index = NoIndex })) None (Concatenated (at 3 13) (parts ((Selected (at 3 14) (codes "v") NoIndex) ∷ (Number (at 3 17) Sized (bits_of 1 1)) ∷ []))))) ∷
+        (InitialItem (at 3 1) (BlockingStatement (at 3 9) (OneSelect (record { place = (at 3 9); name = (codes "v"); index = NoIndex })) None
+        (Concatenated (at 3 13) (parts ((Selected (at 3 14) (codes "v") NoIndex) ∷ (Number (at 3 17) Sized (bits_of 1 1)) ∷ []))))) ∷
         []);
   } ∷ []);
 }
 
 abbrev pub Found52 : Type 0
-Found52 = summary_of (flat source52 (codes "top") Usual) ≡ Ok (record { objects = (record { name = (codes "q"); kind = Var; width = 1; indexes = ([]); place = (at 2 5) } ∷ record { name = (codes "r"); kind = Var; width = 1; indexes = ([]); place = (at 2 8) } ∷ record { name = (codes "a"); kind = Var; width = 1; indexes = ([]); place = (at 2 11) } ∷ record { name = (codes "b"); kind = Var; width = 1; indexes = ([]); place = (at 2 14) } ∷ record { name = (codes "c"); kind = Var; width = 1; indexes = ([]); place = (at 2 17) } ∷ record { name = (codes "v"); kind = Var; width = 4; indexes = (3 ∷ 0 ∷ []); place = (at 2 30) } ∷ record { name = (codes "w"); kind = Var; width = 4; indexes = (3 ∷ 0 ∷ []); place = (at 2 33) } ∷ record { name = (codes "m"); kind = Word; width = 8; indexes = (0 ∷ []); place = (at 2 46) } ∷ record { name = (codes "m"); kind = Word; width = 8; indexes = (1 ∷ []); place = (at 2 46) } ∷ record { name = (codes "m"); kind = Word; width = 8; indexes = (2 ∷ []); place = (at 2 46) } ∷ record { name = (codes "m"); kind = Word; width = 8; indexes = (3 ∷ []); place = (at 2 46) } ∷ record { name = (codes "n"); kind = Net; width = 1; indexes = ([]); place = (at 2 60) } ∷ []); nodes = ([]); processes = (false ∷ []); joined = ([]) })
+Found52 = summary_of (flat source52 (codes "top") Usual) ≡ Ok (record {
+  objects = (record { name = (codes "q"); kind = Var; width = 1; indexes = ([]); place = (at 2 5) } ∷
+      record { name = (codes "r"); kind = Var; width = 1; indexes = ([]); place = (at 2 8) } ∷ record { name = (codes "a"); kind = Var; width = 1; indexes = ([]); place = (at 2 11) } ∷
+      record { name = (codes "b"); kind = Var; width = 1; indexes = ([]); place = (at 2 14) } ∷ record { name = (codes "c"); kind = Var; width = 1; indexes = ([]); place = (at 2 17) } ∷
+      record { name = (codes "v"); kind = Var; width = 4; indexes = (3 ∷ 0 ∷ []); place = (at 2 30) } ∷
+      record { name = (codes "w"); kind = Var; width = 4; indexes = (3 ∷ 0 ∷ []); place = (at 2 33) } ∷ record { name = (codes "m"); kind = Word; width = 8; indexes = (0 ∷ []); place = (at 2 46) } ∷
+      record { name = (codes "m"); kind = Word; width = 8; indexes = (1 ∷ []); place = (at 2 46) } ∷ record { name = (codes "m"); kind = Word; width = 8; indexes = (2 ∷ []); place = (at 2 46) } ∷
+      record { name = (codes "m"); kind = Word; width = 8; indexes = (3 ∷ []); place = (at 2 46) } ∷ record { name = (codes "n"); kind = Net; width = 1; indexes = ([]); place = (at 2 60) } ∷ []);
+  nodes = ([]);
+  processes = (false ∷ []);
+  joined = ([]);
+})
 
 found52 : Found52
 found52 = refl
@@ -102,17 +153,42 @@ source53 = record {
     parameters = ([]);
     heads = (PlainHeads ([]));
     items =
-        ((RegItem (at 2 1) false None (record { name = (codes "q"); place = (at 2 5); content = NoContent } ∷ record { name = (codes "r"); place = (at 2 8); content = NoContent } ∷ record { name = (codes "a"); place = (at 2 11); content = NoContent } ∷ record { name = (codes "b"); place = (at 2 14); content = NoContent } ∷ record { name = (codes "c"); place = (at 2 17); content = NoContent } ∷ [])) ∷
-        (RegItem (at 2 20) false (Some (record { place = (at 2 24); high = (Number (at 2 25) Plain (bits_of 32 3)); low = (Number (at 2 27) Plain (bits_of 32 0)) })) (record { name = (codes "v"); place = (at 2 30); content = NoContent } ∷ record { name = (codes "w"); place = (at 2 33); content = NoContent } ∷ [])) ∷
-        (RegItem (at 2 36) false (Some (record { place = (at 2 40); high = (Number (at 2 41) Plain (bits_of 32 7)); low = (Number (at 2 43) Plain (bits_of 32 0)) })) (record { name = (codes "m"); place = (at 2 46); content = (MemoryBounds (record { place = (at 2 48); high = (Number (at 2 49) Plain (bits_of 32 0)); low = (Number (at 2 51) Plain (bits_of 32 3)) })) } ∷ [])) ∷
+        ((RegItem (at 2 1) false None (record { name = (codes "q"); place = (at 2 5); content = NoContent } ∷ record { name = (codes "r"); place = (at 2 8); content = NoContent } ∷
+        record { name = (codes "a"); place = (at 2 11); content = NoContent } ∷ record { name = (codes "b"); place = (at 2 14); content = NoContent } ∷
+        record { name = (codes "c"); place = (at 2 17); content = NoContent } ∷ [])) ∷
+        (RegItem (at 2 20) false (Some (record { place = (at 2 24); high = (Number (at 2 25) Plain (bits_of 32 3)); low = (Number (at 2 27) Plain (bits_of 32 0)) }))
+        (record { name = (codes "v"); place = (at 2 30); content = NoContent } ∷ record { name = (codes "w"); place = (at 2 33); content = NoContent } ∷ [])) ∷
+        (RegItem (at 2 36) false (Some (record { place = (at 2 40); high = (Number (at 2 41) Plain (bits_of 32 7)); low = (Number (at 2 43) Plain (bits_of 32 0)) }))
+        (record {
+          name = (codes "m");
+          place = (at 2 46);
+          content = (MemoryBounds (record {
+            place = (at 2 48);
+            high = (Number (at 2 49) Plain (bits_of 32 0));
+            low = (Number (at 2 51) Plain (bits_of 32 3));
+          }));
+        } ∷ [])) ∷
         (WireItem (at 2 55) false None (record { name = (codes "n"); place = (at 2 60); value = None } ∷ [])) ∷
-        (InitialItem (at 3 1) (BlockingStatement (at 3 9) (OneSelect (record { place = (at 3 9); name = (codes "v"); index = NoIndex })) None (Concatenated (at 3 13) (parts ((Selected (at 3 14) (codes "v") NoIndex) ∷ (Infixed (at 3 17) Add (Number (at 3 17) Plain (bits_of 32 1)) (Selected (at 3 21) (codes "a") NoIndex)) ∷ []))))) ∷
+        (InitialItem (at 3 1) (BlockingStatement (at 3 9) (OneSelect (record { place = (at 3 9); name = (codes "v"); index = NoIndex })) None
+        (Concatenated (at 3 13) (parts ((Selected (at 3 14) (codes "v") NoIndex) ∷ (Infixed (at 3 17) Add (Number (at 3 17) Plain (bits_of 32 1)) (Selected (at 3 21) (codes "a") NoIndex)) ∷
+        []))))) ∷
         []);
   } ∷ []);
 }
 
 abbrev pub Found53 : Type 0
-Found53 = summary_of (flat source53 (codes "top") Usual) ≡ Ok (record { objects = (record { name = (codes "q"); kind = Var; width = 1; indexes = ([]); place = (at 2 5) } ∷ record { name = (codes "r"); kind = Var; width = 1; indexes = ([]); place = (at 2 8) } ∷ record { name = (codes "a"); kind = Var; width = 1; indexes = ([]); place = (at 2 11) } ∷ record { name = (codes "b"); kind = Var; width = 1; indexes = ([]); place = (at 2 14) } ∷ record { name = (codes "c"); kind = Var; width = 1; indexes = ([]); place = (at 2 17) } ∷ record { name = (codes "v"); kind = Var; width = 4; indexes = (3 ∷ 0 ∷ []); place = (at 2 30) } ∷ record { name = (codes "w"); kind = Var; width = 4; indexes = (3 ∷ 0 ∷ []); place = (at 2 33) } ∷ record { name = (codes "m"); kind = Word; width = 8; indexes = (0 ∷ []); place = (at 2 46) } ∷ record { name = (codes "m"); kind = Word; width = 8; indexes = (1 ∷ []); place = (at 2 46) } ∷ record { name = (codes "m"); kind = Word; width = 8; indexes = (2 ∷ []); place = (at 2 46) } ∷ record { name = (codes "m"); kind = Word; width = 8; indexes = (3 ∷ []); place = (at 2 46) } ∷ record { name = (codes "n"); kind = Net; width = 1; indexes = ([]); place = (at 2 60) } ∷ []); nodes = ([]); processes = (false ∷ []); joined = ([]) })
+Found53 = summary_of (flat source53 (codes "top") Usual) ≡ Ok (record {
+  objects = (record { name = (codes "q"); kind = Var; width = 1; indexes = ([]); place = (at 2 5) } ∷
+      record { name = (codes "r"); kind = Var; width = 1; indexes = ([]); place = (at 2 8) } ∷ record { name = (codes "a"); kind = Var; width = 1; indexes = ([]); place = (at 2 11) } ∷
+      record { name = (codes "b"); kind = Var; width = 1; indexes = ([]); place = (at 2 14) } ∷ record { name = (codes "c"); kind = Var; width = 1; indexes = ([]); place = (at 2 17) } ∷
+      record { name = (codes "v"); kind = Var; width = 4; indexes = (3 ∷ 0 ∷ []); place = (at 2 30) } ∷
+      record { name = (codes "w"); kind = Var; width = 4; indexes = (3 ∷ 0 ∷ []); place = (at 2 33) } ∷ record { name = (codes "m"); kind = Word; width = 8; indexes = (0 ∷ []); place = (at 2 46) } ∷
+      record { name = (codes "m"); kind = Word; width = 8; indexes = (1 ∷ []); place = (at 2 46) } ∷ record { name = (codes "m"); kind = Word; width = 8; indexes = (2 ∷ []); place = (at 2 46) } ∷
+      record { name = (codes "m"); kind = Word; width = 8; indexes = (3 ∷ []); place = (at 2 46) } ∷ record { name = (codes "n"); kind = Net; width = 1; indexes = ([]); place = (at 2 60) } ∷ []);
+  nodes = ([]);
+  processes = (false ∷ []);
+  joined = ([]);
+})
 
 found53 : Found53
 found53 = refl
@@ -129,11 +205,24 @@ source54 = record {
     parameters = ([]);
     heads = (PlainHeads ([]));
     items =
-        ((RegItem (at 2 1) false None (record { name = (codes "q"); place = (at 2 5); content = NoContent } ∷ record { name = (codes "r"); place = (at 2 8); content = NoContent } ∷ record { name = (codes "a"); place = (at 2 11); content = NoContent } ∷ record { name = (codes "b"); place = (at 2 14); content = NoContent } ∷ record { name = (codes "c"); place = (at 2 17); content = NoContent } ∷ [])) ∷
-        (RegItem (at 2 20) false (Some (record { place = (at 2 24); high = (Number (at 2 25) Plain (bits_of 32 3)); low = (Number (at 2 27) Plain (bits_of 32 0)) })) (record { name = (codes "v"); place = (at 2 30); content = NoContent } ∷ record { name = (codes "w"); place = (at 2 33); content = NoContent } ∷ [])) ∷
-        (RegItem (at 2 36) false (Some (record { place = (at 2 40); high = (Number (at 2 41) Plain (bits_of 32 7)); low = (Number (at 2 43) Plain (bits_of 32 0)) })) (record { name = (codes "m"); place = (at 2 46); content = (MemoryBounds (record { place = (at 2 48); high = (Number (at 2 49) Plain (bits_of 32 0)); low = (Number (at 2 51) Plain (bits_of 32 3)) })) } ∷ [])) ∷
+        ((RegItem (at 2 1) false None (record { name = (codes "q"); place = (at 2 5); content = NoContent } ∷ record { name = (codes "r"); place = (at 2 8); content = NoContent } ∷
+        record { name = (codes "a"); place = (at 2 11); content = NoContent } ∷ record { name = (codes "b"); place = (at 2 14); content = NoContent } ∷
+        record { name = (codes "c"); place = (at 2 17); content = NoContent } ∷ [])) ∷
+        (RegItem (at 2 20) false (Some (record { place = (at 2 24); high = (Number (at 2 25) Plain (bits_of 32 3)); low = (Number (at 2 27) Plain (bits_of 32 0)) }))
+        (record { name = (codes "v"); place = (at 2 30); content = NoContent } ∷ record { name = (codes "w"); place = (at 2 33); content = NoContent } ∷ [])) ∷
+        (RegItem (at 2 36) false (Some (record { place = (at 2 40); high = (Number (at 2 41) Plain (bits_of 32 7)); low = (Number (at 2 43) Plain (bits_of 32 0)) }))
+        (record {
+          name = (codes "m");
+          place = (at 2 46);
+          content = (MemoryBounds (record {
+            place = (at 2 48);
+            high = (Number (at 2 49) Plain (bits_of 32 0));
+            low = (Number (at 2 51) Plain (bits_of 32 3));
+          }));
+        } ∷ [])) ∷
         (WireItem (at 2 55) false None (record { name = (codes "n"); place = (at 2 60); value = None } ∷ [])) ∷
-        (InitialItem (at 3 1) (BlockingStatement (at 3 9) (OneSelect (record { place = (at 3 9); name = (codes "v"); index = NoIndex })) None (Replicated (at 3 13) (Number (at 3 14) Plain (bits_of 32 0)) (parts ((Selected (at 3 16) (codes "v") NoIndex) ∷ []))))) ∷
+        (InitialItem (at 3 1) (BlockingStatement (at 3 9) (OneSelect (record { place = (at 3 9); name = (codes "v"); index = NoIndex })) None
+        (Replicated (at 3 13) (Number (at 3 14) Plain (bits_of 32 0)) (parts ((Selected (at 3 16) (codes "v") NoIndex) ∷ []))))) ∷
         []);
   } ∷ []);
 }
@@ -156,17 +245,41 @@ source55 = record {
     parameters = ([]);
     heads = (PlainHeads ([]));
     items =
-        ((RegItem (at 2 1) false None (record { name = (codes "q"); place = (at 2 5); content = NoContent } ∷ record { name = (codes "r"); place = (at 2 8); content = NoContent } ∷ record { name = (codes "a"); place = (at 2 11); content = NoContent } ∷ record { name = (codes "b"); place = (at 2 14); content = NoContent } ∷ record { name = (codes "c"); place = (at 2 17); content = NoContent } ∷ [])) ∷
-        (RegItem (at 2 20) false (Some (record { place = (at 2 24); high = (Number (at 2 25) Plain (bits_of 32 3)); low = (Number (at 2 27) Plain (bits_of 32 0)) })) (record { name = (codes "v"); place = (at 2 30); content = NoContent } ∷ record { name = (codes "w"); place = (at 2 33); content = NoContent } ∷ [])) ∷
-        (RegItem (at 2 36) false (Some (record { place = (at 2 40); high = (Number (at 2 41) Plain (bits_of 32 7)); low = (Number (at 2 43) Plain (bits_of 32 0)) })) (record { name = (codes "m"); place = (at 2 46); content = (MemoryBounds (record { place = (at 2 48); high = (Number (at 2 49) Plain (bits_of 32 0)); low = (Number (at 2 51) Plain (bits_of 32 3)) })) } ∷ [])) ∷
+        ((RegItem (at 2 1) false None (record { name = (codes "q"); place = (at 2 5); content = NoContent } ∷ record { name = (codes "r"); place = (at 2 8); content = NoContent } ∷
+        record { name = (codes "a"); place = (at 2 11); content = NoContent } ∷ record { name = (codes "b"); place = (at 2 14); content = NoContent } ∷
+        record { name = (codes "c"); place = (at 2 17); content = NoContent } ∷ [])) ∷
+        (RegItem (at 2 20) false (Some (record { place = (at 2 24); high = (Number (at 2 25) Plain (bits_of 32 3)); low = (Number (at 2 27) Plain (bits_of 32 0)) }))
+        (record { name = (codes "v"); place = (at 2 30); content = NoContent } ∷ record { name = (codes "w"); place = (at 2 33); content = NoContent } ∷ [])) ∷
+        (RegItem (at 2 36) false (Some (record { place = (at 2 40); high = (Number (at 2 41) Plain (bits_of 32 7)); low = (Number (at 2 43) Plain (bits_of 32 0)) }))
+        (record {
+          name = (codes "m");
+          place = (at 2 46);
+          content = (MemoryBounds (record {
+            place = (at 2 48);
+            high = (Number (at 2 49) Plain (bits_of 32 0));
+            low = (Number (at 2 51) Plain (bits_of 32 3));
+          }));
+        } ∷ [])) ∷
         (WireItem (at 2 55) false None (record { name = (codes "n"); place = (at 2 60); value = None } ∷ [])) ∷
-        (InitialItem (at 3 1) (BlockingStatement (at 3 9) (OneSelect (record { place = (at 3 9); name = (codes "v"); index = NoIndex })) None (Replicated (at 3 13) (Number (at 3 14) Plain (bits_of 32 16)) (parts ((Selected (at 3 17) (codes "v") NoIndex) ∷ []))))) ∷
+        (InitialItem (at 3 1) (BlockingStatement (at 3 9) (OneSelect (record { place = (at 3 9); name = (codes "v"); index = NoIndex })) None
+        (Replicated (at 3 13) (Number (at 3 14) Plain (bits_of 32 16)) (parts ((Selected (at 3 17) (codes "v") NoIndex) ∷ []))))) ∷
         []);
   } ∷ []);
 }
 
 abbrev pub Found55 : Type 0
-Found55 = summary_of (flat source55 (codes "top") Usual) ≡ Ok (record { objects = (record { name = (codes "q"); kind = Var; width = 1; indexes = ([]); place = (at 2 5) } ∷ record { name = (codes "r"); kind = Var; width = 1; indexes = ([]); place = (at 2 8) } ∷ record { name = (codes "a"); kind = Var; width = 1; indexes = ([]); place = (at 2 11) } ∷ record { name = (codes "b"); kind = Var; width = 1; indexes = ([]); place = (at 2 14) } ∷ record { name = (codes "c"); kind = Var; width = 1; indexes = ([]); place = (at 2 17) } ∷ record { name = (codes "v"); kind = Var; width = 4; indexes = (3 ∷ 0 ∷ []); place = (at 2 30) } ∷ record { name = (codes "w"); kind = Var; width = 4; indexes = (3 ∷ 0 ∷ []); place = (at 2 33) } ∷ record { name = (codes "m"); kind = Word; width = 8; indexes = (0 ∷ []); place = (at 2 46) } ∷ record { name = (codes "m"); kind = Word; width = 8; indexes = (1 ∷ []); place = (at 2 46) } ∷ record { name = (codes "m"); kind = Word; width = 8; indexes = (2 ∷ []); place = (at 2 46) } ∷ record { name = (codes "m"); kind = Word; width = 8; indexes = (3 ∷ []); place = (at 2 46) } ∷ record { name = (codes "n"); kind = Net; width = 1; indexes = ([]); place = (at 2 60) } ∷ []); nodes = ([]); processes = (false ∷ []); joined = ([]) })
+Found55 = summary_of (flat source55 (codes "top") Usual) ≡ Ok (record {
+  objects = (record { name = (codes "q"); kind = Var; width = 1; indexes = ([]); place = (at 2 5) } ∷
+      record { name = (codes "r"); kind = Var; width = 1; indexes = ([]); place = (at 2 8) } ∷ record { name = (codes "a"); kind = Var; width = 1; indexes = ([]); place = (at 2 11) } ∷
+      record { name = (codes "b"); kind = Var; width = 1; indexes = ([]); place = (at 2 14) } ∷ record { name = (codes "c"); kind = Var; width = 1; indexes = ([]); place = (at 2 17) } ∷
+      record { name = (codes "v"); kind = Var; width = 4; indexes = (3 ∷ 0 ∷ []); place = (at 2 30) } ∷
+      record { name = (codes "w"); kind = Var; width = 4; indexes = (3 ∷ 0 ∷ []); place = (at 2 33) } ∷ record { name = (codes "m"); kind = Word; width = 8; indexes = (0 ∷ []); place = (at 2 46) } ∷
+      record { name = (codes "m"); kind = Word; width = 8; indexes = (1 ∷ []); place = (at 2 46) } ∷ record { name = (codes "m"); kind = Word; width = 8; indexes = (2 ∷ []); place = (at 2 46) } ∷
+      record { name = (codes "m"); kind = Word; width = 8; indexes = (3 ∷ []); place = (at 2 46) } ∷ record { name = (codes "n"); kind = Net; width = 1; indexes = ([]); place = (at 2 60) } ∷ []);
+  nodes = ([]);
+  processes = (false ∷ []);
+  joined = ([]);
+})
 
 found55 : Found55
 found55 = refl
@@ -183,17 +296,41 @@ source56 = record {
     parameters = ([]);
     heads = (PlainHeads ([]));
     items =
-        ((RegItem (at 2 1) false None (record { name = (codes "q"); place = (at 2 5); content = NoContent } ∷ record { name = (codes "r"); place = (at 2 8); content = NoContent } ∷ record { name = (codes "a"); place = (at 2 11); content = NoContent } ∷ record { name = (codes "b"); place = (at 2 14); content = NoContent } ∷ record { name = (codes "c"); place = (at 2 17); content = NoContent } ∷ [])) ∷
-        (RegItem (at 2 20) false (Some (record { place = (at 2 24); high = (Number (at 2 25) Plain (bits_of 32 3)); low = (Number (at 2 27) Plain (bits_of 32 0)) })) (record { name = (codes "v"); place = (at 2 30); content = NoContent } ∷ record { name = (codes "w"); place = (at 2 33); content = NoContent } ∷ [])) ∷
-        (RegItem (at 2 36) false (Some (record { place = (at 2 40); high = (Number (at 2 41) Plain (bits_of 32 7)); low = (Number (at 2 43) Plain (bits_of 32 0)) })) (record { name = (codes "m"); place = (at 2 46); content = (MemoryBounds (record { place = (at 2 48); high = (Number (at 2 49) Plain (bits_of 32 0)); low = (Number (at 2 51) Plain (bits_of 32 3)) })) } ∷ [])) ∷
+        ((RegItem (at 2 1) false None (record { name = (codes "q"); place = (at 2 5); content = NoContent } ∷ record { name = (codes "r"); place = (at 2 8); content = NoContent } ∷
+        record { name = (codes "a"); place = (at 2 11); content = NoContent } ∷ record { name = (codes "b"); place = (at 2 14); content = NoContent } ∷
+        record { name = (codes "c"); place = (at 2 17); content = NoContent } ∷ [])) ∷
+        (RegItem (at 2 20) false (Some (record { place = (at 2 24); high = (Number (at 2 25) Plain (bits_of 32 3)); low = (Number (at 2 27) Plain (bits_of 32 0)) }))
+        (record { name = (codes "v"); place = (at 2 30); content = NoContent } ∷ record { name = (codes "w"); place = (at 2 33); content = NoContent } ∷ [])) ∷
+        (RegItem (at 2 36) false (Some (record { place = (at 2 40); high = (Number (at 2 41) Plain (bits_of 32 7)); low = (Number (at 2 43) Plain (bits_of 32 0)) }))
+        (record {
+          name = (codes "m");
+          place = (at 2 46);
+          content = (MemoryBounds (record {
+            place = (at 2 48);
+            high = (Number (at 2 49) Plain (bits_of 32 0));
+            low = (Number (at 2 51) Plain (bits_of 32 3));
+          }));
+        } ∷ [])) ∷
         (WireItem (at 2 55) false None (record { name = (codes "n"); place = (at 2 60); value = None } ∷ [])) ∷
-        (InitialItem (at 3 1) (BlockingStatement (at 3 9) (OneSelect (record { place = (at 3 9); name = (codes "v"); index = NoIndex })) None (Replicated (at 3 13) (Number (at 3 14) Plain (bits_of 32 17)) (parts ((Selected (at 3 17) (codes "v") NoIndex) ∷ []))))) ∷
+        (InitialItem (at 3 1) (BlockingStatement (at 3 9) (OneSelect (record { place = (at 3 9); name = (codes "v"); index = NoIndex })) None
+        (Replicated (at 3 13) (Number (at 3 14) Plain (bits_of 32 17)) (parts ((Selected (at 3 17) (codes "v") NoIndex) ∷ []))))) ∷
         []);
   } ∷ []);
 }
 
 abbrev pub Found56 : Type 0
-Found56 = summary_of (flat source56 (codes "top") Usual) ≡ Ok (record { objects = (record { name = (codes "q"); kind = Var; width = 1; indexes = ([]); place = (at 2 5) } ∷ record { name = (codes "r"); kind = Var; width = 1; indexes = ([]); place = (at 2 8) } ∷ record { name = (codes "a"); kind = Var; width = 1; indexes = ([]); place = (at 2 11) } ∷ record { name = (codes "b"); kind = Var; width = 1; indexes = ([]); place = (at 2 14) } ∷ record { name = (codes "c"); kind = Var; width = 1; indexes = ([]); place = (at 2 17) } ∷ record { name = (codes "v"); kind = Var; width = 4; indexes = (3 ∷ 0 ∷ []); place = (at 2 30) } ∷ record { name = (codes "w"); kind = Var; width = 4; indexes = (3 ∷ 0 ∷ []); place = (at 2 33) } ∷ record { name = (codes "m"); kind = Word; width = 8; indexes = (0 ∷ []); place = (at 2 46) } ∷ record { name = (codes "m"); kind = Word; width = 8; indexes = (1 ∷ []); place = (at 2 46) } ∷ record { name = (codes "m"); kind = Word; width = 8; indexes = (2 ∷ []); place = (at 2 46) } ∷ record { name = (codes "m"); kind = Word; width = 8; indexes = (3 ∷ []); place = (at 2 46) } ∷ record { name = (codes "n"); kind = Net; width = 1; indexes = ([]); place = (at 2 60) } ∷ []); nodes = ([]); processes = (false ∷ []); joined = ([]) })
+Found56 = summary_of (flat source56 (codes "top") Usual) ≡ Ok (record {
+  objects = (record { name = (codes "q"); kind = Var; width = 1; indexes = ([]); place = (at 2 5) } ∷
+      record { name = (codes "r"); kind = Var; width = 1; indexes = ([]); place = (at 2 8) } ∷ record { name = (codes "a"); kind = Var; width = 1; indexes = ([]); place = (at 2 11) } ∷
+      record { name = (codes "b"); kind = Var; width = 1; indexes = ([]); place = (at 2 14) } ∷ record { name = (codes "c"); kind = Var; width = 1; indexes = ([]); place = (at 2 17) } ∷
+      record { name = (codes "v"); kind = Var; width = 4; indexes = (3 ∷ 0 ∷ []); place = (at 2 30) } ∷
+      record { name = (codes "w"); kind = Var; width = 4; indexes = (3 ∷ 0 ∷ []); place = (at 2 33) } ∷ record { name = (codes "m"); kind = Word; width = 8; indexes = (0 ∷ []); place = (at 2 46) } ∷
+      record { name = (codes "m"); kind = Word; width = 8; indexes = (1 ∷ []); place = (at 2 46) } ∷ record { name = (codes "m"); kind = Word; width = 8; indexes = (2 ∷ []); place = (at 2 46) } ∷
+      record { name = (codes "m"); kind = Word; width = 8; indexes = (3 ∷ []); place = (at 2 46) } ∷ record { name = (codes "n"); kind = Net; width = 1; indexes = ([]); place = (at 2 60) } ∷ []);
+  nodes = ([]);
+  processes = (false ∷ []);
+  joined = ([]);
+})
 
 found56 : Found56
 found56 = refl
@@ -210,17 +347,41 @@ source57 = record {
     parameters = ([]);
     heads = (PlainHeads ([]));
     items =
-        ((RegItem (at 2 1) false None (record { name = (codes "q"); place = (at 2 5); content = NoContent } ∷ record { name = (codes "r"); place = (at 2 8); content = NoContent } ∷ record { name = (codes "a"); place = (at 2 11); content = NoContent } ∷ record { name = (codes "b"); place = (at 2 14); content = NoContent } ∷ record { name = (codes "c"); place = (at 2 17); content = NoContent } ∷ [])) ∷
-        (RegItem (at 2 20) false (Some (record { place = (at 2 24); high = (Number (at 2 25) Plain (bits_of 32 3)); low = (Number (at 2 27) Plain (bits_of 32 0)) })) (record { name = (codes "v"); place = (at 2 30); content = NoContent } ∷ record { name = (codes "w"); place = (at 2 33); content = NoContent } ∷ [])) ∷
-        (RegItem (at 2 36) false (Some (record { place = (at 2 40); high = (Number (at 2 41) Plain (bits_of 32 7)); low = (Number (at 2 43) Plain (bits_of 32 0)) })) (record { name = (codes "m"); place = (at 2 46); content = (MemoryBounds (record { place = (at 2 48); high = (Number (at 2 49) Plain (bits_of 32 0)); low = (Number (at 2 51) Plain (bits_of 32 3)) })) } ∷ [])) ∷
+        ((RegItem (at 2 1) false None (record { name = (codes "q"); place = (at 2 5); content = NoContent } ∷ record { name = (codes "r"); place = (at 2 8); content = NoContent } ∷
+        record { name = (codes "a"); place = (at 2 11); content = NoContent } ∷ record { name = (codes "b"); place = (at 2 14); content = NoContent } ∷
+        record { name = (codes "c"); place = (at 2 17); content = NoContent } ∷ [])) ∷
+        (RegItem (at 2 20) false (Some (record { place = (at 2 24); high = (Number (at 2 25) Plain (bits_of 32 3)); low = (Number (at 2 27) Plain (bits_of 32 0)) }))
+        (record { name = (codes "v"); place = (at 2 30); content = NoContent } ∷ record { name = (codes "w"); place = (at 2 33); content = NoContent } ∷ [])) ∷
+        (RegItem (at 2 36) false (Some (record { place = (at 2 40); high = (Number (at 2 41) Plain (bits_of 32 7)); low = (Number (at 2 43) Plain (bits_of 32 0)) }))
+        (record {
+          name = (codes "m");
+          place = (at 2 46);
+          content = (MemoryBounds (record {
+            place = (at 2 48);
+            high = (Number (at 2 49) Plain (bits_of 32 0));
+            low = (Number (at 2 51) Plain (bits_of 32 3));
+          }));
+        } ∷ [])) ∷
         (WireItem (at 2 55) false None (record { name = (codes "n"); place = (at 2 60); value = None } ∷ [])) ∷
-        (InitialItem (at 3 1) (BlockingStatement (at 3 9) (OneSelect (record { place = (at 3 9); name = (codes "q"); index = NoIndex })) None (Selected (at 3 13) (codes "v") (IndexRange (Number (at 3 15) Plain (bits_of 32 64)) (Number (at 3 18) Plain (bits_of 32 0)))))) ∷
+        (InitialItem (at 3 1) (BlockingStatement (at 3 9) (OneSelect (record { place = (at 3 9); name = (codes "q"); index = NoIndex })) None
+        (Selected (at 3 13) (codes "v") (IndexRange (Number (at 3 15) Plain (bits_of 32 64)) (Number (at 3 18) Plain (bits_of 32 0)))))) ∷
         []);
   } ∷ []);
 }
 
 abbrev pub Found57 : Type 0
-Found57 = summary_of (flat source57 (codes "top") Usual) ≡ Ok (record { objects = (record { name = (codes "q"); kind = Var; width = 1; indexes = ([]); place = (at 2 5) } ∷ record { name = (codes "r"); kind = Var; width = 1; indexes = ([]); place = (at 2 8) } ∷ record { name = (codes "a"); kind = Var; width = 1; indexes = ([]); place = (at 2 11) } ∷ record { name = (codes "b"); kind = Var; width = 1; indexes = ([]); place = (at 2 14) } ∷ record { name = (codes "c"); kind = Var; width = 1; indexes = ([]); place = (at 2 17) } ∷ record { name = (codes "v"); kind = Var; width = 4; indexes = (3 ∷ 0 ∷ []); place = (at 2 30) } ∷ record { name = (codes "w"); kind = Var; width = 4; indexes = (3 ∷ 0 ∷ []); place = (at 2 33) } ∷ record { name = (codes "m"); kind = Word; width = 8; indexes = (0 ∷ []); place = (at 2 46) } ∷ record { name = (codes "m"); kind = Word; width = 8; indexes = (1 ∷ []); place = (at 2 46) } ∷ record { name = (codes "m"); kind = Word; width = 8; indexes = (2 ∷ []); place = (at 2 46) } ∷ record { name = (codes "m"); kind = Word; width = 8; indexes = (3 ∷ []); place = (at 2 46) } ∷ record { name = (codes "n"); kind = Net; width = 1; indexes = ([]); place = (at 2 60) } ∷ []); nodes = ([]); processes = (false ∷ []); joined = ([]) })
+Found57 = summary_of (flat source57 (codes "top") Usual) ≡ Ok (record {
+  objects = (record { name = (codes "q"); kind = Var; width = 1; indexes = ([]); place = (at 2 5) } ∷
+      record { name = (codes "r"); kind = Var; width = 1; indexes = ([]); place = (at 2 8) } ∷ record { name = (codes "a"); kind = Var; width = 1; indexes = ([]); place = (at 2 11) } ∷
+      record { name = (codes "b"); kind = Var; width = 1; indexes = ([]); place = (at 2 14) } ∷ record { name = (codes "c"); kind = Var; width = 1; indexes = ([]); place = (at 2 17) } ∷
+      record { name = (codes "v"); kind = Var; width = 4; indexes = (3 ∷ 0 ∷ []); place = (at 2 30) } ∷
+      record { name = (codes "w"); kind = Var; width = 4; indexes = (3 ∷ 0 ∷ []); place = (at 2 33) } ∷ record { name = (codes "m"); kind = Word; width = 8; indexes = (0 ∷ []); place = (at 2 46) } ∷
+      record { name = (codes "m"); kind = Word; width = 8; indexes = (1 ∷ []); place = (at 2 46) } ∷ record { name = (codes "m"); kind = Word; width = 8; indexes = (2 ∷ []); place = (at 2 46) } ∷
+      record { name = (codes "m"); kind = Word; width = 8; indexes = (3 ∷ []); place = (at 2 46) } ∷ record { name = (codes "n"); kind = Net; width = 1; indexes = ([]); place = (at 2 60) } ∷ []);
+  nodes = ([]);
+  processes = (false ∷ []);
+  joined = ([]);
+})
 
 found57 : Found57
 found57 = refl
@@ -237,17 +398,49 @@ source58 = record {
     parameters = ([]);
     heads = (PlainHeads ([]));
     items =
-        ((RegItem (at 2 1) false None (record { name = (codes "q"); place = (at 2 5); content = NoContent } ∷ record { name = (codes "r"); place = (at 2 8); content = NoContent } ∷ record { name = (codes "a"); place = (at 2 11); content = NoContent } ∷ record { name = (codes "b"); place = (at 2 14); content = NoContent } ∷ record { name = (codes "c"); place = (at 2 17); content = NoContent } ∷ [])) ∷
-        (RegItem (at 2 20) false (Some (record { place = (at 2 24); high = (Number (at 2 25) Plain (bits_of 32 3)); low = (Number (at 2 27) Plain (bits_of 32 0)) })) (record { name = (codes "v"); place = (at 2 30); content = NoContent } ∷ record { name = (codes "w"); place = (at 2 33); content = NoContent } ∷ [])) ∷
-        (RegItem (at 2 36) false (Some (record { place = (at 2 40); high = (Number (at 2 41) Plain (bits_of 32 7)); low = (Number (at 2 43) Plain (bits_of 32 0)) })) (record { name = (codes "m"); place = (at 2 46); content = (MemoryBounds (record { place = (at 2 48); high = (Number (at 2 49) Plain (bits_of 32 0)); low = (Number (at 2 51) Plain (bits_of 32 3)) })) } ∷ [])) ∷
+        ((RegItem (at 2 1) false None (record { name = (codes "q"); place = (at 2 5); content = NoContent } ∷ record { name = (codes "r"); place = (at 2 8); content = NoContent } ∷
+        record { name = (codes "a"); place = (at 2 11); content = NoContent } ∷ record { name = (codes "b"); place = (at 2 14); content = NoContent } ∷
+        record { name = (codes "c"); place = (at 2 17); content = NoContent } ∷ [])) ∷
+        (RegItem (at 2 20) false (Some (record { place = (at 2 24); high = (Number (at 2 25) Plain (bits_of 32 3)); low = (Number (at 2 27) Plain (bits_of 32 0)) }))
+        (record { name = (codes "v"); place = (at 2 30); content = NoContent } ∷ record { name = (codes "w"); place = (at 2 33); content = NoContent } ∷ [])) ∷
+        (RegItem (at 2 36) false (Some (record { place = (at 2 40); high = (Number (at 2 41) Plain (bits_of 32 7)); low = (Number (at 2 43) Plain (bits_of 32 0)) }))
+        (record {
+          name = (codes "m");
+          place = (at 2 46);
+          content = (MemoryBounds (record {
+            place = (at 2 48);
+            high = (Number (at 2 49) Plain (bits_of 32 0));
+            low = (Number (at 2 51) Plain (bits_of 32 3));
+          }));
+        } ∷ [])) ∷
         (WireItem (at 2 55) false None (record { name = (codes "n"); place = (at 2 60); value = None } ∷ [])) ∷
-        (InitialItem (at 3 1) (BlockingStatement (at 3 9) (JoinedSelects (at 3 9) (record { place = (at 3 10); name = (codes "v"); index = NoIndex } ∷ record { place = (at 3 13); name = (codes "v"); index = NoIndex } ∷ record { place = (at 3 16); name = (codes "v"); index = NoIndex } ∷ record { place = (at 3 19); name = (codes "v"); index = NoIndex } ∷ record { place = (at 3 22); name = (codes "v"); index = NoIndex } ∷ record { place = (at 3 25); name = (codes "v"); index = NoIndex } ∷ record { place = (at 3 28); name = (codes "v"); index = NoIndex } ∷ record { place = (at 3 31); name = (codes "v"); index = NoIndex } ∷ record { place = (at 3 34); name = (codes "v"); index = NoIndex } ∷ record { place = (at 3 37); name = (codes "v"); index = NoIndex } ∷ record { place = (at 3 40); name = (codes "v"); index = NoIndex } ∷ record { place = (at 3 43); name = (codes "v"); index = NoIndex } ∷ record { place = (at 3 46); name = (codes "v"); index = NoIndex } ∷ record { place = (at 3 49); name = (codes "v"); index = NoIndex } ∷ record { place = (at 3 52); name = (codes "v"); index = NoIndex } ∷ record { place = (at 3 55); name = (codes "v"); index = NoIndex } ∷ record { place = (at 3 58); name = (codes "v"); index = NoIndex } ∷ [])) None (Number (at 3 63) Plain (bits_of 32 1)))) ∷
+        (InitialItem (at 3 1) (BlockingStatement (at 3 9) (JoinedSelects (at 3 9) (record { place = (at 3 10); name = (codes "v"); index = NoIndex } ∷
+        record { place = (at 3 13); name = (codes "v"); index = NoIndex } ∷ record { place = (at 3 16); name = (codes "v"); index = NoIndex } ∷
+        record { place = (at 3 19); name = (codes "v"); index = NoIndex } ∷ record { place = (at 3 22); name = (codes "v"); index = NoIndex } ∷
+        record { place = (at 3 25); name = (codes "v"); index = NoIndex } ∷ record { place = (at 3 28); name = (codes "v"); index = NoIndex } ∷
+        record { place = (at 3 31); name = (codes "v"); index = NoIndex } ∷ record { place = (at 3 34); name = (codes "v"); index = NoIndex } ∷
+        record { place = (at 3 37); name = (codes "v"); index = NoIndex } ∷ record { place = (at 3 40); name = (codes "v"); index = NoIndex } ∷
+        record { place = (at 3 43); name = (codes "v"); index = NoIndex } ∷ record { place = (at 3 46); name = (codes "v"); index = NoIndex } ∷
+        record { place = (at 3 49); name = (codes "v"); index = NoIndex } ∷ record { place = (at 3 52); name = (codes "v"); index = NoIndex } ∷
+        record { place = (at 3 55); name = (codes "v"); index = NoIndex } ∷ record { place = (at 3 58); name = (codes "v"); index = NoIndex } ∷ [])) None
+        (Number (at 3 63) Plain (bits_of 32 1)))) ∷
         []);
   } ∷ []);
 }
 
 abbrev pub Found58 : Type 0
-Found58 = summary_of (flat source58 (codes "top") Usual) ≡ Ok (record { objects = (record { name = (codes "q"); kind = Var; width = 1; indexes = ([]); place = (at 2 5) } ∷ record { name = (codes "r"); kind = Var; width = 1; indexes = ([]); place = (at 2 8) } ∷ record { name = (codes "a"); kind = Var; width = 1; indexes = ([]); place = (at 2 11) } ∷ record { name = (codes "b"); kind = Var; width = 1; indexes = ([]); place = (at 2 14) } ∷ record { name = (codes "c"); kind = Var; width = 1; indexes = ([]); place = (at 2 17) } ∷ record { name = (codes "v"); kind = Var; width = 4; indexes = (3 ∷ 0 ∷ []); place = (at 2 30) } ∷ record { name = (codes "w"); kind = Var; width = 4; indexes = (3 ∷ 0 ∷ []); place = (at 2 33) } ∷ record { name = (codes "m"); kind = Word; width = 8; indexes = (0 ∷ []); place = (at 2 46) } ∷ record { name = (codes "m"); kind = Word; width = 8; indexes = (1 ∷ []); place = (at 2 46) } ∷ record { name = (codes "m"); kind = Word; width = 8; indexes = (2 ∷ []); place = (at 2 46) } ∷ record { name = (codes "m"); kind = Word; width = 8; indexes = (3 ∷ []); place = (at 2 46) } ∷ record { name = (codes "n"); kind = Net; width = 1; indexes = ([]); place = (at 2 60) } ∷ []); nodes = ([]); processes = (false ∷ []); joined = ([]) })
+Found58 = summary_of (flat source58 (codes "top") Usual) ≡ Ok (record {
+  objects = (record { name = (codes "q"); kind = Var; width = 1; indexes = ([]); place = (at 2 5) } ∷
+      record { name = (codes "r"); kind = Var; width = 1; indexes = ([]); place = (at 2 8) } ∷ record { name = (codes "a"); kind = Var; width = 1; indexes = ([]); place = (at 2 11) } ∷
+      record { name = (codes "b"); kind = Var; width = 1; indexes = ([]); place = (at 2 14) } ∷ record { name = (codes "c"); kind = Var; width = 1; indexes = ([]); place = (at 2 17) } ∷
+      record { name = (codes "v"); kind = Var; width = 4; indexes = (3 ∷ 0 ∷ []); place = (at 2 30) } ∷
+      record { name = (codes "w"); kind = Var; width = 4; indexes = (3 ∷ 0 ∷ []); place = (at 2 33) } ∷ record { name = (codes "m"); kind = Word; width = 8; indexes = (0 ∷ []); place = (at 2 46) } ∷
+      record { name = (codes "m"); kind = Word; width = 8; indexes = (1 ∷ []); place = (at 2 46) } ∷ record { name = (codes "m"); kind = Word; width = 8; indexes = (2 ∷ []); place = (at 2 46) } ∷
+      record { name = (codes "m"); kind = Word; width = 8; indexes = (3 ∷ []); place = (at 2 46) } ∷ record { name = (codes "n"); kind = Net; width = 1; indexes = ([]); place = (at 2 60) } ∷ []);
+  nodes = ([]);
+  processes = (false ∷ []);
+  joined = ([]);
+})
 
 found58 : Found58
 found58 = refl
@@ -264,11 +457,24 @@ source59 = record {
     parameters = ([]);
     heads = (PlainHeads ([]));
     items =
-        ((RegItem (at 2 1) false None (record { name = (codes "q"); place = (at 2 5); content = NoContent } ∷ record { name = (codes "r"); place = (at 2 8); content = NoContent } ∷ record { name = (codes "a"); place = (at 2 11); content = NoContent } ∷ record { name = (codes "b"); place = (at 2 14); content = NoContent } ∷ record { name = (codes "c"); place = (at 2 17); content = NoContent } ∷ [])) ∷
-        (RegItem (at 2 20) false (Some (record { place = (at 2 24); high = (Number (at 2 25) Plain (bits_of 32 3)); low = (Number (at 2 27) Plain (bits_of 32 0)) })) (record { name = (codes "v"); place = (at 2 30); content = NoContent } ∷ record { name = (codes "w"); place = (at 2 33); content = NoContent } ∷ [])) ∷
-        (RegItem (at 2 36) false (Some (record { place = (at 2 40); high = (Number (at 2 41) Plain (bits_of 32 7)); low = (Number (at 2 43) Plain (bits_of 32 0)) })) (record { name = (codes "m"); place = (at 2 46); content = (MemoryBounds (record { place = (at 2 48); high = (Number (at 2 49) Plain (bits_of 32 0)); low = (Number (at 2 51) Plain (bits_of 32 3)) })) } ∷ [])) ∷
+        ((RegItem (at 2 1) false None (record { name = (codes "q"); place = (at 2 5); content = NoContent } ∷ record { name = (codes "r"); place = (at 2 8); content = NoContent } ∷
+        record { name = (codes "a"); place = (at 2 11); content = NoContent } ∷ record { name = (codes "b"); place = (at 2 14); content = NoContent } ∷
+        record { name = (codes "c"); place = (at 2 17); content = NoContent } ∷ [])) ∷
+        (RegItem (at 2 20) false (Some (record { place = (at 2 24); high = (Number (at 2 25) Plain (bits_of 32 3)); low = (Number (at 2 27) Plain (bits_of 32 0)) }))
+        (record { name = (codes "v"); place = (at 2 30); content = NoContent } ∷ record { name = (codes "w"); place = (at 2 33); content = NoContent } ∷ [])) ∷
+        (RegItem (at 2 36) false (Some (record { place = (at 2 40); high = (Number (at 2 41) Plain (bits_of 32 7)); low = (Number (at 2 43) Plain (bits_of 32 0)) }))
+        (record {
+          name = (codes "m");
+          place = (at 2 46);
+          content = (MemoryBounds (record {
+            place = (at 2 48);
+            high = (Number (at 2 49) Plain (bits_of 32 0));
+            low = (Number (at 2 51) Plain (bits_of 32 3));
+          }));
+        } ∷ [])) ∷
         (WireItem (at 2 55) false None (record { name = (codes "n"); place = (at 2 60); value = None } ∷ [])) ∷
-        (InitialItem (at 3 1) (BlockingStatement (at 3 9) (OneSelect (record { place = (at 3 9); name = (codes "n"); index = NoIndex })) None (Replicated (at 3 13) (Number (at 3 14) Plain (bits_of 32 17)) (parts ((Selected (at 3 17) (codes "v") NoIndex) ∷ []))))) ∷
+        (InitialItem (at 3 1) (BlockingStatement (at 3 9) (OneSelect (record { place = (at 3 9); name = (codes "n"); index = NoIndex })) None
+        (Replicated (at 3 13) (Number (at 3 14) Plain (bits_of 32 17)) (parts ((Selected (at 3 17) (codes "v") NoIndex) ∷ []))))) ∷
         []);
   } ∷ []);
 }

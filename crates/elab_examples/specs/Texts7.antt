@@ -5,7 +5,8 @@ use Rattle.four_value.specs.declared.operator.UnaryOperator.TheVariants.{Minus}
 use Rattle.four_value.specs.declared.operator.BinaryOperator.TheVariants.{Equal, Less, Subtract}
 use Rattle.v_tree.specs.declared.token.NumberForm.TheVariants.{Plain, Sized}
 use Rattle.v_tree.specs.declared.item.Direction.TheVariants.{Input, Output}
-use Rattle.v_tree.specs.Trees.{Number, Selected, Prefixed, Infixed, NoIndex, OneSelect, BlockingStatement, NoContent, MemoryBounds, ParameterItem, WireItem, RegItem, InstanceItem, InitialItem, PlainHeads, DeclaredHeads, SourceUnit}
+use Rattle.v_tree.specs.Trees.{Number, Selected, Prefixed, Infixed, NoIndex, OneSelect, BlockingStatement, NoContent, MemoryBounds, ParameterItem, WireItem, RegItem, InstanceItem, InitialItem}
+use Rattle.v_tree.specs.Trees.{PlainHeads, DeclaredHeads, SourceUnit}
 use Rattle.v_elab.specs.declared.Mode.TheVariants.{Usual}
 use Rattle.v_names.specs.Faults.{UnknownName, BadConnection}
 use Rattle.v_elab.specs.Flat.{flat}
@@ -23,17 +24,41 @@ source70 = record {
     parameters = ([]);
     heads = (PlainHeads ([]));
     items =
-        ((RegItem (at 2 1) false None (record { name = (codes "q"); place = (at 2 5); content = NoContent } ∷ record { name = (codes "r"); place = (at 2 8); content = NoContent } ∷ record { name = (codes "a"); place = (at 2 11); content = NoContent } ∷ record { name = (codes "b"); place = (at 2 14); content = NoContent } ∷ record { name = (codes "c"); place = (at 2 17); content = NoContent } ∷ [])) ∷
-        (RegItem (at 2 20) false (Some (record { place = (at 2 24); high = (Number (at 2 25) Plain (bits_of 32 3)); low = (Number (at 2 27) Plain (bits_of 32 0)) })) (record { name = (codes "v"); place = (at 2 30); content = NoContent } ∷ record { name = (codes "w"); place = (at 2 33); content = NoContent } ∷ [])) ∷
-        (RegItem (at 2 36) false (Some (record { place = (at 2 40); high = (Number (at 2 41) Plain (bits_of 32 7)); low = (Number (at 2 43) Plain (bits_of 32 0)) })) (record { name = (codes "m"); place = (at 2 46); content = (MemoryBounds (record { place = (at 2 48); high = (Number (at 2 49) Plain (bits_of 32 0)); low = (Number (at 2 51) Plain (bits_of 32 3)) })) } ∷ [])) ∷
+        ((RegItem (at 2 1) false None (record { name = (codes "q"); place = (at 2 5); content = NoContent } ∷ record { name = (codes "r"); place = (at 2 8); content = NoContent } ∷
+        record { name = (codes "a"); place = (at 2 11); content = NoContent } ∷ record { name = (codes "b"); place = (at 2 14); content = NoContent } ∷
+        record { name = (codes "c"); place = (at 2 17); content = NoContent } ∷ [])) ∷
+        (RegItem (at 2 20) false (Some (record { place = (at 2 24); high = (Number (at 2 25) Plain (bits_of 32 3)); low = (Number (at 2 27) Plain (bits_of 32 0)) }))
+        (record { name = (codes "v"); place = (at 2 30); content = NoContent } ∷ record { name = (codes "w"); place = (at 2 33); content = NoContent } ∷ [])) ∷
+        (RegItem (at 2 36) false (Some (record { place = (at 2 40); high = (Number (at 2 41) Plain (bits_of 32 7)); low = (Number (at 2 43) Plain (bits_of 32 0)) }))
+        (record {
+          name = (codes "m");
+          place = (at 2 46);
+          content = (MemoryBounds (record {
+            place = (at 2 48);
+            high = (Number (at 2 49) Plain (bits_of 32 0));
+            low = (Number (at 2 51) Plain (bits_of 32 3));
+          }));
+        } ∷ [])) ∷
         (WireItem (at 2 55) false None (record { name = (codes "n"); place = (at 2 60); value = None } ∷ [])) ∷
-        (InitialItem (at 3 1) (BlockingStatement (at 3 9) (OneSelect (record { place = (at 3 9); name = (codes "q"); index = NoIndex })) None (Infixed (at 3 13) Equal (Prefixed (at 3 13) Minus (Number (at 3 14) Plain (bits_of 32 1))) (Number (at 3 19) Plain (bits_of 32 0))))) ∷
+        (InitialItem (at 3 1) (BlockingStatement (at 3 9) (OneSelect (record { place = (at 3 9); name = (codes "q"); index = NoIndex })) None
+        (Infixed (at 3 13) Equal (Prefixed (at 3 13) Minus (Number (at 3 14) Plain (bits_of 32 1))) (Number (at 3 19) Plain (bits_of 32 0))))) ∷
         []);
   } ∷ []);
 }
 
 abbrev pub Found70 : Type 0
-Found70 = summary_of (flat source70 (codes "top") Usual) ≡ Ok (record { objects = (record { name = (codes "q"); kind = Var; width = 1; indexes = ([]); place = (at 2 5) } ∷ record { name = (codes "r"); kind = Var; width = 1; indexes = ([]); place = (at 2 8) } ∷ record { name = (codes "a"); kind = Var; width = 1; indexes = ([]); place = (at 2 11) } ∷ record { name = (codes "b"); kind = Var; width = 1; indexes = ([]); place = (at 2 14) } ∷ record { name = (codes "c"); kind = Var; width = 1; indexes = ([]); place = (at 2 17) } ∷ record { name = (codes "v"); kind = Var; width = 4; indexes = (3 ∷ 0 ∷ []); place = (at 2 30) } ∷ record { name = (codes "w"); kind = Var; width = 4; indexes = (3 ∷ 0 ∷ []); place = (at 2 33) } ∷ record { name = (codes "m"); kind = Word; width = 8; indexes = (0 ∷ []); place = (at 2 46) } ∷ record { name = (codes "m"); kind = Word; width = 8; indexes = (1 ∷ []); place = (at 2 46) } ∷ record { name = (codes "m"); kind = Word; width = 8; indexes = (2 ∷ []); place = (at 2 46) } ∷ record { name = (codes "m"); kind = Word; width = 8; indexes = (3 ∷ []); place = (at 2 46) } ∷ record { name = (codes "n"); kind = Net; width = 1; indexes = ([]); place = (at 2 60) } ∷ []); nodes = ([]); processes = (false ∷ []); joined = ([]) })
+Found70 = summary_of (flat source70 (codes "top") Usual) ≡ Ok (record {
+  objects = (record { name = (codes "q"); kind = Var; width = 1; indexes = ([]); place = (at 2 5) } ∷
+      record { name = (codes "r"); kind = Var; width = 1; indexes = ([]); place = (at 2 8) } ∷ record { name = (codes "a"); kind = Var; width = 1; indexes = ([]); place = (at 2 11) } ∷
+      record { name = (codes "b"); kind = Var; width = 1; indexes = ([]); place = (at 2 14) } ∷ record { name = (codes "c"); kind = Var; width = 1; indexes = ([]); place = (at 2 17) } ∷
+      record { name = (codes "v"); kind = Var; width = 4; indexes = (3 ∷ 0 ∷ []); place = (at 2 30) } ∷
+      record { name = (codes "w"); kind = Var; width = 4; indexes = (3 ∷ 0 ∷ []); place = (at 2 33) } ∷ record { name = (codes "m"); kind = Word; width = 8; indexes = (0 ∷ []); place = (at 2 46) } ∷
+      record { name = (codes "m"); kind = Word; width = 8; indexes = (1 ∷ []); place = (at 2 46) } ∷ record { name = (codes "m"); kind = Word; width = 8; indexes = (2 ∷ []); place = (at 2 46) } ∷
+      record { name = (codes "m"); kind = Word; width = 8; indexes = (3 ∷ []); place = (at 2 46) } ∷ record { name = (codes "n"); kind = Net; width = 1; indexes = ([]); place = (at 2 60) } ∷ []);
+  nodes = ([]);
+  processes = (false ∷ []);
+  joined = ([]);
+})
 
 found70 : Found70
 found70 = refl
@@ -49,14 +74,31 @@ source71 = record {
     parameters = ([]);
     heads = (PlainHeads ([]));
     items =
-        ((ParameterItem (record { place = (at 2 1); is_local = false; signed = false; range = None; parameters = (record { name = (codes "P"); place = (at 2 11); value = (Number (at 2 15) Plain (bits_of 32 3)) } ∷ []) })) ∷
-        (WireItem (at 2 18) false None (record { name = (codes "w"); place = (at 2 23); value = (Some (Infixed (at 2 27) Less (Infixed (at 2 27) Subtract (Selected (at 2 27) (codes "P") NoIndex) (Number (at 2 31) Plain (bits_of 32 4))) (Number (at 2 35) Plain (bits_of 32 0)))) } ∷ [])) ∷
+        ((ParameterItem (record {
+          place = (at 2 1);
+          is_local = false;
+          signed = false;
+          range = None;
+          parameters = (record { name = (codes "P"); place = (at 2 11); value = (Number (at 2 15) Plain (bits_of 32 3)) } ∷ []);
+        })) ∷
+        (WireItem (at 2 18) false None (record {
+          name = (codes "w");
+          place = (at 2 23);
+          value =
+              (Some (Infixed (at 2 27) Less (Infixed (at 2 27) Subtract (Selected (at 2 27) (codes "P") NoIndex) (Number (at 2 31) Plain (bits_of 32 4))) (Number (at 2 35) Plain (bits_of 32 0))));
+        } ∷
+        [])) ∷
         []);
   } ∷ []);
 }
 
 abbrev pub Found71 : Type 0
-Found71 = summary_of (flat source71 (codes "top") Usual) ≡ Ok (record { objects = (record { name = (codes "w"); kind = Net; width = 1; indexes = ([]); place = (at 2 23) } ∷ []); nodes = (record { kind = 0; name = []; inputs = ([]); outputs = (0 ∷ []) } ∷ []); processes = ([]); joined = ([]) })
+Found71 = summary_of (flat source71 (codes "top") Usual) ≡ Ok (record {
+  objects = (record { name = (codes "w"); kind = Net; width = 1; indexes = ([]); place = (at 2 23) } ∷ []);
+  nodes = (record { kind = 0; name = []; inputs = ([]); outputs = (0 ∷ []) } ∷ []);
+  processes = ([]);
+  joined = ([]);
+})
 
 found71 : Found71
 found71 = refl
@@ -72,14 +114,31 @@ source72 = record {
     parameters = ([]);
     heads = (PlainHeads ([]));
     items =
-        ((ParameterItem (record { place = (at 2 1); is_local = false; signed = false; range = None; parameters = (record { name = (codes "P"); place = (at 2 11); value = (Number (at 2 15) Sized (bits_of 4 3)) } ∷ []) })) ∷
-        (WireItem (at 2 21) false None (record { name = (codes "w"); place = (at 2 26); value = (Some (Infixed (at 2 30) Less (Infixed (at 2 30) Subtract (Selected (at 2 30) (codes "P") NoIndex) (Number (at 2 34) Sized (bits_of 4 4))) (Number (at 2 41) Plain (bits_of 32 0)))) } ∷ [])) ∷
+        ((ParameterItem (record {
+          place = (at 2 1);
+          is_local = false;
+          signed = false;
+          range = None;
+          parameters = (record { name = (codes "P"); place = (at 2 11); value = (Number (at 2 15) Sized (bits_of 4 3)) } ∷ []);
+        })) ∷
+        (WireItem (at 2 21) false None (record {
+          name = (codes "w");
+          place = (at 2 26);
+          value =
+              (Some (Infixed (at 2 30) Less (Infixed (at 2 30) Subtract (Selected (at 2 30) (codes "P") NoIndex) (Number (at 2 34) Sized (bits_of 4 4))) (Number (at 2 41) Plain (bits_of 32 0))));
+        } ∷
+        [])) ∷
         []);
   } ∷ []);
 }
 
 abbrev pub Found72 : Type 0
-Found72 = summary_of (flat source72 (codes "top") Usual) ≡ Ok (record { objects = (record { name = (codes "w"); kind = Net; width = 1; indexes = ([]); place = (at 2 26) } ∷ []); nodes = (record { kind = 0; name = []; inputs = ([]); outputs = (0 ∷ []) } ∷ []); processes = ([]); joined = ([]) })
+Found72 = summary_of (flat source72 (codes "top") Usual) ≡ Ok (record {
+  objects = (record { name = (codes "w"); kind = Net; width = 1; indexes = ([]); place = (at 2 26) } ∷ []);
+  nodes = (record { kind = 0; name = []; inputs = ([]); outputs = (0 ∷ []) } ∷ []);
+  processes = ([]);
+  joined = ([]);
+})
 
 found72 : Found72
 found72 = refl
@@ -95,14 +154,30 @@ source73 = record {
     parameters = ([]);
     heads = (PlainHeads ([]));
     items =
-        ((ParameterItem (record { place = (at 2 1); is_local = false; signed = false; range = None; parameters = (record { name = (codes "P"); place = (at 2 11); value = (Number (at 2 15) Sized (bits_of 4 8)) } ∷ []) })) ∷
-        (WireItem (at 2 21) false None (record { name = (codes "w"); place = (at 2 26); value = (Some (Infixed (at 2 30) Less (Selected (at 2 30) (codes "P") NoIndex) (Selected (at 2 34) (codes "P") NoIndex))) } ∷ [])) ∷
+        ((ParameterItem (record {
+          place = (at 2 1);
+          is_local = false;
+          signed = false;
+          range = None;
+          parameters = (record { name = (codes "P"); place = (at 2 11); value = (Number (at 2 15) Sized (bits_of 4 8)) } ∷ []);
+        })) ∷
+        (WireItem (at 2 21) false None (record {
+          name = (codes "w");
+          place = (at 2 26);
+          value =
+              (Some (Infixed (at 2 30) Less (Selected (at 2 30) (codes "P") NoIndex) (Selected (at 2 34) (codes "P") NoIndex)));
+        } ∷ [])) ∷
         []);
   } ∷ []);
 }
 
 abbrev pub Found73 : Type 0
-Found73 = summary_of (flat source73 (codes "top") Usual) ≡ Ok (record { objects = (record { name = (codes "w"); kind = Net; width = 1; indexes = ([]); place = (at 2 26) } ∷ []); nodes = (record { kind = 0; name = []; inputs = ([]); outputs = (0 ∷ []) } ∷ []); processes = ([]); joined = ([]) })
+Found73 = summary_of (flat source73 (codes "top") Usual) ≡ Ok (record {
+  objects = (record { name = (codes "w"); kind = Net; width = 1; indexes = ([]); place = (at 2 26) } ∷ []);
+  nodes = (record { kind = 0; name = []; inputs = ([]); outputs = (0 ∷ []) } ∷ []);
+  processes = ([]);
+  joined = ([]);
+})
 
 found73 : Found73
 found73 = refl
@@ -118,10 +193,45 @@ source74 = record {
     name = (codes "sub");
     place = (at 1 8);
     parameters = ([]);
-    heads = (DeclaredHeads (record { place = (at 1 12); direction = Input; is_reg = false; signed = false; range = None; names = (record { name = (codes "a"); place = (at 1 18) } ∷ []) } ∷ record { place = (at 1 21); direction = Input; is_reg = false; signed = false; range = (Some (record { place = (at 1 27); high = (Number (at 1 28) Plain (bits_of 32 3)); low = (Number (at 1 30) Plain (bits_of 32 0)) })); names = (record { name = (codes "v"); place = (at 1 33) } ∷ []) } ∷ record { place = (at 1 36); direction = Output; is_reg = false; signed = false; range = None; names = (record { name = (codes "y"); place = (at 1 43) } ∷ []) } ∷ record { place = (at 1 46); direction = Output; is_reg = true; signed = false; range = (Some (record { place = (at 1 57); high = (Number (at 1 58) Plain (bits_of 32 1)); low = (Number (at 1 60) Plain (bits_of 32 0)) })); names = (record { name = (codes "z"); place = (at 1 63) } ∷ []) } ∷ []));
+    heads = (DeclaredHeads (record { place = (at 1 12); direction = Input; is_reg = false; signed = false; range = None; names = (record { name = (codes "a"); place = (at 1 18) } ∷ []) } ∷
+        record {
+          place = (at 1 21);
+          direction = Input;
+          is_reg = false;
+          signed = false;
+          range =
+              (Some (record { place = (at 1 27); high = (Number (at 1 28) Plain (bits_of 32 3)); low = (Number (at 1 30) Plain (bits_of 32 0)) }));
+          names = (record { name = (codes "v"); place = (at 1 33) } ∷ []);
+        } ∷ record {
+          place = (at 1 36);
+          direction = Output;
+          is_reg = false;
+          signed = false;
+          range = None;
+          names = (record { name = (codes "y"); place = (at 1 43) } ∷ []);
+        } ∷ record {
+          place = (at 1 46);
+          direction = Output;
+          is_reg = true;
+          signed = false;
+          range = (Some (record { place = (at 1 57); high = (Number (at 1 58) Plain (bits_of 32 1)); low = (Number (at 1 60) Plain (bits_of 32 0)) }));
+          names = (record { name = (codes "z"); place = (at 1 63) } ∷ []);
+        } ∷ []));
     items =
-        ((ParameterItem (record { place = (at 1 67); is_local = false; signed = false; range = None; parameters = (record { name = (codes "W"); place = (at 1 77); value = (Number (at 1 81) Plain (bits_of 32 2)) } ∷ []) })) ∷
-        (ParameterItem (record { place = (at 1 84); is_local = true; signed = false; range = None; parameters = (record { name = (codes "L"); place = (at 1 95); value = (Number (at 1 99) Plain (bits_of 32 3)) } ∷ []) })) ∷
+        ((ParameterItem (record {
+          place = (at 1 67);
+          is_local = false;
+          signed = false;
+          range = None;
+          parameters = (record { name = (codes "W"); place = (at 1 77); value = (Number (at 1 81) Plain (bits_of 32 2)) } ∷ []);
+        })) ∷
+        (ParameterItem (record {
+          place = (at 1 84);
+          is_local = true;
+          signed = false;
+          range = None;
+          parameters = (record { name = (codes "L"); place = (at 1 95); value = (Number (at 1 99) Plain (bits_of 32 3)) } ∷ []);
+        })) ∷
         []);
   } ∷ record {
     name = (codes "top");
@@ -130,11 +240,30 @@ source74 = record {
     heads = (PlainHeads ([]));
     items =
         ((WireItem (at 3 1) false None (record { name = (codes "p"); place = (at 3 6); value = None } ∷ [])) ∷
-        (WireItem (at 3 9) false (Some (record { place = (at 3 14); high = (Number (at 3 15) Plain (bits_of 32 3)); low = (Number (at 3 17) Plain (bits_of 32 0)) })) (record { name = (codes "n"); place = (at 3 20); value = None } ∷ [])) ∷
+        (WireItem (at 3 9) false (Some (record { place = (at 3 14); high = (Number (at 3 15) Plain (bits_of 32 3)); low = (Number (at 3 17) Plain (bits_of 32 0)) }))
+        (record { name = (codes "n"); place = (at 3 20); value = None } ∷ [])) ∷
         (RegItem (at 3 23) false None (record { name = (codes "r"); place = (at 3 27); content = NoContent } ∷ [])) ∷
-        (RegItem (at 3 30) false (Some (record { place = (at 3 34); high = (Number (at 3 35) Plain (bits_of 32 7)); low = (Number (at 3 37) Plain (bits_of 32 0)) })) (record { name = (codes "m"); place = (at 3 40); content = (MemoryBounds (record { place = (at 3 42); high = (Number (at 3 43) Plain (bits_of 32 0)); low = (Number (at 3 45) Plain (bits_of 32 3)) })) } ∷ [])) ∷
-        (RegItem (at 3 49) false (Some (record { place = (at 3 53); high = (Number (at 3 54) Plain (bits_of 32 1)); low = (Number (at 3 56) Plain (bits_of 32 0)) })) (record { name = (codes "e"); place = (at 3 59); content = NoContent } ∷ [])) ∷
-        (InstanceItem (at 4 1) (codes "sub") ([]) (record { name = (codes "i"); place = (at 4 5); connections = (record { name = None; place = (at 4 7); actual = (Some (Selected (at 4 7) (codes "p") NoIndex)) } ∷ record { name = None; place = (at 4 10); actual = (Some (Selected (at 4 10) (codes "n") NoIndex)) } ∷ record { name = None; place = (at 4 13); actual = (Some (Selected (at 4 13) (codes "p") NoIndex)) } ∷ record { name = None; place = (at 4 16); actual = (Some (Selected (at 4 16) (codes "e") NoIndex)) } ∷ record { name = None; place = (at 4 19); actual = (Some (Selected (at 4 19) (codes "p") NoIndex)) } ∷ []) } ∷ [])) ∷
+        (RegItem (at 3 30) false (Some (record { place = (at 3 34); high = (Number (at 3 35) Plain (bits_of 32 7)); low = (Number (at 3 37) Plain (bits_of 32 0)) }))
+        (record {
+          name = (codes "m");
+          place = (at 3 40);
+          content = (MemoryBounds (record {
+            place = (at 3 42);
+            high = (Number (at 3 43) Plain (bits_of 32 0));
+            low = (Number (at 3 45) Plain (bits_of 32 3));
+          }));
+        } ∷ [])) ∷
+        (RegItem (at 3 49) false (Some (record { place = (at 3 53); high = (Number (at 3 54) Plain (bits_of 32 1)); low = (Number (at 3 56) Plain (bits_of 32 0)) }))
+        (record { name = (codes "e"); place = (at 3 59); content = NoContent } ∷ [])) ∷
+        (InstanceItem (at 4 1) (codes "sub") ([]) (record {
+          name = (codes "i");
+          place = (at 4 5);
+          connections = (record { name = None; place = (at 4 7); actual = (Some (Selected (at 4 7) (codes "p") NoIndex)) } ∷
+              record { name = None; place = (at 4 10); actual = (Some (Selected (at 4 10) (codes "n") NoIndex)) } ∷
+              record { name = None; place = (at 4 13); actual = (Some (Selected (at 4 13) (codes "p") NoIndex)) } ∷
+              record { name = None; place = (at 4 16); actual = (Some (Selected (at 4 16) (codes "e") NoIndex)) } ∷
+              record { name = None; place = (at 4 19); actual = (Some (Selected (at 4 19) (codes "p") NoIndex)) } ∷ []);
+        } ∷ [])) ∷
         []);
   } ∷ []);
 }
@@ -156,10 +285,45 @@ source75 = record {
     name = (codes "sub");
     place = (at 1 8);
     parameters = ([]);
-    heads = (DeclaredHeads (record { place = (at 1 12); direction = Input; is_reg = false; signed = false; range = None; names = (record { name = (codes "a"); place = (at 1 18) } ∷ []) } ∷ record { place = (at 1 21); direction = Input; is_reg = false; signed = false; range = (Some (record { place = (at 1 27); high = (Number (at 1 28) Plain (bits_of 32 3)); low = (Number (at 1 30) Plain (bits_of 32 0)) })); names = (record { name = (codes "v"); place = (at 1 33) } ∷ []) } ∷ record { place = (at 1 36); direction = Output; is_reg = false; signed = false; range = None; names = (record { name = (codes "y"); place = (at 1 43) } ∷ []) } ∷ record { place = (at 1 46); direction = Output; is_reg = true; signed = false; range = (Some (record { place = (at 1 57); high = (Number (at 1 58) Plain (bits_of 32 1)); low = (Number (at 1 60) Plain (bits_of 32 0)) })); names = (record { name = (codes "z"); place = (at 1 63) } ∷ []) } ∷ []));
+    heads = (DeclaredHeads (record { place = (at 1 12); direction = Input; is_reg = false; signed = false; range = None; names = (record { name = (codes "a"); place = (at 1 18) } ∷ []) } ∷
+        record {
+          place = (at 1 21);
+          direction = Input;
+          is_reg = false;
+          signed = false;
+          range =
+              (Some (record { place = (at 1 27); high = (Number (at 1 28) Plain (bits_of 32 3)); low = (Number (at 1 30) Plain (bits_of 32 0)) }));
+          names = (record { name = (codes "v"); place = (at 1 33) } ∷ []);
+        } ∷ record {
+          place = (at 1 36);
+          direction = Output;
+          is_reg = false;
+          signed = false;
+          range = None;
+          names = (record { name = (codes "y"); place = (at 1 43) } ∷ []);
+        } ∷ record {
+          place = (at 1 46);
+          direction = Output;
+          is_reg = true;
+          signed = false;
+          range = (Some (record { place = (at 1 57); high = (Number (at 1 58) Plain (bits_of 32 1)); low = (Number (at 1 60) Plain (bits_of 32 0)) }));
+          names = (record { name = (codes "z"); place = (at 1 63) } ∷ []);
+        } ∷ []));
     items =
-        ((ParameterItem (record { place = (at 1 67); is_local = false; signed = false; range = None; parameters = (record { name = (codes "W"); place = (at 1 77); value = (Number (at 1 81) Plain (bits_of 32 2)) } ∷ []) })) ∷
-        (ParameterItem (record { place = (at 1 84); is_local = true; signed = false; range = None; parameters = (record { name = (codes "L"); place = (at 1 95); value = (Number (at 1 99) Plain (bits_of 32 3)) } ∷ []) })) ∷
+        ((ParameterItem (record {
+          place = (at 1 67);
+          is_local = false;
+          signed = false;
+          range = None;
+          parameters = (record { name = (codes "W"); place = (at 1 77); value = (Number (at 1 81) Plain (bits_of 32 2)) } ∷ []);
+        })) ∷
+        (ParameterItem (record {
+          place = (at 1 84);
+          is_local = true;
+          signed = false;
+          range = None;
+          parameters = (record { name = (codes "L"); place = (at 1 95); value = (Number (at 1 99) Plain (bits_of 32 3)) } ∷ []);
+        })) ∷
         []);
   } ∷ record {
     name = (codes "top");
@@ -168,11 +332,27 @@ source75 = record {
     heads = (PlainHeads ([]));
     items =
         ((WireItem (at 3 1) false None (record { name = (codes "p"); place = (at 3 6); value = None } ∷ [])) ∷
-        (WireItem (at 3 9) false (Some (record { place = (at 3 14); high = (Number (at 3 15) Plain (bits_of 32 3)); low = (Number (at 3 17) Plain (bits_of 32 0)) })) (record { name = (codes "n"); place = (at 3 20); value = None } ∷ [])) ∷
+        (WireItem (at 3 9) false (Some (record { place = (at 3 14); high = (Number (at 3 15) Plain (bits_of 32 3)); low = (Number (at 3 17) Plain (bits_of 32 0)) }))
+        (record { name = (codes "n"); place = (at 3 20); value = None } ∷ [])) ∷
         (RegItem (at 3 23) false None (record { name = (codes "r"); place = (at 3 27); content = NoContent } ∷ [])) ∷
-        (RegItem (at 3 30) false (Some (record { place = (at 3 34); high = (Number (at 3 35) Plain (bits_of 32 7)); low = (Number (at 3 37) Plain (bits_of 32 0)) })) (record { name = (codes "m"); place = (at 3 40); content = (MemoryBounds (record { place = (at 3 42); high = (Number (at 3 43) Plain (bits_of 32 0)); low = (Number (at 3 45) Plain (bits_of 32 3)) })) } ∷ [])) ∷
-        (RegItem (at 3 49) false (Some (record { place = (at 3 53); high = (Number (at 3 54) Plain (bits_of 32 1)); low = (Number (at 3 56) Plain (bits_of 32 0)) })) (record { name = (codes "e"); place = (at 3 59); content = NoContent } ∷ [])) ∷
-        (InstanceItem (at 4 1) (codes "sub") ([]) (record { name = (codes "i"); place = (at 4 5); connections = (record { name = (Some (codes "a")); place = (at 4 8); actual = (Some (Selected (at 4 10) (codes "p") NoIndex)) } ∷ record { name = (Some (codes "a")); place = (at 4 15); actual = (Some (Selected (at 4 17) (codes "p") NoIndex)) } ∷ []) } ∷ [])) ∷
+        (RegItem (at 3 30) false (Some (record { place = (at 3 34); high = (Number (at 3 35) Plain (bits_of 32 7)); low = (Number (at 3 37) Plain (bits_of 32 0)) }))
+        (record {
+          name = (codes "m");
+          place = (at 3 40);
+          content = (MemoryBounds (record {
+            place = (at 3 42);
+            high = (Number (at 3 43) Plain (bits_of 32 0));
+            low = (Number (at 3 45) Plain (bits_of 32 3));
+          }));
+        } ∷ [])) ∷
+        (RegItem (at 3 49) false (Some (record { place = (at 3 53); high = (Number (at 3 54) Plain (bits_of 32 1)); low = (Number (at 3 56) Plain (bits_of 32 0)) }))
+        (record { name = (codes "e"); place = (at 3 59); content = NoContent } ∷ [])) ∷
+        (InstanceItem (at 4 1) (codes "sub") ([]) (record {
+          name = (codes "i");
+          place = (at 4 5);
+          connections = (record { name = (Some (codes "a")); place = (at 4 8); actual = (Some (Selected (at 4 10) (codes "p") NoIndex)) } ∷
+              record { name = (Some (codes "a")); place = (at 4 15); actual = (Some (Selected (at 4 17) (codes "p") NoIndex)) } ∷ []);
+        } ∷ [])) ∷
         []);
   } ∷ []);
 }
@@ -194,10 +374,45 @@ source76 = record {
     name = (codes "sub");
     place = (at 1 8);
     parameters = ([]);
-    heads = (DeclaredHeads (record { place = (at 1 12); direction = Input; is_reg = false; signed = false; range = None; names = (record { name = (codes "a"); place = (at 1 18) } ∷ []) } ∷ record { place = (at 1 21); direction = Input; is_reg = false; signed = false; range = (Some (record { place = (at 1 27); high = (Number (at 1 28) Plain (bits_of 32 3)); low = (Number (at 1 30) Plain (bits_of 32 0)) })); names = (record { name = (codes "v"); place = (at 1 33) } ∷ []) } ∷ record { place = (at 1 36); direction = Output; is_reg = false; signed = false; range = None; names = (record { name = (codes "y"); place = (at 1 43) } ∷ []) } ∷ record { place = (at 1 46); direction = Output; is_reg = true; signed = false; range = (Some (record { place = (at 1 57); high = (Number (at 1 58) Plain (bits_of 32 1)); low = (Number (at 1 60) Plain (bits_of 32 0)) })); names = (record { name = (codes "z"); place = (at 1 63) } ∷ []) } ∷ []));
+    heads = (DeclaredHeads (record { place = (at 1 12); direction = Input; is_reg = false; signed = false; range = None; names = (record { name = (codes "a"); place = (at 1 18) } ∷ []) } ∷
+        record {
+          place = (at 1 21);
+          direction = Input;
+          is_reg = false;
+          signed = false;
+          range =
+              (Some (record { place = (at 1 27); high = (Number (at 1 28) Plain (bits_of 32 3)); low = (Number (at 1 30) Plain (bits_of 32 0)) }));
+          names = (record { name = (codes "v"); place = (at 1 33) } ∷ []);
+        } ∷ record {
+          place = (at 1 36);
+          direction = Output;
+          is_reg = false;
+          signed = false;
+          range = None;
+          names = (record { name = (codes "y"); place = (at 1 43) } ∷ []);
+        } ∷ record {
+          place = (at 1 46);
+          direction = Output;
+          is_reg = true;
+          signed = false;
+          range = (Some (record { place = (at 1 57); high = (Number (at 1 58) Plain (bits_of 32 1)); low = (Number (at 1 60) Plain (bits_of 32 0)) }));
+          names = (record { name = (codes "z"); place = (at 1 63) } ∷ []);
+        } ∷ []));
     items =
-        ((ParameterItem (record { place = (at 1 67); is_local = false; signed = false; range = None; parameters = (record { name = (codes "W"); place = (at 1 77); value = (Number (at 1 81) Plain (bits_of 32 2)) } ∷ []) })) ∷
-        (ParameterItem (record { place = (at 1 84); is_local = true; signed = false; range = None; parameters = (record { name = (codes "L"); place = (at 1 95); value = (Number (at 1 99) Plain (bits_of 32 3)) } ∷ []) })) ∷
+        ((ParameterItem (record {
+          place = (at 1 67);
+          is_local = false;
+          signed = false;
+          range = None;
+          parameters = (record { name = (codes "W"); place = (at 1 77); value = (Number (at 1 81) Plain (bits_of 32 2)) } ∷ []);
+        })) ∷
+        (ParameterItem (record {
+          place = (at 1 84);
+          is_local = true;
+          signed = false;
+          range = None;
+          parameters = (record { name = (codes "L"); place = (at 1 95); value = (Number (at 1 99) Plain (bits_of 32 3)) } ∷ []);
+        })) ∷
         []);
   } ∷ record {
     name = (codes "top");
@@ -206,11 +421,26 @@ source76 = record {
     heads = (PlainHeads ([]));
     items =
         ((WireItem (at 3 1) false None (record { name = (codes "p"); place = (at 3 6); value = None } ∷ [])) ∷
-        (WireItem (at 3 9) false (Some (record { place = (at 3 14); high = (Number (at 3 15) Plain (bits_of 32 3)); low = (Number (at 3 17) Plain (bits_of 32 0)) })) (record { name = (codes "n"); place = (at 3 20); value = None } ∷ [])) ∷
+        (WireItem (at 3 9) false (Some (record { place = (at 3 14); high = (Number (at 3 15) Plain (bits_of 32 3)); low = (Number (at 3 17) Plain (bits_of 32 0)) }))
+        (record { name = (codes "n"); place = (at 3 20); value = None } ∷ [])) ∷
         (RegItem (at 3 23) false None (record { name = (codes "r"); place = (at 3 27); content = NoContent } ∷ [])) ∷
-        (RegItem (at 3 30) false (Some (record { place = (at 3 34); high = (Number (at 3 35) Plain (bits_of 32 7)); low = (Number (at 3 37) Plain (bits_of 32 0)) })) (record { name = (codes "m"); place = (at 3 40); content = (MemoryBounds (record { place = (at 3 42); high = (Number (at 3 43) Plain (bits_of 32 0)); low = (Number (at 3 45) Plain (bits_of 32 3)) })) } ∷ [])) ∷
-        (RegItem (at 3 49) false (Some (record { place = (at 3 53); high = (Number (at 3 54) Plain (bits_of 32 1)); low = (Number (at 3 56) Plain (bits_of 32 0)) })) (record { name = (codes "e"); place = (at 3 59); content = NoContent } ∷ [])) ∷
-        (InstanceItem (at 4 1) (codes "sub") ([]) (record { name = (codes "i"); place = (at 4 5); connections = (record { name = (Some (codes "zz")); place = (at 4 8); actual = (Some (Selected (at 4 11) (codes "p") NoIndex)) } ∷ []) } ∷ [])) ∷
+        (RegItem (at 3 30) false (Some (record { place = (at 3 34); high = (Number (at 3 35) Plain (bits_of 32 7)); low = (Number (at 3 37) Plain (bits_of 32 0)) }))
+        (record {
+          name = (codes "m");
+          place = (at 3 40);
+          content = (MemoryBounds (record {
+            place = (at 3 42);
+            high = (Number (at 3 43) Plain (bits_of 32 0));
+            low = (Number (at 3 45) Plain (bits_of 32 3));
+          }));
+        } ∷ [])) ∷
+        (RegItem (at 3 49) false (Some (record { place = (at 3 53); high = (Number (at 3 54) Plain (bits_of 32 1)); low = (Number (at 3 56) Plain (bits_of 32 0)) }))
+        (record { name = (codes "e"); place = (at 3 59); content = NoContent } ∷ [])) ∷
+        (InstanceItem (at 4 1) (codes "sub") ([]) (record {
+          name = (codes "i");
+          place = (at 4 5);
+          connections = (record { name = (Some (codes "zz")); place = (at 4 8); actual = (Some (Selected (at 4 11) (codes "p") NoIndex)) } ∷ []);
+        } ∷ [])) ∷
         []);
   } ∷ []);
 }
@@ -232,10 +462,45 @@ source77 = record {
     name = (codes "sub");
     place = (at 1 8);
     parameters = ([]);
-    heads = (DeclaredHeads (record { place = (at 1 12); direction = Input; is_reg = false; signed = false; range = None; names = (record { name = (codes "a"); place = (at 1 18) } ∷ []) } ∷ record { place = (at 1 21); direction = Input; is_reg = false; signed = false; range = (Some (record { place = (at 1 27); high = (Number (at 1 28) Plain (bits_of 32 3)); low = (Number (at 1 30) Plain (bits_of 32 0)) })); names = (record { name = (codes "v"); place = (at 1 33) } ∷ []) } ∷ record { place = (at 1 36); direction = Output; is_reg = false; signed = false; range = None; names = (record { name = (codes "y"); place = (at 1 43) } ∷ []) } ∷ record { place = (at 1 46); direction = Output; is_reg = true; signed = false; range = (Some (record { place = (at 1 57); high = (Number (at 1 58) Plain (bits_of 32 1)); low = (Number (at 1 60) Plain (bits_of 32 0)) })); names = (record { name = (codes "z"); place = (at 1 63) } ∷ []) } ∷ []));
+    heads = (DeclaredHeads (record { place = (at 1 12); direction = Input; is_reg = false; signed = false; range = None; names = (record { name = (codes "a"); place = (at 1 18) } ∷ []) } ∷
+        record {
+          place = (at 1 21);
+          direction = Input;
+          is_reg = false;
+          signed = false;
+          range =
+              (Some (record { place = (at 1 27); high = (Number (at 1 28) Plain (bits_of 32 3)); low = (Number (at 1 30) Plain (bits_of 32 0)) }));
+          names = (record { name = (codes "v"); place = (at 1 33) } ∷ []);
+        } ∷ record {
+          place = (at 1 36);
+          direction = Output;
+          is_reg = false;
+          signed = false;
+          range = None;
+          names = (record { name = (codes "y"); place = (at 1 43) } ∷ []);
+        } ∷ record {
+          place = (at 1 46);
+          direction = Output;
+          is_reg = true;
+          signed = false;
+          range = (Some (record { place = (at 1 57); high = (Number (at 1 58) Plain (bits_of 32 1)); low = (Number (at 1 60) Plain (bits_of 32 0)) }));
+          names = (record { name = (codes "z"); place = (at 1 63) } ∷ []);
+        } ∷ []));
     items =
-        ((ParameterItem (record { place = (at 1 67); is_local = false; signed = false; range = None; parameters = (record { name = (codes "W"); place = (at 1 77); value = (Number (at 1 81) Plain (bits_of 32 2)) } ∷ []) })) ∷
-        (ParameterItem (record { place = (at 1 84); is_local = true; signed = false; range = None; parameters = (record { name = (codes "L"); place = (at 1 95); value = (Number (at 1 99) Plain (bits_of 32 3)) } ∷ []) })) ∷
+        ((ParameterItem (record {
+          place = (at 1 67);
+          is_local = false;
+          signed = false;
+          range = None;
+          parameters = (record { name = (codes "W"); place = (at 1 77); value = (Number (at 1 81) Plain (bits_of 32 2)) } ∷ []);
+        })) ∷
+        (ParameterItem (record {
+          place = (at 1 84);
+          is_local = true;
+          signed = false;
+          range = None;
+          parameters = (record { name = (codes "L"); place = (at 1 95); value = (Number (at 1 99) Plain (bits_of 32 3)) } ∷ []);
+        })) ∷
         []);
   } ∷ record {
     name = (codes "top");
@@ -244,11 +509,26 @@ source77 = record {
     heads = (PlainHeads ([]));
     items =
         ((WireItem (at 3 1) false None (record { name = (codes "p"); place = (at 3 6); value = None } ∷ [])) ∷
-        (WireItem (at 3 9) false (Some (record { place = (at 3 14); high = (Number (at 3 15) Plain (bits_of 32 3)); low = (Number (at 3 17) Plain (bits_of 32 0)) })) (record { name = (codes "n"); place = (at 3 20); value = None } ∷ [])) ∷
+        (WireItem (at 3 9) false (Some (record { place = (at 3 14); high = (Number (at 3 15) Plain (bits_of 32 3)); low = (Number (at 3 17) Plain (bits_of 32 0)) }))
+        (record { name = (codes "n"); place = (at 3 20); value = None } ∷ [])) ∷
         (RegItem (at 3 23) false None (record { name = (codes "r"); place = (at 3 27); content = NoContent } ∷ [])) ∷
-        (RegItem (at 3 30) false (Some (record { place = (at 3 34); high = (Number (at 3 35) Plain (bits_of 32 7)); low = (Number (at 3 37) Plain (bits_of 32 0)) })) (record { name = (codes "m"); place = (at 3 40); content = (MemoryBounds (record { place = (at 3 42); high = (Number (at 3 43) Plain (bits_of 32 0)); low = (Number (at 3 45) Plain (bits_of 32 3)) })) } ∷ [])) ∷
-        (RegItem (at 3 49) false (Some (record { place = (at 3 53); high = (Number (at 3 54) Plain (bits_of 32 1)); low = (Number (at 3 56) Plain (bits_of 32 0)) })) (record { name = (codes "e"); place = (at 3 59); content = NoContent } ∷ [])) ∷
-        (InstanceItem (at 4 1) (codes "sub") ([]) (record { name = (codes "i"); place = (at 4 5); connections = (record { name = (Some (codes "zz")); place = (at 4 8); actual = (Some (Selected (at 4 11) (codes "yy") NoIndex)) } ∷ []) } ∷ [])) ∷
+        (RegItem (at 3 30) false (Some (record { place = (at 3 34); high = (Number (at 3 35) Plain (bits_of 32 7)); low = (Number (at 3 37) Plain (bits_of 32 0)) }))
+        (record {
+          name = (codes "m");
+          place = (at 3 40);
+          content = (MemoryBounds (record {
+            place = (at 3 42);
+            high = (Number (at 3 43) Plain (bits_of 32 0));
+            low = (Number (at 3 45) Plain (bits_of 32 3));
+          }));
+        } ∷ [])) ∷
+        (RegItem (at 3 49) false (Some (record { place = (at 3 53); high = (Number (at 3 54) Plain (bits_of 32 1)); low = (Number (at 3 56) Plain (bits_of 32 0)) }))
+        (record { name = (codes "e"); place = (at 3 59); content = NoContent } ∷ [])) ∷
+        (InstanceItem (at 4 1) (codes "sub") ([]) (record {
+          name = (codes "i");
+          place = (at 4 5);
+          connections = (record { name = (Some (codes "zz")); place = (at 4 8); actual = (Some (Selected (at 4 11) (codes "yy") NoIndex)) } ∷ []);
+        } ∷ [])) ∷
         []);
   } ∷ []);
 }
@@ -270,10 +550,45 @@ source78 = record {
     name = (codes "sub");
     place = (at 1 8);
     parameters = ([]);
-    heads = (DeclaredHeads (record { place = (at 1 12); direction = Input; is_reg = false; signed = false; range = None; names = (record { name = (codes "a"); place = (at 1 18) } ∷ []) } ∷ record { place = (at 1 21); direction = Input; is_reg = false; signed = false; range = (Some (record { place = (at 1 27); high = (Number (at 1 28) Plain (bits_of 32 3)); low = (Number (at 1 30) Plain (bits_of 32 0)) })); names = (record { name = (codes "v"); place = (at 1 33) } ∷ []) } ∷ record { place = (at 1 36); direction = Output; is_reg = false; signed = false; range = None; names = (record { name = (codes "y"); place = (at 1 43) } ∷ []) } ∷ record { place = (at 1 46); direction = Output; is_reg = true; signed = false; range = (Some (record { place = (at 1 57); high = (Number (at 1 58) Plain (bits_of 32 1)); low = (Number (at 1 60) Plain (bits_of 32 0)) })); names = (record { name = (codes "z"); place = (at 1 63) } ∷ []) } ∷ []));
+    heads = (DeclaredHeads (record { place = (at 1 12); direction = Input; is_reg = false; signed = false; range = None; names = (record { name = (codes "a"); place = (at 1 18) } ∷ []) } ∷
+        record {
+          place = (at 1 21);
+          direction = Input;
+          is_reg = false;
+          signed = false;
+          range =
+              (Some (record { place = (at 1 27); high = (Number (at 1 28) Plain (bits_of 32 3)); low = (Number (at 1 30) Plain (bits_of 32 0)) }));
+          names = (record { name = (codes "v"); place = (at 1 33) } ∷ []);
+        } ∷ record {
+          place = (at 1 36);
+          direction = Output;
+          is_reg = false;
+          signed = false;
+          range = None;
+          names = (record { name = (codes "y"); place = (at 1 43) } ∷ []);
+        } ∷ record {
+          place = (at 1 46);
+          direction = Output;
+          is_reg = true;
+          signed = false;
+          range = (Some (record { place = (at 1 57); high = (Number (at 1 58) Plain (bits_of 32 1)); low = (Number (at 1 60) Plain (bits_of 32 0)) }));
+          names = (record { name = (codes "z"); place = (at 1 63) } ∷ []);
+        } ∷ []));
     items =
-        ((ParameterItem (record { place = (at 1 67); is_local = false; signed = false; range = None; parameters = (record { name = (codes "W"); place = (at 1 77); value = (Number (at 1 81) Plain (bits_of 32 2)) } ∷ []) })) ∷
-        (ParameterItem (record { place = (at 1 84); is_local = true; signed = false; range = None; parameters = (record { name = (codes "L"); place = (at 1 95); value = (Number (at 1 99) Plain (bits_of 32 3)) } ∷ []) })) ∷
+        ((ParameterItem (record {
+          place = (at 1 67);
+          is_local = false;
+          signed = false;
+          range = None;
+          parameters = (record { name = (codes "W"); place = (at 1 77); value = (Number (at 1 81) Plain (bits_of 32 2)) } ∷ []);
+        })) ∷
+        (ParameterItem (record {
+          place = (at 1 84);
+          is_local = true;
+          signed = false;
+          range = None;
+          parameters = (record { name = (codes "L"); place = (at 1 95); value = (Number (at 1 99) Plain (bits_of 32 3)) } ∷ []);
+        })) ∷
         []);
   } ∷ record {
     name = (codes "top");
@@ -282,11 +597,23 @@ source78 = record {
     heads = (PlainHeads ([]));
     items =
         ((WireItem (at 3 1) false None (record { name = (codes "p"); place = (at 3 6); value = None } ∷ [])) ∷
-        (WireItem (at 3 9) false (Some (record { place = (at 3 14); high = (Number (at 3 15) Plain (bits_of 32 3)); low = (Number (at 3 17) Plain (bits_of 32 0)) })) (record { name = (codes "n"); place = (at 3 20); value = None } ∷ [])) ∷
+        (WireItem (at 3 9) false (Some (record { place = (at 3 14); high = (Number (at 3 15) Plain (bits_of 32 3)); low = (Number (at 3 17) Plain (bits_of 32 0)) }))
+        (record { name = (codes "n"); place = (at 3 20); value = None } ∷ [])) ∷
         (RegItem (at 3 23) false None (record { name = (codes "r"); place = (at 3 27); content = NoContent } ∷ [])) ∷
-        (RegItem (at 3 30) false (Some (record { place = (at 3 34); high = (Number (at 3 35) Plain (bits_of 32 7)); low = (Number (at 3 37) Plain (bits_of 32 0)) })) (record { name = (codes "m"); place = (at 3 40); content = (MemoryBounds (record { place = (at 3 42); high = (Number (at 3 43) Plain (bits_of 32 0)); low = (Number (at 3 45) Plain (bits_of 32 3)) })) } ∷ [])) ∷
-        (RegItem (at 3 49) false (Some (record { place = (at 3 53); high = (Number (at 3 54) Plain (bits_of 32 1)); low = (Number (at 3 56) Plain (bits_of 32 0)) })) (record { name = (codes "e"); place = (at 3 59); content = NoContent } ∷ [])) ∷
-        (InstanceItem (at 4 1) (codes "sub") (record { name = (Some (codes "X")); place = (at 4 8); actual = (Some (Number (at 4 10) Plain (bits_of 32 1))) } ∷ []) (record { name = (codes "i"); place = (at 4 14); connections = ([]) } ∷ [])) ∷
+        (RegItem (at 3 30) false (Some (record { place = (at 3 34); high = (Number (at 3 35) Plain (bits_of 32 7)); low = (Number (at 3 37) Plain (bits_of 32 0)) }))
+        (record {
+          name = (codes "m");
+          place = (at 3 40);
+          content = (MemoryBounds (record {
+            place = (at 3 42);
+            high = (Number (at 3 43) Plain (bits_of 32 0));
+            low = (Number (at 3 45) Plain (bits_of 32 3));
+          }));
+        } ∷ [])) ∷
+        (RegItem (at 3 49) false (Some (record { place = (at 3 53); high = (Number (at 3 54) Plain (bits_of 32 1)); low = (Number (at 3 56) Plain (bits_of 32 0)) }))
+        (record { name = (codes "e"); place = (at 3 59); content = NoContent } ∷ [])) ∷
+        (InstanceItem (at 4 1) (codes "sub") (record { name = (Some (codes "X")); place = (at 4 8); actual = (Some (Number (at 4 10) Plain (bits_of 32 1))) } ∷ [])
+        (record { name = (codes "i"); place = (at 4 14); connections = ([]) } ∷ [])) ∷
         []);
   } ∷ []);
 }
@@ -308,10 +635,45 @@ source79 = record {
     name = (codes "sub");
     place = (at 1 8);
     parameters = ([]);
-    heads = (DeclaredHeads (record { place = (at 1 12); direction = Input; is_reg = false; signed = false; range = None; names = (record { name = (codes "a"); place = (at 1 18) } ∷ []) } ∷ record { place = (at 1 21); direction = Input; is_reg = false; signed = false; range = (Some (record { place = (at 1 27); high = (Number (at 1 28) Plain (bits_of 32 3)); low = (Number (at 1 30) Plain (bits_of 32 0)) })); names = (record { name = (codes "v"); place = (at 1 33) } ∷ []) } ∷ record { place = (at 1 36); direction = Output; is_reg = false; signed = false; range = None; names = (record { name = (codes "y"); place = (at 1 43) } ∷ []) } ∷ record { place = (at 1 46); direction = Output; is_reg = true; signed = false; range = (Some (record { place = (at 1 57); high = (Number (at 1 58) Plain (bits_of 32 1)); low = (Number (at 1 60) Plain (bits_of 32 0)) })); names = (record { name = (codes "z"); place = (at 1 63) } ∷ []) } ∷ []));
+    heads = (DeclaredHeads (record { place = (at 1 12); direction = Input; is_reg = false; signed = false; range = None; names = (record { name = (codes "a"); place = (at 1 18) } ∷ []) } ∷
+        record {
+          place = (at 1 21);
+          direction = Input;
+          is_reg = false;
+          signed = false;
+          range =
+              (Some (record { place = (at 1 27); high = (Number (at 1 28) Plain (bits_of 32 3)); low = (Number (at 1 30) Plain (bits_of 32 0)) }));
+          names = (record { name = (codes "v"); place = (at 1 33) } ∷ []);
+        } ∷ record {
+          place = (at 1 36);
+          direction = Output;
+          is_reg = false;
+          signed = false;
+          range = None;
+          names = (record { name = (codes "y"); place = (at 1 43) } ∷ []);
+        } ∷ record {
+          place = (at 1 46);
+          direction = Output;
+          is_reg = true;
+          signed = false;
+          range = (Some (record { place = (at 1 57); high = (Number (at 1 58) Plain (bits_of 32 1)); low = (Number (at 1 60) Plain (bits_of 32 0)) }));
+          names = (record { name = (codes "z"); place = (at 1 63) } ∷ []);
+        } ∷ []));
     items =
-        ((ParameterItem (record { place = (at 1 67); is_local = false; signed = false; range = None; parameters = (record { name = (codes "W"); place = (at 1 77); value = (Number (at 1 81) Plain (bits_of 32 2)) } ∷ []) })) ∷
-        (ParameterItem (record { place = (at 1 84); is_local = true; signed = false; range = None; parameters = (record { name = (codes "L"); place = (at 1 95); value = (Number (at 1 99) Plain (bits_of 32 3)) } ∷ []) })) ∷
+        ((ParameterItem (record {
+          place = (at 1 67);
+          is_local = false;
+          signed = false;
+          range = None;
+          parameters = (record { name = (codes "W"); place = (at 1 77); value = (Number (at 1 81) Plain (bits_of 32 2)) } ∷ []);
+        })) ∷
+        (ParameterItem (record {
+          place = (at 1 84);
+          is_local = true;
+          signed = false;
+          range = None;
+          parameters = (record { name = (codes "L"); place = (at 1 95); value = (Number (at 1 99) Plain (bits_of 32 3)) } ∷ []);
+        })) ∷
         []);
   } ∷ record {
     name = (codes "top");
@@ -320,11 +682,23 @@ source79 = record {
     heads = (PlainHeads ([]));
     items =
         ((WireItem (at 3 1) false None (record { name = (codes "p"); place = (at 3 6); value = None } ∷ [])) ∷
-        (WireItem (at 3 9) false (Some (record { place = (at 3 14); high = (Number (at 3 15) Plain (bits_of 32 3)); low = (Number (at 3 17) Plain (bits_of 32 0)) })) (record { name = (codes "n"); place = (at 3 20); value = None } ∷ [])) ∷
+        (WireItem (at 3 9) false (Some (record { place = (at 3 14); high = (Number (at 3 15) Plain (bits_of 32 3)); low = (Number (at 3 17) Plain (bits_of 32 0)) }))
+        (record { name = (codes "n"); place = (at 3 20); value = None } ∷ [])) ∷
         (RegItem (at 3 23) false None (record { name = (codes "r"); place = (at 3 27); content = NoContent } ∷ [])) ∷
-        (RegItem (at 3 30) false (Some (record { place = (at 3 34); high = (Number (at 3 35) Plain (bits_of 32 7)); low = (Number (at 3 37) Plain (bits_of 32 0)) })) (record { name = (codes "m"); place = (at 3 40); content = (MemoryBounds (record { place = (at 3 42); high = (Number (at 3 43) Plain (bits_of 32 0)); low = (Number (at 3 45) Plain (bits_of 32 3)) })) } ∷ [])) ∷
-        (RegItem (at 3 49) false (Some (record { place = (at 3 53); high = (Number (at 3 54) Plain (bits_of 32 1)); low = (Number (at 3 56) Plain (bits_of 32 0)) })) (record { name = (codes "e"); place = (at 3 59); content = NoContent } ∷ [])) ∷
-        (InstanceItem (at 4 1) (codes "sub") (record { name = (Some (codes "L")); place = (at 4 8); actual = (Some (Number (at 4 10) Plain (bits_of 32 1))) } ∷ []) (record { name = (codes "i"); place = (at 4 14); connections = ([]) } ∷ [])) ∷
+        (RegItem (at 3 30) false (Some (record { place = (at 3 34); high = (Number (at 3 35) Plain (bits_of 32 7)); low = (Number (at 3 37) Plain (bits_of 32 0)) }))
+        (record {
+          name = (codes "m");
+          place = (at 3 40);
+          content = (MemoryBounds (record {
+            place = (at 3 42);
+            high = (Number (at 3 43) Plain (bits_of 32 0));
+            low = (Number (at 3 45) Plain (bits_of 32 3));
+          }));
+        } ∷ [])) ∷
+        (RegItem (at 3 49) false (Some (record { place = (at 3 53); high = (Number (at 3 54) Plain (bits_of 32 1)); low = (Number (at 3 56) Plain (bits_of 32 0)) }))
+        (record { name = (codes "e"); place = (at 3 59); content = NoContent } ∷ [])) ∷
+        (InstanceItem (at 4 1) (codes "sub") (record { name = (Some (codes "L")); place = (at 4 8); actual = (Some (Number (at 4 10) Plain (bits_of 32 1))) } ∷ [])
+        (record { name = (codes "i"); place = (at 4 14); connections = ([]) } ∷ [])) ∷
         []);
   } ∷ []);
 }

@@ -4,7 +4,8 @@ use Rattle.v_design.specs.declared.logic.ObjectKind.TheVariants.{Var, Word, Net}
 use Rattle.four_value.specs.declared.operator.BinaryOperator.TheVariants.{Add}
 use Rattle.v_tree.specs.declared.token.NumberForm.TheVariants.{Plain, Sized}
 use Rattle.v_tree.specs.declared.item.Direction.TheVariants.{Input, Output}
-use Rattle.v_tree.specs.Trees.{Number, Selected, Parenthesised, Infixed, Concatenated, NoIndex, IndexAt, NoContent, MemoryBounds, ParameterItem, WireItem, RegItem, InstanceItem, PlainHeads, DeclaredHeads, SourceUnit}
+use Rattle.v_tree.specs.Trees.{Number, Selected, Parenthesised, Infixed, Concatenated, NoIndex, IndexAt, NoContent, MemoryBounds, ParameterItem, WireItem, RegItem, InstanceItem, PlainHeads}
+use Rattle.v_tree.specs.Trees.{DeclaredHeads, SourceUnit}
 use Rattle.v_elab.specs.declared.Mode.TheVariants.{Usual}
 use Rattle.v_names.specs.Faults.{DeclaredTwice, NoConstant, BadConnection, WrongKind}
 use Rattle.v_elab.specs.Flat.{flat}
@@ -21,10 +22,45 @@ source80 = record {
     name = (codes "sub");
     place = (at 1 8);
     parameters = ([]);
-    heads = (DeclaredHeads (record { place = (at 1 12); direction = Input; is_reg = false; signed = false; range = None; names = (record { name = (codes "a"); place = (at 1 18) } ∷ []) } ∷ record { place = (at 1 21); direction = Input; is_reg = false; signed = false; range = (Some (record { place = (at 1 27); high = (Number (at 1 28) Plain (bits_of 32 3)); low = (Number (at 1 30) Plain (bits_of 32 0)) })); names = (record { name = (codes "v"); place = (at 1 33) } ∷ []) } ∷ record { place = (at 1 36); direction = Output; is_reg = false; signed = false; range = None; names = (record { name = (codes "y"); place = (at 1 43) } ∷ []) } ∷ record { place = (at 1 46); direction = Output; is_reg = true; signed = false; range = (Some (record { place = (at 1 57); high = (Number (at 1 58) Plain (bits_of 32 1)); low = (Number (at 1 60) Plain (bits_of 32 0)) })); names = (record { name = (codes "z"); place = (at 1 63) } ∷ []) } ∷ []));
+    heads = (DeclaredHeads (record { place = (at 1 12); direction = Input; is_reg = false; signed = false; range = None; names = (record { name = (codes "a"); place = (at 1 18) } ∷ []) } ∷
+        record {
+          place = (at 1 21);
+          direction = Input;
+          is_reg = false;
+          signed = false;
+          range =
+              (Some (record { place = (at 1 27); high = (Number (at 1 28) Plain (bits_of 32 3)); low = (Number (at 1 30) Plain (bits_of 32 0)) }));
+          names = (record { name = (codes "v"); place = (at 1 33) } ∷ []);
+        } ∷ record {
+          place = (at 1 36);
+          direction = Output;
+          is_reg = false;
+          signed = false;
+          range = None;
+          names = (record { name = (codes "y"); place = (at 1 43) } ∷ []);
+        } ∷ record {
+          place = (at 1 46);
+          direction = Output;
+          is_reg = true;
+          signed = false;
+          range = (Some (record { place = (at 1 57); high = (Number (at 1 58) Plain (bits_of 32 1)); low = (Number (at 1 60) Plain (bits_of 32 0)) }));
+          names = (record { name = (codes "z"); place = (at 1 63) } ∷ []);
+        } ∷ []));
     items =
-        ((ParameterItem (record { place = (at 1 67); is_local = false; signed = false; range = None; parameters = (record { name = (codes "W"); place = (at 1 77); value = (Number (at 1 81) Plain (bits_of 32 2)) } ∷ []) })) ∷
-        (ParameterItem (record { place = (at 1 84); is_local = true; signed = false; range = None; parameters = (record { name = (codes "L"); place = (at 1 95); value = (Number (at 1 99) Plain (bits_of 32 3)) } ∷ []) })) ∷
+        ((ParameterItem (record {
+          place = (at 1 67);
+          is_local = false;
+          signed = false;
+          range = None;
+          parameters = (record { name = (codes "W"); place = (at 1 77); value = (Number (at 1 81) Plain (bits_of 32 2)) } ∷ []);
+        })) ∷
+        (ParameterItem (record {
+          place = (at 1 84);
+          is_local = true;
+          signed = false;
+          range = None;
+          parameters = (record { name = (codes "L"); place = (at 1 95); value = (Number (at 1 99) Plain (bits_of 32 3)) } ∷ []);
+        })) ∷
         []);
   } ∷ record {
     name = (codes "top");
@@ -33,11 +69,24 @@ source80 = record {
     heads = (PlainHeads ([]));
     items =
         ((WireItem (at 3 1) false None (record { name = (codes "p"); place = (at 3 6); value = None } ∷ [])) ∷
-        (WireItem (at 3 9) false (Some (record { place = (at 3 14); high = (Number (at 3 15) Plain (bits_of 32 3)); low = (Number (at 3 17) Plain (bits_of 32 0)) })) (record { name = (codes "n"); place = (at 3 20); value = None } ∷ [])) ∷
+        (WireItem (at 3 9) false (Some (record { place = (at 3 14); high = (Number (at 3 15) Plain (bits_of 32 3)); low = (Number (at 3 17) Plain (bits_of 32 0)) }))
+        (record { name = (codes "n"); place = (at 3 20); value = None } ∷ [])) ∷
         (RegItem (at 3 23) false None (record { name = (codes "r"); place = (at 3 27); content = NoContent } ∷ [])) ∷
-        (RegItem (at 3 30) false (Some (record { place = (at 3 34); high = (Number (at 3 35) Plain (bits_of 32 7)); low = (Number (at 3 37) Plain (bits_of 32 0)) })) (record { name = (codes "m"); place = (at 3 40); content = (MemoryBounds (record { place = (at 3 42); high = (Number (at 3 43) Plain (bits_of 32 0)); low = (Number (at 3 45) Plain (bits_of 32 3)) })) } ∷ [])) ∷
-        (RegItem (at 3 49) false (Some (record { place = (at 3 53); high = (Number (at 3 54) Plain (bits_of 32 1)); low = (Number (at 3 56) Plain (bits_of 32 0)) })) (record { name = (codes "e"); place = (at 3 59); content = NoContent } ∷ [])) ∷
-        (InstanceItem (at 4 1) (codes "sub") (record { name = (Some (codes "W")); place = (at 4 8); actual = (Some (Number (at 4 10) Plain (bits_of 32 1))) } ∷ record { name = (Some (codes "W")); place = (at 4 15); actual = (Some (Number (at 4 17) Plain (bits_of 32 2))) } ∷ []) (record { name = (codes "i"); place = (at 4 21); connections = ([]) } ∷ [])) ∷
+        (RegItem (at 3 30) false (Some (record { place = (at 3 34); high = (Number (at 3 35) Plain (bits_of 32 7)); low = (Number (at 3 37) Plain (bits_of 32 0)) }))
+        (record {
+          name = (codes "m");
+          place = (at 3 40);
+          content = (MemoryBounds (record {
+            place = (at 3 42);
+            high = (Number (at 3 43) Plain (bits_of 32 0));
+            low = (Number (at 3 45) Plain (bits_of 32 3));
+          }));
+        } ∷ [])) ∷
+        (RegItem (at 3 49) false (Some (record { place = (at 3 53); high = (Number (at 3 54) Plain (bits_of 32 1)); low = (Number (at 3 56) Plain (bits_of 32 0)) }))
+        (record { name = (codes "e"); place = (at 3 59); content = NoContent } ∷ [])) ∷
+        (InstanceItem (at 4 1) (codes "sub") (record { name = (Some (codes "W")); place = (at 4 8); actual = (Some (Number (at 4 10) Plain (bits_of 32 1))) } ∷
+        record { name = (Some (codes "W")); place = (at 4 15); actual = (Some (Number (at 4 17) Plain (bits_of 32 2))) } ∷ [])
+        (record { name = (codes "i"); place = (at 4 21); connections = ([]) } ∷ [])) ∷
         []);
   } ∷ []);
 }
@@ -59,10 +108,45 @@ source81 = record {
     name = (codes "sub");
     place = (at 1 8);
     parameters = ([]);
-    heads = (DeclaredHeads (record { place = (at 1 12); direction = Input; is_reg = false; signed = false; range = None; names = (record { name = (codes "a"); place = (at 1 18) } ∷ []) } ∷ record { place = (at 1 21); direction = Input; is_reg = false; signed = false; range = (Some (record { place = (at 1 27); high = (Number (at 1 28) Plain (bits_of 32 3)); low = (Number (at 1 30) Plain (bits_of 32 0)) })); names = (record { name = (codes "v"); place = (at 1 33) } ∷ []) } ∷ record { place = (at 1 36); direction = Output; is_reg = false; signed = false; range = None; names = (record { name = (codes "y"); place = (at 1 43) } ∷ []) } ∷ record { place = (at 1 46); direction = Output; is_reg = true; signed = false; range = (Some (record { place = (at 1 57); high = (Number (at 1 58) Plain (bits_of 32 1)); low = (Number (at 1 60) Plain (bits_of 32 0)) })); names = (record { name = (codes "z"); place = (at 1 63) } ∷ []) } ∷ []));
+    heads = (DeclaredHeads (record { place = (at 1 12); direction = Input; is_reg = false; signed = false; range = None; names = (record { name = (codes "a"); place = (at 1 18) } ∷ []) } ∷
+        record {
+          place = (at 1 21);
+          direction = Input;
+          is_reg = false;
+          signed = false;
+          range =
+              (Some (record { place = (at 1 27); high = (Number (at 1 28) Plain (bits_of 32 3)); low = (Number (at 1 30) Plain (bits_of 32 0)) }));
+          names = (record { name = (codes "v"); place = (at 1 33) } ∷ []);
+        } ∷ record {
+          place = (at 1 36);
+          direction = Output;
+          is_reg = false;
+          signed = false;
+          range = None;
+          names = (record { name = (codes "y"); place = (at 1 43) } ∷ []);
+        } ∷ record {
+          place = (at 1 46);
+          direction = Output;
+          is_reg = true;
+          signed = false;
+          range = (Some (record { place = (at 1 57); high = (Number (at 1 58) Plain (bits_of 32 1)); low = (Number (at 1 60) Plain (bits_of 32 0)) }));
+          names = (record { name = (codes "z"); place = (at 1 63) } ∷ []);
+        } ∷ []));
     items =
-        ((ParameterItem (record { place = (at 1 67); is_local = false; signed = false; range = None; parameters = (record { name = (codes "W"); place = (at 1 77); value = (Number (at 1 81) Plain (bits_of 32 2)) } ∷ []) })) ∷
-        (ParameterItem (record { place = (at 1 84); is_local = true; signed = false; range = None; parameters = (record { name = (codes "L"); place = (at 1 95); value = (Number (at 1 99) Plain (bits_of 32 3)) } ∷ []) })) ∷
+        ((ParameterItem (record {
+          place = (at 1 67);
+          is_local = false;
+          signed = false;
+          range = None;
+          parameters = (record { name = (codes "W"); place = (at 1 77); value = (Number (at 1 81) Plain (bits_of 32 2)) } ∷ []);
+        })) ∷
+        (ParameterItem (record {
+          place = (at 1 84);
+          is_local = true;
+          signed = false;
+          range = None;
+          parameters = (record { name = (codes "L"); place = (at 1 95); value = (Number (at 1 99) Plain (bits_of 32 3)) } ∷ []);
+        })) ∷
         []);
   } ∷ record {
     name = (codes "top");
@@ -71,11 +155,23 @@ source81 = record {
     heads = (PlainHeads ([]));
     items =
         ((WireItem (at 3 1) false None (record { name = (codes "p"); place = (at 3 6); value = None } ∷ [])) ∷
-        (WireItem (at 3 9) false (Some (record { place = (at 3 14); high = (Number (at 3 15) Plain (bits_of 32 3)); low = (Number (at 3 17) Plain (bits_of 32 0)) })) (record { name = (codes "n"); place = (at 3 20); value = None } ∷ [])) ∷
+        (WireItem (at 3 9) false (Some (record { place = (at 3 14); high = (Number (at 3 15) Plain (bits_of 32 3)); low = (Number (at 3 17) Plain (bits_of 32 0)) }))
+        (record { name = (codes "n"); place = (at 3 20); value = None } ∷ [])) ∷
         (RegItem (at 3 23) false None (record { name = (codes "r"); place = (at 3 27); content = NoContent } ∷ [])) ∷
-        (RegItem (at 3 30) false (Some (record { place = (at 3 34); high = (Number (at 3 35) Plain (bits_of 32 7)); low = (Number (at 3 37) Plain (bits_of 32 0)) })) (record { name = (codes "m"); place = (at 3 40); content = (MemoryBounds (record { place = (at 3 42); high = (Number (at 3 43) Plain (bits_of 32 0)); low = (Number (at 3 45) Plain (bits_of 32 3)) })) } ∷ [])) ∷
-        (RegItem (at 3 49) false (Some (record { place = (at 3 53); high = (Number (at 3 54) Plain (bits_of 32 1)); low = (Number (at 3 56) Plain (bits_of 32 0)) })) (record { name = (codes "e"); place = (at 3 59); content = NoContent } ∷ [])) ∷
-        (InstanceItem (at 4 1) (codes "sub") (record { name = None; place = (at 4 7); actual = (Some (Number (at 4 7) Plain (bits_of 32 1))) } ∷ record { name = None; place = (at 4 10); actual = (Some (Number (at 4 10) Plain (bits_of 32 2))) } ∷ []) (record { name = (codes "i"); place = (at 4 13); connections = ([]) } ∷ [])) ∷
+        (RegItem (at 3 30) false (Some (record { place = (at 3 34); high = (Number (at 3 35) Plain (bits_of 32 7)); low = (Number (at 3 37) Plain (bits_of 32 0)) }))
+        (record {
+          name = (codes "m");
+          place = (at 3 40);
+          content = (MemoryBounds (record {
+            place = (at 3 42);
+            high = (Number (at 3 43) Plain (bits_of 32 0));
+            low = (Number (at 3 45) Plain (bits_of 32 3));
+          }));
+        } ∷ [])) ∷
+        (RegItem (at 3 49) false (Some (record { place = (at 3 53); high = (Number (at 3 54) Plain (bits_of 32 1)); low = (Number (at 3 56) Plain (bits_of 32 0)) }))
+        (record { name = (codes "e"); place = (at 3 59); content = NoContent } ∷ [])) ∷
+        (InstanceItem (at 4 1) (codes "sub") (record { name = None; place = (at 4 7); actual = (Some (Number (at 4 7) Plain (bits_of 32 1))) } ∷
+        record { name = None; place = (at 4 10); actual = (Some (Number (at 4 10) Plain (bits_of 32 2))) } ∷ []) (record { name = (codes "i"); place = (at 4 13); connections = ([]) } ∷ [])) ∷
         []);
   } ∷ []);
 }
@@ -97,10 +193,45 @@ source82 = record {
     name = (codes "sub");
     place = (at 1 8);
     parameters = ([]);
-    heads = (DeclaredHeads (record { place = (at 1 12); direction = Input; is_reg = false; signed = false; range = None; names = (record { name = (codes "a"); place = (at 1 18) } ∷ []) } ∷ record { place = (at 1 21); direction = Input; is_reg = false; signed = false; range = (Some (record { place = (at 1 27); high = (Number (at 1 28) Plain (bits_of 32 3)); low = (Number (at 1 30) Plain (bits_of 32 0)) })); names = (record { name = (codes "v"); place = (at 1 33) } ∷ []) } ∷ record { place = (at 1 36); direction = Output; is_reg = false; signed = false; range = None; names = (record { name = (codes "y"); place = (at 1 43) } ∷ []) } ∷ record { place = (at 1 46); direction = Output; is_reg = true; signed = false; range = (Some (record { place = (at 1 57); high = (Number (at 1 58) Plain (bits_of 32 1)); low = (Number (at 1 60) Plain (bits_of 32 0)) })); names = (record { name = (codes "z"); place = (at 1 63) } ∷ []) } ∷ []));
+    heads = (DeclaredHeads (record { place = (at 1 12); direction = Input; is_reg = false; signed = false; range = None; names = (record { name = (codes "a"); place = (at 1 18) } ∷ []) } ∷
+        record {
+          place = (at 1 21);
+          direction = Input;
+          is_reg = false;
+          signed = false;
+          range =
+              (Some (record { place = (at 1 27); high = (Number (at 1 28) Plain (bits_of 32 3)); low = (Number (at 1 30) Plain (bits_of 32 0)) }));
+          names = (record { name = (codes "v"); place = (at 1 33) } ∷ []);
+        } ∷ record {
+          place = (at 1 36);
+          direction = Output;
+          is_reg = false;
+          signed = false;
+          range = None;
+          names = (record { name = (codes "y"); place = (at 1 43) } ∷ []);
+        } ∷ record {
+          place = (at 1 46);
+          direction = Output;
+          is_reg = true;
+          signed = false;
+          range = (Some (record { place = (at 1 57); high = (Number (at 1 58) Plain (bits_of 32 1)); low = (Number (at 1 60) Plain (bits_of 32 0)) }));
+          names = (record { name = (codes "z"); place = (at 1 63) } ∷ []);
+        } ∷ []));
     items =
-        ((ParameterItem (record { place = (at 1 67); is_local = false; signed = false; range = None; parameters = (record { name = (codes "W"); place = (at 1 77); value = (Number (at 1 81) Plain (bits_of 32 2)) } ∷ []) })) ∷
-        (ParameterItem (record { place = (at 1 84); is_local = true; signed = false; range = None; parameters = (record { name = (codes "L"); place = (at 1 95); value = (Number (at 1 99) Plain (bits_of 32 3)) } ∷ []) })) ∷
+        ((ParameterItem (record {
+          place = (at 1 67);
+          is_local = false;
+          signed = false;
+          range = None;
+          parameters = (record { name = (codes "W"); place = (at 1 77); value = (Number (at 1 81) Plain (bits_of 32 2)) } ∷ []);
+        })) ∷
+        (ParameterItem (record {
+          place = (at 1 84);
+          is_local = true;
+          signed = false;
+          range = None;
+          parameters = (record { name = (codes "L"); place = (at 1 95); value = (Number (at 1 99) Plain (bits_of 32 3)) } ∷ []);
+        })) ∷
         []);
   } ∷ record {
     name = (codes "top");
@@ -109,11 +240,31 @@ source82 = record {
     heads = (PlainHeads ([]));
     items =
         ((WireItem (at 3 1) false None (record { name = (codes "p"); place = (at 3 6); value = None } ∷ [])) ∷
-        (WireItem (at 3 9) false (Some (record { place = (at 3 14); high = (Number (at 3 15) Plain (bits_of 32 3)); low = (Number (at 3 17) Plain (bits_of 32 0)) })) (record { name = (codes "n"); place = (at 3 20); value = None } ∷ [])) ∷
+        (WireItem (at 3 9) false (Some (record { place = (at 3 14); high = (Number (at 3 15) Plain (bits_of 32 3)); low = (Number (at 3 17) Plain (bits_of 32 0)) }))
+        (record { name = (codes "n"); place = (at 3 20); value = None } ∷ [])) ∷
         (RegItem (at 3 23) false None (record { name = (codes "r"); place = (at 3 27); content = NoContent } ∷ [])) ∷
-        (RegItem (at 3 30) false (Some (record { place = (at 3 34); high = (Number (at 3 35) Plain (bits_of 32 7)); low = (Number (at 3 37) Plain (bits_of 32 0)) })) (record { name = (codes "m"); place = (at 3 40); content = (MemoryBounds (record { place = (at 3 42); high = (Number (at 3 43) Plain (bits_of 32 0)); low = (Number (at 3 45) Plain (bits_of 32 3)) })) } ∷ [])) ∷
-        (RegItem (at 3 49) false (Some (record { place = (at 3 53); high = (Number (at 3 54) Plain (bits_of 32 1)); low = (Number (at 3 56) Plain (bits_of 32 0)) })) (record { name = (codes "e"); place = (at 3 59); content = NoContent } ∷ [])) ∷
-        (InstanceItem (at 4 1) (codes "sub") ([]) (record { name = (codes "i"); place = (at 4 5); connections = (record { name = (Some (codes "y")); place = (at 4 8); actual = (Some (Infixed (at 4 10) Add (Selected (at 4 10) (codes "p") NoIndex) (Number (at 4 14) Plain (bits_of 32 1)))) } ∷ []) } ∷ [])) ∷
+        (RegItem (at 3 30) false (Some (record { place = (at 3 34); high = (Number (at 3 35) Plain (bits_of 32 7)); low = (Number (at 3 37) Plain (bits_of 32 0)) }))
+        (record {
+          name = (codes "m");
+          place = (at 3 40);
+          content = (MemoryBounds (record {
+            place = (at 3 42);
+            high = (Number (at 3 43) Plain (bits_of 32 0));
+            low = (Number (at 3 45) Plain (bits_of 32 3));
+          }));
+        } ∷ [])) ∷
+        (RegItem (at 3 49) false (Some (record { place = (at 3 53); high = (Number (at 3 54) Plain (bits_of 32 1)); low = (Number (at 3 56) Plain (bits_of 32 0)) }))
+        (record { name = (codes "e"); place = (at 3 59); content = NoContent } ∷ [])) ∷
+        (InstanceItem (at 4 1) (codes "sub") ([]) (record {
+          name = (codes "i");
+          place = (at 4 5);
+          connections = (record {
+            name = (Some (codes "y"));
+            place = (at 4 8);
+            actual = (Some
+                (Infixed (at 4 10) Add (Selected (at 4 10) (codes "p") NoIndex) (Number (at 4 14) Plain (bits_of 32 1))));
+          } ∷ []);
+        } ∷ [])) ∷
         []);
   } ∷ []);
 }
@@ -135,10 +286,45 @@ source83 = record {
     name = (codes "sub");
     place = (at 1 8);
     parameters = ([]);
-    heads = (DeclaredHeads (record { place = (at 1 12); direction = Input; is_reg = false; signed = false; range = None; names = (record { name = (codes "a"); place = (at 1 18) } ∷ []) } ∷ record { place = (at 1 21); direction = Input; is_reg = false; signed = false; range = (Some (record { place = (at 1 27); high = (Number (at 1 28) Plain (bits_of 32 3)); low = (Number (at 1 30) Plain (bits_of 32 0)) })); names = (record { name = (codes "v"); place = (at 1 33) } ∷ []) } ∷ record { place = (at 1 36); direction = Output; is_reg = false; signed = false; range = None; names = (record { name = (codes "y"); place = (at 1 43) } ∷ []) } ∷ record { place = (at 1 46); direction = Output; is_reg = true; signed = false; range = (Some (record { place = (at 1 57); high = (Number (at 1 58) Plain (bits_of 32 1)); low = (Number (at 1 60) Plain (bits_of 32 0)) })); names = (record { name = (codes "z"); place = (at 1 63) } ∷ []) } ∷ []));
+    heads = (DeclaredHeads (record { place = (at 1 12); direction = Input; is_reg = false; signed = false; range = None; names = (record { name = (codes "a"); place = (at 1 18) } ∷ []) } ∷
+        record {
+          place = (at 1 21);
+          direction = Input;
+          is_reg = false;
+          signed = false;
+          range =
+              (Some (record { place = (at 1 27); high = (Number (at 1 28) Plain (bits_of 32 3)); low = (Number (at 1 30) Plain (bits_of 32 0)) }));
+          names = (record { name = (codes "v"); place = (at 1 33) } ∷ []);
+        } ∷ record {
+          place = (at 1 36);
+          direction = Output;
+          is_reg = false;
+          signed = false;
+          range = None;
+          names = (record { name = (codes "y"); place = (at 1 43) } ∷ []);
+        } ∷ record {
+          place = (at 1 46);
+          direction = Output;
+          is_reg = true;
+          signed = false;
+          range = (Some (record { place = (at 1 57); high = (Number (at 1 58) Plain (bits_of 32 1)); low = (Number (at 1 60) Plain (bits_of 32 0)) }));
+          names = (record { name = (codes "z"); place = (at 1 63) } ∷ []);
+        } ∷ []));
     items =
-        ((ParameterItem (record { place = (at 1 67); is_local = false; signed = false; range = None; parameters = (record { name = (codes "W"); place = (at 1 77); value = (Number (at 1 81) Plain (bits_of 32 2)) } ∷ []) })) ∷
-        (ParameterItem (record { place = (at 1 84); is_local = true; signed = false; range = None; parameters = (record { name = (codes "L"); place = (at 1 95); value = (Number (at 1 99) Plain (bits_of 32 3)) } ∷ []) })) ∷
+        ((ParameterItem (record {
+          place = (at 1 67);
+          is_local = false;
+          signed = false;
+          range = None;
+          parameters = (record { name = (codes "W"); place = (at 1 77); value = (Number (at 1 81) Plain (bits_of 32 2)) } ∷ []);
+        })) ∷
+        (ParameterItem (record {
+          place = (at 1 84);
+          is_local = true;
+          signed = false;
+          range = None;
+          parameters = (record { name = (codes "L"); place = (at 1 95); value = (Number (at 1 99) Plain (bits_of 32 3)) } ∷ []);
+        })) ∷
         []);
   } ∷ record {
     name = (codes "top");
@@ -147,11 +333,26 @@ source83 = record {
     heads = (PlainHeads ([]));
     items =
         ((WireItem (at 3 1) false None (record { name = (codes "p"); place = (at 3 6); value = None } ∷ [])) ∷
-        (WireItem (at 3 9) false (Some (record { place = (at 3 14); high = (Number (at 3 15) Plain (bits_of 32 3)); low = (Number (at 3 17) Plain (bits_of 32 0)) })) (record { name = (codes "n"); place = (at 3 20); value = None } ∷ [])) ∷
+        (WireItem (at 3 9) false (Some (record { place = (at 3 14); high = (Number (at 3 15) Plain (bits_of 32 3)); low = (Number (at 3 17) Plain (bits_of 32 0)) }))
+        (record { name = (codes "n"); place = (at 3 20); value = None } ∷ [])) ∷
         (RegItem (at 3 23) false None (record { name = (codes "r"); place = (at 3 27); content = NoContent } ∷ [])) ∷
-        (RegItem (at 3 30) false (Some (record { place = (at 3 34); high = (Number (at 3 35) Plain (bits_of 32 7)); low = (Number (at 3 37) Plain (bits_of 32 0)) })) (record { name = (codes "m"); place = (at 3 40); content = (MemoryBounds (record { place = (at 3 42); high = (Number (at 3 43) Plain (bits_of 32 0)); low = (Number (at 3 45) Plain (bits_of 32 3)) })) } ∷ [])) ∷
-        (RegItem (at 3 49) false (Some (record { place = (at 3 53); high = (Number (at 3 54) Plain (bits_of 32 1)); low = (Number (at 3 56) Plain (bits_of 32 0)) })) (record { name = (codes "e"); place = (at 3 59); content = NoContent } ∷ [])) ∷
-        (InstanceItem (at 4 1) (codes "sub") ([]) (record { name = (codes "i"); place = (at 4 5); connections = (record { name = (Some (codes "y")); place = (at 4 8); actual = (Some (Parenthesised (at 4 10) (Selected (at 4 11) (codes "p") NoIndex))) } ∷ []) } ∷ [])) ∷
+        (RegItem (at 3 30) false (Some (record { place = (at 3 34); high = (Number (at 3 35) Plain (bits_of 32 7)); low = (Number (at 3 37) Plain (bits_of 32 0)) }))
+        (record {
+          name = (codes "m");
+          place = (at 3 40);
+          content = (MemoryBounds (record {
+            place = (at 3 42);
+            high = (Number (at 3 43) Plain (bits_of 32 0));
+            low = (Number (at 3 45) Plain (bits_of 32 3));
+          }));
+        } ∷ [])) ∷
+        (RegItem (at 3 49) false (Some (record { place = (at 3 53); high = (Number (at 3 54) Plain (bits_of 32 1)); low = (Number (at 3 56) Plain (bits_of 32 0)) }))
+        (record { name = (codes "e"); place = (at 3 59); content = NoContent } ∷ [])) ∷
+        (InstanceItem (at 4 1) (codes "sub") ([]) (record {
+          name = (codes "i");
+          place = (at 4 5);
+          connections = (record { name = (Some (codes "y")); place = (at 4 8); actual = (Some (Parenthesised (at 4 10) (Selected (at 4 11) (codes "p") NoIndex))) } ∷ []);
+        } ∷ [])) ∷
         []);
   } ∷ []);
 }
@@ -173,10 +374,45 @@ source84 = record {
     name = (codes "sub");
     place = (at 1 8);
     parameters = ([]);
-    heads = (DeclaredHeads (record { place = (at 1 12); direction = Input; is_reg = false; signed = false; range = None; names = (record { name = (codes "a"); place = (at 1 18) } ∷ []) } ∷ record { place = (at 1 21); direction = Input; is_reg = false; signed = false; range = (Some (record { place = (at 1 27); high = (Number (at 1 28) Plain (bits_of 32 3)); low = (Number (at 1 30) Plain (bits_of 32 0)) })); names = (record { name = (codes "v"); place = (at 1 33) } ∷ []) } ∷ record { place = (at 1 36); direction = Output; is_reg = false; signed = false; range = None; names = (record { name = (codes "y"); place = (at 1 43) } ∷ []) } ∷ record { place = (at 1 46); direction = Output; is_reg = true; signed = false; range = (Some (record { place = (at 1 57); high = (Number (at 1 58) Plain (bits_of 32 1)); low = (Number (at 1 60) Plain (bits_of 32 0)) })); names = (record { name = (codes "z"); place = (at 1 63) } ∷ []) } ∷ []));
+    heads = (DeclaredHeads (record { place = (at 1 12); direction = Input; is_reg = false; signed = false; range = None; names = (record { name = (codes "a"); place = (at 1 18) } ∷ []) } ∷
+        record {
+          place = (at 1 21);
+          direction = Input;
+          is_reg = false;
+          signed = false;
+          range =
+              (Some (record { place = (at 1 27); high = (Number (at 1 28) Plain (bits_of 32 3)); low = (Number (at 1 30) Plain (bits_of 32 0)) }));
+          names = (record { name = (codes "v"); place = (at 1 33) } ∷ []);
+        } ∷ record {
+          place = (at 1 36);
+          direction = Output;
+          is_reg = false;
+          signed = false;
+          range = None;
+          names = (record { name = (codes "y"); place = (at 1 43) } ∷ []);
+        } ∷ record {
+          place = (at 1 46);
+          direction = Output;
+          is_reg = true;
+          signed = false;
+          range = (Some (record { place = (at 1 57); high = (Number (at 1 58) Plain (bits_of 32 1)); low = (Number (at 1 60) Plain (bits_of 32 0)) }));
+          names = (record { name = (codes "z"); place = (at 1 63) } ∷ []);
+        } ∷ []));
     items =
-        ((ParameterItem (record { place = (at 1 67); is_local = false; signed = false; range = None; parameters = (record { name = (codes "W"); place = (at 1 77); value = (Number (at 1 81) Plain (bits_of 32 2)) } ∷ []) })) ∷
-        (ParameterItem (record { place = (at 1 84); is_local = true; signed = false; range = None; parameters = (record { name = (codes "L"); place = (at 1 95); value = (Number (at 1 99) Plain (bits_of 32 3)) } ∷ []) })) ∷
+        ((ParameterItem (record {
+          place = (at 1 67);
+          is_local = false;
+          signed = false;
+          range = None;
+          parameters = (record { name = (codes "W"); place = (at 1 77); value = (Number (at 1 81) Plain (bits_of 32 2)) } ∷ []);
+        })) ∷
+        (ParameterItem (record {
+          place = (at 1 84);
+          is_local = true;
+          signed = false;
+          range = None;
+          parameters = (record { name = (codes "L"); place = (at 1 95); value = (Number (at 1 99) Plain (bits_of 32 3)) } ∷ []);
+        })) ∷
         []);
   } ∷ record {
     name = (codes "top");
@@ -185,11 +421,26 @@ source84 = record {
     heads = (PlainHeads ([]));
     items =
         ((WireItem (at 3 1) false None (record { name = (codes "p"); place = (at 3 6); value = None } ∷ [])) ∷
-        (WireItem (at 3 9) false (Some (record { place = (at 3 14); high = (Number (at 3 15) Plain (bits_of 32 3)); low = (Number (at 3 17) Plain (bits_of 32 0)) })) (record { name = (codes "n"); place = (at 3 20); value = None } ∷ [])) ∷
+        (WireItem (at 3 9) false (Some (record { place = (at 3 14); high = (Number (at 3 15) Plain (bits_of 32 3)); low = (Number (at 3 17) Plain (bits_of 32 0)) }))
+        (record { name = (codes "n"); place = (at 3 20); value = None } ∷ [])) ∷
         (RegItem (at 3 23) false None (record { name = (codes "r"); place = (at 3 27); content = NoContent } ∷ [])) ∷
-        (RegItem (at 3 30) false (Some (record { place = (at 3 34); high = (Number (at 3 35) Plain (bits_of 32 7)); low = (Number (at 3 37) Plain (bits_of 32 0)) })) (record { name = (codes "m"); place = (at 3 40); content = (MemoryBounds (record { place = (at 3 42); high = (Number (at 3 43) Plain (bits_of 32 0)); low = (Number (at 3 45) Plain (bits_of 32 3)) })) } ∷ [])) ∷
-        (RegItem (at 3 49) false (Some (record { place = (at 3 53); high = (Number (at 3 54) Plain (bits_of 32 1)); low = (Number (at 3 56) Plain (bits_of 32 0)) })) (record { name = (codes "e"); place = (at 3 59); content = NoContent } ∷ [])) ∷
-        (InstanceItem (at 4 1) (codes "sub") ([]) (record { name = (codes "i"); place = (at 4 5); connections = (record { name = (Some (codes "y")); place = (at 4 8); actual = (Some (Number (at 4 10) Sized (bits_of 1 1))) } ∷ []) } ∷ [])) ∷
+        (RegItem (at 3 30) false (Some (record { place = (at 3 34); high = (Number (at 3 35) Plain (bits_of 32 7)); low = (Number (at 3 37) Plain (bits_of 32 0)) }))
+        (record {
+          name = (codes "m");
+          place = (at 3 40);
+          content = (MemoryBounds (record {
+            place = (at 3 42);
+            high = (Number (at 3 43) Plain (bits_of 32 0));
+            low = (Number (at 3 45) Plain (bits_of 32 3));
+          }));
+        } ∷ [])) ∷
+        (RegItem (at 3 49) false (Some (record { place = (at 3 53); high = (Number (at 3 54) Plain (bits_of 32 1)); low = (Number (at 3 56) Plain (bits_of 32 0)) }))
+        (record { name = (codes "e"); place = (at 3 59); content = NoContent } ∷ [])) ∷
+        (InstanceItem (at 4 1) (codes "sub") ([]) (record {
+          name = (codes "i");
+          place = (at 4 5);
+          connections = (record { name = (Some (codes "y")); place = (at 4 8); actual = (Some (Number (at 4 10) Sized (bits_of 1 1))) } ∷ []);
+        } ∷ [])) ∷
         []);
   } ∷ []);
 }
@@ -211,10 +462,45 @@ source85 = record {
     name = (codes "sub");
     place = (at 1 8);
     parameters = ([]);
-    heads = (DeclaredHeads (record { place = (at 1 12); direction = Input; is_reg = false; signed = false; range = None; names = (record { name = (codes "a"); place = (at 1 18) } ∷ []) } ∷ record { place = (at 1 21); direction = Input; is_reg = false; signed = false; range = (Some (record { place = (at 1 27); high = (Number (at 1 28) Plain (bits_of 32 3)); low = (Number (at 1 30) Plain (bits_of 32 0)) })); names = (record { name = (codes "v"); place = (at 1 33) } ∷ []) } ∷ record { place = (at 1 36); direction = Output; is_reg = false; signed = false; range = None; names = (record { name = (codes "y"); place = (at 1 43) } ∷ []) } ∷ record { place = (at 1 46); direction = Output; is_reg = true; signed = false; range = (Some (record { place = (at 1 57); high = (Number (at 1 58) Plain (bits_of 32 1)); low = (Number (at 1 60) Plain (bits_of 32 0)) })); names = (record { name = (codes "z"); place = (at 1 63) } ∷ []) } ∷ []));
+    heads = (DeclaredHeads (record { place = (at 1 12); direction = Input; is_reg = false; signed = false; range = None; names = (record { name = (codes "a"); place = (at 1 18) } ∷ []) } ∷
+        record {
+          place = (at 1 21);
+          direction = Input;
+          is_reg = false;
+          signed = false;
+          range =
+              (Some (record { place = (at 1 27); high = (Number (at 1 28) Plain (bits_of 32 3)); low = (Number (at 1 30) Plain (bits_of 32 0)) }));
+          names = (record { name = (codes "v"); place = (at 1 33) } ∷ []);
+        } ∷ record {
+          place = (at 1 36);
+          direction = Output;
+          is_reg = false;
+          signed = false;
+          range = None;
+          names = (record { name = (codes "y"); place = (at 1 43) } ∷ []);
+        } ∷ record {
+          place = (at 1 46);
+          direction = Output;
+          is_reg = true;
+          signed = false;
+          range = (Some (record { place = (at 1 57); high = (Number (at 1 58) Plain (bits_of 32 1)); low = (Number (at 1 60) Plain (bits_of 32 0)) }));
+          names = (record { name = (codes "z"); place = (at 1 63) } ∷ []);
+        } ∷ []));
     items =
-        ((ParameterItem (record { place = (at 1 67); is_local = false; signed = false; range = None; parameters = (record { name = (codes "W"); place = (at 1 77); value = (Number (at 1 81) Plain (bits_of 32 2)) } ∷ []) })) ∷
-        (ParameterItem (record { place = (at 1 84); is_local = true; signed = false; range = None; parameters = (record { name = (codes "L"); place = (at 1 95); value = (Number (at 1 99) Plain (bits_of 32 3)) } ∷ []) })) ∷
+        ((ParameterItem (record {
+          place = (at 1 67);
+          is_local = false;
+          signed = false;
+          range = None;
+          parameters = (record { name = (codes "W"); place = (at 1 77); value = (Number (at 1 81) Plain (bits_of 32 2)) } ∷ []);
+        })) ∷
+        (ParameterItem (record {
+          place = (at 1 84);
+          is_local = true;
+          signed = false;
+          range = None;
+          parameters = (record { name = (codes "L"); place = (at 1 95); value = (Number (at 1 99) Plain (bits_of 32 3)) } ∷ []);
+        })) ∷
         []);
   } ∷ record {
     name = (codes "top");
@@ -223,17 +509,49 @@ source85 = record {
     heads = (PlainHeads ([]));
     items =
         ((WireItem (at 3 1) false None (record { name = (codes "p"); place = (at 3 6); value = None } ∷ [])) ∷
-        (WireItem (at 3 9) false (Some (record { place = (at 3 14); high = (Number (at 3 15) Plain (bits_of 32 3)); low = (Number (at 3 17) Plain (bits_of 32 0)) })) (record { name = (codes "n"); place = (at 3 20); value = None } ∷ [])) ∷
+        (WireItem (at 3 9) false (Some (record { place = (at 3 14); high = (Number (at 3 15) Plain (bits_of 32 3)); low = (Number (at 3 17) Plain (bits_of 32 0)) }))
+        (record { name = (codes "n"); place = (at 3 20); value = None } ∷ [])) ∷
         (RegItem (at 3 23) false None (record { name = (codes "r"); place = (at 3 27); content = NoContent } ∷ [])) ∷
-        (RegItem (at 3 30) false (Some (record { place = (at 3 34); high = (Number (at 3 35) Plain (bits_of 32 7)); low = (Number (at 3 37) Plain (bits_of 32 0)) })) (record { name = (codes "m"); place = (at 3 40); content = (MemoryBounds (record { place = (at 3 42); high = (Number (at 3 43) Plain (bits_of 32 0)); low = (Number (at 3 45) Plain (bits_of 32 3)) })) } ∷ [])) ∷
-        (RegItem (at 3 49) false (Some (record { place = (at 3 53); high = (Number (at 3 54) Plain (bits_of 32 1)); low = (Number (at 3 56) Plain (bits_of 32 0)) })) (record { name = (codes "e"); place = (at 3 59); content = NoContent } ∷ [])) ∷
-        (InstanceItem (at 4 1) (codes "sub") ([]) (record { name = (codes "i"); place = (at 4 5); connections = (record { name = (Some (codes "z")); place = (at 4 8); actual = (Some (Concatenated (at 4 10) (parts ((Selected (at 4 11) (codes "p") NoIndex) ∷ (Selected (at 4 14) (codes "n") (IndexAt (Number (at 4 16) Plain (bits_of 32 0)))) ∷ [])))) } ∷ []) } ∷ [])) ∷
+        (RegItem (at 3 30) false (Some (record { place = (at 3 34); high = (Number (at 3 35) Plain (bits_of 32 7)); low = (Number (at 3 37) Plain (bits_of 32 0)) }))
+        (record {
+          name = (codes "m");
+          place = (at 3 40);
+          content = (MemoryBounds (record {
+            place = (at 3 42);
+            high = (Number (at 3 43) Plain (bits_of 32 0));
+            low = (Number (at 3 45) Plain (bits_of 32 3));
+          }));
+        } ∷ [])) ∷
+        (RegItem (at 3 49) false (Some (record { place = (at 3 53); high = (Number (at 3 54) Plain (bits_of 32 1)); low = (Number (at 3 56) Plain (bits_of 32 0)) }))
+        (record { name = (codes "e"); place = (at 3 59); content = NoContent } ∷ [])) ∷
+        (InstanceItem (at 4 1) (codes "sub") ([]) (record {
+          name = (codes "i");
+          place = (at 4 5);
+          connections = (record {
+            name = (Some (codes "z"));
+            place = (at 4 8);
+            actual = (Some
+                (Concatenated (at 4 10) (parts ((Selected (at 4 11) (codes "p") NoIndex) ∷ (Selected (at 4 14) (codes "n") (IndexAt (Number (at 4 16) Plain (bits_of 32 0)))) ∷ []))));
+          } ∷ []);
+        } ∷ [])) ∷
         []);
   } ∷ []);
 }
 
 abbrev pub Found85 : Type 0
-Found85 = summary_of (flat source85 (codes "top") Usual) ≡ Ok (record { objects = (record { name = (codes "p"); kind = Net; width = 1; indexes = ([]); place = (at 3 6) } ∷ record { name = (codes "n"); kind = Net; width = 1; indexes = (0 ∷ 0 ∷ []); place = (at 3 20) } ∷ record { name = (codes "n"); kind = Net; width = 3; indexes = (3 ∷ 1 ∷ []); place = (at 3 20) } ∷ record { name = (codes "r"); kind = Var; width = 1; indexes = ([]); place = (at 3 27) } ∷ record { name = (codes "m"); kind = Word; width = 8; indexes = (0 ∷ []); place = (at 3 40) } ∷ record { name = (codes "m"); kind = Word; width = 8; indexes = (1 ∷ []); place = (at 3 40) } ∷ record { name = (codes "m"); kind = Word; width = 8; indexes = (2 ∷ []); place = (at 3 40) } ∷ record { name = (codes "m"); kind = Word; width = 8; indexes = (3 ∷ []); place = (at 3 40) } ∷ record { name = (codes "e"); kind = Var; width = 2; indexes = (1 ∷ 0 ∷ []); place = (at 3 59) } ∷ record { name = (codes "i.a"); kind = Net; width = 1; indexes = ([]); place = (at 1 18) } ∷ record { name = (codes "i.v"); kind = Net; width = 4; indexes = (3 ∷ 0 ∷ []); place = (at 1 33) } ∷ record { name = (codes "i.y"); kind = Net; width = 1; indexes = ([]); place = (at 1 43) } ∷ record { name = (codes "i.z"); kind = Var; width = 2; indexes = (1 ∷ 0 ∷ []); place = (at 1 63) } ∷ []); nodes = (record { kind = 0; name = []; inputs = (12 ∷ []); outputs = (0 ∷ 1 ∷ []) } ∷ []); processes = ([]); joined = ([]) })
+Found85 = summary_of (flat source85 (codes "top") Usual) ≡ Ok (record {
+  objects = (record { name = (codes "p"); kind = Net; width = 1; indexes = ([]); place = (at 3 6) } ∷
+      record { name = (codes "n"); kind = Net; width = 1; indexes = (0 ∷ 0 ∷ []); place = (at 3 20) } ∷
+      record { name = (codes "n"); kind = Net; width = 3; indexes = (3 ∷ 1 ∷ []); place = (at 3 20) } ∷ record { name = (codes "r"); kind = Var; width = 1; indexes = ([]); place = (at 3 27) } ∷
+      record { name = (codes "m"); kind = Word; width = 8; indexes = (0 ∷ []); place = (at 3 40) } ∷ record { name = (codes "m"); kind = Word; width = 8; indexes = (1 ∷ []); place = (at 3 40) } ∷
+      record { name = (codes "m"); kind = Word; width = 8; indexes = (2 ∷ []); place = (at 3 40) } ∷ record { name = (codes "m"); kind = Word; width = 8; indexes = (3 ∷ []); place = (at 3 40) } ∷
+      record { name = (codes "e"); kind = Var; width = 2; indexes = (1 ∷ 0 ∷ []); place = (at 3 59) } ∷ record { name = (codes "i.a"); kind = Net; width = 1; indexes = ([]); place = (at 1 18) } ∷
+      record { name = (codes "i.v"); kind = Net; width = 4; indexes = (3 ∷ 0 ∷ []); place = (at 1 33) } ∷ record { name = (codes "i.y"); kind = Net; width = 1; indexes = ([]); place = (at 1 43) } ∷
+      record { name = (codes "i.z"); kind = Var; width = 2; indexes = (1 ∷ 0 ∷ []); place = (at 1 63) } ∷ []);
+  nodes = (record { kind = 0; name = []; inputs = (12 ∷ []); outputs = (0 ∷ 1 ∷ []) } ∷ []);
+  processes = ([]);
+  joined = ([]);
+})
 
 found85 : Found85
 found85 = refl
@@ -249,10 +567,45 @@ source86 = record {
     name = (codes "sub");
     place = (at 1 8);
     parameters = ([]);
-    heads = (DeclaredHeads (record { place = (at 1 12); direction = Input; is_reg = false; signed = false; range = None; names = (record { name = (codes "a"); place = (at 1 18) } ∷ []) } ∷ record { place = (at 1 21); direction = Input; is_reg = false; signed = false; range = (Some (record { place = (at 1 27); high = (Number (at 1 28) Plain (bits_of 32 3)); low = (Number (at 1 30) Plain (bits_of 32 0)) })); names = (record { name = (codes "v"); place = (at 1 33) } ∷ []) } ∷ record { place = (at 1 36); direction = Output; is_reg = false; signed = false; range = None; names = (record { name = (codes "y"); place = (at 1 43) } ∷ []) } ∷ record { place = (at 1 46); direction = Output; is_reg = true; signed = false; range = (Some (record { place = (at 1 57); high = (Number (at 1 58) Plain (bits_of 32 1)); low = (Number (at 1 60) Plain (bits_of 32 0)) })); names = (record { name = (codes "z"); place = (at 1 63) } ∷ []) } ∷ []));
+    heads = (DeclaredHeads (record { place = (at 1 12); direction = Input; is_reg = false; signed = false; range = None; names = (record { name = (codes "a"); place = (at 1 18) } ∷ []) } ∷
+        record {
+          place = (at 1 21);
+          direction = Input;
+          is_reg = false;
+          signed = false;
+          range =
+              (Some (record { place = (at 1 27); high = (Number (at 1 28) Plain (bits_of 32 3)); low = (Number (at 1 30) Plain (bits_of 32 0)) }));
+          names = (record { name = (codes "v"); place = (at 1 33) } ∷ []);
+        } ∷ record {
+          place = (at 1 36);
+          direction = Output;
+          is_reg = false;
+          signed = false;
+          range = None;
+          names = (record { name = (codes "y"); place = (at 1 43) } ∷ []);
+        } ∷ record {
+          place = (at 1 46);
+          direction = Output;
+          is_reg = true;
+          signed = false;
+          range = (Some (record { place = (at 1 57); high = (Number (at 1 58) Plain (bits_of 32 1)); low = (Number (at 1 60) Plain (bits_of 32 0)) }));
+          names = (record { name = (codes "z"); place = (at 1 63) } ∷ []);
+        } ∷ []));
     items =
-        ((ParameterItem (record { place = (at 1 67); is_local = false; signed = false; range = None; parameters = (record { name = (codes "W"); place = (at 1 77); value = (Number (at 1 81) Plain (bits_of 32 2)) } ∷ []) })) ∷
-        (ParameterItem (record { place = (at 1 84); is_local = true; signed = false; range = None; parameters = (record { name = (codes "L"); place = (at 1 95); value = (Number (at 1 99) Plain (bits_of 32 3)) } ∷ []) })) ∷
+        ((ParameterItem (record {
+          place = (at 1 67);
+          is_local = false;
+          signed = false;
+          range = None;
+          parameters = (record { name = (codes "W"); place = (at 1 77); value = (Number (at 1 81) Plain (bits_of 32 2)) } ∷ []);
+        })) ∷
+        (ParameterItem (record {
+          place = (at 1 84);
+          is_local = true;
+          signed = false;
+          range = None;
+          parameters = (record { name = (codes "L"); place = (at 1 95); value = (Number (at 1 99) Plain (bits_of 32 3)) } ∷ []);
+        })) ∷
         []);
   } ∷ record {
     name = (codes "top");
@@ -261,11 +614,26 @@ source86 = record {
     heads = (PlainHeads ([]));
     items =
         ((WireItem (at 3 1) false None (record { name = (codes "p"); place = (at 3 6); value = None } ∷ [])) ∷
-        (WireItem (at 3 9) false (Some (record { place = (at 3 14); high = (Number (at 3 15) Plain (bits_of 32 3)); low = (Number (at 3 17) Plain (bits_of 32 0)) })) (record { name = (codes "n"); place = (at 3 20); value = None } ∷ [])) ∷
+        (WireItem (at 3 9) false (Some (record { place = (at 3 14); high = (Number (at 3 15) Plain (bits_of 32 3)); low = (Number (at 3 17) Plain (bits_of 32 0)) }))
+        (record { name = (codes "n"); place = (at 3 20); value = None } ∷ [])) ∷
         (RegItem (at 3 23) false None (record { name = (codes "r"); place = (at 3 27); content = NoContent } ∷ [])) ∷
-        (RegItem (at 3 30) false (Some (record { place = (at 3 34); high = (Number (at 3 35) Plain (bits_of 32 7)); low = (Number (at 3 37) Plain (bits_of 32 0)) })) (record { name = (codes "m"); place = (at 3 40); content = (MemoryBounds (record { place = (at 3 42); high = (Number (at 3 43) Plain (bits_of 32 0)); low = (Number (at 3 45) Plain (bits_of 32 3)) })) } ∷ [])) ∷
-        (RegItem (at 3 49) false (Some (record { place = (at 3 53); high = (Number (at 3 54) Plain (bits_of 32 1)); low = (Number (at 3 56) Plain (bits_of 32 0)) })) (record { name = (codes "e"); place = (at 3 59); content = NoContent } ∷ [])) ∷
-        (InstanceItem (at 4 1) (codes "sub") ([]) (record { name = (codes "i"); place = (at 4 5); connections = (record { name = (Some (codes "z")); place = (at 4 8); actual = (Some (Selected (at 4 10) (codes "e") (IndexAt (Number (at 4 12) Plain (bits_of 32 1))))) } ∷ []) } ∷ [])) ∷
+        (RegItem (at 3 30) false (Some (record { place = (at 3 34); high = (Number (at 3 35) Plain (bits_of 32 7)); low = (Number (at 3 37) Plain (bits_of 32 0)) }))
+        (record {
+          name = (codes "m");
+          place = (at 3 40);
+          content = (MemoryBounds (record {
+            place = (at 3 42);
+            high = (Number (at 3 43) Plain (bits_of 32 0));
+            low = (Number (at 3 45) Plain (bits_of 32 3));
+          }));
+        } ∷ [])) ∷
+        (RegItem (at 3 49) false (Some (record { place = (at 3 53); high = (Number (at 3 54) Plain (bits_of 32 1)); low = (Number (at 3 56) Plain (bits_of 32 0)) }))
+        (record { name = (codes "e"); place = (at 3 59); content = NoContent } ∷ [])) ∷
+        (InstanceItem (at 4 1) (codes "sub") ([]) (record {
+          name = (codes "i");
+          place = (at 4 5);
+          connections = (record { name = (Some (codes "z")); place = (at 4 8); actual = (Some (Selected (at 4 10) (codes "e") (IndexAt (Number (at 4 12) Plain (bits_of 32 1))))) } ∷ []);
+        } ∷ [])) ∷
         []);
   } ∷ []);
 }
@@ -287,10 +655,45 @@ source87 = record {
     name = (codes "sub");
     place = (at 1 8);
     parameters = ([]);
-    heads = (DeclaredHeads (record { place = (at 1 12); direction = Input; is_reg = false; signed = false; range = None; names = (record { name = (codes "a"); place = (at 1 18) } ∷ []) } ∷ record { place = (at 1 21); direction = Input; is_reg = false; signed = false; range = (Some (record { place = (at 1 27); high = (Number (at 1 28) Plain (bits_of 32 3)); low = (Number (at 1 30) Plain (bits_of 32 0)) })); names = (record { name = (codes "v"); place = (at 1 33) } ∷ []) } ∷ record { place = (at 1 36); direction = Output; is_reg = false; signed = false; range = None; names = (record { name = (codes "y"); place = (at 1 43) } ∷ []) } ∷ record { place = (at 1 46); direction = Output; is_reg = true; signed = false; range = (Some (record { place = (at 1 57); high = (Number (at 1 58) Plain (bits_of 32 1)); low = (Number (at 1 60) Plain (bits_of 32 0)) })); names = (record { name = (codes "z"); place = (at 1 63) } ∷ []) } ∷ []));
+    heads = (DeclaredHeads (record { place = (at 1 12); direction = Input; is_reg = false; signed = false; range = None; names = (record { name = (codes "a"); place = (at 1 18) } ∷ []) } ∷
+        record {
+          place = (at 1 21);
+          direction = Input;
+          is_reg = false;
+          signed = false;
+          range =
+              (Some (record { place = (at 1 27); high = (Number (at 1 28) Plain (bits_of 32 3)); low = (Number (at 1 30) Plain (bits_of 32 0)) }));
+          names = (record { name = (codes "v"); place = (at 1 33) } ∷ []);
+        } ∷ record {
+          place = (at 1 36);
+          direction = Output;
+          is_reg = false;
+          signed = false;
+          range = None;
+          names = (record { name = (codes "y"); place = (at 1 43) } ∷ []);
+        } ∷ record {
+          place = (at 1 46);
+          direction = Output;
+          is_reg = true;
+          signed = false;
+          range = (Some (record { place = (at 1 57); high = (Number (at 1 58) Plain (bits_of 32 1)); low = (Number (at 1 60) Plain (bits_of 32 0)) }));
+          names = (record { name = (codes "z"); place = (at 1 63) } ∷ []);
+        } ∷ []));
     items =
-        ((ParameterItem (record { place = (at 1 67); is_local = false; signed = false; range = None; parameters = (record { name = (codes "W"); place = (at 1 77); value = (Number (at 1 81) Plain (bits_of 32 2)) } ∷ []) })) ∷
-        (ParameterItem (record { place = (at 1 84); is_local = true; signed = false; range = None; parameters = (record { name = (codes "L"); place = (at 1 95); value = (Number (at 1 99) Plain (bits_of 32 3)) } ∷ []) })) ∷
+        ((ParameterItem (record {
+          place = (at 1 67);
+          is_local = false;
+          signed = false;
+          range = None;
+          parameters = (record { name = (codes "W"); place = (at 1 77); value = (Number (at 1 81) Plain (bits_of 32 2)) } ∷ []);
+        })) ∷
+        (ParameterItem (record {
+          place = (at 1 84);
+          is_local = true;
+          signed = false;
+          range = None;
+          parameters = (record { name = (codes "L"); place = (at 1 95); value = (Number (at 1 99) Plain (bits_of 32 3)) } ∷ []);
+        })) ∷
         []);
   } ∷ record {
     name = (codes "top");
@@ -299,11 +702,26 @@ source87 = record {
     heads = (PlainHeads ([]));
     items =
         ((WireItem (at 3 1) false None (record { name = (codes "p"); place = (at 3 6); value = None } ∷ [])) ∷
-        (WireItem (at 3 9) false (Some (record { place = (at 3 14); high = (Number (at 3 15) Plain (bits_of 32 3)); low = (Number (at 3 17) Plain (bits_of 32 0)) })) (record { name = (codes "n"); place = (at 3 20); value = None } ∷ [])) ∷
+        (WireItem (at 3 9) false (Some (record { place = (at 3 14); high = (Number (at 3 15) Plain (bits_of 32 3)); low = (Number (at 3 17) Plain (bits_of 32 0)) }))
+        (record { name = (codes "n"); place = (at 3 20); value = None } ∷ [])) ∷
         (RegItem (at 3 23) false None (record { name = (codes "r"); place = (at 3 27); content = NoContent } ∷ [])) ∷
-        (RegItem (at 3 30) false (Some (record { place = (at 3 34); high = (Number (at 3 35) Plain (bits_of 32 7)); low = (Number (at 3 37) Plain (bits_of 32 0)) })) (record { name = (codes "m"); place = (at 3 40); content = (MemoryBounds (record { place = (at 3 42); high = (Number (at 3 43) Plain (bits_of 32 0)); low = (Number (at 3 45) Plain (bits_of 32 3)) })) } ∷ [])) ∷
-        (RegItem (at 3 49) false (Some (record { place = (at 3 53); high = (Number (at 3 54) Plain (bits_of 32 1)); low = (Number (at 3 56) Plain (bits_of 32 0)) })) (record { name = (codes "e"); place = (at 3 59); content = NoContent } ∷ [])) ∷
-        (InstanceItem (at 4 1) (codes "sub") ([]) (record { name = (codes "i"); place = (at 4 5); connections = (record { name = (Some (codes "a")); place = (at 4 8); actual = (Some (Selected (at 4 10) (codes "m") NoIndex)) } ∷ []) } ∷ [])) ∷
+        (RegItem (at 3 30) false (Some (record { place = (at 3 34); high = (Number (at 3 35) Plain (bits_of 32 7)); low = (Number (at 3 37) Plain (bits_of 32 0)) }))
+        (record {
+          name = (codes "m");
+          place = (at 3 40);
+          content = (MemoryBounds (record {
+            place = (at 3 42);
+            high = (Number (at 3 43) Plain (bits_of 32 0));
+            low = (Number (at 3 45) Plain (bits_of 32 3));
+          }));
+        } ∷ [])) ∷
+        (RegItem (at 3 49) false (Some (record { place = (at 3 53); high = (Number (at 3 54) Plain (bits_of 32 1)); low = (Number (at 3 56) Plain (bits_of 32 0)) }))
+        (record { name = (codes "e"); place = (at 3 59); content = NoContent } ∷ [])) ∷
+        (InstanceItem (at 4 1) (codes "sub") ([]) (record {
+          name = (codes "i");
+          place = (at 4 5);
+          connections = (record { name = (Some (codes "a")); place = (at 4 8); actual = (Some (Selected (at 4 10) (codes "m") NoIndex)) } ∷ []);
+        } ∷ [])) ∷
         []);
   } ∷ []);
 }
@@ -325,10 +743,45 @@ source88 = record {
     name = (codes "sub");
     place = (at 1 8);
     parameters = ([]);
-    heads = (DeclaredHeads (record { place = (at 1 12); direction = Input; is_reg = false; signed = false; range = None; names = (record { name = (codes "a"); place = (at 1 18) } ∷ []) } ∷ record { place = (at 1 21); direction = Input; is_reg = false; signed = false; range = (Some (record { place = (at 1 27); high = (Number (at 1 28) Plain (bits_of 32 3)); low = (Number (at 1 30) Plain (bits_of 32 0)) })); names = (record { name = (codes "v"); place = (at 1 33) } ∷ []) } ∷ record { place = (at 1 36); direction = Output; is_reg = false; signed = false; range = None; names = (record { name = (codes "y"); place = (at 1 43) } ∷ []) } ∷ record { place = (at 1 46); direction = Output; is_reg = true; signed = false; range = (Some (record { place = (at 1 57); high = (Number (at 1 58) Plain (bits_of 32 1)); low = (Number (at 1 60) Plain (bits_of 32 0)) })); names = (record { name = (codes "z"); place = (at 1 63) } ∷ []) } ∷ []));
+    heads = (DeclaredHeads (record { place = (at 1 12); direction = Input; is_reg = false; signed = false; range = None; names = (record { name = (codes "a"); place = (at 1 18) } ∷ []) } ∷
+        record {
+          place = (at 1 21);
+          direction = Input;
+          is_reg = false;
+          signed = false;
+          range =
+              (Some (record { place = (at 1 27); high = (Number (at 1 28) Plain (bits_of 32 3)); low = (Number (at 1 30) Plain (bits_of 32 0)) }));
+          names = (record { name = (codes "v"); place = (at 1 33) } ∷ []);
+        } ∷ record {
+          place = (at 1 36);
+          direction = Output;
+          is_reg = false;
+          signed = false;
+          range = None;
+          names = (record { name = (codes "y"); place = (at 1 43) } ∷ []);
+        } ∷ record {
+          place = (at 1 46);
+          direction = Output;
+          is_reg = true;
+          signed = false;
+          range = (Some (record { place = (at 1 57); high = (Number (at 1 58) Plain (bits_of 32 1)); low = (Number (at 1 60) Plain (bits_of 32 0)) }));
+          names = (record { name = (codes "z"); place = (at 1 63) } ∷ []);
+        } ∷ []));
     items =
-        ((ParameterItem (record { place = (at 1 67); is_local = false; signed = false; range = None; parameters = (record { name = (codes "W"); place = (at 1 77); value = (Number (at 1 81) Plain (bits_of 32 2)) } ∷ []) })) ∷
-        (ParameterItem (record { place = (at 1 84); is_local = true; signed = false; range = None; parameters = (record { name = (codes "L"); place = (at 1 95); value = (Number (at 1 99) Plain (bits_of 32 3)) } ∷ []) })) ∷
+        ((ParameterItem (record {
+          place = (at 1 67);
+          is_local = false;
+          signed = false;
+          range = None;
+          parameters = (record { name = (codes "W"); place = (at 1 77); value = (Number (at 1 81) Plain (bits_of 32 2)) } ∷ []);
+        })) ∷
+        (ParameterItem (record {
+          place = (at 1 84);
+          is_local = true;
+          signed = false;
+          range = None;
+          parameters = (record { name = (codes "L"); place = (at 1 95); value = (Number (at 1 99) Plain (bits_of 32 3)) } ∷ []);
+        })) ∷
         []);
   } ∷ record {
     name = (codes "top");
@@ -337,17 +790,43 @@ source88 = record {
     heads = (PlainHeads ([]));
     items =
         ((WireItem (at 3 1) false None (record { name = (codes "p"); place = (at 3 6); value = None } ∷ [])) ∷
-        (WireItem (at 3 9) false (Some (record { place = (at 3 14); high = (Number (at 3 15) Plain (bits_of 32 3)); low = (Number (at 3 17) Plain (bits_of 32 0)) })) (record { name = (codes "n"); place = (at 3 20); value = None } ∷ [])) ∷
+        (WireItem (at 3 9) false (Some (record { place = (at 3 14); high = (Number (at 3 15) Plain (bits_of 32 3)); low = (Number (at 3 17) Plain (bits_of 32 0)) }))
+        (record { name = (codes "n"); place = (at 3 20); value = None } ∷ [])) ∷
         (RegItem (at 3 23) false None (record { name = (codes "r"); place = (at 3 27); content = NoContent } ∷ [])) ∷
-        (RegItem (at 3 30) false (Some (record { place = (at 3 34); high = (Number (at 3 35) Plain (bits_of 32 7)); low = (Number (at 3 37) Plain (bits_of 32 0)) })) (record { name = (codes "m"); place = (at 3 40); content = (MemoryBounds (record { place = (at 3 42); high = (Number (at 3 43) Plain (bits_of 32 0)); low = (Number (at 3 45) Plain (bits_of 32 3)) })) } ∷ [])) ∷
-        (RegItem (at 3 49) false (Some (record { place = (at 3 53); high = (Number (at 3 54) Plain (bits_of 32 1)); low = (Number (at 3 56) Plain (bits_of 32 0)) })) (record { name = (codes "e"); place = (at 3 59); content = NoContent } ∷ [])) ∷
-        (InstanceItem (at 4 1) (codes "sub") ([]) (record { name = (codes "i"); place = (at 4 5); connections = (record { name = (Some (codes "a")); place = (at 4 8); actual = (Some (Selected (at 4 10) (codes "m") (IndexAt (Number (at 4 12) Plain (bits_of 32 1))))) } ∷ []) } ∷ [])) ∷
+        (RegItem (at 3 30) false (Some (record { place = (at 3 34); high = (Number (at 3 35) Plain (bits_of 32 7)); low = (Number (at 3 37) Plain (bits_of 32 0)) }))
+        (record {
+          name = (codes "m");
+          place = (at 3 40);
+          content = (MemoryBounds (record {
+            place = (at 3 42);
+            high = (Number (at 3 43) Plain (bits_of 32 0));
+            low = (Number (at 3 45) Plain (bits_of 32 3));
+          }));
+        } ∷ [])) ∷
+        (RegItem (at 3 49) false (Some (record { place = (at 3 53); high = (Number (at 3 54) Plain (bits_of 32 1)); low = (Number (at 3 56) Plain (bits_of 32 0)) }))
+        (record { name = (codes "e"); place = (at 3 59); content = NoContent } ∷ [])) ∷
+        (InstanceItem (at 4 1) (codes "sub") ([]) (record {
+          name = (codes "i");
+          place = (at 4 5);
+          connections = (record { name = (Some (codes "a")); place = (at 4 8); actual = (Some (Selected (at 4 10) (codes "m") (IndexAt (Number (at 4 12) Plain (bits_of 32 1))))) } ∷ []);
+        } ∷ [])) ∷
         []);
   } ∷ []);
 }
 
 abbrev pub Found88 : Type 0
-Found88 = summary_of (flat source88 (codes "top") Usual) ≡ Ok (record { objects = (record { name = (codes "p"); kind = Net; width = 1; indexes = ([]); place = (at 3 6) } ∷ record { name = (codes "n"); kind = Net; width = 4; indexes = (3 ∷ 0 ∷ []); place = (at 3 20) } ∷ record { name = (codes "r"); kind = Var; width = 1; indexes = ([]); place = (at 3 27) } ∷ record { name = (codes "m"); kind = Word; width = 8; indexes = (0 ∷ []); place = (at 3 40) } ∷ record { name = (codes "m"); kind = Word; width = 8; indexes = (1 ∷ []); place = (at 3 40) } ∷ record { name = (codes "m"); kind = Word; width = 8; indexes = (2 ∷ []); place = (at 3 40) } ∷ record { name = (codes "m"); kind = Word; width = 8; indexes = (3 ∷ []); place = (at 3 40) } ∷ record { name = (codes "e"); kind = Var; width = 2; indexes = (1 ∷ 0 ∷ []); place = (at 3 59) } ∷ record { name = (codes "i.a"); kind = Net; width = 1; indexes = ([]); place = (at 1 18) } ∷ record { name = (codes "i.v"); kind = Net; width = 4; indexes = (3 ∷ 0 ∷ []); place = (at 1 33) } ∷ record { name = (codes "i.y"); kind = Net; width = 1; indexes = ([]); place = (at 1 43) } ∷ record { name = (codes "i.z"); kind = Var; width = 2; indexes = (1 ∷ 0 ∷ []); place = (at 1 63) } ∷ []); nodes = (record { kind = 0; name = []; inputs = (3 ∷ 4 ∷ 5 ∷ 6 ∷ []); outputs = (8 ∷ []) } ∷ []); processes = ([]); joined = ([]) })
+Found88 = summary_of (flat source88 (codes "top") Usual) ≡ Ok (record {
+  objects = (record { name = (codes "p"); kind = Net; width = 1; indexes = ([]); place = (at 3 6) } ∷
+      record { name = (codes "n"); kind = Net; width = 4; indexes = (3 ∷ 0 ∷ []); place = (at 3 20) } ∷ record { name = (codes "r"); kind = Var; width = 1; indexes = ([]); place = (at 3 27) } ∷
+      record { name = (codes "m"); kind = Word; width = 8; indexes = (0 ∷ []); place = (at 3 40) } ∷ record { name = (codes "m"); kind = Word; width = 8; indexes = (1 ∷ []); place = (at 3 40) } ∷
+      record { name = (codes "m"); kind = Word; width = 8; indexes = (2 ∷ []); place = (at 3 40) } ∷ record { name = (codes "m"); kind = Word; width = 8; indexes = (3 ∷ []); place = (at 3 40) } ∷
+      record { name = (codes "e"); kind = Var; width = 2; indexes = (1 ∷ 0 ∷ []); place = (at 3 59) } ∷ record { name = (codes "i.a"); kind = Net; width = 1; indexes = ([]); place = (at 1 18) } ∷
+      record { name = (codes "i.v"); kind = Net; width = 4; indexes = (3 ∷ 0 ∷ []); place = (at 1 33) } ∷ record { name = (codes "i.y"); kind = Net; width = 1; indexes = ([]); place = (at 1 43) } ∷
+      record { name = (codes "i.z"); kind = Var; width = 2; indexes = (1 ∷ 0 ∷ []); place = (at 1 63) } ∷ []);
+  nodes = (record { kind = 0; name = []; inputs = (3 ∷ 4 ∷ 5 ∷ 6 ∷ []); outputs = (8 ∷ []) } ∷ []);
+  processes = ([]);
+  joined = ([]);
+})
 
 found88 : Found88
 found88 = refl
@@ -363,10 +842,45 @@ source89 = record {
     name = (codes "sub");
     place = (at 1 8);
     parameters = ([]);
-    heads = (DeclaredHeads (record { place = (at 1 12); direction = Input; is_reg = false; signed = false; range = None; names = (record { name = (codes "a"); place = (at 1 18) } ∷ []) } ∷ record { place = (at 1 21); direction = Input; is_reg = false; signed = false; range = (Some (record { place = (at 1 27); high = (Number (at 1 28) Plain (bits_of 32 3)); low = (Number (at 1 30) Plain (bits_of 32 0)) })); names = (record { name = (codes "v"); place = (at 1 33) } ∷ []) } ∷ record { place = (at 1 36); direction = Output; is_reg = false; signed = false; range = None; names = (record { name = (codes "y"); place = (at 1 43) } ∷ []) } ∷ record { place = (at 1 46); direction = Output; is_reg = true; signed = false; range = (Some (record { place = (at 1 57); high = (Number (at 1 58) Plain (bits_of 32 1)); low = (Number (at 1 60) Plain (bits_of 32 0)) })); names = (record { name = (codes "z"); place = (at 1 63) } ∷ []) } ∷ []));
+    heads = (DeclaredHeads (record { place = (at 1 12); direction = Input; is_reg = false; signed = false; range = None; names = (record { name = (codes "a"); place = (at 1 18) } ∷ []) } ∷
+        record {
+          place = (at 1 21);
+          direction = Input;
+          is_reg = false;
+          signed = false;
+          range =
+              (Some (record { place = (at 1 27); high = (Number (at 1 28) Plain (bits_of 32 3)); low = (Number (at 1 30) Plain (bits_of 32 0)) }));
+          names = (record { name = (codes "v"); place = (at 1 33) } ∷ []);
+        } ∷ record {
+          place = (at 1 36);
+          direction = Output;
+          is_reg = false;
+          signed = false;
+          range = None;
+          names = (record { name = (codes "y"); place = (at 1 43) } ∷ []);
+        } ∷ record {
+          place = (at 1 46);
+          direction = Output;
+          is_reg = true;
+          signed = false;
+          range = (Some (record { place = (at 1 57); high = (Number (at 1 58) Plain (bits_of 32 1)); low = (Number (at 1 60) Plain (bits_of 32 0)) }));
+          names = (record { name = (codes "z"); place = (at 1 63) } ∷ []);
+        } ∷ []));
     items =
-        ((ParameterItem (record { place = (at 1 67); is_local = false; signed = false; range = None; parameters = (record { name = (codes "W"); place = (at 1 77); value = (Number (at 1 81) Plain (bits_of 32 2)) } ∷ []) })) ∷
-        (ParameterItem (record { place = (at 1 84); is_local = true; signed = false; range = None; parameters = (record { name = (codes "L"); place = (at 1 95); value = (Number (at 1 99) Plain (bits_of 32 3)) } ∷ []) })) ∷
+        ((ParameterItem (record {
+          place = (at 1 67);
+          is_local = false;
+          signed = false;
+          range = None;
+          parameters = (record { name = (codes "W"); place = (at 1 77); value = (Number (at 1 81) Plain (bits_of 32 2)) } ∷ []);
+        })) ∷
+        (ParameterItem (record {
+          place = (at 1 84);
+          is_local = true;
+          signed = false;
+          range = None;
+          parameters = (record { name = (codes "L"); place = (at 1 95); value = (Number (at 1 99) Plain (bits_of 32 3)) } ∷ []);
+        })) ∷
         []);
   } ∷ record {
     name = (codes "top");
@@ -375,11 +889,26 @@ source89 = record {
     heads = (PlainHeads ([]));
     items =
         ((WireItem (at 3 1) false None (record { name = (codes "p"); place = (at 3 6); value = None } ∷ [])) ∷
-        (WireItem (at 3 9) false (Some (record { place = (at 3 14); high = (Number (at 3 15) Plain (bits_of 32 3)); low = (Number (at 3 17) Plain (bits_of 32 0)) })) (record { name = (codes "n"); place = (at 3 20); value = None } ∷ [])) ∷
+        (WireItem (at 3 9) false (Some (record { place = (at 3 14); high = (Number (at 3 15) Plain (bits_of 32 3)); low = (Number (at 3 17) Plain (bits_of 32 0)) }))
+        (record { name = (codes "n"); place = (at 3 20); value = None } ∷ [])) ∷
         (RegItem (at 3 23) false None (record { name = (codes "r"); place = (at 3 27); content = NoContent } ∷ [])) ∷
-        (RegItem (at 3 30) false (Some (record { place = (at 3 34); high = (Number (at 3 35) Plain (bits_of 32 7)); low = (Number (at 3 37) Plain (bits_of 32 0)) })) (record { name = (codes "m"); place = (at 3 40); content = (MemoryBounds (record { place = (at 3 42); high = (Number (at 3 43) Plain (bits_of 32 0)); low = (Number (at 3 45) Plain (bits_of 32 3)) })) } ∷ [])) ∷
-        (RegItem (at 3 49) false (Some (record { place = (at 3 53); high = (Number (at 3 54) Plain (bits_of 32 1)); low = (Number (at 3 56) Plain (bits_of 32 0)) })) (record { name = (codes "e"); place = (at 3 59); content = NoContent } ∷ [])) ∷
-        (InstanceItem (at 4 1) (codes "sub") ([]) (record { name = (codes "i"); place = (at 4 5); connections = (record { name = (Some (codes "z")); place = (at 4 8); actual = (Some (Selected (at 4 10) (codes "n") (IndexAt (Selected (at 4 12) (codes "r") NoIndex)))) } ∷ []) } ∷ [])) ∷
+        (RegItem (at 3 30) false (Some (record { place = (at 3 34); high = (Number (at 3 35) Plain (bits_of 32 7)); low = (Number (at 3 37) Plain (bits_of 32 0)) }))
+        (record {
+          name = (codes "m");
+          place = (at 3 40);
+          content = (MemoryBounds (record {
+            place = (at 3 42);
+            high = (Number (at 3 43) Plain (bits_of 32 0));
+            low = (Number (at 3 45) Plain (bits_of 32 3));
+          }));
+        } ∷ [])) ∷
+        (RegItem (at 3 49) false (Some (record { place = (at 3 53); high = (Number (at 3 54) Plain (bits_of 32 1)); low = (Number (at 3 56) Plain (bits_of 32 0)) }))
+        (record { name = (codes "e"); place = (at 3 59); content = NoContent } ∷ [])) ∷
+        (InstanceItem (at 4 1) (codes "sub") ([]) (record {
+          name = (codes "i");
+          place = (at 4 5);
+          connections = (record { name = (Some (codes "z")); place = (at 4 8); actual = (Some (Selected (at 4 10) (codes "n") (IndexAt (Selected (at 4 12) (codes "r") NoIndex)))) } ∷ []);
+        } ∷ [])) ∷
         []);
   } ∷ []);
 }

@@ -19,9 +19,13 @@ source = record {
     parameters = ([]);
     heads = (PlainHeads ([]));
     items =
-        ((WireItem (at 2 1) false (Some (record { place = (at 2 6); high = (Number (at 2 7) Plain (bits_of 32 1)); low = (Number (at 2 9) Plain (bits_of 32 0)) })) (record { name = (codes "w"); place = (at 2 12); value = None } ∷ [])) ∷
+        ((WireItem (at 2 1) false (Some (record { place = (at 2 6); high = (Number (at 2 7) Plain (bits_of 32 1)); low = (Number (at 2 9) Plain (bits_of 32 0)) }))
+        (record { name = (codes "w"); place = (at 2 12); value = None } ∷ [])) ∷
         (WireItem (at 2 15) false None (record { name = (codes "a"); place = (at 2 20); value = None } ∷ [])) ∷
-        (AssignItem (at 3 1) (record { target = (OneSelect (record { place = (at 3 8); name = (codes "w"); index = (IndexAt (Number (at 3 10) Plain (bits_of 32 0))) })); value = (Selected (at 3 15) (codes "a") NoIndex) } ∷ [])) ∷
+        (AssignItem (at 3 1) (record {
+          target = (OneSelect (record { place = (at 3 8); name = (codes "w"); index = (IndexAt (Number (at 3 10) Plain (bits_of 32 0))) }));
+          value = (Selected (at 3 15) (codes "a") NoIndex);
+        } ∷ [])) ∷
         (AssignItem (at 3 18) (record { target = (OneSelect (record { place = (at 3 25); name = (codes "w"); index = NoIndex })); value = (Number (at 3 29) Sized (bits_of 2 1)) } ∷ [])) ∷
         []);
   } ∷ []);

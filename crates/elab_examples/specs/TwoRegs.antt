@@ -32,7 +32,11 @@ source = record {
     heads = (PlainHeads ([]));
     items =
         ((RegItem (at 5 1) false None (record { name = (codes "y"); place = (at 5 5); content = NoContent } ∷ [])) ∷
-        (InstanceItem (at 6 1) (codes "s") ([]) (record { name = (codes "i"); place = (at 6 3); connections = (record { name = (Some (codes "y")); place = (at 6 6); actual = (Some (Selected (at 6 8) (codes "y") NoIndex)) } ∷ []) } ∷ [])) ∷
+        (InstanceItem (at 6 1) (codes "s") ([]) (record {
+          name = (codes "i");
+          place = (at 6 3);
+          connections = (record { name = (Some (codes "y")); place = (at 6 6); actual = (Some (Selected (at 6 8) (codes "y") NoIndex)) } ∷ []);
+        } ∷ [])) ∷
         []);
   } ∷ []);
 }

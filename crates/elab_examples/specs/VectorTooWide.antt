@@ -16,7 +16,8 @@ source = record {
     parameters = ([]);
     heads = (PlainHeads ([]));
     items =
-        ((RegItem (at 1 13) false (Some (record { place = (at 1 17); high = (Number (at 1 18) Plain (bits_of 32 128)); low = (Number (at 1 22) Plain (bits_of 32 0)) })) (record { name = (codes "w"); place = (at 1 25); content = NoContent } ∷ [])) ∷
+        ((RegItem (at 1 13) false (Some (record { place = (at 1 17); high = (Number (at 1 18) Plain (bits_of 32 128)); low = (Number (at 1 22) Plain (bits_of 32 0)) }))
+        (record { name = (codes "w"); place = (at 1 25); content = NoContent } ∷ [])) ∷
         []);
   } ∷ []);
 }

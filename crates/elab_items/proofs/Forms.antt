@@ -5,7 +5,8 @@ use Rattle.v_tree.specs.Trees.{Identifier, NamedPlace, SourceStatement, has_name
 use Rattle.v_comb.specs.CombinationalForm.{Star, NamesWaited, form_if, block_form, each_once, assigned_names, names_read, all_assigned, assigned_after}
 use Rattle.elab_items.specs.Forms.{waiting_form}
 
-form-by : (assigned : Bool) (targets reads names : List Identifier) → form_if (assigned && list_all (has_name names) reads) targets reads ≡ waiting_form names (form_if (assigned && true) targets reads)
+form-by : (assigned : Bool) (targets reads names : List Identifier) → form_if (assigned && list_all (has_name names) reads) targets reads ≡ waiting_form names
+    (form_if (assigned && true) targets reads)
 form-by true targets reads names = refl
 form-by false targets reads names = refl
 

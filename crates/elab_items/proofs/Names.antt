@@ -45,7 +45,8 @@ if-joined None false j rest = refl
 if-joined (Some x) b j rest = refl
 
 -- one port more is looked at
-pub joined-turn : (o : Option Joining) (x : PortJoined) (xs : List PortJoined) (name : Identifier) → option_or (option_or o (joining_of (x ∷ []) name)) (joining_of xs name) ≡ option_or o (joining_of (x ∷ xs) name)
+pub joined-turn : (o : Option Joining) (x : PortJoined) (xs : List PortJoined) (name : Identifier) →
+    option_or (option_or o (joining_of (x ∷ []) name)) (joining_of xs name) ≡ option_or o (joining_of (x ∷ xs) name)
 joined-turn o x xs name = if-joined o (same_name x.port name) x.joining (joining_of xs name)
 
 -- where a port of the name is kept, a later one changes nothing
@@ -61,7 +62,8 @@ joined-there f x j e name = step (same_name x.port name) refl
     step false s = sym (or-none (f name))
 
 -- where none is kept, it is kept
-pub joined-new : (f g : Identifier → Option Joining) (x : PortJoined) → f x.port ≡ None → ((name : Identifier) → g name ≡ cond (same_name x.port name) (Some x.joining) (f name)) → (name : Identifier) → g name ≡ option_or (f name) (joining_of (x ∷ []) name)
+pub joined-new : (f g : Identifier → Option Joining) (x : PortJoined) → f x.port ≡ None → ((name : Identifier) → g name ≡ cond (same_name x.port name) (Some x.joining) (f name)) →
+    (name : Identifier) → g name ≡ option_or (f name) (joining_of (x ∷ []) name)
 joined-new f g x e h name = h name ∙ step (same_name x.port name) refl
   where
     step : (b : Bool) → same_name x.port name ≡ b → cond b (Some x.joining) (f name) ≡ option_or (f name) (joining_if b x.joining None)

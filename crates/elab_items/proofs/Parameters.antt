@@ -17,7 +17,8 @@ none-found f name (d ∷ ds) h = rw (turned-apart name d.name h.0) (none-found f
 finds-step : (f : Declaration → ScopeEntry) (d : Declaration) (ds : List Declaration) → NoneNamed d.name ds → FindsParameters (named_by f ds) → FindsParameters (named_by f (d ∷ ds))
 finds-step f d ds apart rest name = step (is_parameter (Some (f d))) refl (same_name d.name name) refl
   where
-    step : (b : Bool) → is_parameter (Some (f d)) ≡ b → (s : Bool) → same_name d.name name ≡ s → has_name (parameter_names (named_by f (d ∷ ds))) name ≡ is_parameter (looked_up (named_by f (d ∷ ds)) name)
+    step : (b : Bool) → is_parameter (Some (f d)) ≡ b → (s : Bool) → same_name d.name name ≡ s →
+        has_name (parameter_names (named_by f (d ∷ ds))) name ≡ is_parameter (looked_up (named_by f (d ∷ ds)) name)
     step true e true s = simp (s, e)
     step true e false s = simp (s, e) (rest name)
     step false e false s = simp (s, e) (rest name)

@@ -9,7 +9,8 @@ use Rattle.v_elab.specs.Walk.{Here, gate_name, terminals_of}
 
 -- a gate of a number among its module's gates
 abbrev pub gate_part : Here → GateKind → ℕ → SourceGate → Part
-gate_part here kind number gate = GatePart (here.instance.path ++ gate_name number gate.name) kind (drives_of here.instance.path here.scope gate.output) here.instance.path (terminals_of here.scope gate.inputs)
+gate_part here kind number gate = GatePart (here.instance.path ++ gate_name number gate.name) kind (drives_of here.instance.path here.scope gate.output) here.instance.path
+    (terminals_of here.scope gate.inputs)
 
 -- sized expressions in a list
 abbrev pub listed_sized : List SizedExpression → SizedExpressions

@@ -46,7 +46,8 @@ pub here-at : {A : Type 0} (xs : List A) (i : ℕ) (d : A) → i < length xs →
 here-at xs i d low = drop-cons xs i d low ∙ ap (λ k. get_or xs i d ∷ drop k xs) (let e : suc i ≡ i + 1 = omega arith in e)
 
 -- one output more is put in
-pub put-turn : (own new : List ℕ) (x : ℕ) (left next : List ℕ) (all : ℕ → Bool) → new ≡ with_object own x → left ≡ x ∷ next → ((n : ℕ) → (has own n || has left n) ≡ all n) → (n : ℕ) → (has new n || has next n) ≡ all n
+pub put-turn : (own new : List ℕ) (x : ℕ) (left next : List ℕ) (all : ℕ → Bool) → new ≡ with_object own x → left ≡ x ∷ next → ((n : ℕ) → (has own n || has left n) ≡ all n) → (n : ℕ) →
+    (has new n || has next n) ≡ all n
 put-turn own new x left next all is split before n =
     ap (λ l. has l n || has next n) is ∙ (ap (λ b. b || has next n) (has-with own x n) ∙ (or-assoc (has own n) (nat_eq x n) (has next n) ∙ (ap (λ l. has own n || has l n) (sym split) ∙ before n)))
 
@@ -67,17 +68,20 @@ none-at [] k past = refl
 none-at (list ∷ lists) zero past = absurd (omega (arith, past))
 none-at (list ∷ lists) (suc k) past = none-at lists k (omega (arith, past))
 
-nth : (objects : List HeldObject) (count k : ℕ) (all : List (List plain.NodeOutput)) → all ≡ map (plain.outputs_of objects) (up_from 0 count) → k < count → slice_get all k ≡ Some (plain.outputs_of objects k)
+nth : (objects : List HeldObject) (count k : ℕ) (all : List (List plain.NodeOutput)) → all ≡ map (plain.outputs_of objects) (up_from 0 count) → k < count →
+    slice_get all k ≡ Some (plain.outputs_of objects k)
 nth objects count k all is low =
     ap (λ l. slice_get l k) is ∙ (nth-up (plain.outputs_of objects) 0 count k low ∙ ap (λ n. Some (plain.outputs_of objects n)) (let e : 0 + k ≡ k = omega arith in e))
 
 pub outputs-are : (lists : List (Vec NodeOutput Global)) (k : ℕ) (own : Vec NodeOutput Global) (objects : List HeldObject) (count : ℕ) → k < length lists → own ≡ get_or lists k own →
     output_lists lists ≡ map (plain.outputs_of objects) (up_from 0 count) → k < count → outputs_seen own ≡ plain.outputs_of objects k
 outputs-are lists k own objects count there at all low =
-    let same : Some (outputs_seen own) ≡ Some (plain.outputs_of objects k) = ap (λ l. Some (outputs_seen l)) at ∙ (sym (seen-at lists k own there) ∙ nth objects count k (output_lists lists) all low) in
+    let same : Some (outputs_seen own) ≡ Some (plain.outputs_of objects k) = ap (λ l. Some (outputs_seen l)) at
+    ∙ (sym (seen-at lists k own there) ∙ nth objects count k (output_lists lists) all low) in
     cc
 
-pub outputs-there : (lists : List (Vec NodeOutput Global)) (k : ℕ) (objects : List HeldObject) (count : ℕ) → length lists ≤ k → output_lists lists ≡ map (plain.outputs_of objects) (up_from 0 count) → k < count → ⊥
+pub outputs-there : (lists : List (Vec NodeOutput Global)) (k : ℕ) (objects : List HeldObject) (count : ℕ) → length lists ≤ k →
+    output_lists lists ≡ map (plain.outputs_of objects) (up_from 0 count) → k < count → ⊥
 outputs-there lists k objects count past all low =
     let same : None ≡ Some (plain.outputs_of objects k) = sym (none-at lists k past) ∙ nth objects count k (output_lists lists) all low in
     absurd (cc)

@@ -18,13 +18,20 @@ pub record IsBasis (parts : List Part) (objects : List HeldObject) (basis : Basi
   pub widths_are : basis.widths.now ≡ widths_of objects
 
 -- the names of an instance by its path
-pub names_at : (parts : List Part) (objects : List HeldObject) (basis : Basis) (path : Identifier) (names : InstanceNames) → IsBasis parts objects basis → names.names ≡ basis.names → names.path.now ≡ path →
+pub names_at : (parts : List Part) (objects : List HeldObject) (basis : Basis) (path : Identifier) (names : InstanceNames) → IsBasis parts objects basis → names.names ≡ basis.names →
+    names.path.now ≡ path →
     HoldNames (holders_at parts objects path) names
 names_at parts objects basis path names are same at =
-    record { parts = parts; objects = objects; names_are = subst (λ (n : Bor NameTables). AreNamesOf parts objects n.now) (sym same) are.names_are; holders_are = ap (holders_at parts objects) (sym at) }
+    record {
+      parts = parts;
+      objects = objects;
+      names_are = subst (λ (n : Bor NameTables). AreNamesOf parts objects n.now) (sym same) are.names_are;
+      holders_are = ap (holders_at parts objects) (sym at);
+    }
 
 -- what the names of a process mean
-pub meant : (parts : List Part) (objects : List HeldObject) (basis : Basis) (process : WalkedProcess) (meaning : Meaning) → IsBasis parts objects basis → meaning.scope.now ≡ process.scope → meaning.names.names ≡ basis.names →
+pub meant : (parts : List Part) (objects : List HeldObject) (basis : Basis) (process : WalkedProcess) (meaning : Meaning) → IsBasis parts objects basis → meaning.scope.now ≡ process.scope →
+    meaning.names.names ≡ basis.names →
     meaning.names.path.now ≡ process.path → meaning.widths ≡ basis.widths → IsMeaning (meaning_in parts objects process) meaning
 meant parts objects basis process meaning are scope names at widths =
     record { scope_is = sym scope; names_are = names_at parts objects basis process.path meaning.names are names at; widths_are = sym are.widths_are ∙ ap (λ (w : Bor (List ℕ)). w.now) (sym widths) }

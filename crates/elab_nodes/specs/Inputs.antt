@@ -38,4 +38,5 @@ reads-others (BlockNode statement) outputs = refl
 -- lists that have the same leave out the same
 pub others-alike : (one other objects : List ℕ) → ((n : ℕ) → has one n ≡ has other n) → filter (is_other one) objects ≡ filter (is_other other) objects
 others-alike one other [] same = refl
-others-alike one other (object ∷ objects) same = ap (λ b. cond (not b) (object ∷ filter (is_other one) objects) (filter (is_other one) objects)) (same object) ∙ ap (λ l. cond (not (has other object)) (object ∷ l) l) (others-alike one other objects same)
+others-alike one other (object ∷ objects) same = ap (λ b. cond (not b) (object ∷ filter (is_other one) objects) (filter (is_other one) objects)) (same object)
+    ∙ ap (λ l. cond (not (has other object)) (object ∷ l) l) (others-alike one other objects same)

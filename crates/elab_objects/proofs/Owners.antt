@@ -24,10 +24,12 @@ first-found driving name key variables found same under is =
 
 -- a fact of each part
 pub part-holds : (P : plain.Part → Type 0) (parts : List Part) (i : ℕ) (x : Part) → AllHold P (map part_of parts) → i < length parts → x ≡ get_or parts i x → P (part_of x)
-part-holds P parts i x all low is = AllHold-slice_get P (map part_of parts) i (part_of x) all (slice_get-map part_of parts i ∙ ap (option_map part_of) (slice_get-get_or parts i x low ∙ ap Some (sym is)))
+part-holds P parts i x all low is = AllHold-slice_get P (map part_of parts) i (part_of x) all
+    (slice_get-map part_of parts i ∙ ap (option_map part_of) (slice_get-get_or parts i x low ∙ ap Some (sym is)))
 
 -- one variable more
-pub signals-turn : (signals : List (Bor Signal)) (i : ℕ) (x : Bor Signal) (first : Option (Bor Signal)) (one : Bor Signal) → i < length signals → x ≡ get_or signals i x → option_map signal_borrowed first ≡ first_by_depth (map signal_borrowed (take i signals)) →
+pub signals-turn : (signals : List (Bor Signal)) (i : ℕ) (x : Bor Signal) (first : Option (Bor Signal)) (one : Bor Signal) → i < length signals → x ≡ get_or signals i x →
+    option_map signal_borrowed first ≡ first_by_depth (map signal_borrowed (take i signals)) →
     signal_borrowed one ≡ sooner (signal_borrowed x) (option_map signal_borrowed first) → Some (signal_borrowed one) ≡ first_by_depth (map signal_borrowed (take (i + 1) signals))
 signals-turn signals i x first one low at had is =
     ap Some (is ∙ ap (sooner (signal_borrowed x)) had)

@@ -20,11 +20,14 @@ use Rattle.elab_wires.specs.Clipped.{clipped, bit-place, no-place, EndsBy, piece
 use Rattle.elab_objects.specs.ObjectViews.{run_drive}
 use Rattle.elab_objects.specs.PieceLaws.{drive-at, drive-past, cut-is}
 
-pub placed : (drive : ObjectDrive) (bit place : ℕ) → drive.bits.low ≤ bit → bit < drive.bits.low + drive.bits.width → place ≡ drive.offset + (drive.bits.outside_below + (bit - drive.bits.low)) → Some place ≡ value_place bit (object_drive_of drive)
-placed drive bit place low high is = ap Some is ∙ ap (λ found. option_and_then (λ at. Some (drive.offset + at)) found) (sym (bit-place bit drive.bits.outside_below drive.bits.low drive.bits.width drive.bits.outside_above low high))
+pub placed : (drive : ObjectDrive) (bit place : ℕ) → drive.bits.low ≤ bit → bit < drive.bits.low + drive.bits.width → place ≡ drive.offset + (drive.bits.outside_below + (bit - drive.bits.low)) →
+    Some place ≡ value_place bit (object_drive_of drive)
+placed drive bit place low high is = ap Some is ∙ ap (λ found. option_and_then (λ at. Some (drive.offset + at)) found)
+    (sym (bit-place bit drive.bits.outside_below drive.bits.low drive.bits.width drive.bits.outside_above low high))
 
 pub no_place : (drive : ObjectDrive) (bit : ℕ) → (bit < drive.bits.low) ⊎ (drive.bits.low + drive.bits.width ≤ bit) → None ≡ value_place bit (object_drive_of drive)
-no_place drive bit apart = ap (λ found. option_and_then (λ at. Some (drive.offset + at)) found) (sym (no-place bit drive.bits.outside_below drive.bits.low drive.bits.width drive.bits.outside_above apart))
+no_place drive bit apart = ap (λ found. option_and_then (λ at. Some (drive.offset + at)) found)
+    (sym (no-place bit drive.bits.outside_below drive.bits.low drive.bits.width drive.bits.outside_above apart))
 
 -- The driver of a piece
 
@@ -32,21 +35,24 @@ driver-by : (drives : List ObjectDrive) (bit number : ℕ) (driver : Option ℕ)
     piece_driver bit (option_and_then (drive_numbered (map object_drive_of drives)) driver) ≡ piece_driver bit (drive_numbered (map object_drive_of drives) number)
 driver-by drives bit number driver is = ap (λ d. piece_driver bit (option_and_then (drive_numbered (map object_drive_of drives)) d)) is
 
-pub driver-none : (drives : List ObjectDrive) (bit number : ℕ) (driver : Option ℕ) → driver ≡ Some number → length drives ≤ number → None ≡ piece_driver bit (option_and_then (drive_numbered (map object_drive_of drives)) driver)
+pub driver-none : (drives : List ObjectDrive) (bit number : ℕ) (driver : Option ℕ) → driver ≡ Some number → length drives ≤ number →
+    None ≡ piece_driver bit (option_and_then (drive_numbered (map object_drive_of drives)) driver)
 driver-none drives bit number driver is past = sym (driver-by drives bit number driver is ∙ ap (piece_driver bit) (drive-past drives number past))
 
 -- the node that drives a bit, with the bit's place in its value
 abbrev pub driver_at : ObjectDrive → Option ℕ → Option PieceDriver
 driver_at drive place = option_and_then (λ at. Some (record { node = drive.node; place = at })) place
 
-pub driver-of : (drives : List ObjectDrive) (bit number : ℕ) (driver : Option ℕ) (drive : ObjectDrive) (place : Option ℕ) → driver ≡ Some number → number < length drives → drive ≡ get_or drives number drive →
+pub driver-of : (drives : List ObjectDrive) (bit number : ℕ) (driver : Option ℕ) (drive : ObjectDrive) (place : Option ℕ) → driver ≡ Some number → number < length drives →
+    drive ≡ get_or drives number drive →
     place ≡ value_place bit (object_drive_of drive) → driver_at drive place ≡ piece_driver bit (option_and_then (drive_numbered (map object_drive_of drives)) driver)
 driver-of drives bit number driver drive place is low at found =
     ap (driver_at drive) found ∙ sym (driver-by drives bit number driver is ∙ ap (piece_driver bit) (drive-at drives number drive low at))
 
 -- A net that is cut
 
-pub pieces-given : (width : ℕ) (drives : List ObjectDrive) (cut : Vec Piece Global) (result : Result (Vec Piece Global) PortFault) (left : List DriveOfRun) → second_driver [] (map run_of (map object_drive_of drives)) ≡ None →
+pub pieces-given : (width : ℕ) (drives : List ObjectDrive) (cut : Vec Piece Global) (result : Result (Vec Piece Global) PortFault) (left : List DriveOfRun) →
+    second_driver [] (map run_of (map object_drive_of drives)) ≡ None →
     left ≡ map (clipped width) (map run_drive drives) → result ≡ Ok cut → PiecesGive (cut_pieces width left) result → map piece_of cut.items ≡ pieces_of width (map run_of (map object_drive_of drives))
 pieces-given width drives cut result left none is ok gives =
     let given : PiecesGive (cut_pieces width left) (Ok cut) = subst (PiecesGive (cut_pieces width left)) ok gives in
@@ -54,7 +60,8 @@ pieces-given width drives cut result left none is ok gives =
 
 -- Going through the pieces
 
-pub piece-ends : (width : ℕ) (runs : List DrivenRun) (pieces : List Piece) (i : ℕ) (default : Piece) → map piece_of pieces ≡ pieces_of width runs → i < length pieces → EndsBy width (piece_of (get_or pieces i default))
+pub piece-ends : (width : ℕ) (runs : List DrivenRun) (pieces : List Piece) (i : ℕ) (default : Piece) → map piece_of pieces ≡ pieces_of width runs → i < length pieces →
+    EndsBy width (piece_of (get_or pieces i default))
 piece-ends width runs pieces i default cut low =
     AllHold-slice_get (EndsBy width) (map piece_of pieces) i (piece_of (get_or pieces i default)) (subst (AllHold (EndsBy width)) (sym cut) (pieces-within width runs))
     (slice_get-map piece_of pieces i ∙ ap (option_map piece_of) (slice_get-get_or pieces i default low))

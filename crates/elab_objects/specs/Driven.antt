@@ -8,7 +8,8 @@ use Rattle.v_elab.specs.Refusals.{Refusal}
 use Rattle.v_tree.specs.Trees.{Identifier}
 use Rattle.v_ports.specs.Pieces.{second_driver, SecondDriver}
 use Rattle.v_elab.specs.Parts.{Signal, Part, SignalPart, MemoryPart, AssignPart, GatePart, ProcessPart, InstancePart, refusal_or}
-use Rattle.v_elab.specs.Drivers.{signals_of, is_unjoined, WalkedNode, by_depth, driving_variables, ObjectDrive, object_drives, run_of, taken_bits, refusal_of, second_variable, signal_two_drivers, first_two_drivers, two_drivers}
+use Rattle.v_elab.specs.Drivers.{signals_of, is_unjoined, WalkedNode, by_depth, driving_variables, ObjectDrive, object_drives, run_of, taken_bits, refusal_of, second_variable, signal_two_drivers}
+use Rattle.v_elab.specs.Drivers.{first_two_drivers, two_drivers}
 use Rattle.v_elab.specs.Objects.{HeldObject, pieces_or_variable, variable_object, signal_objects, word_objects, part_objects, objects_of_parts}
 use Rattle.key_index.specs.Groups.{items_under, first_of}
 use Rattle.elab_wires.specs.Drives.{all_drives, object-under}
@@ -47,14 +48,16 @@ objects_by drives driving signal = pieces_or_variable signal (items_under drives
 abbrev pub HasOneDriver : List (Identifier × ObjectDrive) → List (Identifier × Signal) → Signal → Type 0
 HasOneDriver drives driving signal = first_by_depth (items_under driving signal.name) ≡ None → second_driver [] (map run_of (items_under drives signal.name)) ≡ None
 
-pub variable-is : (signal first : Signal) (drives : List ObjectDrive) (driving : List Signal) → Some first ≡ first_by_depth driving → variable_object signal first ∷ [] ≡ pieces_or_variable signal drives (by_depth driving)
+pub variable-is : (signal first : Signal) (drives : List ObjectDrive) (driving : List Signal) → Some first ≡ first_by_depth driving →
+    variable_object signal first ∷ [] ≡ pieces_or_variable signal drives (by_depth driving)
 variable-is signal first drives driving e = by_list (by_depth driving) e
   where
     by_list : (l : List Signal) → Some first ≡ first_of l → variable_object signal first ∷ [] ≡ pieces_or_variable signal drives l
     by_list [] d = absurd (cc)
     by_list (x ∷ l) d = let same : first ≡ x = cc in ap (λ f. variable_object signal f ∷ []) same
 
-pub net-is : (signal : Signal) (drives : List ObjectDrive) (driving : List Signal) → None ≡ first_by_depth driving → pieces_or_variable signal drives [] ≡ pieces_or_variable signal drives (by_depth driving)
+pub net-is : (signal : Signal) (drives : List ObjectDrive) (driving : List Signal) → None ≡ first_by_depth driving →
+    pieces_or_variable signal drives [] ≡ pieces_or_variable signal drives (by_depth driving)
 net-is signal drives driving e = by_list (by_depth driving) e
   where
     by_list : (l : List Signal) → None ≡ first_of l → pieces_or_variable signal drives [] ≡ pieces_or_variable signal drives l
@@ -83,7 +86,8 @@ part-by signals nodes (SignalPart signal) =
     ap₂ (λ drives driving. objects_if (is_unjoined signal) (pieces_or_variable signal drives driving)) (object-under signals nodes signal.name) (driving-by-depth signals nodes signal.name)
     ∙ by_test (is_unjoined signal)
   where
-    by_test : (test : Bool) → objects_if test (pieces_or_variable signal (object_drives signals nodes signal.name) (driving_variables signals nodes signal.name)) ≡ signal_objects signals nodes test signal
+    by_test : (test : Bool) → objects_if test (pieces_or_variable signal (object_drives signals nodes signal.name) (driving_variables signals nodes signal.name)) ≡ signal_objects signals nodes test
+        signal
     by_test true = refl
     by_test false = refl
 part-by signals nodes (MemoryPart memory) = refl
@@ -92,7 +96,8 @@ part-by signals nodes (GatePart name kind drives path terminals) = refl
 part-by signals nodes (ProcessPart process) = refl
 part-by signals nodes InstancePart = refl
 
-all-by : (signals : List Signal) (nodes : List WalkedNode) (parts : List Part) → flat_map (part_objects_by (all_drives signals 0 nodes) (all_driving signals nodes signals)) parts ≡ flat_map (part_objects signals nodes) parts
+all-by : (signals : List Signal) (nodes : List WalkedNode) (parts : List Part) → flat_map (part_objects_by (all_drives signals 0 nodes) (all_driving signals nodes signals)) parts ≡ flat_map
+    (part_objects signals nodes) parts
 all-by signals nodes [] = refl
 all-by signals nodes (part ∷ parts) = ap₂ (λ a b. a ++ b) (part-by signals nodes part) (all-by signals nodes parts)
 
@@ -115,11 +120,13 @@ none-taken : (width : ℕ) (driving : List Signal) → first_of driving ≡ None
 none-taken width [] e = refl
 none-taken width (first ∷ rest) e = absurd (cc)
 
-signal-driven : (signals : List Signal) (nodes : List WalkedNode) (signal : Signal) → signal_two_drivers signals nodes signal ≡ None → HasOneDriver (all_drives signals 0 nodes) (all_driving signals nodes signals) signal
+signal-driven : (signals : List Signal) (nodes : List WalkedNode) (signal : Signal) → signal_two_drivers signals nodes signal ≡ None →
+    HasOneDriver (all_drives signals 0 nodes) (all_driving signals nodes signals) signal
 signal-driven signals nodes signal e none =
     let driving = driving_variables signals nodes signal.name in
     let runs = map run_of (object_drives signals nodes signal.name) in
-    let second : second_driver (taken_bits (range_width signal.range) driving) runs ≡ None = second-none _ (refusal-none (second_variable driving) (refusal_of (second_driver (taken_bits (range_width signal.range) driving) runs)) e).1 in
+    let second : second_driver (taken_bits (range_width signal.range) driving) runs ≡ None =
+    second-none _ (refusal-none (second_variable driving) (refusal_of (second_driver (taken_bits (range_width signal.range) driving) runs)) e).1 in
     let taken : taken_bits (range_width signal.range) driving ≡ [] = none-taken (range_width signal.range) driving (ap first_of (sym (driving-by-depth signals nodes signal.name)) ∙ none) in
     ap (λ ds. second_driver [] (map run_of ds)) (object-under signals nodes signal.name) ∙ (ap (λ bits. second_driver bits runs) (sym taken) ∙ second)
 
@@ -130,8 +137,10 @@ some-driven signals nodes (SignalPart signal ∷ parts) e = by_test (is_unjoined
   where
     by_test : (test : Bool) → is_unjoined signal ≡ test → first_two_drivers signals nodes (cond test (signal ∷ filter is_unjoined (signals_of parts)) (filter is_unjoined (signals_of parts))) ≡ None →
         (first_two_drivers signals nodes (filter is_unjoined (signals_of parts)) ≡ None → AllHold (PartHasOneDriver (all_drives signals 0 nodes) (all_driving signals nodes signals)) parts) →
-        (is_unjoined signal ≡ true → HasOneDriver (all_drives signals 0 nodes) (all_driving signals nodes signals) signal) × AllHold (PartHasOneDriver (all_drives signals 0 nodes) (all_driving signals nodes signals)) parts
-    by_test true is d rest = let none = refusal-none (signal_two_drivers signals nodes signal) (first_two_drivers signals nodes (filter is_unjoined (signals_of parts))) d in ((λ t. signal-driven signals nodes signal none.0), rest none.1)
+        (is_unjoined signal ≡ true → HasOneDriver (all_drives signals 0 nodes) (all_driving signals nodes signals) signal)
+        × AllHold (PartHasOneDriver (all_drives signals 0 nodes) (all_driving signals nodes signals)) parts
+    by_test true is d rest = let none = refusal-none (signal_two_drivers signals nodes signal) (first_two_drivers signals nodes (filter is_unjoined (signals_of parts))) d in
+        ((λ t. signal-driven signals nodes signal none.0), rest none.1)
     by_test false is d rest = ((λ t. absurd (cc)), rest d)
 some-driven signals nodes (MemoryPart memory ∷ parts) e = (tt, some-driven signals nodes parts e)
 some-driven signals nodes (AssignPart drives value ∷ parts) e = (tt, some-driven signals nodes parts e)

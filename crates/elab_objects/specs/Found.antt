@@ -24,5 +24,6 @@ pub variables-found : (driving : List (List ℕ × Bor Signal)) (name key : List
 variables-found driving name key variables same under = ap (map signal_borrowed) (under ∙ ap (items_under driving) same) ∙ sym (viewed-under signal_borrowed driving name)
 
 -- the drives under a name
-pub drives-found : (drives : List (List ℕ × ObjectDrive)) (name key : List ℕ) (selects : List ObjectDrive) → key ≡ name → selects ≡ items_under drives key → map object_drive_of selects ≡ items_under (map drive_keyed drives) name
+pub drives-found : (drives : List (List ℕ × ObjectDrive)) (name key : List ℕ) (selects : List ObjectDrive) → key ≡ name → selects ≡ items_under drives key →
+    map object_drive_of selects ≡ items_under (map drive_keyed drives) name
 drives-found drives name key selects same under = ap (map object_drive_of) (under ∙ ap (items_under drives) same) ∙ sym (viewed-under object_drive_of drives name)

@@ -28,7 +28,8 @@ cut-is width drives none =
     pieces-are width (map run_drive drives) (ap (second_driver []) (sym (runs-are drives)) ∙ none) ∙ ap (λ runs. Ok (pieces_of width runs)) (sym (runs-are drives))
 
 -- a drive of the code by its number
-pub drive-at : (drives : List ObjectDrive) (number : ℕ) (d : ObjectDrive) → number < length drives → d ≡ get_or drives number d → drive_numbered (map object_drive_of drives) number ≡ Some (object_drive_of d)
+pub drive-at : (drives : List ObjectDrive) (number : ℕ) (d : ObjectDrive) → number < length drives → d ≡ get_or drives number d →
+    drive_numbered (map object_drive_of drives) number ≡ Some (object_drive_of d)
 drive-at drives number d low is =
     numbered-at (map object_drive_of drives) number ∙ (slice_get-map object_drive_of drives number ∙ (ap (option_map object_drive_of) (slice_get-get_or drives number d low ∙ ap Some (sym is))))
 

@@ -10,11 +10,13 @@ up-push start zero = let at : start ≡ start + 0 = omega arith in ap (λ n. n �
 up-push start (suc count) = let at : (start + 1) + count ≡ start + suc count = omega arith in ap (λ l. start ∷ l) (up-push (start + 1) count ∙ ap (λ n. up_from (start + 1) count ++ n ∷ []) at)
 
 -- one word more
-pub words-more : (memory : WalkedMemory) (first address : ℕ) (start words more : List HeldObject) (word : HeldObject) → first ≤ address → words ≡ start ++ map (word_object memory) (up_from first (address - first)) → more ≡ words ++ word ∷ [] →
+pub words-more : (memory : WalkedMemory) (first address : ℕ) (start words more : List HeldObject) (word : HeldObject) → first ≤ address →
+    words ≡ start ++ map (word_object memory) (up_from first (address - first)) → more ≡ words ++ word ∷ [] →
     word ≡ word_object memory address → more ≡ start ++ map (word_object memory) (up_from first (address + 1 - first))
 words-more memory first address start words more word low had pushed is =
     let next : address + 1 - first ≡ suc (address - first) = omega arith in
     let at : first + (address - first) ≡ address = omega arith in
     let so_far = map (word_object memory) (up_from first (address - first)) in
     pushed ∙ (ap (λ l. l ++ word ∷ []) had ∙ (append_assoc start so_far (word ∷ []) ∙ ap (λ l. start ++ l) (ap (λ w. so_far ++ w ∷ []) is
-    ∙ (sym (map_push (word_object memory) (up_from first (address - first)) address) ∙ ap (map (word_object memory)) (ap (λ n. up_from first (address - first) ++ n ∷ []) (sym at) ∙ (sym (up-push first (address - first)) ∙ ap (up_from first) (sym next)))))))
+    ∙ (sym (map_push (word_object memory) (up_from first (address - first)) address) ∙ ap (map (word_object memory))
+    (ap (λ n. up_from first (address - first) ++ n ∷ []) (sym at) ∙ (sym (up-push first (address - first)) ∙ ap (up_from first) (sym next)))))))

@@ -1,5 +1,6 @@
 -- Names that stand in an index, and what blocks read by other names.
-use Rattle.std.proofs.Common.{◌≡◌, ℕ, zero, suc, ◌+◌, ◌<◌, length, get_or, arith, Bor, Bool, true, false, not, ◌&&◌, ◌||◌, List, [], ◌∷◌, ◌++◌, map, filter, Option, Some, None, is_some, drop, refl, sym, ap, ap₂, ◌∙◌}
+use Rattle.std.proofs.Common.{◌≡◌, ℕ, zero, suc, ◌+◌, ◌<◌, length, get_or, arith, Bor, Bool, true, false, not, ◌&&◌, ◌||◌, List, [], ◌∷◌, ◌++◌, map, filter, Option, Some, None, is_some, drop, refl}
+use Rattle.std.proofs.Common.{sym, ap, ap₂, ◌∙◌}
 use Rattle.std.specs.List.{list_all, list_any}
 use Rattle.key_index.specs.Places.{keys_of, key_from}
 use Rattle.v_tree.specs.Trees.{Identifier, same_name, has_name}
@@ -53,11 +54,13 @@ other-read signals process targets objects name object found b absent at e there
 
 -- The same by the tables of some parts
 
-pub own-ported : (w : Wiring) (number : ℕ) (name : Identifier) (ported_here : Bool) → IsWiring w → ported_here ≡ has_name w.ports name → ported_here ≡ true → false ≡ is_own_target (parts_of w.parts.now) number name
+pub own-ported : (w : Wiring) (number : ℕ) (name : Identifier) (ported_here : Bool) → IsWiring w → ported_here ≡ has_name w.ports name → ported_here ≡ true →
+    false ≡ is_own_target (parts_of w.parts.now) number name
 own-ported w number name ported_here wired e holds =
     ported (parts_of w.parts.now) number name (sym (port-written (signals_of (parts_of w.parts.now)) name) ∙ ap (λ names. has_name names name) (sym wired.ports_are) ∙ sym e ∙ holds)
 
-pub own-unported : (w : Wiring) (number : ℕ) (name object : Identifier) (ported_here other : Bool) → IsWiring w → ported_here ≡ has_name w.ports name → ported_here ≡ false → object ≡ outermost w.signals.now name
+pub own-unported : (w : Wiring) (number : ℕ) (name object : Identifier) (ported_here other : Bool) → IsWiring w → ported_here ≡ has_name w.ports name → ported_here ≡ false →
+    object ≡ outermost w.signals.now name
     → other ≡ has_other_writer w.writers number object → not other ≡ is_own_target (parts_of w.parts.now) number name
 own-unported w number name object ported_here other wired e fails at o =
     unported (parts_of w.parts.now) number name other
@@ -68,20 +71,23 @@ own-unported w number name object ported_here other wired e fails at o =
 all-by : (own other : Bool) → own ≡ false → false ≡ (own && not other)
 all-by own other e = sym (ap (λ b. b && not other) e)
 
-pub not-own : (parts : List Part) (number : ℕ) (process : WalkedProcess) (targets whole : List Identifier) (own : Bool) → whole ≡ target_signals process targets → own ≡ list_all (is_own_target parts number) whole → own ≡ false
+pub not-own : (parts : List Part) (number : ℕ) (process : WalkedProcess) (targets whole : List Identifier) (own : Bool) → whole ≡ target_signals process targets →
+    own ≡ list_all (is_own_target parts number) whole → own ≡ false
     → false ≡ is_block_node parts number process targets
 not-own parts number process targets whole own at e fails =
     all-by (list_all (is_own_target parts number) (target_signals process targets)) (reads_by_other_name (signals_of parts) process targets)
     (ap (list_all (is_own_target parts number)) (sym at) ∙ sym e ∙ fails)
 
 pub all-own : (w : Wiring) (number : ℕ) (process : WalkedProcess) (targets whole : List Identifier) (own other : Bool) → IsWiring w → whole ≡ target_signals process targets
-    → own ≡ list_all (is_own_target (parts_of w.parts.now) number) whole → own ≡ true → other ≡ reads_by_other_name w.signals.now process targets → not other ≡ is_block_node (parts_of w.parts.now) number process targets
+    → own ≡ list_all (is_own_target (parts_of w.parts.now) number) whole → own ≡ true → other ≡ reads_by_other_name w.signals.now process targets →
+    not other ≡ is_block_node (parts_of w.parts.now) number process targets
 all-own w number process targets whole own other wired at e holds o =
     ap not (o ∙ ap (λ ss. reads_by_other_name ss process targets) wired.signals_are)
     ∙ sym (ap (λ b. b && not (reads_by_other_name (signals_of (parts_of w.parts.now)) process targets)) (ap (list_all (is_own_target (parts_of w.parts.now) number)) (sym at) ∙ sym e ∙ holds))
 
 -- a block's reads by other names, by the indexes of its targets and of their objects
-pub read-names : (signals : List Signal) (process : WalkedProcess) (targets own objects names : List Identifier) (other : Bool) → own ≡ targets → objects ≡ map (outermost signals) (target_signals process targets)
+pub read-names : (signals : List Signal) (process : WalkedProcess) (targets own objects names : List Identifier) (other : Bool) → own ≡ targets →
+    objects ≡ map (outermost signals) (target_signals process targets)
     → names ≡ names_read (block_body process.body) → other ≡ list_any (reads_other signals process own objects) names → other ≡ reads_by_other_name signals process targets
 read-names signals process targets own objects names other a b n o =
     o ∙ ap (list_any (reads_other signals process own objects)) n

@@ -55,7 +55,8 @@ step-left : (signals : List plain.Signal) (most done : ℕ) (name now : Identifi
 step-left signals most done name now joining zero below t e s = absurd (omega arith)
 step-left signals most done name now joining (suc left) below t e s = record { left = left; together = omega arith; leads = sym (ap (up_or (outermost_within left signals) now) s) ∙ e }
 
-pub one-join : (signals : List plain.Signal) (most done : ℕ) (name now next : Identifier) (joining : Joining) → done < most → WayLeft signals most done name now → joined_into (signal_named signals now) ≡ Some joining
+pub one-join : (signals : List plain.Signal) (most done : ℕ) (name now next : Identifier) (joining : Joining) → done < most → WayLeft signals most done name now →
+    joined_into (signal_named signals now) ≡ Some joining
     → next ≡ joining.into → WayLeft signals most (done + 1) name next
 one-join signals most done name now next joining below w s e = subst (WayLeft signals most (done + 1) name) (sym e) (step-left signals most done name now joining w.left below w.together w.leads s)
 
@@ -63,7 +64,8 @@ ends-at : (signals : List plain.Signal) (left : ℕ) (now : Identifier) → join
 ends-at signals zero now e = refl
 ends-at signals (suc left) now e = ap (up_or (outermost_within left signals) now) e
 
-pub way-ends : (signals : List plain.Signal) (most done : ℕ) (name now : Identifier) → WayLeft signals most done name now → joined_into (signal_named signals now) ≡ None → now ≡ outermost_within most signals name
+pub way-ends : (signals : List plain.Signal) (most done : ℕ) (name now : Identifier) → WayLeft signals most done name now → joined_into (signal_named signals now) ≡ None →
+    now ≡ outermost_within most signals name
 way-ends signals most done name now w e = sym (ends-at signals w.left now e) ∙ w.leads
 
 none-left : (signals : List plain.Signal) (most done : ℕ) (name now : Identifier) (left : ℕ) → most ≤ done → left + done ≡ most → outermost_within left signals now ≡ outermost_within most signals name

@@ -1,5 +1,6 @@
 -- Lists of what is written, put together.
-use Rattle.std.proofs.Common.{◌≡◌, ℕ, zero, suc, ◌+◌, ◌<◌, ◌≤◌, Bool, true, false, not, cond, List, [], ◌∷◌, ◌++◌, length, get_or, take, map, filter, replicate, Option, Some, None, refl, sym, ap, ap₂, ◌∙◌, append_assoc, append-nil, arith}
+use Rattle.std.proofs.Common.{◌≡◌, ℕ, zero, suc, ◌+◌, ◌<◌, ◌≤◌, Bool, true, false, not, cond, List, [], ◌∷◌, ◌++◌, length, get_or, take, map, filter, replicate, Option, Some, None, refl, sym, ap}
+use Rattle.std.proofs.Common.{ap₂, ◌∙◌, append_assoc, append-nil, arith}
 use Rattle.std.proofs.lemmas.List.{map_push, map-append, length-map, length-take-le}
 use Rattle.std.proofs.lemmas.List.Elements.{filter-append}
 use Rattle.v_tree.specs.Trees.{Identifier}
@@ -46,7 +47,8 @@ outputs-append xs ys = ap output_names (signals-append xs ys) ∙ output-append 
 written-push : (n : ℕ) (xs : List plain.Part) (y : plain.Part) → written_from n (xs ++ y ∷ []) ≡ written_from n xs ++ written_by (n + length xs) (signals_written y)
 written-push n [] y = append-nil (written_by n (signals_written y)) ∙ ap (λ k. written_by k (signals_written y)) (let e : n ≡ n + 0 = omega arith in e)
 written-push n (x ∷ xs) y =
-    ap (λ rest. written_by n (signals_written x) ++ rest) (written-push (n + 1) xs y ∙ ap (λ k. written_from (n + 1) xs ++ written_by k (signals_written y)) (let e : n + 1 + length xs ≡ n + suc (length xs) = omega arith in e))
+    ap (λ rest. written_by n (signals_written x) ++ rest) (written-push (n + 1) xs y ∙ ap (λ k. written_from (n + 1) xs ++ written_by k (signals_written y))
+    (let e : n + 1 + length xs ≡ n + suc (length xs) = omega arith in e))
     ∙ sym (append_assoc (written_by n (signals_written x)) (written_from (n + 1) xs) (written_by (n + suc (length xs)) (signals_written y)))
 
 pub written-turn : (xs : List Part) (i : ℕ) (x : Part) (old more : List (Identifier × ℕ)) → i < length xs → x ≡ get_or xs i x → old ≡ written_from 0 (map part_of (take i xs))
@@ -63,11 +65,13 @@ written-turn xs i x old more low is had pushed =
 filter-one : {A : Type 0} (p : A → Bool) (x : A) (b : Bool) → p x ≡ b → filter p (x ∷ []) ≡ cond b (x ∷ []) []
 filter-one p x b e = ap (λ t. cond t (x ∷ []) []) e
 
-pub not-variable : (process : plain.WalkedProcess) (part : ℕ) (name : Identifier) (old : List (Identifier × ℕ)) → is_reg (looked_up process.scope name) ≡ false → old ≡ old ++ written_by part (variables_among process (name ∷ []))
+pub not-variable : (process : plain.WalkedProcess) (part : ℕ) (name : Identifier) (old : List (Identifier × ℕ)) → is_reg (looked_up process.scope name) ≡ false →
+    old ≡ old ++ written_by part (variables_among process (name ∷ []))
 not-variable process part name old e =
     sym (append-nil old) ∙ ap (λ names. old ++ written_by part (target_signals process names)) (sym (filter-one (λ n. is_reg (looked_up process.scope n)) name false e))
 
-pub one-variable : (process : plain.WalkedProcess) (part : ℕ) (name : Identifier) (old more : List Written) (w : Written) → is_reg (looked_up process.scope name) ≡ true → w.name ≡ process.path ++ name → w.part ≡ part → more ≡ old ++ w ∷ []
+pub one-variable : (process : plain.WalkedProcess) (part : ℕ) (name : Identifier) (old more : List Written) (w : Written) → is_reg (looked_up process.scope name) ≡ true →
+    w.name ≡ process.path ++ name → w.part ≡ part → more ≡ old ++ w ∷ []
     → map written_of more ≡ map written_of old ++ written_by part (variables_among process (name ∷ []))
 one-variable process part name old more w e at n pushed =
     ap (map written_of) pushed ∙ map_push written_of old w

@@ -1,12 +1,14 @@
 -- The runs of bits that selects drive: what a net's pieces see of them are the bits within the net (IEEE 1364-2001, clause 6.1).
-use Rattle.std.proofs.Common.{◌≡◌, ℕ, zero, suc, ◌+◌, ◌-◌, ◌<◌, ◌≤◌, min, Bool, true, false, ◌||◌, List, [], ◌∷◌, ◌++◌, map, Option, Some, None, Ok, refl, sym, ap, ap₂, ◌∙◌, subst, inl, inr, ◌⊎◌, arith}
+use Rattle.std.proofs.Common.{◌≡◌, ℕ, zero, suc, ◌+◌, ◌-◌, ◌<◌, ◌≤◌, min, Bool, true, false, ◌||◌, List, [], ◌∷◌, ◌++◌, map, Option, Some, None, Ok, refl, sym, ap, ap₂, ◌∙◌, subst, inl, inr, ◌⊎◌}
+use Rattle.std.proofs.Common.{arith}
 use Rattle.std.specs.Prelude.{nat_eq, nat_lt, filter, replicate, slice_get}
 use Rattle.std.proofs.lemmas.Bool.{cases_Bool, cond-true, cond-false, eqb-true, ltb-true, ltb-false, eq-eqb, eqb-false}
 use Rattle.vf_base.specs.Base.{SourcePlace}
 use Rattle.vf_base.specs.Lists.{has, AllHold, first_place, earlier_place}
 use Rattle.graph_order.specs.ListLaws.{has-append}
 use Rattle.v_design.specs.Expressions.{up_from}
-use Rattle.v_ports.specs.Pieces.{DrivenRun, lesser_if, least_among, SecondDriver, second_if, second_driver, CutPiece, driver_of_bit, same_driver, grown_or_new, bit_before, pieces_from, pieces_of, DriveOfRun, run_of_drive, cut_pieces, unless_second}
+use Rattle.v_ports.specs.Pieces.{DrivenRun, lesser_if, least_among, SecondDriver, second_if, second_driver, CutPiece, driver_of_bit, same_driver, grown_or_new, bit_before, pieces_from, pieces_of}
+use Rattle.v_ports.specs.Pieces.{DriveOfRun, run_of_drive, cut_pieces, unless_second}
 use Rattle.v_elab.specs.Drivers.{bits_within, ObjectDrive}
 use Rattle.v_elab.specs.Objects.{is_bit, drive_numbered}
 
@@ -35,7 +37,8 @@ nothing-behind (x ∷ l) = ap (λ m. x ∷ m) (nothing-behind l)
 -- what a select drives is its run
 pub run-bits : (below low width above : ℕ) → bits_within (run_places below low width above) ≡ up_from low width
 run-bits below low width above =
-    none-first below (map Some (up_from low width) ++ replicate above None) ∙ (run-within low width (replicate above None) ∙ (ap (λ l. up_from low width ++ l) (none-within above) ∙ nothing-behind (up_from low width)))
+    none-first below (map Some (up_from low width) ++ replicate above None) ∙ (run-within low width (replicate above None)
+    ∙ (ap (λ l. up_from low width ++ l) (none-within above) ∙ nothing-behind (up_from low width)))
 
 -- Bits within a width
 
@@ -87,7 +90,8 @@ has-within width bit (b ∷ bits) less =
     other true e past = absurd (omega (arith, eqb-true b bit e, past, less))
     other false e past = refl
 
-driver-agrees : (number bit : ℕ) (one other : DrivenRun) (runs others : List DrivenRun) → has one.bits bit ≡ has other.bits bit → driver_of_bit (number + 1) runs bit ≡ driver_of_bit (number + 1) others bit →
+driver-agrees : (number bit : ℕ) (one other : DrivenRun) (runs others : List DrivenRun) → has one.bits bit ≡ has other.bits bit →
+    driver_of_bit (number + 1) runs bit ≡ driver_of_bit (number + 1) others bit →
     driver_of_bit number (one ∷ runs) bit ≡ driver_of_bit number (other ∷ others) bit
 driver-agrees number bit one other runs others same rest = by_has (has other.bits bit) same refl
   where
@@ -95,13 +99,17 @@ driver-agrees number bit one other runs others same rest = by_has (has other.bit
     by_has true e d = rw (e, d) refl
     by_has false e d = rw (e, d) rest
 
-driver-clipped : (width number bit : ℕ) (drives : List DriveOfRun) → bit < width → driver_of_bit number (map run_of_drive (map (clipped width) drives)) bit ≡ driver_of_bit number (map run_of_drive drives) bit
+driver-clipped : (width number bit : ℕ) (drives : List DriveOfRun) → bit < width → driver_of_bit number (map run_of_drive (map (clipped width) drives)) bit ≡ driver_of_bit number
+    (map run_of_drive drives) bit
 driver-clipped width number bit [] less = refl
 driver-clipped width number bit (drive ∷ drives) less =
-    let same : has (run_of_drive (clipped width drive)).bits bit ≡ has (run_of_drive drive).bits bit = ap (λ l. has l bit) (clipped-bits width drive) ∙ has-within width bit (run_of_drive drive).bits less in
-    driver-agrees number bit (run_of_drive (clipped width drive)) (run_of_drive drive) (map run_of_drive (map (clipped width) drives)) (map run_of_drive drives) same (driver-clipped width (number + 1) bit drives less)
+    let same : has (run_of_drive (clipped width drive)).bits bit ≡ has (run_of_drive drive).bits bit = ap (λ l. has l bit) (clipped-bits width drive)
+    ∙ has-within width bit (run_of_drive drive).bits less in
+    driver-agrees number bit (run_of_drive (clipped width drive)) (run_of_drive drive) (map run_of_drive (map (clipped width) drives)) (map run_of_drive drives) same
+    (driver-clipped width (number + 1) bit drives less)
 
-pieces-clipped : (width : ℕ) (drives : List DriveOfRun) (bits : List ℕ) → AllHold (λ bit. bit < width) bits → pieces_from (map run_of_drive (map (clipped width) drives)) bits ≡ pieces_from (map run_of_drive drives) bits
+pieces-clipped : (width : ℕ) (drives : List DriveOfRun) (bits : List ℕ) → AllHold (λ bit. bit < width) bits →
+    pieces_from (map run_of_drive (map (clipped width) drives)) bits ≡ pieces_from (map run_of_drive drives) bits
 pieces-clipped width drives [] low = refl
 pieces-clipped width drives (bit ∷ bits) low = ap₂ (λ d rest. bit_before bit d rest) (driver-clipped width 0 bit drives low.0) (pieces-clipped width drives bits low.1)
 
@@ -181,7 +189,8 @@ least-none others (b ∷ bits) never = by_test (has others b) refl (least-none o
     by_test true e none = absurd (never b (ap (λ t. t || has bits b) (eq-eqb b b refl)) e)
     by_test false e none = none
 
-second-clipped : (width : ℕ) (taken all : List ℕ) (drives : List DriveOfRun) → AreAmong taken all → second_driver all (map run_of_drive drives) ≡ None → second_driver taken (map run_of_drive (map (clipped width) drives)) ≡ None
+second-clipped : (width : ℕ) (taken all : List ℕ) (drives : List DriveOfRun) → AreAmong taken all → second_driver all (map run_of_drive drives) ≡ None →
+    second_driver taken (map run_of_drive (map (clipped width) drives)) ≡ None
 second-clipped width taken all [] few none = refl
 second-clipped width taken all (drive ∷ drives) few none =
     let parts = second_if-none drive.place (least_among all (run_of_drive drive).bits) (second_driver (all ++ (run_of_drive drive).bits) (map run_of_drive drives)) none in
@@ -197,7 +206,8 @@ second-clipped width taken all (drive ∷ drives) few none =
     second_if-none place (Some bit) rest e = absurd (cc)
 
 -- where no bit of the whole runs has two drivers, the net is cut by what is left of them
-pub pieces-are : (width : ℕ) (drives : List DriveOfRun) → second_driver [] (map run_of_drive drives) ≡ None → cut_pieces width (map (clipped width) drives) ≡ Ok (pieces_of width (map run_of_drive drives))
+pub pieces-are : (width : ℕ) (drives : List DriveOfRun) → second_driver [] (map run_of_drive drives) ≡ None →
+    cut_pieces width (map (clipped width) drives) ≡ Ok (pieces_of width (map run_of_drive drives))
 pieces-are width drives none =
     ap (λ s. unless_second s (pieces_of width (map run_of_drive (map (clipped width) drives)))) (second-clipped width [] [] drives (λ n h. h) none)
     ∙ ap Ok (cut-clipped width drives)
@@ -262,7 +272,8 @@ abbrev pub EndsBy : ℕ → CutPiece → Type 0
 EndsBy end piece = (1 ≤ piece.width) × (piece.low + piece.width ≤ end)
 
 -- a bit in front of pieces that start behind it
-before-pieces : (bit end : ℕ) (driver : Option ℕ) (pieces : List CutPiece) → bit < end → StartsAt (bit + 1) pieces → AllHold (EndsBy end) pieces → StartsAt bit (bit_before bit driver pieces) × AllHold (EndsBy end) (bit_before bit driver pieces)
+before-pieces : (bit end : ℕ) (driver : Option ℕ) (pieces : List CutPiece) → bit < end → StartsAt (bit + 1) pieces → AllHold (EndsBy end) pieces →
+    StartsAt bit (bit_before bit driver pieces) × AllHold (EndsBy end) (bit_before bit driver pieces)
 before-pieces bit end driver [] less starts ends = (refl, ((omega arith, omega arith), tt))
 before-pieces bit end driver (next ∷ pieces) less starts ends = by_test (same_driver driver next.driver)
   where

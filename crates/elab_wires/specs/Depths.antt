@@ -25,18 +25,22 @@ driving-under signals nodes object [] = refl
 driving-under signals nodes object (s ∷ rest) = by_driving (is_driving nodes s) (driving-under signals nodes object rest)
   where
     by_same : (same : Bool) → items_under (all_driving signals nodes rest) object ≡ filter (λ (t : Signal). is_driving nodes t && same_name (outermost signals t.name) object) rest →
-        item_if same s (items_under (all_driving signals nodes rest) object) ≡ cond same (s ∷ filter (λ (t : Signal). is_driving nodes t && same_name (outermost signals t.name) object) rest) (filter (λ (t : Signal). is_driving nodes t && same_name (outermost signals t.name) object) rest)
+        item_if same s (items_under (all_driving signals nodes rest) object) ≡ cond same (s ∷ filter (λ (t : Signal). is_driving nodes t && same_name (outermost signals t.name) object) rest)
+        (filter (λ (t : Signal). is_driving nodes t && same_name (outermost signals t.name) object) rest)
     by_same true e = ap (λ l. s ∷ l) e
     by_same false e = e
 
     by_driving : (driving : Bool) → items_under (all_driving signals nodes rest) object ≡ filter (λ (t : Signal). is_driving nodes t && same_name (outermost signals t.name) object) rest →
         items_under (driving_if driving (outermost signals s.name) s (all_driving signals nodes rest)) object
-        ≡ cond (driving && same_name (outermost signals s.name) object) (s ∷ filter (λ (t : Signal). is_driving nodes t && same_name (outermost signals t.name) object) rest) (filter (λ (t : Signal). is_driving nodes t && same_name (outermost signals t.name) object) rest)
-    by_driving true e = ap (λ t. item_if t s (items_under (all_driving signals nodes rest) object)) (key-name object (outermost signals s.name)) ∙ by_same (same_name (outermost signals s.name) object) e
+        ≡ cond (driving && same_name (outermost signals s.name) object) (s ∷ filter (λ (t : Signal). is_driving nodes t && same_name (outermost signals t.name) object) rest)
+        (filter (λ (t : Signal). is_driving nodes t && same_name (outermost signals t.name) object) rest)
+    by_driving true e = ap (λ t. item_if t s (items_under (all_driving signals nodes rest) object)) (key-name object (outermost signals s.name))
+        ∙ by_same (same_name (outermost signals s.name) object) e
     by_driving false e = e
 
 -- the variables that drive an object are those under its name, by depth
-pub driving-by-depth : (signals : List Signal) (nodes : List WalkedNode) (object : Identifier) → by_depth (items_under (all_driving signals nodes signals) object) ≡ driving_variables signals nodes object
+pub driving-by-depth : (signals : List Signal) (nodes : List WalkedNode) (object : Identifier) →
+    by_depth (items_under (all_driving signals nodes signals) object) ≡ driving_variables signals nodes object
 driving-by-depth signals nodes object = ap by_depth (driving-under signals nodes object signals)
 
 -- One more behind those so far
@@ -68,7 +72,8 @@ abbrev right_by : (ax sa sx : Bool) (a s x : Signal) (xs first behind both : Lis
 right_by true sa sx a s x xs first behind both = before_here sa s a (x ∷ xs) (before_here sx s x xs behind)
 right_by false sa sx a s x xs first behind both = before_here sx s x first both
 
-sides-meet : (a s x : Signal) (xs first behind one other : List Signal) → one ≡ other → (sx : Bool) → nat_lt s.depth x.depth ≡ sx → (ax : Bool) → nat_le a.depth x.depth ≡ ax → (le : Bool) → nat_le a.depth s.depth ≡ le →
+sides-meet : (a s x : Signal) (xs first behind one other : List Signal) → one ≡ other → (sx : Bool) → nat_lt s.depth x.depth ≡ sx → (ax : Bool) → nat_le a.depth x.depth ≡ ax → (le : Bool) →
+    nat_le a.depth s.depth ≡ le →
     (lt : Bool) → nat_lt s.depth a.depth ≡ lt → left_by sx le ax a s x xs first behind one ≡ right_by ax lt sx a s x xs first behind other
 sides-meet a s x xs first behind one other e true sx true ax true le true lt = absurd (omega (arith, leb-true a.depth s.depth le, ltb-true s.depth a.depth lt))
 sides-meet a s x xs first behind one other e true sx true ax true le false lt = refl
@@ -88,14 +93,17 @@ inserts-commute a s (x ∷ xs) =
     let first = insert_by_depth a xs in
     let behind = insert_behind s xs in
     left (nat_lt s.depth x.depth)
-    ∙ sides-meet a s x xs first behind (insert_by_depth a behind) (insert_behind s first) (inserts-commute a s xs) (nat_lt s.depth x.depth) refl (nat_le a.depth x.depth) refl (nat_le a.depth s.depth) refl (nat_lt s.depth a.depth) refl
+    ∙ sides-meet a s x xs first behind (insert_by_depth a behind) (insert_behind s first) (inserts-commute a s xs) (nat_lt s.depth x.depth) refl (nat_le a.depth x.depth) refl
+    (nat_le a.depth s.depth) refl (nat_lt s.depth a.depth) refl
     ∙ right (nat_le a.depth x.depth)
   where
-    left : (sx : Bool) → insert_by_depth a (before_here sx s x xs (insert_behind s xs)) ≡ left_by sx (nat_le a.depth s.depth) (nat_le a.depth x.depth) a s x xs (insert_by_depth a xs) (insert_behind s xs) (insert_by_depth a (insert_behind s xs))
+    left : (sx : Bool) → insert_by_depth a (before_here sx s x xs (insert_behind s xs)) ≡ left_by sx (nat_le a.depth s.depth) (nat_le a.depth x.depth) a s x xs (insert_by_depth a xs)
+        (insert_behind s xs) (insert_by_depth a (insert_behind s xs))
     left true = refl
     left false = refl
 
-    right : (ax : Bool) → right_by ax (nat_lt s.depth a.depth) (nat_lt s.depth x.depth) a s x xs (insert_by_depth a xs) (insert_behind s xs) (insert_behind s (insert_by_depth a xs)) ≡ insert_behind s (insert_here ax a x xs (insert_by_depth a xs))
+    right : (ax : Bool) → right_by ax (nat_lt s.depth a.depth) (nat_lt s.depth x.depth) a s x xs (insert_by_depth a xs) (insert_behind s xs)
+        (insert_behind s (insert_by_depth a xs)) ≡ insert_behind s (insert_here ax a x xs (insert_by_depth a xs))
     right true = refl
     right false = refl
 

@@ -23,7 +23,8 @@ node-under signals object number [] = refl
 node-under signals object number (drive ∷ rest) =
     let one : ObjectDrive = record { node = number; offset = drives_width rest; places = drive.places; place = drive.place } in
     ap (λ t. item_if t one (items_under (keyed_drives signals number rest) object)) (key-name object (outermost signals drive.signal))
-    ∙ by_test (same_name (outermost signals drive.signal) object) one (items_under (keyed_drives signals number rest) object) (node_drives signals object number rest) (node-under signals object number rest)
+    ∙ by_test (same_name (outermost signals drive.signal) object) one (items_under (keyed_drives signals number rest) object) (node_drives signals object number rest)
+    (node-under signals object number rest)
   where
     by_test : (test : Bool) (one : ObjectDrive) (under drives : List ObjectDrive) → under ≡ drives → item_if test one under ≡ drive_if test one drives
     by_test true one under drives e = ap (λ l. one ∷ l) e

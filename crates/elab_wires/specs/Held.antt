@@ -46,9 +46,12 @@ outputs-from number n [] held =
     nothing-behind (x ∷ l) = ap (λ m. x ∷ m) (nothing-behind l)
 outputs-from number n (first ∷ objects) held =
     let at : (n + 1) + length objects ≡ n + length (first ∷ objects) = omega arith in
-    ap (λ l. output_of_object number n first.driver ++ l) (outputs-from number (n + 1) objects held ∙ ap (λ m. joined (map_numbered (λ object (h : HeldObject). output_of_object number object h.driver) (n + 1) objects) ++ output_of_object number m held.driver) at)
-    ∙ sym (append_assoc (output_of_object number n first.driver) (joined (map_numbered (λ object (h : HeldObject). output_of_object number object h.driver) (n + 1) objects)) (output_of_object number (n + length (first ∷ objects)) held.driver))
+    ap (λ l. output_of_object number n first.driver ++ l) (outputs-from number (n + 1) objects held
+    ∙ ap (λ m. joined (map_numbered (λ object (h : HeldObject). output_of_object number object h.driver) (n + 1) objects) ++ output_of_object number m held.driver) at)
+    ∙ sym (append_assoc (output_of_object number n first.driver) (joined (map_numbered (λ object (h : HeldObject). output_of_object number object h.driver) (n + 1) objects))
+    (output_of_object number (n + length (first ∷ objects)) held.driver))
 
 -- one object more is one output more of the node that writes it
-pub outputs-more : (objects : List HeldObject) (held : HeldObject) (number : ℕ) → outputs_of (objects ++ held ∷ []) number ≡ outputs_of objects number ++ output_of_object number (length objects) held.driver
+pub outputs-more : (objects : List HeldObject) (held : HeldObject) (number : ℕ) → outputs_of (objects ++ held ∷ []) number ≡ outputs_of objects number
+    ++ output_of_object number (length objects) held.driver
 outputs-more objects held number = outputs-from number 0 objects held ∙ ap (λ m. outputs_of objects number ++ output_of_object number m held.driver) (omega arith)

@@ -26,7 +26,8 @@ same-tests false false f g = refl
 -- a key is a name
 pub key-name : (key name : List ℕ) → bytes_eq key name ≡ same_name name key
 key-name key name =
-    same-tests (bytes_eq key name) (bytes_eq name key) (λ h. (bytes_eq-Decides name key).1 (sym ((bytes_eq-Decides key name).0 h))) (λ h. (bytes_eq-Decides key name).1 (sym ((bytes_eq-Decides name key).0 h)))
+    same-tests (bytes_eq key name) (bytes_eq name key) (λ h. (bytes_eq-Decides name key).1 (sym ((bytes_eq-Decides key name).0 h)))
+    (λ h. (bytes_eq-Decides key name).1 (sym ((bytes_eq-Decides name key).0 h)))
     ∙ sym (same-bytes name key)
 
 -- Lists of items
@@ -35,14 +36,17 @@ pub under-append : {T : Type 0} (ps qs : List (List ℕ × T)) (key : List ℕ) 
 under-append [] qs key = refl
 under-append {T} (p ∷ ps) qs key = by_test (bytes_eq key p.0) (under-append ps qs key)
   where
-    by_test : (test : Bool) → items_under (ps ++ qs) key ≡ items_under ps key ++ items_under qs key → item_if test p.1 (items_under (ps ++ qs) key) ≡ item_if test p.1 (items_under ps key) ++ items_under qs key
+    by_test : (test : Bool) → items_under (ps ++ qs) key ≡ items_under ps key ++ items_under qs key →
+        item_if test p.1 (items_under (ps ++ qs) key) ≡ item_if test p.1 (items_under ps key) ++ items_under qs key
     by_test true e = ap (λ l. p.1 ∷ l) e
     by_test false e = e
 
 -- elements with names are found under them
-pub under-map : {A T : Type 0} (name : A → Identifier) (item : A → T) (xs : List A) (key : List ℕ) → items_under (map (λ x. (name x, item x)) xs) key ≡ map item (filter (λ x. same_name (name x) key) xs)
+pub under-map : {A T : Type 0} (name : A → Identifier) (item : A → T) (xs : List A) (key : List ℕ) →
+    items_under (map (λ x. (name x, item x)) xs) key ≡ map item (filter (λ x. same_name (name x) key) xs)
 under-map name item [] key = refl
-under-map {A} {T} name item (x ∷ xs) key = ap (λ t. item_if t (item x) (items_under (map (λ y. (name y, item y)) xs) key)) (key-name key (name x)) ∙ by_test (same_name (name x) key) (under-map name item xs key)
+under-map {A} {T} name item (x ∷ xs) key = ap (λ t. item_if t (item x) (items_under (map (λ y. (name y, item y)) xs) key)) (key-name key (name x))
+    ∙ by_test (same_name (name x) key) (under-map name item xs key)
   where
     by_test : (test : Bool) → items_under (map (λ y. (name y, item y)) xs) key ≡ map item (filter (λ y. same_name (name y) key) xs) →
         item_if test (item x) (items_under (map (λ y. (name y, item y)) xs) key) ≡ map item (cond test (x ∷ filter (λ y. same_name (name y) key) xs) (filter (λ y. same_name (name y) key) xs))

@@ -37,14 +37,16 @@ part-under signals object number n (name ∷ names) =
   where
     by_test : (here is : Bool) → nat_eq n number ≡ is →
         list_any (is_other number) (items_under (keyed_writes signals n names) object) ≡ (not (nat_eq n number) && list_any (λ m. same_name (outermost signals m) object) names) →
-        list_any (is_other number) (item_if here n (items_under (keyed_writes signals n names) object)) ≡ (not (nat_eq n number) && (here || list_any (λ m. same_name (outermost signals m) object) names))
+        list_any (is_other number) (item_if here n (items_under (keyed_writes signals n names) object)) ≡
+        (not (nat_eq n number) && (here || list_any (λ m. same_name (outermost signals m) object) names))
     by_test false is e rest = rest
     by_test true true e rest = ap (λ t. not t || list_any (is_other number) (items_under (keyed_writes signals n names) object)) e
         ∙ (rest ∙ (ap (λ t. not t && list_any (λ m. same_name (outermost signals m) object) names) e ∙ ap (λ t. not t && true) (sym e)))
     by_test true false e rest = ap (λ t. not t || list_any (is_other number) (items_under (keyed_writes signals n names) object)) e ∙ ap (λ t. not t && true) (sym e)
 
 -- a part other than one of a number writes an object exactly where another number stands under it
-pub other-under : (signals : List Signal) (number : ℕ) (object : Identifier) (n : ℕ) (parts : List Part) → other_writes signals number object n parts ≡ list_any (is_other number) (items_under (all_writes signals n parts) object)
+pub other-under : (signals : List Signal) (number : ℕ) (object : Identifier) (n : ℕ) (parts : List Part) →
+    other_writes signals number object n parts ≡ list_any (is_other number) (items_under (all_writes signals n parts) object)
 other-under signals number object n [] = refl
 other-under signals number object n (part ∷ parts) =
     ap₂ (λ a b. a || b) (sym (part-under signals object number n (signals_written part))) (other-under signals number object (n + 1) parts)

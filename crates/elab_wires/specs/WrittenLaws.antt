@@ -43,10 +43,12 @@ names-first signals number n object [] rest = none-written (is_other number n) (
 names-first signals number n object (name ∷ names) rest =
     test-one number n (bytes_eq object (outermost signals name)) (items_under (objects_written signals (written_by n names ++ rest)) object)
     ∙ ap₂ (λ (b : Bool) (r : Bool). (is_other number n && b) || r) (key-name object (outermost signals name)) (names-first signals number n object names rest)
-    ∙ split (is_other number n) (same_name (outermost signals name) object) (list_any (λ m. same_name (outermost signals m) object) names) (has_other_writer (objects_written signals rest) number object)
+    ∙ split (is_other number n) (same_name (outermost signals name) object) (list_any (λ m. same_name (outermost signals m) object) names)
+    (has_other_writer (objects_written signals rest) number object)
 
 -- another part writes an object where it is so by the list of all that is written
-pub other-written : (signals : List Signal) (number : ℕ) (object : Identifier) (n : ℕ) (parts : List Part) → has_other_writer (objects_written signals (written_from n parts)) number object ≡ other_writes signals number object n parts
+pub other-written : (signals : List Signal) (number : ℕ) (object : Identifier) (n : ℕ) (parts : List Part) →
+    has_other_writer (objects_written signals (written_from n parts)) number object ≡ other_writes signals number object n parts
 other-written signals number object n [] = refl
 other-written signals number object n (part ∷ parts) =
     names-first signals number n object (signals_written part) (written_from (n + 1) parts)

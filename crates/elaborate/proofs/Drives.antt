@@ -17,7 +17,8 @@ pub record AreDrives (parts : List Part) (nodes : List WalkedNode) (drives : Lis
   pub drives_are : drives ≡ all_drives (signals_of parts) 0 nodes
   pub driving_are : driving ≡ all_driving (signals_of parts) nodes (signals_of parts)
 
-pub are-drives : (parts : List Part) (nodes : List WalkedNode) (signals : List Signal) (drives : List (Identifier × ObjectDrive)) (driving : List (Identifier × Signal)) → signals ≡ signals_of parts → drives ≡ all_drives signals 0 nodes →
+pub are-drives : (parts : List Part) (nodes : List WalkedNode) (signals : List Signal) (drives : List (Identifier × ObjectDrive)) (driving : List (Identifier × Signal)) →
+    signals ≡ signals_of parts → drives ≡ all_drives signals 0 nodes →
     driving ≡ all_driving signals nodes signals → AreDrives parts nodes drives driving
 are-drives parts nodes signals drives driving are listed found =
     record { drives_are = listed ∙ ap (λ s. all_drives s 0 nodes) are; driving_are = found ∙ ap (λ s. all_driving s nodes s) are }
@@ -26,7 +27,8 @@ pub two-by : (parts : List Part) (nodes : List WalkedNode) (drives : List (Ident
     two_drivers_by drives driving (signals_of parts) ≡ two_drivers (signals_of parts) nodes
 two-by parts nodes drives driving are = ap₂ (λ d g. two_drivers_by d g (signals_of parts)) are.drives_are are.driving_are ∙ two-drivers-by (signals_of parts) nodes
 
-pub driven-by : (parts : List Part) (nodes : List WalkedNode) (drives : List (Identifier × ObjectDrive)) (driving : List (Identifier × Signal)) → AreDrives parts nodes drives driving → two_drivers (signals_of parts) nodes ≡ None →
+pub driven-by : (parts : List Part) (nodes : List WalkedNode) (drives : List (Identifier × ObjectDrive)) (driving : List (Identifier × Signal)) → AreDrives parts nodes drives driving →
+    two_drivers (signals_of parts) nodes ≡ None →
     AllHold (PartHasOneDriver drives driving) parts
 driven-by parts nodes drives driving are once =
     subst (λ d. AllHold (PartHasOneDriver d driving) parts) (sym are.drives_are)

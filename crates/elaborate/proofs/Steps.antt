@@ -82,7 +82,8 @@ module _ (text : List ℕ) (top : Identifier) (mode : Mode) where
         only (Err (Elab other)) m = absurd (told (each m.unit (spelled-here m.unit m.spelled) m.spelled.within))
         only (Err NoMemory) m = absurd m
 
-    pub parse-told : (fault : ParseFault) → units.IsFault 255 tokens fault → ((u : SourceUnit) → SpellsUnit u tokens → unit_height u < 256 → fault ≡ parses.NoMemory) → Answers text top mode (parse_fault fault)
+    pub parse-told : (fault : ParseFault) → units.IsFault 255 tokens fault → ((u : SourceUnit) → SpellsUnit u tokens → unit_height u < 256 → fault ≡ parses.NoMemory) →
+        Answers text top mode (parse_fault fault)
     parse-told (parses.Unexpected place) is each = inr (parse-means (parses.Unexpected place) is (λ e. cc) each)
     parse-told (parses.Unsupported place) is each = inr (parse-means (parses.Unsupported place) is (λ e. cc) each)
     parse-told (parses.TooDeep place) is each = inr (parse-means (parses.TooDeep place) is (λ e. cc) each)

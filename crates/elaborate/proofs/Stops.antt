@@ -99,12 +99,14 @@ module _ (levels : ℕ) (tokens : List SourceToken) where
   IsWrongAt : Place → Type 0
   IsWrongAt place = (rest : List SourceToken) × IsFirstWrong levels tokens rest × (source_place place ≡ place_at tokens rest)
 
-  wrong-place : (one other : Place) (r s : List SourceToken) → IsFirstWrong levels tokens r → IsFirstWrong levels tokens s → source_place one ≡ place_at tokens r → source_place other ≡ place_at tokens s → one ≡ other
+  wrong-place : (one other : Place) (r s : List SourceToken) → IsFirstWrong levels tokens r → IsFirstWrong levels tokens s → source_place one ≡ place_at tokens r →
+      source_place other ≡ place_at tokens s → one ≡ other
   wrong-place one other r s h d p q =
       let same = one-stop levels tokens h.front r d.front s (wrong-stop levels tokens r h) (wrong-stop levels tokens s d) in
       place-is one other (p ∙ ap (place_at tokens) same.1 ∙ sym q)
 
-  deep-place : (one other : Place) (r s : List SourceToken) → IsFirstDeep levels tokens r → IsFirstDeep levels tokens s → source_place one ≡ place_at tokens r → source_place other ≡ place_at tokens s → one ≡ other
+  deep-place : (one other : Place) (r s : List SourceToken) → IsFirstDeep levels tokens r → IsFirstDeep levels tokens s → source_place one ≡ place_at tokens r →
+      source_place other ≡ place_at tokens s → one ≡ other
   deep-place one other r s h d p q =
       let same = one-stop levels tokens h.front r d.front s (deep-stop levels tokens r h) (deep-stop levels tokens s d) in
       place-is one other (p ∙ ap (place_at tokens) same.1 ∙ sym q)

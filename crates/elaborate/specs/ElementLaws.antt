@@ -14,7 +14,8 @@ use Rattle.v_elab.specs.Refusals.{Refusal, TooMany, then_go, unless_refused}
 use Rattle.v_elab.specs.Parts.{Part, WalkedProcess, over_limit, too_many_if}
 use Rattle.v_elab.specs.Drivers.{signals_of, WalkedNode, Behaviour, behaviours_of, nodes_of, processes_of, two_drivers}
 use Rattle.v_elab.specs.Objects.{HeldObject, PieceDriver, objects_of_parts, names_joined}
-use Rattle.v_elab.specs.Flat.{NodeOutput, output_if, output_of_object, outputs_of, inputs_of, node_kind, flat_node, flat_process, walked_nodes, too_many_behaviours, over_nodes, over_parts, over_behaviours, flat_of_parts, second_module, flat_from}
+use Rattle.v_elab.specs.Flat.{NodeOutput, output_if, output_of_object, outputs_of, inputs_of, node_kind, flat_node, flat_process, walked_nodes, too_many_behaviours, over_nodes, over_parts}
+use Rattle.v_elab.specs.Flat.{over_behaviours, flat_of_parts, second_module, flat_from}
 use Rattle.flat_laws.specs.Lists.{AllHold-from}
 use Rattle.flat_laws.specs.Numbered.{at-numbered, AllHold-up_from, AllHold-filter, AllHold-each, AllHold-append}
 use Rattle.node_order.specs.NodeOrder.{ordered_nodes}
@@ -71,7 +72,8 @@ walked-among parts objects nodes =
     )
 
 -- so many objects, and nodes made over them
-pub among-made : (parts : List Part) (objects : List HeldObject) (nodes : List WalkedNode) (count : ℕ) (made : List FlatNode) → count ≡ length objects → made ≡ walked_nodes parts objects nodes → AreAmong count made
+pub among-made : (parts : List Part) (objects : List HeldObject) (nodes : List WalkedNode) (count : ℕ) (made : List FlatNode) → count ≡ length objects → made ≡ walked_nodes parts objects nodes →
+    AreAmong count made
 among-made parts objects nodes count made counted walked = subst (λ n. AreAmong n made) (sym counted) (subst (AreAmong (length objects)) (sym walked) (walked-among parts objects nodes))
 
 pub as-many : (all : List Object) (objects : List HeldObject) → map flats.object_of all ≡ objects_held objects → length all ≡ length objects
@@ -91,16 +93,20 @@ few count least = by_test (nat_lt most_parts count) refl
     by_test true e = absurd (let h = ltb-true most_parts count e in omega (arith, h, least))
 
 -- with few objects the design is that of the nodes in order
-pub made-over : (parts : List Part) (objects : List HeldObject) (nodes : List WalkedNode) (processes : List WalkedProcess) (all : List FlatObject) (made : List FlatNode) → length objects ≤ most_parts →
+pub made-over : (parts : List Part) (objects : List HeldObject) (nodes : List WalkedNode) (processes : List WalkedProcess) (all : List FlatObject) (made : List FlatNode) →
+    length objects ≤ most_parts →
     all ≡ objects_held objects → made ≡ walked_nodes parts objects nodes →
     over_parts parts nodes processes objects ≡ then_go (ordered_nodes all made) (λ sorted. Ok (design_of_nodes parts objects processes sorted))
 made-over parts objects nodes processes all made least are walked =
     ap (λ refused. then_go (unless_refused refused objects) (λ few. over_nodes parts few processes (walked_nodes parts few nodes))) (few (length objects) least)
-    ∙ (nodes-give-design parts objects processes (walked_nodes parts objects nodes) ∙ ap₂ (λ a m. then_go (ordered_nodes a m) (λ sorted. Ok (design_of_nodes parts objects processes sorted))) (sym are) (sym walked))
+    ∙ (nodes-give-design parts objects processes (walked_nodes parts objects nodes) ∙ ap₂ (λ a m. then_go (ordered_nodes a m) (λ sorted. Ok (design_of_nodes parts objects processes sorted)))
+    (sym are) (sym walked))
 
 -- too many objects
-pub many-over : (parts : List Part) (objects : List HeldObject) (nodes : List WalkedNode) (processes : List WalkedProcess) → most_parts < length objects → over_parts parts nodes processes objects ≡ Err (TooMany Objects (most_parts + 1))
-many-over parts objects nodes processes more = ap (λ test. then_go (unless_refused (too_many_if test Objects most_parts) objects) (λ few. over_nodes parts few processes (walked_nodes parts few nodes))) (lt-ltb most_parts (length objects) more)
+pub many-over : (parts : List Part) (objects : List HeldObject) (nodes : List WalkedNode) (processes : List WalkedProcess) → most_parts < length objects →
+    over_parts parts nodes processes objects ≡ Err (TooMany Objects (most_parts + 1))
+many-over parts objects nodes processes more = ap (λ test. then_go (unless_refused (too_many_if test Objects most_parts) objects)
+    (λ few. over_nodes parts few processes (walked_nodes parts few nodes))) (lt-ltb most_parts (length objects) more)
 
 -- what comes behind the counts and the drivers
 pub fine-over : (parts : List Part) → too_many_behaviours (behaviours_of parts) ≡ None → two_drivers (signals_of parts) (nodes_of (behaviours_of parts)) ≡ None →
@@ -112,14 +118,16 @@ fine-over parts counted driven =
 pub counted-over : (parts : List Part) (refusal : Refusal) → too_many_behaviours (behaviours_of parts) ≡ Some refusal → flat_of_parts parts ≡ Err refusal
 counted-over parts refusal counted = ap (λ refused. then_go (unless_refused refused (behaviours_of parts)) (over_behaviours parts)) counted
 
-pub driven-over : (parts : List Part) (refusal : Refusal) → too_many_behaviours (behaviours_of parts) ≡ None → two_drivers (signals_of parts) (nodes_of (behaviours_of parts)) ≡ Some refusal → flat_of_parts parts ≡ Err refusal
+pub driven-over : (parts : List Part) (refusal : Refusal) → too_many_behaviours (behaviours_of parts) ≡ None → two_drivers (signals_of parts) (nodes_of (behaviours_of parts)) ≡ Some refusal →
+    flat_of_parts parts ≡ Err refusal
 driven-over parts refusal counted driven =
     ap (λ refused. then_go (unless_refused refused (behaviours_of parts)) (over_behaviours parts)) counted
     ∙ ap (λ refused. then_go (unless_refused refused (nodes_of (behaviours_of parts))) (λ nodes. over_parts parts nodes (processes_of (behaviours_of parts)) (objects_of_parts parts nodes))) driven
 
 -- A design of some elements
 
-pub design-made : (parts : List Part) (objects : List HeldObject) (processes : List WalkedProcess) (sorted : List FlatNode) (all : List FlatObject) (joins : List NameJoined) (made : List FlatProcess) →
+pub design-made : (parts : List Part) (objects : List HeldObject) (processes : List WalkedProcess) (sorted : List FlatNode) (all : List FlatObject) (joins : List NameJoined)
+    (made : List FlatProcess) →
     all ≡ objects_held objects → joins ≡ names_joined (signals_of parts) objects → made ≡ map (flat_process parts objects) processes →
     design_of_nodes parts objects processes sorted ≡ record { objects = all; joined = joins; nodes = sorted; processes = made }
 design-made parts objects processes sorted all joins made are joined_are made_are =
@@ -128,8 +136,10 @@ design-made parts objects processes sorted all joins made are joined_are made_ar
     ∙ ap (λ (p : List FlatProcess). record { objects = all; joined = joins; nodes = sorted; processes = p }) (sym made_are))
 
 -- with the nodes in order the design is there
-pub sorted-over : (parts : List Part) (objects : List HeldObject) (nodes : List WalkedNode) (processes : List WalkedProcess) (all : List FlatObject) (made sorted : List FlatNode) (joins : List NameJoined) (tasks : List FlatProcess) →
-    length objects ≤ most_parts → all ≡ objects_held objects → made ≡ walked_nodes parts objects nodes → joins ≡ names_joined (signals_of parts) objects → tasks ≡ map (flat_process parts objects) processes →
+pub sorted-over : (parts : List Part) (objects : List HeldObject) (nodes : List WalkedNode) (processes : List WalkedProcess) (all : List FlatObject) (made sorted : List FlatNode)
+    (joins : List NameJoined) (tasks : List FlatProcess) →
+    length objects ≤ most_parts → all ≡ objects_held objects → made ≡ walked_nodes parts objects nodes → joins ≡ names_joined (signals_of parts) objects →
+    tasks ≡ map (flat_process parts objects) processes →
     ordered_nodes all made ≡ Ok sorted → over_parts parts nodes processes objects ≡ Ok (record { objects = all; joined = joins; nodes = sorted; processes = tasks })
 sorted-over parts objects nodes processes all made sorted joins tasks least are walked joined_are tasks_are order =
     made-over parts objects nodes processes all made least are walked
@@ -137,7 +147,8 @@ sorted-over parts objects nodes processes all made sorted joins tasks least are 
     ∙ ap Ok (design-made parts objects processes sorted all joins tasks are joined_are tasks_are))
 
 -- where the nodes are refused, so is the design
-pub refused-over : (parts : List Part) (objects : List HeldObject) (nodes : List WalkedNode) (processes : List WalkedProcess) (all : List FlatObject) (made : List FlatNode) (told : Option Refusal) → length objects ≤ most_parts →
+pub refused-over : (parts : List Part) (objects : List HeldObject) (nodes : List WalkedNode) (processes : List WalkedProcess) (all : List FlatObject) (made : List FlatNode) (told : Option Refusal) →
+    length objects ≤ most_parts →
     all ≡ objects_held objects → made ≡ walked_nodes parts objects nodes → IsRefusal (ordered_nodes all made) told → IsRefusal (over_parts parts nodes processes objects) told
 refused-over parts objects nodes processes all made told least are walked refused =
     subst (λ (answer : Result FlatDesign Refusal). IsRefusal answer told) (sym (made-over parts objects nodes processes all made least are walked))
@@ -146,8 +157,10 @@ refused-over parts objects nodes processes all made told least are walked refuse
 -- From parts and modules
 
 -- where counts and drivers are fine, the design of the parts is that of what they do
-pub whole-over : (parts : List Part) (nodes : List WalkedNode) (processes : List WalkedProcess) (objects : List HeldObject) → nodes ≡ nodes_of (behaviours_of parts) → processes ≡ processes_of (behaviours_of parts) →
-    too_many_behaviours (behaviours_of parts) ≡ None → two_drivers (signals_of parts) nodes ≡ None → objects ≡ objects_of_parts parts nodes → flat_of_parts parts ≡ over_parts parts nodes processes objects
+pub whole-over : (parts : List Part) (nodes : List WalkedNode) (processes : List WalkedProcess) (objects : List HeldObject) → nodes ≡ nodes_of (behaviours_of parts) →
+    processes ≡ processes_of (behaviours_of parts) →
+    too_many_behaviours (behaviours_of parts) ≡ None → two_drivers (signals_of parts) nodes ≡ None → objects ≡ objects_of_parts parts nodes →
+    flat_of_parts parts ≡ over_parts parts nodes processes objects
 whole-over parts nodes processes objects nodes_are processes_are counted driven held =
     fine-over parts counted (subst (λ n. two_drivers (signals_of parts) n ≡ None) nodes_are driven)
     ∙ (ap (λ n. over_parts parts n (processes_of (behaviours_of parts)) (objects_of_parts parts n)) (sym nodes_are)
@@ -160,16 +173,19 @@ told-over parts nodes None nodes_are counted is = tt
 told-over parts nodes (Some refusal) nodes_are counted is = driven-over parts refusal counted (subst (λ n. two_drivers (signals_of parts) n ≡ Some refusal) nodes_are is)
 
 -- the design of a top whose modules have names of their own is that of its walk
-pub top-over : (modules : List SourceModule) (mode : Mode) (found : SourceModule) (named : Option SourceModule) → Some found ≡ named → second_module [] modules ≡ None → flat_from modules mode named ≡ then_go (walked_from modules mode found) flat_of_parts
+pub top-over : (modules : List SourceModule) (mode : Mode) (found : SourceModule) (named : Option SourceModule) → Some found ≡ named → second_module [] modules ≡ None →
+    flat_from modules mode named ≡ then_go (walked_from modules mode found) flat_of_parts
 top-over modules mode found named is once =
     ap (flat_from modules mode) (sym is) ∙ ap (λ refused. then_go (unless_refused refused found) (λ found. then_go (walked_from modules mode found) flat_of_parts)) once
 
-pub twice-over : (modules : List SourceModule) (mode : Mode) (found : SourceModule) (named : Option SourceModule) (refusal : Refusal) → Some found ≡ named → second_module [] modules ≡ Some refusal → flat_from modules mode named ≡ Err refusal
+pub twice-over : (modules : List SourceModule) (mode : Mode) (found : SourceModule) (named : Option SourceModule) (refusal : Refusal) → Some found ≡ named → second_module [] modules ≡ Some refusal →
+    flat_from modules mode named ≡ Err refusal
 twice-over modules mode found named refusal is twice =
     ap (flat_from modules mode) (sym is) ∙ ap (λ refused. then_go (unless_refused refused found) (λ found. then_go (walked_from modules mode found) flat_of_parts)) twice
 
 -- designs of the same lists are one
-pub same-design : (objects objects' : List Object) (joins joins' : List JoinedName) (nodes nodes' : List Node) (processes processes' : List Process) → objects ≡ objects' → joins ≡ joins' → nodes ≡ nodes' → processes ≡ processes' →
+pub same-design : (objects objects' : List Object) (joins joins' : List JoinedName) (nodes nodes' : List Node) (processes processes' : List Process) → objects ≡ objects' → joins ≡ joins' →
+    nodes ≡ nodes' → processes ≡ processes' →
     flats.flat_design objects joins nodes processes ≡ flats.flat_design objects' joins' nodes' processes'
 same-design objects objects' joins joins' nodes nodes' processes processes' a b c d =
     ap₂ (λ o j. flats.flat_design o j nodes processes) a b ∙ ap₂ (λ n p. flats.flat_design objects' joins' n p) c d

@@ -42,7 +42,8 @@ Orders wanted (Err fault) = IsFaultOf wanted fault
 pub record AreMadeOver (names : NameTables) (widths : List ℕ) (outputs : List (List NodeOutput)) (nodes : List WalkedNode) (processes : List WalkedProcess) (made : Made) : Type 0 where
   pub nodes_are : (parts : List Part) (objects : List HeldObject) → AreNamesOf parts objects names → widths ≡ widths_of objects → outputs ≡ map (outputs_of objects) (up_from 0 (length nodes)) →
       map flats.node_of made.nodes.items ≡ walked_nodes parts objects nodes
-  pub processes_are : (parts : List Part) (objects : List HeldObject) → AreNamesOf parts objects names → widths ≡ widths_of objects → map flats.process_of made.processes.items ≡ map (flat_process parts objects) processes
+  pub processes_are : (parts : List Part) (objects : List HeldObject) → AreNamesOf parts objects names → widths ≡ widths_of objects →
+      map flats.process_of made.processes.items ≡ map (flat_process parts objects) processes
 
 -- the joined names, the nodes in the order of the walk, and the processes over some objects
 pub record AreMade (parts : List Part) (objects : List HeldObject) (nodes : List WalkedNode) (processes : List WalkedProcess) (made : Vec JoinedName Global × Made) : Type 0 where

@@ -13,7 +13,8 @@ use Rattle.v_design.specs.States.{State, Event, Step, LaneStep, Evaluation, NetU
 use Rattle.v_design.specs.Accesses.{is_waiting}
 use Rattle.v_design.specs.PhaseLogs.{NotedEvent, state_after, changes_one, changes_input, may_cause, cause_of, noted_at, writer_process, writer_line, note_of}
 use Rattle.graph_order.specs.ListLaws.{now_has, still_has}
-use Rattle.event_causes.specs.Causes.{place_within, IsLatest, greatest_number, EventWriter, noted_writer, cause_writer, changes_among, AreCausesOf, Tells, IsWriterOf, Marks, Marked, Begins, SameSizes, writer_of}
+use Rattle.event_causes.specs.Causes.{place_within, IsLatest, greatest_number, EventWriter, noted_writer, cause_writer, changes_among, AreCausesOf, Tells, IsWriterOf, Marks, Marked, Begins}
+use Rattle.event_causes.specs.Causes.{SameSizes, writer_of}
 use Rattle.event_causes.specs.declared.causes.Causes.{Causes}
 use Rattle.event_causes.specs.declared.causes.Writer.{Writer}
 use Rattle.vf_base.specs.declared.ids.ObjectId.{ObjectId}
@@ -103,11 +104,13 @@ last_place-push test (y ∷ ys) x = ap (later_place (test y)) (last_place-push t
 -- The latest event
 
 -- one more event: where it passes the test, its number is that of the latest
-pub IsLatest-more : (base next : ℕ) (test : NotedEvent → Bool) (earlier : List NotedEvent) (number : ℕ) (noted : NotedEvent) (b : Bool) → IsLatest base next test earlier number → next ≡ base + length earlier → b ≡ test noted →
+pub IsLatest-more : (base next : ℕ) (test : NotedEvent → Bool) (earlier : List NotedEvent) (number : ℕ) (noted : NotedEvent) (b : Bool) → IsLatest base next test earlier number →
+    next ≡ base + length earlier → b ≡ test noted →
     IsLatest base (next + 1) test (earlier ++ noted ∷ []) (cond b next number)
 IsLatest-more base next test earlier number noted true had counted is = record {
   below = omega arith;
-  tells = place_at base next (omega arith) ∙ ap Some (let e : next - base ≡ length earlier = omega arith in e) ∙ sym (last_place-push test earlier noted ∙ ap (λ b. cond b (Some (length earlier)) (last_place test earlier)) (sym is));
+  tells = place_at base next (omega arith) ∙ ap Some (let e : next - base ≡ length earlier = omega arith in e)
+      ∙ sym (last_place-push test earlier noted ∙ ap (λ b. cond b (Some (length earlier)) (last_place test earlier)) (sym is));
 }
 IsLatest-more base next test earlier number noted false had counted is = record {
   below = let low : number < next = had.below in omega arith;
@@ -166,7 +169,8 @@ Marks-first x places number old new within had = record {
 
 -- before all events
 pub AreCausesOf-start : (machine : Machine) (causes : Causes) → causes.base ≡ 1 → causes.next ≡ 1 → causes.writers.items ≡ [] →
-    causes.steps.items ≡ replicate (length machine.design.processes) 0 → causes.lanes.items ≡ replicate (length machine.design.processes) 0 → causes.changes.items ≡ replicate (length machine.design.objects) 0 →
+    causes.steps.items ≡ replicate (length machine.design.processes) 0 → causes.lanes.items ≡ replicate (length machine.design.processes) 0 →
+    causes.changes.items ≡ replicate (length machine.design.objects) 0 →
     AreCausesOf machine [] causes
 AreCausesOf-start machine causes base next writers steps lanes changes =
     let zero-at : (table : List ℕ) (count i : ℕ) → table ≡ replicate count 0 → i < length table → get_or table i 0 ≡ 0 =
@@ -198,11 +202,14 @@ AreCausesOf-phase machine earlier old new had base next writers steps lanes chan
       some = omega (arith, had.some, had.counted);
       counted = omega arith;
       steps = λ process h. latest (may_cause machine (Step process)) _
-          (subst (λ t. IsLatest old.base old.next (may_cause machine (Step process)) earlier (get_or t process 0)) (sym steps) (had.steps process (let e : length new.steps.items ≡ length old.steps.items = ap length steps in omega arith)));
+          (subst (λ t. IsLatest old.base old.next (may_cause machine (Step process)) earlier (get_or t process 0)) (sym steps)
+          (had.steps process (let e : length new.steps.items ≡ length old.steps.items = ap length steps in omega arith)));
       lanes = λ process h. latest (may_cause machine (LaneStep process)) _
-          (subst (λ t. IsLatest old.base old.next (may_cause machine (LaneStep process)) earlier (get_or t process 0)) (sym lanes) (had.lanes process (let e : length new.lanes.items ≡ length old.lanes.items = ap length lanes in omega arith)));
+          (subst (λ t. IsLatest old.base old.next (may_cause machine (LaneStep process)) earlier (get_or t process 0)) (sym lanes)
+          (had.lanes process (let e : length new.lanes.items ≡ length old.lanes.items = ap length lanes in omega arith)));
       changes = λ object h. latest (changes_among machine (object ∷ [])) _
-          (subst (λ t. IsLatest old.base old.next (changes_among machine (object ∷ [])) earlier (get_or t object 0)) (sym changes) (had.changes object (let e : length new.changes.items ≡ length old.changes.items = ap length changes in omega arith)));
+          (subst (λ t. IsLatest old.base old.next (changes_among machine (object ∷ [])) earlier (get_or t object 0)) (sym changes)
+          (had.changes object (let e : length new.changes.items ≡ length old.changes.items = ap length changes in omega arith)));
       writers = ap (map _) writers;
     }
 
@@ -214,7 +221,8 @@ pub AreCausesOf-more : (machine : Machine) (earlier : List NotedEvent) (noted : 
     ((object : ℕ) → object < length machine.design.objects → has changed object ≡ changes_among machine (object ∷ []) noted) →
     AreCausesOf machine (earlier ++ noted ∷ []) new
 AreCausesOf-more machine earlier noted stepped laned changed old new had marked step lane change =
-    let latest : (test : NotedEvent → Bool) (number : ℕ) (b : Bool) → IsLatest old.base old.next test earlier number → b ≡ test noted → IsLatest new.base new.next test (earlier ++ noted ∷ []) (cond b old.next number) =
+    let latest : (test : NotedEvent → Bool) (number : ℕ) (b : Bool) → IsLatest old.base old.next test earlier number → b ≡ test noted →
+    IsLatest new.base new.next test (earlier ++ noted ∷ []) (cond b old.next number) =
     λ test number b h is.
     subst (λ m. IsLatest m new.next test (earlier ++ noted ∷ []) (cond b old.next number)) (sym marked.base)
     (subst (λ n. IsLatest old.base n test (earlier ++ noted ∷ []) (cond b old.next number)) (sym marked.next) (IsLatest-more old.base old.next test earlier number noted b h had.counted is)) in
@@ -248,10 +256,12 @@ or-false : (b : Bool) → b ≡ (b || false)
 or-false true = refl
 or-false false = refl
 
-writer-is : (machine : Machine) (earlier : List NotedEvent) (state : State) (event : Event) (writer : EventWriter) → IsWriterOf machine earlier state event writer → writer ≡ noted_writer (note_of machine earlier state event)
+writer-is : (machine : Machine) (earlier : List NotedEvent) (state : State) (event : Event) (writer : EventWriter) → IsWriterOf machine earlier state event writer →
+    writer ≡ noted_writer (note_of machine earlier state event)
 writer-is machine earlier state event writer is = λ i. record { process = is.process i; line = is.line i }
 
-changes-told : (machine : Machine) (earlier : List NotedEvent) (state : State) (event : Event) (changed ended : List ℕ) → Tells machine state event changed ended → (object : ℕ) → object < length machine.design.objects →
+changes-told : (machine : Machine) (earlier : List NotedEvent) (state : State) (event : Event) (changed ended : List ℕ) → Tells machine state event changed ended → (object : ℕ) →
+    object < length machine.design.objects →
     has changed object ≡ changes_among machine (object ∷ []) (note_of machine earlier state event)
 changes-told machine earlier state event changed ended tells object low = tells.objects object low ∙ or-false _
 
@@ -262,7 +272,8 @@ pub notes-step : (machine : Machine) (earlier : List NotedEvent) (state : State)
 notes-step machine earlier state process writer changed ended old new had tells is marked =
     AreCausesOf-more machine earlier (note_of machine earlier state (Step process)) (process ∷ ended) [] changed old new had
     (subst (λ w. Marked (process ∷ ended) [] changed w old new) (writer-is machine earlier state (Step process) writer is) marked)
-    (λ p low. ap (λ b. nat_eq process p || b) (tells.waits p low) ∙ ap (λ b. b || (is_waiting (process_at state p).activity && is_ready (process_at (after machine state (Step process)) p).activity)) (nat_eq-swap process p))
+    (λ p low. ap (λ b. nat_eq process p || b) (tells.waits p low) ∙ ap (λ b. b || (is_waiting (process_at state p).activity && is_ready (process_at (after machine state (Step process)) p).activity))
+    (nat_eq-swap process p))
     (λ p low. refl) (changes-told machine earlier state (Step process) changed ended tells)
 
 -- a step of a lane
@@ -285,12 +296,14 @@ notes-update machine earlier state node writer changed ended old new had tells i
 
 -- the cause of a node's event is the latest change of one of its inputs
 pub node-cause : (machine : Machine) (earlier : List NotedEvent) (number : ℕ) (node : FlatNode) → slice_get machine.design.nodes number ≡ Some node →
-    (last_place (changes_among machine node.inputs) earlier ≡ cause_of machine earlier (Evaluation number)) × (last_place (changes_among machine node.inputs) earlier ≡ cause_of machine earlier (NetUpdate number))
+    (last_place (changes_among machine node.inputs) earlier ≡ cause_of machine earlier (Evaluation number))
+    × (last_place (changes_among machine node.inputs) earlier ≡ cause_of machine earlier (NetUpdate number))
 node-cause machine earlier number node is =
     (sym (ap (λ found. last_place (changes_input machine found) earlier) is), sym (ap (λ found. last_place (changes_input machine found) earlier) is))
 
 -- an evaluation of a node keeps each object's value
-evaluation-keeps : (machine : Machine) (state : State) (node : ℕ) (found : Option FlatNode) (object : ℕ) → false ≡ not (same_value (value_at state.values object) (value_at (evaluated machine node found state).values object))
+evaluation-keeps : (machine : Machine) (state : State) (node : ℕ) (found : Option FlatNode) (object : ℕ) →
+    false ≡ not (same_value (value_at state.values object) (value_at (evaluated machine node found state).values object))
 evaluation-keeps machine state node None object = sym (ap not (same_value-refl (value_at state.values object)))
 evaluation-keeps machine state node (Some n) object = sym (ap not (same_value-refl (value_at state.values object)))
 
@@ -396,13 +409,17 @@ pub lane-cause : (machine : Machine) (earlier : List NotedEvent) (causes : Cause
 lane-cause machine earlier causes process had low = (had.lanes process low).tells
 
 -- the latest event that changed one of some objects
-pub latest-change : (machine : Machine) (earlier : List NotedEvent) (causes : Causes) (objects : List ℕ) → AreCausesOf machine earlier causes → AllHold (λ object. object < length causes.changes.items) objects →
+pub latest-change : (machine : Machine) (earlier : List NotedEvent) (causes : Causes) (objects : List ℕ) → AreCausesOf machine earlier causes →
+    AllHold (λ object. object < length causes.changes.items) objects →
     place_within causes.base (greatest_number causes.changes.items objects) ≡ last_place (changes_among machine objects) earlier
 latest-change machine earlier causes [] had low = place_below causes.base 0 (omega (arith, had.some)) ∙ sym (last_place-never earlier)
 latest-change machine earlier causes (object ∷ objects) had low =
     place_of_max causes.base (get_or causes.changes.items object 0) (greatest_number causes.changes.items objects)
-    ∙ ap (λ p. later_of p (place_within causes.base (greatest_number causes.changes.items objects))) ((had.changes object low.0).tells ∙ ap (λ t. last_place t earlier) (λ i noted. sym (or-false (not (same_value (value_at noted.before.values object) (value_at (state_after machine noted).values object)))) i))
-    ∙ ap (later_of (last_place (λ noted. not (same_value (value_at noted.before.values object) (value_at (state_after machine noted).values object))) earlier)) (latest-change machine earlier causes objects had low.1)
+    ∙ ap (λ p. later_of p (place_within causes.base (greatest_number causes.changes.items objects)))
+    ((had.changes object low.0).tells ∙ ap (λ t. last_place t earlier) (λ i noted. sym
+    (or-false (not (same_value (value_at noted.before.values object) (value_at (state_after machine noted).values object)))) i))
+    ∙ ap (later_of (last_place (λ noted. not (same_value (value_at noted.before.values object) (value_at (state_after machine noted).values object))) earlier))
+    (latest-change machine earlier causes objects had low.1)
     ∙ sym (last_place-or (λ (noted : NotedEvent). not (same_value (value_at noted.before.values object) (value_at (state_after machine noted).values object))) (changes_among machine objects) earlier)
 
 -- From the code's lists
@@ -413,8 +430,10 @@ all-numbers P [] h = tt
 all-numbers P (object ∷ objects) h = (h 0 object (omega arith), all-numbers P objects (λ k d low. h (suc k) d (omega arith)))
 
 -- an event that begins, and the places that get its number
-pub marked-by : (stepped laned changed : List ℕ) (writer : Writer) (number : ℕ) (old mid new : Causes) → Begins writer number old mid → new.base ≡ mid.base → new.next ≡ mid.next → new.writers.items ≡ mid.writers.items →
-    Marks stepped number mid.steps.items new.steps.items → Marks laned number mid.lanes.items new.lanes.items → Marks changed number mid.changes.items new.changes.items → Marked stepped laned changed (writer_of writer) old new
+pub marked-by : (stepped laned changed : List ℕ) (writer : Writer) (number : ℕ) (old mid new : Causes) → Begins writer number old mid → new.base ≡ mid.base → new.next ≡ mid.next →
+    new.writers.items ≡ mid.writers.items →
+    Marks stepped number mid.steps.items new.steps.items → Marks laned number mid.lanes.items new.lanes.items → Marks changed number mid.changes.items new.changes.items →
+    Marked stepped laned changed (writer_of writer) old new
 marked-by stepped laned changed writer number old mid new begins base next writers steps lanes changes =
     let moved : (places from to : List ℕ) (before : List ℕ) → from ≡ before → Marks places number from to → Marks places old.next before to =
     λ places from to before same marks. subst (λ n. Marks places n before to) begins.number_is (subst (λ f. Marks places number f to) same marks) in
@@ -428,7 +447,8 @@ marked-by stepped laned changed writer number old mid new begins base next write
     }
 
 -- the sizes of the tables stay
-pub sizes-kept : (stepped laned changed : List ℕ) (number : ℕ) (writer : Writer) (old mid new : Causes) → Begins writer number old mid → Marks stepped number mid.steps.items new.steps.items → Marks laned number mid.lanes.items new.lanes.items →
+pub sizes-kept : (stepped laned changed : List ℕ) (number : ℕ) (writer : Writer) (old mid new : Causes) → Begins writer number old mid → Marks stepped number mid.steps.items new.steps.items →
+    Marks laned number mid.lanes.items new.lanes.items →
     Marks changed number mid.changes.items new.changes.items → SameSizes old new
 sizes-kept stepped laned changed number writer old mid new begins steps lanes changes = record {
   steps = steps.same_length ∙ ap length begins.steps;

@@ -106,7 +106,8 @@ NotesEvaluation cause old new =
 -- the same of an update of a node's nets, which follows its cause
 abbrev pub NotesUpdate : (cause : Option ℕ) (changed ended : List ℕ) (old new : Causes) → Type 0
 NotesUpdate cause changed ended old new =
-    (machine : Machine) (earlier : List NotedEvent) (state : State) (node : ℕ) → AreCausesOf machine earlier old → Tells machine state (NetUpdate node) changed ended → cause ≡ cause_of machine earlier (NetUpdate node) →
+    (machine : Machine) (earlier : List NotedEvent) (state : State) (node : ℕ) → AreCausesOf machine earlier old → Tells machine state (NetUpdate node) changed ended →
+    cause ≡ cause_of machine earlier (NetUpdate node) →
     AreCausesOf machine (earlier ++ note_of machine earlier state (NetUpdate node) ∷ []) new
 
 -- Tables

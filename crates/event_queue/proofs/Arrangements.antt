@@ -1,5 +1,6 @@
 -- How the arrangement by time follows the changes by process.
-use Rattle.std.proofs.Common.{◌≡◌, ℕ, zero, suc, ◌+◌, ◌<◌, ◌≤◌, Bool, true, false, List, [], ◌∷◌, length, map, cond, Option, Some, None, refl, sym, ◌∙◌, ap, arith, nat_eq, nat_lt, nat_cmp, add-zero, zero-add, subst}
+use Rattle.std.proofs.Common.{◌≡◌, ℕ, zero, suc, ◌+◌, ◌<◌, ◌≤◌, Bool, true, false, List, [], ◌∷◌, length, map, cond, Option, Some, None, refl, sym, ◌∙◌, ap, arith, nat_eq, nat_lt, nat_cmp, add-zero}
+use Rattle.std.proofs.Common.{zero-add, subst}
 use Rattle.std.specs.Option.{option_map}
 use Rattle.std.specs.BTreeMap.{BTreeMap, get}
 use Rattle.std.proofs.lemmas.Bool.{lt-ltb, le-ltb, eq-eqb, eqb-true}
@@ -49,7 +50,8 @@ with_process-numbers_where test change n (suc k) (x ∷ xs) less fails passes =
     elim (test x) as (λ b. with_process (process_of (n + suc k)) (map process_of (number_if b n (numbers_where test (n + 1) xs)))
     ≡ map process_of (number_if b n (numbers_where test (n + 1) (change_at xs k change)))) [
       | true ↦
-          ap (λ b. process_before b (process_of (n + suc k)) (process_of n) (map process_of (numbers_where test (n + 1) xs)) (with_process (process_of (n + suc k)) (map process_of (numbers_where test (n + 1) xs))))
+          ap (λ b. process_before b (process_of (n + suc k)) (process_of n) (map process_of (numbers_where test (n + 1) xs))
+          (with_process (process_of (n + suc k)) (map process_of (numbers_where test (n + 1) xs))))
           (lt-ltb n (n + suc k) (omega arith))
           ∙ ap (λ ps. process_of n ∷ ps) rest
       | false ↦ rest

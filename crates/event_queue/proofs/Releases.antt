@@ -12,7 +12,8 @@ use Rattle.event_queue.specs.declared.held.Holding.{Holding}
 use Rattle.event_queue.specs.declared.held.Holding.TheVariants.{Free, Asleep, Postponed}
 use Rattle.event_queue.specs.Queues.{HeldProcess, with_holding, is_postponed, free_if, released, numbers_where, lane_if, lanes_from}
 use Rattle.event_queue.specs.Arranged.{wakes_at, is_at, updates_at, without_at, lane_of, listed_in, IsArranged, process_of, processes_where, changed_each}
-use Rattle.event_queue.proofs.Numbers.{AllHold-each, numbers_where-same, numbers_where-none, numbers_where-map, numbers_where-some_in, lanes_from-same, lanes_from-none, lanes_from-map, change_if, changed_each-numbers_where, map-same}
+use Rattle.event_queue.proofs.Numbers.{AllHold-each, numbers_where-same, numbers_where-none, numbers_where-map, numbers_where-some_in, lanes_from-same, lanes_from-none, lanes_from-map, change_if}
+use Rattle.event_queue.proofs.Numbers.{changed_each-numbers_where, map-same}
 use Rattle.event_queue.proofs.Arrangements.{cond-either, numbers-processes}
 
 -- What is released
@@ -50,7 +51,8 @@ pub changed_each-released : (release : Holding → Bool) (held : List HeldProces
 changed_each-released release held =
     ap (λ ns. changed_each (with_holding Free) ns held) (numbers-processes (numbers_where (λ (h : HeldProcess). release h.holding) 0 held))
     ∙ (changed_each-numbers_where (with_holding Free) (λ (h : HeldProcess). release h.holding) [] held 0 refl
-    ∙ map-same (λ (h : HeldProcess). change_if (release h.holding) (with_holding Free) h) (λ (h : HeldProcess). free_if (release h.holding) h) held (AllHold-each _ (λ h. same (release h.holding) h) held))
+    ∙ map-same (λ (h : HeldProcess). change_if (release h.holding) (with_holding Free) h) (λ (h : HeldProcess). free_if (release h.holding) h) held
+    (AllHold-each _ (λ h. same (release h.holding) h) held))
   where
     same : (b : Bool) (h : HeldProcess) → change_if b (with_holding Free) h ≡ free_if b h
     same true h = refl
@@ -173,7 +175,8 @@ updates_at-is_any : (t : ℕ) (later : List LaterUpdate) → is_any (map (λ (l 
 updates_at-is_any t [] = refl
 updates_at-is_any t (l ∷ later) =
     let rest = updates_at-is_any t later in
-    elim (is_at t l) as (λ b. is_any (map (λ (l : LaterUpdate). l.update) (cond b (l ∷ filter (is_at t) later) (filter (is_at t) later))) ≡ (b || some_in (is_at t) later)) [ true ↦ refl | false ↦ rest ]
+    elim (is_at t l) as (λ b. is_any (map (λ (l : LaterUpdate). l.update) (cond b (l ∷ filter (is_at t) later) (filter (is_at t) later))) ≡ (b || some_in (is_at t) later))
+    [ true ↦ refl | false ↦ rest ]
 
 -- a lane, if there are updates, and others
 lane_if-is_any : (n : ℕ) (us : List ValueUpdate) (ls : List (ℕ × List ValueUpdate)) (b : Bool) → is_any ls ≡ b → is_any (lane_if n us ls) ≡ (is_any us || b)
@@ -240,7 +243,8 @@ module _ (held : List HeldProcess) (postponed : List ProcId) (sleepers : BTreeMa
       lanes_are = λ q.
           let none : lanes_from (updates_at t) 0 (map (without_at t) held) ≡ [] =
           lanes_from-map (without_at t) (updates_at t) 0 held
-          ∙ (lanes_from-same (λ h. updates_at t (without_at t h)) (λ h. []) 0 held (AllHold-each _ (λ h. ap (map (λ (l : LaterUpdate). l.update)) (without-gone t h.later)) held) ∙ lanes_from-none 0 held) in
+          ∙ (lanes_from-same (λ h. updates_at t (without_at t h)) (λ h. []) 0 held (AllHold-each _ (λ h. ap (map (λ (l : LaterUpdate). l.update)) (without-gone t h.later)) held)
+          ∙ lanes_from-none 0 held) in
           let taken : nat_eq t q ≡ true → None ≡ listed_in (lanes_from (updates_at q) 0 (map (without_at t) held)) = λ e.
           let Goal : ℕ → Type 0 = λ s. None ≡ listed_in (lanes_from (updates_at s) 0 (map (without_at t) held)) in
           subst Goal (eqb-true t q e) (ap listed_in (sym none)) in

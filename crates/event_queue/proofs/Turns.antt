@@ -6,7 +6,8 @@ use Rattle.v_design.specs.Assignments.{ValueUpdate}
 use Rattle.v_design.specs.States.{LaterUpdate, some_in, is_due, turn_by, TurnKind, PostponedTurn, UpdatesTurn, TimeTurn, due_time, least_of}
 use Rattle.event_queue.specs.declared.held.Holding.{Holding}
 use Rattle.event_queue.specs.declared.held.Holding.TheVariants.{Free, Asleep, Postponed}
-use Rattle.event_queue.specs.Queues.{HeldProcess, ComesAfter, HoldsNothing, TurnRegion, is_postponed, wakes_by, wake_time, next_time, next_turn, updates_due, without_due, released, free_if, numbers_where, lanes_from, region_of, next_region, held_after_turn, held_after}
+use Rattle.event_queue.specs.Queues.{HeldProcess, ComesAfter, HoldsNothing, TurnRegion, is_postponed, wakes_by, wake_time, next_time, next_turn, updates_due, without_due, released, free_if}
+use Rattle.event_queue.specs.Queues.{numbers_where, lanes_from, region_of, next_region, held_after_turn, held_after}
 use Rattle.event_queue.specs.Arranged.{wakes_at, is_at, updates_at, without_at, lane_of, processes_where, TakesPostponed, TakesLanes}
 use Rattle.event_queue.proofs.Arrangements.{numbers-processes}
 use Rattle.vf_base.specs.declared.ids.ProcId.{ProcId}

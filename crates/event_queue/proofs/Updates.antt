@@ -1,5 +1,6 @@
 -- How the lanes of a time follow the appends of updates.
-use Rattle.std.proofs.Common.{◌≡◌, ℕ, zero, suc, ◌+◌, ◌<◌, ◌≤◌, Bool, true, false, List, [], ◌∷◌, ◌++◌, length, map, filter, cond, Option, Some, refl, sym, ◌∙◌, ap, arith, nat_eq, nat_lt, nat_cmp, add-zero, zero-add, subst}
+use Rattle.std.proofs.Common.{◌≡◌, ℕ, zero, suc, ◌+◌, ◌<◌, ◌≤◌, Bool, true, false, List, [], ◌∷◌, ◌++◌, length, map, filter, cond, Option, Some, refl, sym, ◌∙◌, ap, arith, nat_eq, nat_lt, nat_cmp}
+use Rattle.std.proofs.Common.{add-zero, zero-add, subst}
 use Rattle.std.specs.Option.{option_map}
 use Rattle.std.specs.BTreeMap.{BTreeMap, get}
 use Rattle.std.proofs.lemmas.Bool.{lt-ltb, le-ltb, ne_eqb, eq-eqb, eqb-true}
@@ -136,13 +137,15 @@ module _ (held : List HeldProcess) (postponed : List ProcId) (sleepers : BTreeMa
               let full : listed_in (lanes_from (updates_at t) 0 (change_at held p.0 change)) ≡ Some (lanes_from (updates_at t) 0 (change_at held p.0 change)) =
               let Full : List (ℕ × List ValueUpdate) → Type 0 = λ ls. listed_in ls ≡ Some ls in
               subst Full (sym (with_update-plain p u (list_or_none (get nat_cmp lanes t))) ∙ there) (listed_in-with_plain p.0 (update_of u) (map lane_of (list_or_none (get nat_cmp lanes t)))) in
-              let put_in : nat_eq t q ≡ true → option_map (map lane_of) (Some (with_update p u (list_or_none (get nat_cmp lanes t)))) ≡ listed_in (lanes_from (updates_at q) 0 (change_at held p.0 change)) = λ e.
+              let put_in : nat_eq t q ≡ true → option_map (map lane_of) (Some (with_update p u (list_or_none (get nat_cmp lanes t)))) ≡ listed_in
+              (lanes_from (updates_at q) 0 (change_at held p.0 change)) = λ e.
               let Goal : ℕ → Type 0 = λ s. Some (map lane_of (with_update p u (list_or_none (get nat_cmp lanes t)))) ≡ listed_in (lanes_from (updates_at s) 0 (change_at held p.0 change)) in
               subst Goal (eqb-true t q e) (ap Some there ∙ sym full) in
               ap (option_map (map lane_of)) (put q) ∙ mapped q _ (nat_eq t q) put_in unchanged;
         }
       where
         mapped : (q : ℕ) (z : Option (List (ℕ × List ValueUpdate))) (b : Bool) → (b ≡ true → option_map (map lane_of) (Some (with_update p u (list_or_none (get nat_cmp lanes t)))) ≡ z)
-            → (b ≡ false → option_map (map lane_of) (get nat_cmp lanes q) ≡ z) → option_map (map lane_of) (cond b (Some (with_update p u (list_or_none (get nat_cmp lanes t)))) (get nat_cmp lanes q)) ≡ z
+            → (b ≡ false → option_map (map lane_of) (get nat_cmp lanes q) ≡ z) → option_map (map lane_of)
+            (cond b (Some (with_update p u (list_or_none (get nat_cmp lanes t)))) (get nat_cmp lanes q)) ≡ z
         mapped q z true f g = f refl
         mapped q z false f g = g refl

@@ -6,9 +6,11 @@ use Rattle.v_design.specs.Assignments.{ValueUpdate}
 use Rattle.v_design.specs.Processes as process
 use Rattle.v_design.specs.Processes.{Activity}
 use Rattle.v_design.specs.States as state
-use Rattle.v_design.specs.States.{State, ProcessState, LaterUpdate, TurnKind, PostponedTurn, UpdatesTurn, TimeTurn, turn_of, turned, turn_by, some_in, is_due, next_time_of, least_of, due_time, found_or, idle_process, process_at}
+use Rattle.v_design.specs.States.{State, ProcessState, LaterUpdate, TurnKind, PostponedTurn, UpdatesTurn, TimeTurn, turn_of, turned, turn_by, some_in, is_due, next_time_of, least_of, due_time}
+use Rattle.v_design.specs.States.{found_or, idle_process, process_at}
 use Rattle.event_queue.specs.declared.held.Holding.TheVariants.{Asleep}
-use Rattle.event_queue.specs.Queues.{HeldProcess, TurnRegion, holding_of, held_of, held_at, is_postponed, wakes_by, wake_time, next_time, next_turn, region_of, next_region, held_after_turn, held_after, without_due, free_if, number_if, numbers_where, lane_if, lanes_from, updates_due}
+use Rattle.event_queue.specs.Queues.{HeldProcess, TurnRegion, holding_of, held_of, held_at, is_postponed, wakes_by, wake_time, next_time, next_turn, region_of, next_region, held_after_turn}
+use Rattle.event_queue.specs.Queues.{held_after, without_due, free_if, number_if, numbers_where, lane_if, lanes_from, updates_due}
 
 -- What a turn activates in a state
 
@@ -145,8 +147,10 @@ awake-held now later lane process.Done = refl
 -- what is held after a turn is held of the state after it
 turned-held : (turn : TurnKind) (now : State) → held_after_turn now.time (Some turn) (map held_of now.processes) ≡ map held_of (turned turn now).processes
 turned-held PostponedTurn now =
-    map-map held_of (λ (h : HeldProcess). free_if (is_postponed h.holding) h) (λ (p : ProcessState). held_of (record p { activity = state.resumed p.activity })) (λ p. resumed-held p.later p.lane p.activity) now.processes
-    ∙ sym (map-map (λ (p : ProcessState). record p { activity = state.resumed p.activity }) held_of (λ (p : ProcessState). held_of (record p { activity = state.resumed p.activity })) (λ p. refl) now.processes)
+    map-map held_of (λ (h : HeldProcess). free_if (is_postponed h.holding) h) (λ (p : ProcessState). held_of (record p { activity = state.resumed p.activity }))
+    (λ p. resumed-held p.later p.lane p.activity) now.processes
+    ∙ sym (map-map (λ (p : ProcessState). record p { activity = state.resumed p.activity }) held_of (λ (p : ProcessState). held_of (record p { activity = state.resumed p.activity }))
+    (λ p. refl) now.processes)
 turned-held UpdatesTurn now =
     map-map held_of (without_due now.time) (λ (p : ProcessState). without_due now.time (held_of p)) (λ p. refl) now.processes
     ∙ sym (map-map
@@ -156,8 +160,10 @@ turned-held UpdatesTurn now =
     })
     held_of (λ (p : ProcessState). without_due now.time (held_of p)) (λ p. refl) now.processes)
 turned-held (TimeTurn time) now =
-    map-map held_of (λ (h : HeldProcess). free_if (wakes_by time h.holding) h) (λ (p : ProcessState). held_of (record p { activity = state.awake_at time p.activity })) (λ p. awake-held time p.later p.lane p.activity) now.processes
-    ∙ sym (map-map (λ (p : ProcessState). record p { activity = state.awake_at time p.activity }) held_of (λ (p : ProcessState). held_of (record p { activity = state.awake_at time p.activity })) (λ p. refl) now.processes)
+    map-map held_of (λ (h : HeldProcess). free_if (wakes_by time h.holding) h) (λ (p : ProcessState). held_of (record p { activity = state.awake_at time p.activity }))
+    (λ p. awake-held time p.later p.lane p.activity) now.processes
+    ∙ sym (map-map (λ (p : ProcessState). record p { activity = state.awake_at time p.activity }) held_of (λ (p : ProcessState). held_of (record p { activity = state.awake_at time p.activity }))
+    (λ p. refl) now.processes)
 
 pub held_after-held : (now : State) (turn : TurnKind) → turn_of now ≡ Some turn → held_after now.time (map held_of now.processes) ≡ map held_of (turned turn now).processes
 held_after-held now turn next =

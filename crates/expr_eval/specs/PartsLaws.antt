@@ -5,7 +5,9 @@ use Rattle.std.proofs.lemmas.List.{drop_more, drop_all, append_assoc}
 use Rattle.four_value.specs.Values.{LogicValue}
 use Rattle.four_value.specs.Operators.{NeedsEqualWidths}
 use Rattle.four_value.specs.declared.operator.BinaryOperator.{BinaryOperator}
-use Rattle.four_value.specs.declared.operator.BinaryOperator.TheVariants.{Multiply, Divide, Remainder, Add, Subtract, ShiftLeft, ShiftRight, ArithmeticShiftLeft, ArithmeticShiftRight, Less, LessEqual, Greater, GreaterEqual, Equal, NotEqual, CaseEqual, CaseNotEqual, BitwiseAnd, BitwiseXor, BitwiseXnor, BitwiseOr, LogicalAnd, LogicalOr}
+use Rattle.four_value.specs.declared.operator.BinaryOperator.TheVariants.{Multiply, Divide, Remainder, Add, Subtract, ShiftLeft, ShiftRight, ArithmeticShiftLeft, ArithmeticShiftRight, Less}
+use Rattle.four_value.specs.declared.operator.BinaryOperator.TheVariants.{LessEqual, Greater, GreaterEqual, Equal, NotEqual, CaseEqual, CaseNotEqual, BitwiseAnd, BitwiseXor, BitwiseXnor, BitwiseOr}
+use Rattle.four_value.specs.declared.operator.BinaryOperator.TheVariants.{LogicalAnd, LogicalOr}
 use Rattle.vf_base.specs.Lists.{AllHold}
 use Rattle.v_design.specs.Trees.{Memory, Expression}
 use Rattle.v_design.specs.declared.tree.FlatExpr.{FlatExpr}
@@ -16,7 +18,8 @@ use Rattle.v_design.specs.Expressions.{width_of, value_of, parts_value, word_at,
 use Rattle.expr_eval.specs.Operands.{IsThere, AreThere}
 use Rattle.expr_eval.specs.WidthLaws.{AllHold-left, AllHold-right, length-parts_value}
 
-word_of : (values : List LogicValue) (width : ℕ) (words : List ℕ) (k o : ℕ) → AllHold (IsThere values) (map (λ word. record { object = word; width = width }) words) → slice_get words k ≡ Some o → o < length values
+word_of : (values : List LogicValue) (width : ℕ) (words : List ℕ) (k o : ℕ) → AllHold (IsThere values) (map (λ word. record { object = word; width = width }) words) → slice_get words k ≡ Some o →
+    o < length values
 word_of values width [] k o there e = absurd (cc)
 word_of values width (w ∷ words) zero o there e = let same : w ≡ o = cc in subst (λ x. x < length values) same there.0.0
 word_of values width (w ∷ words) (suc k) o there e = word_of values width words k o there.1 e
@@ -31,7 +34,8 @@ word_there values memory (Some address) o there e =
     ] e
 
 -- operands that have to be equally wide are
-pub equal_widths : (operator : BinaryOperator) (width : ℕ) (signed : Bool) (a b : Expression) → BinaryAgrees (binary_sizing operator) width signed a b → NeedsEqualWidths operator → width_of a ≡ width_of b
+pub equal_widths : (operator : BinaryOperator) (width : ℕ) (signed : Bool) (a b : Expression) → BinaryAgrees (binary_sizing operator) width signed a b → NeedsEqualWidths operator →
+    width_of a ≡ width_of b
 equal_widths Multiply width signed a b h n = h.0.0 ∙ sym h.1.0
 equal_widths Divide width signed a b h n = h.0.0 ∙ sym h.1.0
 equal_widths Remainder width signed a b h n = h.0.0 ∙ sym h.1.0
@@ -71,13 +75,15 @@ factors (suc count) (suc own) low high = record { count_some = omega arith; own_
     at_most count own h = omega arith
 
 -- each part of a concatenation is sized alone
-pub part_sized : (parts : List FlatExpr) (i : ℕ) (p : FlatExpr) → i < length parts → AreSizedAlone (expressions_of parts) → IsAlone (expression_of (get_or parts i p)) × IsSized (expression_of (get_or parts i p))
+pub part_sized : (parts : List FlatExpr) (i : ℕ) (p : FlatExpr) → i < length parts → AreSizedAlone (expressions_of parts) →
+    IsAlone (expression_of (get_or parts i p)) × IsSized (expression_of (get_or parts i p))
 part_sized [] i p low h = absurd (omega arith)
 part_sized (q ∷ parts) zero p low h = (h.0, h.1)
 part_sized (q ∷ parts) (suc i) p low h = part_sized parts i p (omega arith) h.2
 
 -- what a part names has values
-pub part_there : (values : List LogicValue) (parts : List FlatExpr) (i : ℕ) (p : FlatExpr) → i < length parts → AreThere values (named_in_parts (expressions_of parts)) → AreThere values (named_in (expression_of (get_or parts i p)))
+pub part_there : (values : List LogicValue) (parts : List FlatExpr) (i : ℕ) (p : FlatExpr) → i < length parts → AreThere values (named_in_parts (expressions_of parts)) →
+    AreThere values (named_in (expression_of (get_or parts i p)))
 part_there values [] i p low h = absurd (omega arith)
 part_there values (q ∷ parts) zero p low h = AllHold-left (IsThere values) (named_in (expression_of q)) (named_in_parts (expressions_of parts)) h
 part_there values (q ∷ parts) (suc i) p low h = part_there values parts i p (omega arith) (AllHold-right (IsThere values) (named_in (expression_of q)) (named_in_parts (expressions_of parts)) h)
@@ -104,7 +110,13 @@ pub parts_room : (values : ℕ → LogicValue) (parts : List FlatExpr) (i : ℕ)
     parts_value values (expressions_of parts) ≡ parts_value values (expressions_of (drop i parts)) ++ bits → length bits + length value ≤ 128
 parts_room values parts i p value bits low at sized few is had =
     let more = parts_more values parts i p value bits (value ++ bits) (parts_value values (expressions_of parts)) low at is had refl in
-    omega (arith, ap length more, length-append (parts_value values (expressions_of (drop (i + 1) parts))) (value ++ bits), length-append value bits, length-parts_value values (expressions_of parts) sized)
+    omega (
+      arith,
+      ap length more,
+      length-append (parts_value values (expressions_of (drop (i + 1) parts))) (value ++ bits),
+      length-append value bits,
+      length-parts_value values (expressions_of parts) sized,
+    )
 
 -- with no part left, what there is so far is all
 pub parts_all : (values : ℕ → LogicValue) (parts : List FlatExpr) (i : ℕ) (bits : LogicValue) → length parts ≤ i →

@@ -1,5 +1,6 @@
 -- The widths of values: that of each part of a sized expression is the part's (IEEE 1364-2001, clause 4.4).
-use Rattle.std.proofs.Common.{◌≡◌, ℕ, zero, suc, ◌+◌, ◌*◌, ◌-◌, ◌<◌, ◌≤◌, min, Bool, List, [], ◌∷◌, ◌++◌, length, get_or, take, drop, replicate, map, refl, ap, sym, ◌∙◌, subst, arith, length-append, length-take}
+use Rattle.std.proofs.Common.{◌≡◌, ℕ, zero, suc, ◌+◌, ◌*◌, ◌-◌, ◌<◌, ◌≤◌, min, Bool, List, [], ◌∷◌, ◌++◌, length, get_or, take, drop, replicate, map, refl, ap, sym, ◌∙◌, subst, arith, length-append}
+use Rattle.std.proofs.Common.{length-take}
 use Rattle.std.proofs.lemmas.List.{length-replicate, take_more, map_push, length-map, append-nil, append_assoc, get_or-map, take-map, drop_more, get_or_append_left, get_or-append_right}
 use Rattle.four_value.specs.declared.logic.Bit.TheVariants.{X}
 use Rattle.v_design.specs.declared.tree.PieceRef.{PieceRef}
@@ -9,7 +10,8 @@ use Rattle.std.proofs.lemmas.List.Sums.{sum_by-cons}
 use Rattle.four_value.specs.Values.{LogicValue, resized, fill_bit, bit_at, natural_number, truth_of, chosen_value}
 use Rattle.four_value.specs.Operators.{unary_value, binary_value}
 use Rattle.vf_base.specs.Lists.{AllHold}
-use Rattle.v_design.specs.Trees.{Piece, Expression, Constant, Name, BitSelect, PartSelect, WordSelect, Unary, Binary, Conditional, Concatenation, Replication, Expressions, no_expressions, more_expressions}
+use Rattle.v_design.specs.Trees.{Piece, Expression, Constant, Name, BitSelect, PartSelect, WordSelect, Unary, Binary, Conditional, Concatenation, Replication, Expressions, no_expressions}
+use Rattle.v_design.specs.Trees.{more_expressions}
 use Rattle.v_design.specs.Expressions.{width_of, sign_of, value_of, parts_value, vector_value, repeated, bit_at_place, place_of_number, part_places, object_value, word_at}
 use Rattle.v_design.specs.Sized.{AreSizedAlone, own_width, own_width_of_parts, pieces_width}
 use Rattle.v_design.specs.Assignments.{value_at}
@@ -106,8 +108,10 @@ pub vector_value-room : (values : List LogicValue) (pieces : List PieceRef) (i :
     pieces_width (map piece_of pieces) ≤ 128 → low ≡ vector_value (value_at values) (map piece_of (take i pieces)) → high ≡ value_at values (piece_of (get_or pieces i d)).object →
     length low + length high ≤ 128
 vector_value-room values pieces i d low high there within few is_low is_high =
-    let more : length (vector_value (value_at values) (map piece_of (take (i + 1) pieces))) ≡ length (vector_value (value_at values) (map piece_of (take i pieces))) + length (value_at values (piece_of (get_or pieces i d)).object) =
-    ap length (vector_value-more (value_at values) pieces i d within) ∙ length-append (vector_value (value_at values) (map piece_of (take i pieces))) (value_at values (piece_of (get_or pieces i d)).object) in
+    let more : length (vector_value (value_at values) (map piece_of (take (i + 1) pieces))) ≡ length (vector_value (value_at values) (map piece_of (take i pieces))) + length
+    (value_at values (piece_of (get_or pieces i d)).object) =
+    ap length (vector_value-more (value_at values) pieces i d within) ∙ length-append (vector_value (value_at values) (map piece_of (take i pieces)))
+    (value_at values (piece_of (get_or pieces i d)).object) in
     let fits : length (vector_value (value_at values) (map piece_of (take (i + 1) pieces))) ≤ pieces_width (map piece_of pieces) = vector_value-fits values pieces (i + 1) there in
     let a : length low ≡ length (vector_value (value_at values) (map piece_of (take i pieces))) = ap length is_low in
     let b : length high ≡ length (value_at values (piece_of (get_or pieces i d)).object) = ap length is_high in

@@ -43,7 +43,8 @@ pub passed : (until : ℕ) (first m : Simulated) → machine_kept m ≡ machine_
 passed until first m same reached past = advanced until reached.0 first m same reached.2 reached.1 past
 
 -- a machine whose next slot, at a time, stops its run
-pub stopped : (until time : ℕ) (first old new : Simulated) (stop : Stop) → machine_kept old ≡ machine_kept first → IsReached until old → time ≤ until → RunsOn time old (Some stop) new → Advanced until first (Some stop) new
+pub stopped : (until time : ℕ) (first old new : Simulated) (stop : Stop) → machine_kept old ≡ machine_kept first → IsReached until old → time ≤ until → RunsOn time old (Some stop) new →
+    Advanced until first (Some stop) new
 stopped until time first old new stop same reached h runs =
     let s = runs.stops stop refl reached.0 reached.2 in (
       subst (λ t. t ≤ until) (sym s.0) h,

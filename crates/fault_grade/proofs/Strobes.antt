@@ -32,7 +32,8 @@ map-more f (y ∷ xs) x = ap (λ ys. f y ∷ ys) (map-more f xs x)
 
 -- The start
 
-pub samples-start : FirstRunsGoOn → (design : FlatDesign) (plan : TestPlan) (m : Simulated) → KeepsRules design → IsPlan plan → machine_kept m ≡ good_machine design → begins_next m ≡ Some (start (good_machine design)) → IsStanding m →
+pub samples-start : FirstRunsGoOn → (design : FlatDesign) (plan : TestPlan) (m : Simulated) → KeepsRules design → IsPlan plan → machine_kept m ≡ good_machine design →
+    begins_next m ≡ Some (start (good_machine design)) → IsStanding m →
     SamplesAt design plan m [] plan.strobes
 samples-start law design plan m rules plan_rules same begins standing =
     record { same_machine = same; now = 0; goes = start-goes law m (good_machine design) same rules begins standing; sampling = sampling-start design plan plan_rules }
@@ -49,7 +50,8 @@ module _ (design : FlatDesign) (plan : TestPlan) (m new : Simulated) (shown : Li
   pub same-after : Advanced strobe m None new → machine_kept new ≡ good_machine design
   same-after advanced = advanced.0 ∙ at.same_machine
 
-  pub samples-more : (bits : List Bit) → Advanced strobe m None new → bits ≡ samples plan.watched (state_kept new).values → SamplesAt design plan new (shown ++ record { time = strobe; bits = bits } ∷ []) next
+  pub samples-more : (bits : List Bit) → Advanced strobe m None new → bits ≡ samples plan.watched (state_kept new).values →
+      SamplesAt design plan new (shown ++ record { time = strobe; bits = bits } ∷ []) next
   samples-more bits advanced is = record {
     same_machine = same-after advanced;
     now = advanced.1.0;
@@ -61,14 +63,16 @@ module _ (design : FlatDesign) (plan : TestPlan) (m new : Simulated) (shown : Li
 
   pub samples-stopped : (stop : Stop) → Advanced strobe m (Some stop) new → IsGoodRun design plan shown (Some (stop_view stop))
   samples-stopped stop advanced =
-      sampling-stopped design plan at.now shown strobe next at.sampling (stop_view stop) (subst (λ (machine : Machine). first_stop machine (first_run machine plan.end) ≡ Some (stop_view stop)) at.same_machine (advanced.1 plan.end at.sampling.in_time.0)) advanced.0
+      sampling-stopped design plan at.now shown strobe next at.sampling (stop_view stop) (subst
+      (λ (machine : Machine). first_stop machine (first_run machine plan.end) ≡ Some (stop_view stop)) at.same_machine (advanced.1 plan.end at.sampling.in_time.0)) advanced.0
 
 -- After the last strobe
 
 pub reached-end : (design : FlatDesign) (plan : TestPlan) (m : Simulated) (shown : List Sample) (next : List ℕ) → SamplesAt design plan m shown next → IsReached plan.end m
 reached-end design plan m shown next at = (at.now, at.sampling.within, at.goes)
 
-pub samples-end : (design : FlatDesign) (plan : TestPlan) (m new : Simulated) (shown : List Sample) (stop : Option Stop) → SamplesAt design plan m shown [] → Advanced plan.end m stop new → IsGoodRun design plan shown (stop_if stop)
+pub samples-end : (design : FlatDesign) (plan : TestPlan) (m new : Simulated) (shown : List Sample) (stop : Option Stop) → SamplesAt design plan m shown [] → Advanced plan.end m stop new →
+    IsGoodRun design plan shown (stop_if stop)
 samples-end design plan m new shown None at advanced =
     sampling-ends design plan at.now shown None at.sampling (subst (λ (machine : Machine). first_stop machine (first_run machine plan.end) ≡ None) at.same_machine advanced.3) tt
 samples-end design plan m new shown (Some stop) at advanced =

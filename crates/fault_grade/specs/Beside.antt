@@ -58,7 +58,8 @@ start-goes law m machine same rules begins standing =
     goes-from-start law m (subst (λ (x : Machine). KeepsRules x.design) (sym same) rules) standing (begins ∙ ap (λ x. Some (start x)) (sym same))
 
 -- a faulty machine at its start, before the first sample
-pub begins-beside : FirstRunsGoOn → (design : FlatDesign) (plan : TestPlan) (fault : StuckAt) (m : Simulated) (shown : List Sample) (stop : Option Stop) → KeepsRules design → IsPlan plan → machine_kept m ≡ faulty_machine design fault →
+pub begins-beside : FirstRunsGoOn → (design : FlatDesign) (plan : TestPlan) (fault : StuckAt) (m : Simulated) (shown : List Sample) (stop : Option Stop) → KeepsRules design → IsPlan plan →
+    machine_kept m ≡ faulty_machine design fault →
     begins_next m ≡ Some (start (faulty_machine design fault)) → IsStanding m → IsGoodRun design plan shown stop → IsBesideAt design plan fault m [] shown
 begins-beside law design plan fault m shown stop rules plan_rules same begins standing good =
     record { same_machine = same; now = 0; goes = start-goes law m (faulty_machine design fault) same rules begins standing; beside = beside-start design plan fault shown stop plan_rules good }
@@ -66,10 +67,12 @@ begins-beside law design plan fault m shown stop rules plan_rules same begins st
 -- A strobe
 
 -- the first stop of a machine that stops so, of which this is known by another name
-first-of : (plan : TestPlan) (m : Simulated) (machine : Machine) (until : ℕ) (stop : Found) → machine_kept m ≡ machine → StopsFirst (machine_kept m) until stop → until ≤ plan.end → first_stop machine (first_run machine plan.end) ≡ Some (stop_view stop)
+first-of : (plan : TestPlan) (m : Simulated) (machine : Machine) (until : ℕ) (stop : Found) → machine_kept m ≡ machine → StopsFirst (machine_kept m) until stop → until ≤ plan.end →
+    first_stop machine (first_run machine plan.end) ≡ Some (stop_view stop)
 first-of plan m machine until stop same first h = subst (λ (x : Machine). first_stop x (first_run x plan.end) ≡ Some (stop_view stop)) same (first plan.end h)
 
-module _ (design : FlatDesign) (plan : TestPlan) (fault : StuckAt) (m new : Simulated) (passed : List ℕ) (sample : Sample) (next : List Sample) (at : IsBesideAt design plan fault m passed (sample ∷ next)) where
+module _ (design : FlatDesign) (plan : TestPlan) (fault : StuckAt) (m new : Simulated) (passed : List ℕ) (sample : Sample) (next : List Sample)
+    (at : IsBesideAt design plan fault m passed (sample ∷ next)) where
   pub reached-beside : IsReached sample.time m
   reached-beside = (at.now, at.beside.since.0, at.goes)
 
@@ -114,7 +117,8 @@ module _ (design : FlatDesign) (plan : TestPlan) (fault : StuckAt) (m new : Simu
       (first-of plan m (faulty_machine design fault) plan.end stop at.same_machine advanced.1 (omega arith), subst (StopsAfter (stop_view stop).time) (sym e) tt)
   stops-late (Some race) stop advanced e within = go race.time refl advanced
     where
-      go : (time : ℕ) → race.time ≡ time → AdvancesTo (less_one time) m (Some stop) new → (faulty_stop design plan fault ≡ Some (stop_view stop)) × StopsAfter (stop_view stop).time (good_stop design plan)
+      go : (time : ℕ) → race.time ≡ time → AdvancesTo (less_one time) m (Some stop) new → (faulty_stop design plan fault ≡ Some (stop_view stop))
+          × StopsAfter (stop_view stop).time (good_stop design plan)
       go zero f advanced = cc
       go (suc time) f advanced =
           let by : (stop_view stop).time ≤ time = advanced.0 in
@@ -165,11 +169,13 @@ objects-watched design [] h = tt
 objects-watched design (w ∷ watched) h = (object-there design.objects w.object w.bit h.0, objects-watched design watched h.1)
 
 -- and so have values
-pub values-watched : (m : Simulated) (watched : List WatchedBit) → length (state_kept m).values ≡ length (machine_kept m).design.objects → AllHold (IsObjectOf (machine_kept m).design) watched → AllHold (IsWatched (state_kept m).values) watched
+pub values-watched : (m : Simulated) (watched : List WatchedBit) → length (state_kept m).values ≡ length (machine_kept m).design.objects → AllHold (IsObjectOf (machine_kept m).design) watched →
+    AllHold (IsWatched (state_kept m).values) watched
 values-watched m [] sized h = tt
 values-watched m (w ∷ watched) sized h = (let x : w.object < length (machine_kept m).design.objects = h.0 in omega (arith, sized, x), values-watched m watched sized h.1)
 
 -- of a machine of a design, whose plan says what is watched
-pub plan-watched : (design : FlatDesign) (plan : TestPlan) (m : Simulated) → IsPlanOf design plan → (machine_kept m).design ≡ design → IsStanding m → AllHold (IsWatched (state_kept m).values) plan.watched
+pub plan-watched : (design : FlatDesign) (plan : TestPlan) (m : Simulated) → IsPlanOf design plan → (machine_kept m).design ≡ design → IsStanding m →
+    AllHold (IsWatched (state_kept m).values) plan.watched
 plan-watched design plan m of_design same standing =
     values-watched m plan.watched standing.values (subst (λ (d : FlatDesign). AllHold (IsObjectOf d) plan.watched) (sym same) (objects-watched design plan.watched of_design.watched))

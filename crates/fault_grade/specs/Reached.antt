@@ -78,7 +78,8 @@ goes-from-start law m rules standing begins = record {
 -- A slot
 
 -- what is ahead begins with the slot that is next
-ahead-here : (now end : ℕ) (m : Simulated) (begins : State) → GoesOn now m → begins_next m ≡ Some begins → now ≤ end → begins.time ≤ end → IsAhead (machine_kept m) end now (Some begins) (state_kept m).values
+ahead-here : (now end : ℕ) (m : Simulated) (begins : State) → GoesOn now m → begins_next m ≡ Some begins → now ≤ end → begins.time ≤ end →
+    IsAhead (machine_kept m) end now (Some begins) (state_kept m).values
 ahead-here now end m begins goes is h k =
     subst (λ (next : Option State). IsAhead (machine_kept m) end now next (state_kept m).values) (ap (begun_within end) is ∙ within-some end begins k) (goes.ahead end h)
 
@@ -87,7 +88,8 @@ since-now now m begins goes is =
     ahead-since (machine_kept m) (now + begins.time) now begins (state_kept m).values (ahead-here now (now + begins.time) m begins goes is (omega arith) (omega arith))
 
 -- a slot that is fine
-goes-on : (now : ℕ) (old new : Simulated) (begins : State) (first : Turn) (end : SlotEnd) (log : SlotLog) → GoesOn now old → begins_next old ≡ Some begins → machine_kept new ≡ machine_kept old → RunsSlot (machine_kept old) begins first end new log →
+goes-on : (now : ℕ) (old new : Simulated) (begins : State) (first : Turn) (end : SlotEnd) (log : SlotLog) → GoesOn now old → begins_next old ≡ Some begins → machine_kept new ≡ machine_kept old →
+    RunsSlot (machine_kept old) begins first end new log →
     outcome_of end ≡ plain.Fine → IsStanding new → GoesOn begins.time new
 goes-on now old new begins first end log goes is same runs fine standing = record {
   standing = standing;
@@ -96,12 +98,14 @@ goes-on now old new begins first end log goes is same runs fine standing = recor
       let early : now ≤ begins.time = since-now now old begins goes is in
       subst (λ (machine : Machine). IsAhead machine until begins.time (begun_within until (begins_next new)) (state_kept new).values) (sym same)
       (subst (λ (values : List LogicValue). IsAhead (machine_kept old) until begins.time (begun_within until (begins_next new)) values) (sym (ap (λ (s : State). s.values) runs.state))
-      (ahead-fine (machine_kept old) until now begins (state_kept old).values (begun_within until (begins_next new)) (ahead-here now until old begins goes is (omega (arith, early, h)) h) (sym runs.outcome ∙ fine)
+      (ahead-fine (machine_kept old) until now begins (state_kept old).values (begun_within until (begins_next new)) (ahead-here now until old begins goes is (omega (arith, early, h)) h)
+      (sym runs.outcome ∙ fine)
       (next-is-following (machine_kept old) until (slot_from (machine_kept old) begins) ∙ sym (ap (begun_within until) runs.next))));
 }
 
 -- the slot after it is later
-rises-on : (now later : ℕ) (old new : Simulated) (begins : State) (first : Turn) (end : SlotEnd) (log : SlotLog) → GoesOn now old → begins_next old ≡ Some begins → RunsSlot (machine_kept old) begins first end new log → next_of new ≡ Some later → begins.time < later
+rises-on : (now later : ℕ) (old new : Simulated) (begins : State) (first : Turn) (end : SlotEnd) (log : SlotLog) → GoesOn now old → begins_next old ≡ Some begins →
+    RunsSlot (machine_kept old) begins first end new log → next_of new ≡ Some later → begins.time < later
 rises-on now later old new begins first end log goes is runs e = go (begins_next new) refl e
   where
     some-is : (one other : ℕ) → Some one ≡ Some other → one ≡ other
@@ -112,11 +116,14 @@ rises-on now later old new begins first end log goes is runs e = go (begins_next
     go (Some state) n f =
         let early : now ≤ begins.time = since-now now old begins goes is in
         subst (λ t. begins.time < t) (some-is state.time later f)
-        (ahead-rises (machine_kept old) (begins.time + state.time) now begins state (state_kept old).values (ahead-here now (begins.time + state.time) old begins goes is (omega (arith, early)) (omega arith))
-        (next-is-following (machine_kept old) (begins.time + state.time) (slot_from (machine_kept old) begins) ∙ ap (begun_within (begins.time + state.time)) (sym runs.next ∙ n) ∙ within-some (begins.time + state.time) state (omega arith)))
+        (ahead-rises (machine_kept old) (begins.time + state.time) now begins state (state_kept old).values
+        (ahead-here now (begins.time + state.time) old begins goes is (omega (arith, early)) (omega arith))
+        (next-is-following (machine_kept old) (begins.time + state.time) (slot_from (machine_kept old) begins) ∙ ap (begun_within (begins.time + state.time)) (sym runs.next ∙ n)
+        ∙ within-some (begins.time + state.time) state (omega arith)))
 
 -- a slot with a race
-races-here : FirstRunsGoOn → (now : ℕ) (m : Simulated) (begins : State) (pair : Pair) → GoesOn now m → begins_next m ≡ Some begins → plain.slot_outcome (machine_kept m) (slot_from (machine_kept m) begins) ≡ plain.Race (reported_pair pair) →
+races-here : FirstRunsGoOn → (now : ℕ) (m : Simulated) (begins : State) (pair : Pair) → GoesOn now m → begins_next m ≡ Some begins →
+    plain.slot_outcome (machine_kept m) (slot_from (machine_kept m) begins) ≡ plain.Race (reported_pair pair) →
     (pair.time ≡ begins.time) × StopsFirst (machine_kept m) begins.time (Race pair)
 races-here law now m begins pair goes is outcome = (at begins.time (omega arith), λ end h. found end h ∙ (λ i. Some (record { time = sym (at end h) i; outcome = plain.Race (reported_pair pair) })))
   where
@@ -129,21 +136,27 @@ races-here law now m begins pair goes is outcome = (at begins.time (omega arith)
     at end h = law.race_time (machine_kept m) end (record { time = begins.time; outcome = plain.Race (reported_pair pair) }) (reported_pair pair) goes.rules (found end h) refl
 
 -- a slot that is hyperactive
-loops-here : (now : ℕ) (m : Simulated) (begins : State) → GoesOn now m → begins_next m ≡ Some begins → plain.slot_outcome (machine_kept m) (slot_from (machine_kept m) begins) ≡ plain.Hyper → StopsFirst (machine_kept m) begins.time (Loop begins.time)
+loops-here : (now : ℕ) (m : Simulated) (begins : State) → GoesOn now m → begins_next m ≡ Some begins → plain.slot_outcome (machine_kept m) (slot_from (machine_kept m) begins) ≡ plain.Hyper →
+    StopsFirst (machine_kept m) begins.time (Loop begins.time)
 loops-here now m begins goes is outcome end h =
     let early : now ≤ begins.time = since-now now m begins goes is in
     ahead-hyper (machine_kept m) end now begins (state_kept m).values (ahead-here now end m begins goes is (omega (arith, early, h)) h) outcome
 
 -- a slot that stops the run
 stops-here : FirstRunsGoOn → (now time : ℕ) (old : Simulated) (begins : State) (end : SlotEnd) (stop : Stop) → GoesOn now old → begins_next old ≡ Some begins → begins.time ≡ time →
-    outcome_of end ≡ plain.slot_outcome (machine_kept old) (slot_from (machine_kept old) begins) → StopsSo time end (Some stop) → ((stop_view stop).time ≡ time) × StopsFirst (machine_kept old) time stop
+    outcome_of end ≡ plain.slot_outcome (machine_kept old) (slot_from (machine_kept old) begins) → StopsSo time end (Some stop) →
+    ((stop_view stop).time ≡ time) × StopsFirst (machine_kept old) time stop
 stops-here law now time old begins end (Race pair) goes is at outcome so =
     let here = races-here law now old begins pair goes is (sym outcome ∙ so) in (here.0 ∙ at, subst (λ t. StopsFirst (machine_kept old) t (Race pair)) at here.1)
-stops-here law now time old begins end (Loop found) goes is at outcome so =
-    (so.1, subst (λ t. StopsFirst (machine_kept old) time (Loop t)) (at ∙ sym so.1) (subst (λ t. StopsFirst (machine_kept old) t (Loop begins.time)) at (loops-here now old begins goes is (sym outcome ∙ so.0))))
+stops-here law now time old begins end (Loop found) goes is at outcome so = (
+  so.1,
+  subst (λ t. StopsFirst (machine_kept old) time (Loop t)) (at ∙ sym so.1) (subst (λ t. StopsFirst (machine_kept old) t (Loop begins.time)) at
+      (loops-here now old begins goes is (sym outcome ∙ so.0))),
+)
 
 -- the next slot was run
-pub runs-on : FirstRunsGoOn → (time : ℕ) (old new : Simulated) (begins : State) (first : Turn) (end : SlotEnd) (stop : Option Stop) (log : SlotLog) → begins_next old ≡ Some begins → begins.time ≡ time → machine_kept new ≡ machine_kept old →
+pub runs-on : FirstRunsGoOn → (time : ℕ) (old new : Simulated) (begins : State) (first : Turn) (end : SlotEnd) (stop : Option Stop) (log : SlotLog) → begins_next old ≡ Some begins →
+    begins.time ≡ time → machine_kept new ≡ machine_kept old →
     RunsSlot (machine_kept old) begins first end new log → IsStanding new → StopsSo time end stop → RunsOn time old stop new
 runs-on law time old new begins first end None log is at same runs standing so = record {
   same_machine = same;
@@ -155,7 +168,8 @@ runs-on law time old new begins first end (Some stop) log is at same runs standi
   same_machine = same;
   goes_on = λ none. cc;
   rises = λ none. cc;
-  stops = λ found e now goes. subst (λ (s : Stop). ((stop_view s).time ≡ time) × StopsFirst (machine_kept old) time s) (some-is stop found e) (stops-here law now time old begins end stop goes is at runs.outcome so);
+  stops = λ found e now goes. subst (λ (s : Stop). ((stop_view s).time ≡ time) × StopsFirst (machine_kept old) time s) (some-is stop found e)
+      (stops-here law now time old begins end stop goes is at runs.outcome so);
 }
   where
     some-is : (one other : Stop) → Some one ≡ Some other → one ≡ other
@@ -179,7 +193,8 @@ advanced until now old new same goes h past = (
   subst (λ (machine : Machine). plain.first_stop machine (first_run machine until) ≡ None) same never,
 )
   where
-    shows-by : (end : ℕ) → until ≤ end → (next : Option State) → begins_next new ≡ next → IsAhead (machine_kept new) end now (begun_within end next) (state_kept new).values → Shows (machine_kept new) end until (state_kept new).values
+    shows-by : (end : ℕ) → until ≤ end → (next : Option State) → begins_next new ≡ next → IsAhead (machine_kept new) end now (begun_within end next) (state_kept new).values →
+        Shows (machine_kept new) end until (state_kept new).values
     shows-by end k None e a = ahead-over (machine_kept new) end now until (state_kept new).values a h
     shows-by end k (Some begins) e a = by-time (nat_le begins.time end) a
       where

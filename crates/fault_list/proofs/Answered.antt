@@ -9,6 +9,7 @@ use Rattle.v_design.specs.declared.plan.Site.{Site}
 use Rattle.fault_list.specs.Spelled.{site_spelled}
 use Rattle.fault_list.specs.ListedSites.{spelled-listed}
 
-pub answer_listed : (design : FlatDesign) (word : List ℕ) (answer : Option Site) → option_map site_of answer ≡ site_spelled design word → IfSome answer (λ site. Contains (sites_of design) (site_of site))
+pub answer_listed : (design : FlatDesign) (word : List ℕ) (answer : Option Site) → option_map site_of answer ≡ site_spelled design word →
+    IfSome answer (λ site. Contains (sites_of design) (site_of site))
 answer_listed design word None e = tt
 answer_listed design word (Some site) e = spelled-listed design word (site_of site) (sym e)

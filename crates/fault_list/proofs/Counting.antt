@@ -1,5 +1,6 @@
 -- The number of sites, as far as a number of 64 bits can hold it.
-use Rattle.std.proofs.Common.{◌≡◌, ℕ, zero, suc, ◌+◌, ◌*◌, ◌-◌, ◌^◌, ◌<◌, ◌≤◌, ◌||◌, Bool, true, false, cond, min, List, [], ◌∷◌, ◌++◌, length, map, filter, get_or, take, take_all, IsTrue, Option, Some, refl, ap, sym, ◌∙◌, subst, arith, length-append, ◌⊎◌, inl, inr}
+use Rattle.std.proofs.Common.{◌≡◌, ℕ, zero, suc, ◌+◌, ◌*◌, ◌-◌, ◌^◌, ◌<◌, ◌≤◌, ◌||◌, Bool, true, false, cond, min, List, [], ◌∷◌, ◌++◌, length, map, filter, get_or, take, take_all, IsTrue, Option}
+use Rattle.std.proofs.Common.{Some, refl, ap, sym, ◌∙◌, subst, arith, length-append, ◌⊎◌, inl, inr}
 use Rattle.std.specs.Prelude.{nat_eq, slice_get, sum_by}
 use Rattle.std.proofs.lemmas.Bool.{or_cases, or_left, or_right, eqb-true, eq-eqb, false≢true}
 use Rattle.std.proofs.lemmas.List.{length-map, take_more, map_push}
@@ -45,7 +46,8 @@ wr-length seen (x ∷ xs) =
 wr-fresh : (seen xs : List ℕ) (x : ℕ) → without_repeats seen (x ∷ xs) ≡ x ∷ xs → (has seen x ≡ false) × (without_repeats (x ∷ seen) xs ≡ xs)
 wr-fresh seen xs x e =
     elim (has seen x) as (λ b. fresh_only b x (without_repeats (x ∷ seen) xs) ≡ x ∷ xs → (b ≡ false) × (without_repeats (x ∷ seen) xs ≡ xs)) [
-      | true ↦ λ h. let short : length (without_repeats (x ∷ seen) xs) ≤ length xs = wr-length (x ∷ seen) xs in let long : length (without_repeats (x ∷ seen) xs) ≡ suc (length xs) = ap length h in absurd (omega arith)
+      | true ↦ λ h. let short : length (without_repeats (x ∷ seen) xs) ≤ length xs = wr-length (x ∷ seen) xs in let long : length (without_repeats (x ∷ seen) xs) ≡ suc (length xs) = ap length h in
+          absurd (omega arith)
       | false ↦ λ h. (refl, tails h)
     ] e
   where
@@ -67,7 +69,8 @@ sum-split : (f : ℕ → ℕ) (a b : ℕ → Bool) (ps : List ℕ) → ((p : ℕ
 sum-split f a b [] apart = refl
 sum-split f a b (p ∷ ps) apart =
     let rest : sum_by f (filter (λ q. a q || b q) ps) ≡ sum_by f (filter a ps) + sum_by f (filter b ps) = sum-split f a b ps apart in
-    elim (a p) as (λ s. a p ≡ s → sum_by f (cond (s || b p) (p ∷ filter (λ q. a q || b q) ps) (filter (λ q. a q || b q) ps)) ≡ sum_by f (cond s (p ∷ filter a ps) (filter a ps)) + sum_by f (cond (b p) (p ∷ filter b ps) (filter b ps))) [
+    elim (a p) as (λ s. a p ≡ s → sum_by f (cond (s || b p) (p ∷ filter (λ q. a q || b q) ps) (filter (λ q. a q || b q) ps)) ≡ sum_by f (cond s (p ∷ filter a ps) (filter a ps)) + sum_by f
+    (cond (b p) (p ∷ filter b ps) (filter b ps))) [
       | true ↦ λ e.
           let no : b p ≡ false = apart p e in
           subst (λ t. sum_by f (p ∷ filter (λ q. a q || b q) ps) ≡ sum_by f (p ∷ filter a ps) + sum_by f (cond t (p ∷ filter b ps) (filter b ps))) (sym no)
@@ -127,7 +130,8 @@ bits-length f width (o ∷ os) =
     ∙ omega (arith, length-map (up_from 0 (width o)) (f o), up_from-length 0 (width o), bits-length f width os, sum_by-cons width o os)
 
 -- the output bits of a node of a design are the bits of its outputs
-pub output-count : (design : FlatDesign) (k : ℕ) (node : FlatNode) → KeepsRules design → slice_get design.nodes k ≡ Some node → length (output_sites design k node) ≡ sum_by (width_in design) node.outputs
+pub output-count : (design : FlatDesign) (k : ℕ) (node : FlatNode) → KeepsRules design → slice_get design.nodes k ≡ Some node →
+    length (output_sites design k node) ≡ sum_by (width_in design) node.outputs
 output-count design k node rules at =
     let kept : IsNodeOf design node = AllHold-slice_get (IsNodeOf design) design.nodes k node rules.nodes at in
     bits-length (OutputBit k) (width_in design) (filter (has node.outputs) (net_pieces design))
@@ -138,7 +142,8 @@ twice : (sites : List FaultSite) → length (both sites) ≡ length sites + leng
 twice [] = refl
 twice (site ∷ sites) = omega (arith, twice sites)
 
-pub all-counted : (m v o t vo s two : ℕ) (one other last : List FaultSite) → v ≡ min (length one) m → o ≡ min (length other) m → t ≡ min (length last) m → vo ≡ min (v + o) m → s ≡ min (vo + t) m → two ≡ min (s + s) m →
+pub all-counted : (m v o t vo s two : ℕ) (one other last : List FaultSite) → v ≡ min (length one) m → o ≡ min (length other) m → t ≡ min (length last) m → vo ≡ min (v + o) m → s ≡ min (vo + t) m →
+    two ≡ min (s + s) m →
     two ≡ min (length (one ++ (other ++ last)) + length (one ++ (other ++ last))) m
 all-counted m v o t vo s two one other last hv ho ht hvo hs h = omega (arith, length-append one (other ++ last), length-append other last, hv, ho, ht, hvo, hs, h)
 

@@ -57,7 +57,8 @@ decimal-small n last front digits low parts =
     ap (bytes_eq (decimal n)) parts ∙ (ap (λ l. bytes_eq l (front ++ last ∷ [])) (decimal_digit n low) ∙ (eq-snoc [] front (48 + n) last ∙ ap (λ k. bytes_eq [] front && nat_eq (48 + k) last) same))
 
 -- more digits
-pub decimal-more : (n last : ℕ) (front digits : List ℕ) → 10 ≤ n → n < 2 ^ 64 → digits ≡ front ++ last ∷ [] → bytes_eq (decimal n) digits ≡ (bytes_eq (decimal (n / 10)) front && nat_eq (48 + n % 10) last)
+pub decimal-more : (n last : ℕ) (front digits : List ℕ) → 10 ≤ n → n < 2 ^ 64 → digits ≡ front ++ last ∷ [] →
+    bytes_eq (decimal n) digits ≡ (bytes_eq (decimal (n / 10)) front && nat_eq (48 + n % 10) last)
 decimal-more n last front digits high low parts =
     ap (bytes_eq (decimal n)) parts ∙ (ap (λ l. bytes_eq l (front ++ last ∷ [])) (decimal-step n high low) ∙ eq-snoc (decimal (n / 10)) front (48 + n % 10) last)
 
@@ -91,14 +92,18 @@ empty-eq [] = refl
 empty-eq (b ∷ bs) = ne_eqb (suc (length bs)) 0 (λ e. omega arith)
 
 -- an index between brackets
-pub index-between : (index first last : ℕ) (word rest digits : List ℕ) → word ≡ first ∷ rest → rest ≡ digits ++ last ∷ [] → bytes_eq (91 ∷ decimal index ++ 93 ∷ []) word ≡ (nat_eq 91 first && (bytes_eq (decimal index) digits && nat_eq 93 last))
+pub index-between : (index first last : ℕ) (word rest digits : List ℕ) → word ≡ first ∷ rest → rest ≡ digits ++ last ∷ [] →
+    bytes_eq (91 ∷ decimal index ++ 93 ∷ []) word ≡ (nat_eq 91 first && (bytes_eq (decimal index) digits && nat_eq 93 last))
 index-between index first last word rest digits one two =
-    ap (bytes_eq (91 ∷ decimal index ++ 93 ∷ [])) one ∙ (ap (λ l. nat_eq 91 first && bytes_eq (decimal index ++ 93 ∷ []) l) two ∙ ap (λ b. nat_eq 91 first && b) (eq-snoc (decimal index) digits 93 last))
+    ap (bytes_eq (91 ∷ decimal index ++ 93 ∷ [])) one ∙ (ap (λ l. nat_eq 91 first && bytes_eq (decimal index ++ 93 ∷ []) l) two
+    ∙ ap (λ b. nat_eq 91 first && b) (eq-snoc (decimal index) digits 93 last))
 
-pub index-right : (index first last : ℕ) (word rest digits : List ℕ) → word ≡ first ∷ rest → rest ≡ digits ++ last ∷ [] → first ≡ 91 → last ≡ 93 → bytes_eq (decimal index) digits ≡ bytes_eq (91 ∷ decimal index ++ 93 ∷ []) word
+pub index-right : (index first last : ℕ) (word rest digits : List ℕ) → word ≡ first ∷ rest → rest ≡ digits ++ last ∷ [] → first ≡ 91 → last ≡ 93 →
+    bytes_eq (decimal index) digits ≡ bytes_eq (91 ∷ decimal index ++ 93 ∷ []) word
 index-right index first last word rest digits one two open_ close =
     sym (index-between index first last word rest digits one two
-    ∙ (ap (λ b. b && (bytes_eq (decimal index) digits && nat_eq 93 last)) (eq-eqb 91 first (sym open_)) ∙ (ap (λ b. bytes_eq (decimal index) digits && b) (eq-eqb 93 last (sym close)) ∙ and-true (bytes_eq (decimal index) digits))))
+    ∙ (ap (λ b. b && (bytes_eq (decimal index) digits && nat_eq 93 last)) (eq-eqb 91 first (sym open_))
+    ∙ (ap (λ b. bytes_eq (decimal index) digits && b) (eq-eqb 93 last (sym close)) ∙ and-true (bytes_eq (decimal index) digits))))
 
 pub index-first : (index first : ℕ) (word rest : List ℕ) → word ≡ first ∷ rest → (first ≡ 91 → ⊥) → false ≡ bytes_eq (91 ∷ decimal index ++ 93 ∷ []) word
 index-first index first word rest one wrong =

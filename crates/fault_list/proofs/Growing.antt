@@ -101,7 +101,8 @@ width-in objects list o x same low at =
 pub width-outside : (objects list : List Object) (o : ℕ) → list ≡ objects → length list ≤ o → get_or (map (λ (object : FlatObject). object.width) (map object_of objects)) o 0 ≡ 0
 width-outside objects list o same high =
     subst (λ l. get_or (map (λ (object : FlatObject). object.width) (map object_of l)) o 0 ≡ 0) same
-    (get_or-past (map (λ (object : FlatObject). object.width) (map object_of list)) o 0 (omega (arith, length-map (map object_of list) (λ (object : FlatObject). object.width), length-map list object_of)))
+    (get_or-past (map (λ (object : FlatObject). object.width) (map object_of list)) o 0 (omega
+    (arith, length-map (map object_of list) (λ (object : FlatObject). object.width), length-map list object_of)))
 
 -- the faults of three lists of sites, one after the other
 pub all_parts : (one two three : List FaultSite) (base first second third : List StuckAt) → base ≡ [] → first ≡ base ++ both one → second ≡ first ++ both two → third ≡ second ++ both three →
@@ -112,7 +113,8 @@ all_parts one two three base first second third none a b c =
     ∙ ap (λ l. both one ++ l) (sym (both-append two three)) ∙ sym (both-append one (two ++ three))
 
 -- the same, where the list is read through a slice
-pub more_listed_in : {A B : Type 0} (view : A → B) (f : ℕ → B → List FaultSite) (xs list : List A) (i : ℕ) (x : A) (base faults more : List StuckAt) → list ≡ xs → i < length list → x ≡ get_or list i x →
+pub more_listed_in : {A B : Type 0} (view : A → B) (f : ℕ → B → List FaultSite) (xs list : List A) (i : ℕ) (x : A) (base faults more : List StuckAt) → list ≡ xs → i < length list →
+    x ≡ get_or list i x →
     faults ≡ base ++ both (joined (map_numbered f 0 (map view (take i xs)))) → more ≡ faults ++ both (f i (view x)) → more ≡ base ++ both (joined (map_numbered f 0 (map view (take (i + 1) xs))))
 more_listed_in view f xs list i x base faults more same within is had added =
     let low : i < length xs = subst (λ l. i < length l) same within in

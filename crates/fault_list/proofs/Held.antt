@@ -20,7 +20,8 @@ first-in [] object number t input output at = absurd (cc)
 first-in (o ∷ os) object number t input output at =
     let same : object ≡ o = cc in ap (λ (x : ObjectId). record { site = OutputBit number (object_number x) 0; value = output }) same
 
-outside-in : (list : List ObjectId) (number t : ℕ) (input : Bool) (output : Option Bool) → record { site = GateTerminal number t; value = input } ≡ held_fault number t input (map object_number list) output false
+outside-in : (list : List ObjectId) (number t : ℕ) (input : Bool) (output : Option Bool) →
+    record { site = GateTerminal number t; value = input } ≡ held_fault number t input (map object_number list) output false
 outside-in [] number t input output = refl
 outside-in (o ∷ os) number t input None = refl
 outside-in (o ∷ os) number t input (Some output) = refl
@@ -32,7 +33,8 @@ terminal-there own kind terminals t count there is counted holds =
     ap (λ k. nat_le 1 t && nat_le t (terminal_count (node_kind_of k))) is
     ∙ (ap (λ n. nat_le 1 t && nat_le t n) (count_of_expressions terminals.items ∙ sym counted) ∙ holds)
 
-pub held-yes : (number t : ℕ) (input output : Bool) (outputs list : List ObjectId) (object : ObjectId) (own : NodeKind) (kind : GateKind) (terminals : Vec FlatExpr Global) (count : ℕ) → list ≡ outputs →
+pub held-yes : (number t : ℕ) (input output : Bool) (outputs list : List ObjectId) (object : ObjectId) (own : NodeKind) (kind : GateKind) (terminals : Vec FlatExpr Global) (count : ℕ) →
+    list ≡ outputs →
     Some object ≡ slice_get list 0 → own ≡ Gate kind terminals → Some output ≡ output_of kind input → count ≡ length terminals.items → (nat_le 1 t && nat_le t count) ≡ true →
     record { site = OutputBit number (object_number object) 0; value = output }
     ≡ held_fault number t input (map object_number outputs) (output_of_kind (node_kind_of own) input) (nat_le 1 t && nat_le t (terminal_count (node_kind_of own)))

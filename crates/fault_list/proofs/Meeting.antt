@@ -1,5 +1,6 @@
 -- The places at which the faults that stand for classes are first met.
-use Rattle.std.proofs.Common.{take, get_or, ◌≡◌, ℕ, zero, suc, ◌+◌, ◌<◌, ◌≤◌, Bool, true, false, ◌&&◌, List, [], ◌∷◌, ◌++◌, length, Option, Some, None, refl, ap, sym, ◌∙◌, subst, arith, ◌⊎◌, inl, inr, ⊎_elim, length-append}
+use Rattle.std.proofs.Common.{take, get_or, ◌≡◌, ℕ, zero, suc, ◌+◌, ◌<◌, ◌≤◌, Bool, true, false, ◌&&◌, List, [], ◌∷◌, ◌++◌, length, Option, Some, None, refl, ap, sym, ◌∙◌, subst, arith, ◌⊎◌, inl}
+use Rattle.std.proofs.Common.{inr, ⊎_elim, length-append}
 use Rattle.std.specs.Prelude.{slice_get, nat_eq}
 use Rattle.std.specs.Bool.{beq}
 use Rattle.std.proofs.lemmas.Bool.{and_parts, and_from, eqb-true, eq-eqb, false≢true}
@@ -49,12 +50,14 @@ same-true (Terminal node terminal value) (Terminal driver number held) e =
     let one : node ≡ driver = eqb-true node driver p.0 in let two : terminal ≡ number = eqb-true terminal number q.0 in let three : value ≡ held = beq-true value held q.1 in cc
 
 same-refl : (a : FaultKey) → same_key a a ≡ true
-same-refl (Var object bit value) = and_from (nat_eq object object) (nat_eq bit bit && beq value value) (eq-eqb object object refl) (and_from (nat_eq bit bit) (beq value value) (eq-eqb bit bit refl) (beq-same value))
+same-refl (Var object bit value) = and_from (nat_eq object object) (nat_eq bit bit && beq value value) (eq-eqb object object refl)
+    (and_from (nat_eq bit bit) (beq value value) (eq-eqb bit bit refl) (beq-same value))
 same-refl (Out node object bit value) =
     and_from (nat_eq node node) (nat_eq object object && (nat_eq bit bit && beq value value)) (eq-eqb node node refl)
     (and_from (nat_eq object object) (nat_eq bit bit && beq value value) (eq-eqb object object refl) (and_from (nat_eq bit bit) (beq value value) (eq-eqb bit bit refl) (beq-same value)))
 same-refl (Terminal node terminal value) =
-    and_from (nat_eq node node) (nat_eq terminal terminal && beq value value) (eq-eqb node node refl) (and_from (nat_eq terminal terminal) (beq value value) (eq-eqb terminal terminal refl) (beq-same value))
+    and_from (nat_eq node node) (nat_eq terminal terminal && beq value value) (eq-eqb node node refl)
+    (and_from (nat_eq terminal terminal) (beq value value) (eq-eqb terminal terminal refl) (beq-same value))
 
 key-one : (a b : FaultKey) → key_fault a ≡ key_fault b → a ≡ b
 key-one a b e = by_parts a b (ap (λ (f : StuckAt). f.site) e) (ap (λ (f : StuckAt). f.value) e)
@@ -120,7 +123,8 @@ first-more design seen fault key place had = record {
   alike = had.alike;
   least = λ earlier other lt stands alike.
       let within : place < length seen = slice_get_within seen place had.first had.stands in
-      ⊎_elim (λ (h : slice_get seen earlier ≡ Some other). had.least earlier other lt h alike) (λ (h : (earlier ≡ length seen) × (fault ≡ other)). let e : earlier ≡ length seen = h.0 in absurd (omega arith)) (get-push seen fault other earlier stands);
+      ⊎_elim (λ (h : slice_get seen earlier ≡ Some other). had.least earlier other lt h alike)
+      (λ (h : (earlier ≡ length seen) × (fault ≡ other)). let e : earlier ≡ length seen = h.0 in absurd (omega arith)) (get-push seen fault other earlier stands);
 }
 
 first-new : (design : FlatDesign) (seen : List StuckAt) (fault key : StuckAt) → standing design fault ≡ key →
@@ -130,7 +134,8 @@ first-new design seen fault key stands none = record {
   stands = get-last seen fault;
   alike = stands;
   least = λ earlier other lt at alike.
-      ⊎_elim (λ (h : slice_get seen earlier ≡ Some other). none earlier other h alike) (λ (h : (earlier ≡ length seen) × (fault ≡ other)). let e : earlier ≡ length seen = h.0 in absurd (omega arith)) (get-push seen fault other earlier at);
+      ⊎_elim (λ (h : slice_get seen earlier ≡ Some other). none earlier other h alike) (λ (h : (earlier ≡ length seen) × (fault ≡ other)). let e : earlier ≡ length seen = h.0 in
+      absurd (omega arith)) (get-push seen fault other earlier at);
 }
 
 -- one more fault
@@ -204,7 +209,8 @@ pub Met-step : (design : FlatDesign) (faults : List Fault) (n : ℕ) (d : Fault)
     key_fault key ≡ standing design (fault_of (get_or faults n d)) → Met design (stuck (take n faults)) firsts places → IsMet firsts key n place later → more ≡ places ++ place ∷ [] →
     Met design (stuck (take (n + 1) faults)) later more
 Met-step design faults n d firsts later places more key place within is had met pushed =
-    let list : stuck (take (n + 1) faults) ≡ stuck (take n faults) ++ fault_of (get_or faults n d) ∷ [] = ap stuck (take_more faults n d within) ∙ map_push fault_of (take n faults) (get_or faults n d) in
+    let list : stuck (take (n + 1) faults) ≡ stuck (take n faults) ++ fault_of (get_or faults n d) ∷
+    [] = ap stuck (take_more faults n d within) ∙ map_push fault_of (take n faults) (get_or faults n d) in
     let number : length (stuck (take n faults)) ≡ n = length-map (take n faults) fault_of ∙ length-take-le n faults (omega arith) in
     let met' : IsMet firsts key (length (stuck (take n faults))) place later = subst (λ m. IsMet firsts key m place later) (sym number) met in
     subst (λ l. Met design l later more) (sym list) (subst (λ l. Met design (stuck (take n faults) ++ fault_of (get_or faults n d) ∷ []) later l) (sym pushed)

@@ -1,5 +1,6 @@
 -- A name that is written is read as its site.
-use Rattle.std.proofs.Common.{◌≡◌, ◌≢◌, ℕ, zero, suc, ◌+◌, ◌<◌, ◌≤◌, Bool, true, false, List, [], ◌∷◌, ◌++◌, length, map, filter, get_or, Option, Some, None, refl, ap, sym, ◌∙◌, subst, arith, ◌⊎◌, inl, inr, ⊎_elim, cond, find}
+use Rattle.std.proofs.Common.{◌≡◌, ◌≢◌, ℕ, zero, suc, ◌+◌, ◌<◌, ◌≤◌, Bool, true, false, List, [], ◌∷◌, ◌++◌, length, map, filter, get_or, Option, Some, None, refl, ap, sym, ◌∙◌, subst, arith, ◌⊎◌}
+use Rattle.std.proofs.Common.{inl, inr, ⊎_elim, cond, find}
 use Rattle.std.specs.Prelude.{slice_get, nat_eq}
 use Rattle.std.specs.List.{Contains}
 use Rattle.std.specs.Option.{option_and_then, option_map}
@@ -16,7 +17,8 @@ use Rattle.v_design.specs.declared.logic.ObjectKind.{ObjectKind}
 use Rattle.v_design.specs.declared.logic.ObjectKind.TheVariants.{Var, Word, Net}
 use Rattle.fault_list.specs.RoundTrip.{HasNumber, NamesAreRead}
 use Rattle.fault_list.specs.Spelled.{or_else, first_answer, name_spelled, driver_of, site_by_kind, bit_spelled, object_spelled, numbered_terminals, terminal_spelled, node_spelled, site_spelled}
-use Rattle.fault_list.specs.Members.{In, here, there, in-left, in-right, in-append, in-map, in-cons, map-in, in-joined, joined-in, in-numbered, numbered-in, in-contains, up-in, in-up, find-sound, find-complete, answer-sound, answer-complete, AllHold-in, has-filter, has-number, width-at, driver-complete, has-in}
+use Rattle.fault_list.specs.Members.{In, here, there, in-left, in-right, in-append, in-map, in-cons, map-in, in-joined, joined-in, in-numbered, numbered-in, in-contains, up-in, in-up, find-sound}
+use Rattle.fault_list.specs.Members.{find-complete, answer-sound, answer-complete, AllHold-in, has-filter, has-number, width-at, driver-complete, has-in}
 use Rattle.fault_list.specs.ListedSites.{kind-in, terminal-in}
 
 -- no two elements have one name
@@ -60,7 +62,8 @@ module _ (design : FlatDesign) (rules : KeepsRules design) (word : List ℕ) whe
           let range = up-in 0 object.width bit r.0 in
           (kind-in design object.kind number bit object site at refl (omega (arith, range.1)) h, kind-named object.kind number bit object site at (same-text (bit_name (Some object) bit) r.1) h)
 
-  node-sound : (number : ℕ) (node : FlatNode) (site : FaultSite) → slice_get design.nodes number ≡ Some node → node_spelled word number node ≡ Some site → (In site (sites_of design)) × (site_name design site ≡ word)
+  node-sound : (number : ℕ) (node : FlatNode) (site : FaultSite) → slice_get design.nodes number ≡ Some node → node_spelled word number node ≡ Some site →
+      (In site (sites_of design)) × (site_name design site ≡ word)
   node-sound number node site at e = by (terminal_spelled node word) refl e
     where
       by : (o : Option ℕ) → terminal_spelled node word ≡ o → option_map (GateTerminal number) o ≡ Some site → (In site (sites_of design)) × (site_name design site ≡ word)
@@ -75,9 +78,11 @@ module _ (design : FlatDesign) (rules : KeepsRules design) (word : List ℕ) whe
 
   -- Each site is read
 
-  bit-read : (number bit : ℕ) (object : FlatObject) → slice_get design.objects number ≡ Some object → bit < object.width → bit_name (Some object) bit ≡ word → (m : ℕ) × (bit_spelled object word ≡ Some m)
+  bit-read : (number bit : ℕ) (object : FlatObject) → slice_get design.objects number ≡ Some object → bit < object.width → bit_name (Some object) bit ≡ word →
+      (m : ℕ) × (bit_spelled object word ≡ Some m)
   bit-read number bit object at low named =
-      find-complete (λ b. bytes_eq (bit_name (Some object) b) word) (up_from 0 object.width) bit (in-up 0 object.width bit (omega arith) (omega arith)) ((bytes_eq-Decides (bit_name (Some object) bit) word).1 named)
+      find-complete (λ b. bytes_eq (bit_name (Some object) b) word) (up_from 0 object.width) bit (in-up 0 object.width bit (omega arith) (omega arith))
+      ((bytes_eq-Decides (bit_name (Some object) bit) word).1 named)
 
   variable-read : (kind : ObjectKind) (number : ℕ) (object : FlatObject) (site : FaultSite) → slice_get design.objects number ≡ Some object → object.kind ≡ kind →
       In site (bits_if (is_variable kind) (VariableBit number) object.width) → site_name design site ≡ word → (z : FaultSite) × (object_spelled design word number object ≡ Some z)
@@ -90,7 +95,8 @@ module _ (design : FlatDesign) (rules : KeepsRules design) (word : List ℕ) whe
       let m = bit-read number r.0 object at low text in
       (VariableBit number m.0, ap (option_and_then (site_by_kind design object.kind number)) m.1 ∙ ap (λ k. site_by_kind design k number m.0) is)
 
-  net-read : (kind : ObjectKind) (number bit node : ℕ) (found : FlatNode) (object : FlatObject) → slice_get design.objects number ≡ Some object → object.kind ≡ kind → is_net kind ≡ true → bit < object.width →
+  net-read : (kind : ObjectKind) (number bit node : ℕ) (found : FlatNode) (object : FlatObject) → slice_get design.objects number ≡ Some object → object.kind ≡ kind → is_net kind ≡ true →
+      bit < object.width →
       bit_name (Some object) bit ≡ word → slice_get design.nodes node ≡ Some found → has found.outputs number ≡ true → (z : FaultSite) × (object_spelled design word number object ≡ Some z)
   net-read Var number bit node found object at is net low text there_at drives = absurd (false≢true net)
   net-read Word number bit node found object at is net low text there_at drives = absurd (false≢true net)
@@ -165,7 +171,8 @@ module _ (design : FlatDesign) (rules : KeepsRules design) (word : List ℕ) whe
       is-it : (other : FaultSite) → (In other (sites_of design)) × (site_name design other ≡ word) → other ≡ site
       is-it other r = differ-one (site_name design) (sites_of design) other site rules.sites r.0 h (r.1 ∙ sym named)
 
-      by : (one : Option FaultSite) → first_answer (object_spelled design word) 0 design.objects ≡ one → (two : Option FaultSite) → first_answer (node_spelled word) 0 design.nodes ≡ two → site_spelled design word ≡ Some site
+      by : (one : Option FaultSite) → first_answer (object_spelled design word) 0 design.objects ≡ one → (two : Option FaultSite) → first_answer (node_spelled word) 0 design.nodes ≡ two →
+          site_spelled design word ≡ Some site
       by (Some other) first two second =
           let r = answer-sound (object_spelled design word) 0 design.objects other first in
           let e : 0 + r.0 ≡ r.0 = omega arith in

@@ -11,7 +11,8 @@ use Rattle.four_value.specs.declared.operator.GateKind.TheVariants.{And, Nand, O
 use Rattle.vf_base.specs.Lists.{has, map_numbered, zip_with}
 use Rattle.v_design.specs.Trees.{Expressions, no_expressions, more_expressions}
 use Rattle.v_design.specs.Expressions.{value_of}
-use Rattle.v_design.specs.Designs.{width_in, forced_output, FlatNode, FlatNodeKind, AssignNode, GateNode, BlockNode, FlatDesign, StuckAt, FaultSite, VariableBit, OutputBit, GateTerminal, TestPlan, faulty_machine, stuck_if, forced_if}
+use Rattle.v_design.specs.Designs.{width_in, forced_output, FlatNode, FlatNodeKind, AssignNode, GateNode, BlockNode, FlatDesign, StuckAt, FaultSite, VariableBit, OutputBit, GateTerminal, TestPlan}
+use Rattle.v_design.specs.Designs.{faulty_machine, stuck_if, forced_if}
 use Rattle.v_design.specs.Assignments.{gate_bit, label_values, node_value, run_statement, node_outputs, settled_from, first_contents, with_outputs, value_at}
 use Rattle.v_design.specs.States.{State, Event, Step, LaneStep, Evaluation, NetUpdate, start, after, with_node, evaluated}
 use Rattle.v_design.specs.Accesses.{accesses_of}
@@ -134,7 +135,8 @@ abbrev held_outside : Bool → ℕ → ℕ → Bool → ℕ → LogicValue → L
 held_outside here object bit output at value = forced_if (here && nat_eq object at) bit output value
 
 inside : (design : FlatDesign) (gate t : ℕ) (input : Bool) (k : ℕ) (node : FlatNode) (values : List LogicValue) →
-    node_outputs (faulty_machine design (terminal_fault gate t input)) k node values ≡ zip_with (λ object value. value) node.outputs (held_inside (nat_eq gate k) design t input node.kind node.outputs values)
+    node_outputs (faulty_machine design (terminal_fault gate t input)) k node values ≡ zip_with (λ object value. value) node.outputs
+    (held_inside (nat_eq gate k) design t input node.kind node.outputs values)
 inside design gate t input k node values = inside_kind node.kind
   where
     inside_kind : (kind : FlatNodeKind) →
@@ -184,7 +186,8 @@ at-gate design node t object input output values rules forced = by_kind node.kin
         absurd (false≢true (first-of (kind_forces (AssignNode value places) input output) (nat_le 1 t) (nat_le t (terminal_count (AssignNode value places))) (has node.outputs object) (nat_eq 0 0)
         (subst (λ k. gate_forces (record node { kind = k }) t input object 0 output ≡ true) is forced)))
     by_kind (GateNode kind terminals) is =
-        let all : gate_forces (record node { kind = GateNode kind terminals }) t input object 0 output ≡ true = subst (λ k. gate_forces (record node { kind = k }) t input object 0 output ≡ true) is forced in
+        let all : gate_forces (record node { kind = GateNode kind terminals }) t input object 0 output ≡ true =
+        subst (λ k. gate_forces (record node { kind = k }) t input object 0 output ≡ true) is forced in
         let has_part = and_parts (forces kind input output && nat_le 1 t && nat_le t (expressions_count terminals) && has node.outputs object) (nat_eq 0 0) all in
         let high_part = and_parts (forces kind input output && nat_le 1 t && nat_le t (expressions_count terminals)) (has node.outputs object) has_part.0 in
         let low_part = and_parts (forces kind input output && nat_le 1 t) (nat_le t (expressions_count terminals)) high_part.0 in
@@ -198,7 +201,8 @@ at-gate design node t object input output values rules forced = by_kind node.kin
         let below : t ≤ expressions_count terminals = leb-true t (expressions_count terminals) low_part.1 in
         let held : gate_bit kind (seen t input 1 labels) ≡ bit_of output =
         gate-held kind input output t labels force_part.0 above (omega arith) (subst (λ n. TerminalsFit kind n) (sym counted) fits) in
-        subst (λ l. zip_with (λ object value. value) l (held_inside true design t input (GateNode kind terminals) l values) ≡ zip_with (held_outside true object 0 output) l (held_inside false design t input (GateNode kind terminals) l values)) (sym one)
+        subst (λ l. zip_with (λ object value. value) l (held_inside true design t input (GateNode kind terminals) l values) ≡ zip_with (held_outside true object 0 output) l
+        (held_inside false design t input (GateNode kind terminals) l values)) (sym one)
         (ap (λ b. (b ∷ []) ∷ []) held
         ∙ sym (ap (λ b. forced_if b 0 output (gate_bit kind (map_numbered (λ number value. bit_at value 0) 1 labels) ∷ []) ∷ []) (eq-eqb object object refl)))
     by_kind (BlockNode statement) is =
@@ -218,7 +222,8 @@ module _ (design : FlatDesign) (rules : KeepsRules design) (gate t object bit : 
         | true ↦ λ e.
             let here : slice_get design.nodes gate ≡ Some node = subst (λ n. slice_get design.nodes n ≡ Some node) (sym (eqb-true gate k e)) at in
             let does : gate_forces node t input object bit output ≡ true = subst (λ o. node_forces o t input object bit output ≡ true) here forced in
-            let least : bit ≡ 0 = eqb-true bit 0 (and_parts (kind_forces node.kind input output && nat_le 1 t && nat_le t (terminal_count node.kind) && has node.outputs object) (nat_eq bit 0) does).1 in
+            let least : bit ≡ 0 = eqb-true bit 0 (and_parts (kind_forces node.kind input output && nat_le 1 t && nat_le t (terminal_count node.kind) && has node.outputs object)
+            (nat_eq bit 0) does).1 in
             subst (λ n. zip_with (λ object value. value) node.outputs (held_inside true design t input node.kind node.outputs values)
             ≡ zip_with (held_outside true object n output) node.outputs (held_inside false design t input node.kind node.outputs values)) (sym least)
             (at-gate design node t object input output values (AllHold-slice_get (IsNodeOf design) design.nodes k node rules.nodes at)
@@ -235,7 +240,8 @@ module _ (design : FlatDesign) (rules : KeepsRules design) (gate t object bit : 
       let more : (i : ℕ) (other : FlatNode) → slice_get nodes i ≡ Some other → slice_get design.nodes (k + 1 + i) ≡ Some other =
       λ i other at. let e : k + suc i ≡ k + 1 + i = omega arith in subst (λ n. slice_get design.nodes n ≡ Some other) e (stand (suc i) other at) in
       settled-same (k + 1) nodes (with_outputs node.outputs (node_outputs (faulty_machine design (terminal_fault gate t input)) k node values) values) more
-      ∙ ap (λ (outputs : List LogicValue). settled_from (faulty_machine design (output_fault gate object bit output)) (k + 1) nodes (with_outputs node.outputs outputs values)) (node-same k node values here)
+      ∙ ap (λ (outputs : List LogicValue). settled_from (faulty_machine design (output_fault gate object bit output)) (k + 1) nodes (with_outputs node.outputs outputs values))
+      (node-same k node values here)
 
   start-same : start (faulty_machine design (terminal_fault gate t input)) ≡ start (faulty_machine design (output_fault gate object bit output))
   start-same =
@@ -249,7 +255,8 @@ module _ (design : FlatDesign) (rules : KeepsRules design) (gate t object bit : 
   evaluated-same k state (Some node) at =
       ap (λ (outputs : List LogicValue). with_node k (λ old. record { marked = false; pending = Some outputs }) state) (node-same k node state.values at)
 
-  after-same : (state : State) (event : Event) → after (faulty_machine design (terminal_fault gate t input)) state event ≡ after (faulty_machine design (output_fault gate object bit output)) state event
+  after-same : (state : State) (event : Event) → after (faulty_machine design (terminal_fault gate t input)) state event ≡ after
+      (faulty_machine design (output_fault gate object bit output)) state event
   after-same state (Step process) = refl
   after-same state (LaneStep process) = refl
   after-same state (Evaluation node) = evaluated-same node state (slice_get design.nodes node) refl

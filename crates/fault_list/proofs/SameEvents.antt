@@ -7,11 +7,14 @@ use Rattle.vf_base.specs.Base.{WatchedBit, ReportedPair}
 use Rattle.vf_base.specs.Lists.{last_place, later_place}
 use Rattle.v_design.specs.Designs.{FlatNode, FlatDesign, StuckAt, TestPlan, Machine, good_machine, faulty_machine}
 use Rattle.v_design.specs.States.{State, Event, Step, LaneStep, Evaluation, NetUpdate, TurnKind, start, after, turn_of, process_at, is_ready}
-use Rattle.v_design.specs.Runs.{Move, Happens, Turns, FirstSlot, slot_move, less_one_if, is_counted, made, all_made, slot_moves, first_moves, slot_end, is_hyper, next_slot, next_slot_at, first_slots, first_run, most_moves, most_steps}
+use Rattle.v_design.specs.Runs.{Move, Happens, Turns, FirstSlot, slot_move, less_one_if, is_counted, made, all_made, slot_moves, first_moves, slot_end, is_hyper, next_slot, next_slot_at}
+use Rattle.v_design.specs.Runs.{first_slots, first_run, most_moves, most_steps}
 use Rattle.v_design.specs.Accesses.{ObjectAccess, accesses_of, held_accesses, is_waiting}
 use Rattle.v_design.specs.Logs.{LoggedEvent, LoggedPhase, PhaseAccess, least_pair}
-use Rattle.v_design.specs.PhaseLogs.{NotedEvent, changes_one, changes_input, may_cause, cause_of, noted_at, writer_process, writer_line, note_of, noted_from, noted_events, logged, log_of, phase_race, is_step_of}
-use Rattle.v_design.specs.Grades.{Phase, cut, phases, race_of, first_race, SlotOutcome, Fine, Race, Hyper, race_or_fine, slot_outcome, Stop, first_stop, samples, some_sample, values_after, first_samples, first_strobe, is_hard, is_possible, verdict, verdict_by, graded, grade_of_runs, grade, full_grade_of_runs, full_of, full_grade}
+use Rattle.v_design.specs.PhaseLogs.{NotedEvent, changes_one, changes_input, may_cause, cause_of, noted_at, writer_process, writer_line, note_of, noted_from, noted_events, logged, log_of}
+use Rattle.v_design.specs.PhaseLogs.{phase_race, is_step_of}
+use Rattle.v_design.specs.Grades.{Phase, cut, phases, race_of, first_race, SlotOutcome, Fine, Race, Hyper, race_or_fine, slot_outcome, Stop, first_stop, samples, some_sample, values_after}
+use Rattle.v_design.specs.Grades.{first_samples, first_strobe, is_hard, is_possible, verdict, verdict_by, graded, grade_of_runs, grade, full_grade_of_runs, full_of, full_grade}
 
 find-same : (p q : ℕ → Bool) (xs : List ℕ) → ((x : ℕ) → p x ≡ q x) → find p xs ≡ find q xs
 find-same p q [] same = refl
@@ -23,7 +26,8 @@ rest_slots count machine time (Some next) = first_slots count machine time next
 
 module _ (design : FlatDesign) (f g : StuckAt) (same_start : start (faulty_machine design f) ≡ start (faulty_machine design g))
     (same_after : (state : State) (event : Event) → after (faulty_machine design f) state event ≡ after (faulty_machine design g) state event)
-    (same_accesses : (process line : ℕ) (state : State) (event : Event) → accesses_of (faulty_machine design f) process line state event ≡ accesses_of (faulty_machine design g) process line state event) where
+    (same_accesses : (process line : ℕ) (state : State) (event : Event) → accesses_of (faulty_machine design f) process line state event ≡ accesses_of
+    (faulty_machine design g) process line state event) where
   made-same : (state : State) (move : Move) → made (faulty_machine design f) state move ≡ made (faulty_machine design g) state move
   made-same state (Happens event) = same_after state event
   made-same state Turns = refl
@@ -108,7 +112,8 @@ module _ (design : FlatDesign) (f g : StuckAt) (same_start : start (faulty_machi
         line = writer_line (faulty_machine design f) state event (noted_at earlier cause);
       }) (cause_of-same earlier event)
 
-  noted_from-same : (earlier : List NotedEvent) (state : State) (events : List Event) → noted_from (faulty_machine design f) earlier state events ≡ noted_from (faulty_machine design g) earlier state events
+  noted_from-same : (earlier : List NotedEvent) (state : State) (events : List Event) → noted_from (faulty_machine design f) earlier state events ≡ noted_from
+      (faulty_machine design g) earlier state events
   noted_from-same earlier state [] = refl
   noted_from-same earlier state (event ∷ events) =
       noted_from-same (earlier ++ note_of (faulty_machine design f) earlier state event ∷ []) (after (faulty_machine design f) state event) events
@@ -166,14 +171,16 @@ module _ (design : FlatDesign) (f g : StuckAt) (same_start : start (faulty_machi
   first_strobe-same : (test : Bit → Bit → Bool) (watched : List WatchedBit) (slots : List FirstSlot) (good : ℕ → List Bit) (strobes : List ℕ) →
       first_strobe test good (first_samples (faulty_machine design f) watched slots) strobes ≡ first_strobe test good (first_samples (faulty_machine design g) watched slots) strobes
   first_strobe-same test watched slots good strobes =
-      find-same (λ strobe. some_sample test (good strobe) (first_samples (faulty_machine design f) watched slots strobe)) (λ strobe. some_sample test (good strobe) (first_samples (faulty_machine design g) watched slots strobe)) strobes
+      find-same (λ strobe. some_sample test (good strobe) (first_samples (faulty_machine design f) watched slots strobe))
+      (λ strobe. some_sample test (good strobe) (first_samples (faulty_machine design g) watched slots strobe)) strobes
       (λ strobe. ap (λ (v : List LogicValue). some_sample test (good strobe) (samples watched v)) (values_after-same [] slots strobe))
 
   verdict-same : (watched : List WatchedBit) (slots : List FirstSlot) (good : ℕ → List Bit) (strobes : List ℕ) →
       verdict good (first_samples (faulty_machine design f) watched slots) strobes ≡ verdict good (first_samples (faulty_machine design g) watched slots) strobes
   verdict-same watched slots good strobes =
       ap (λ (hard : Option ℕ). verdict_by hard (first_strobe is_possible good (first_samples (faulty_machine design f) watched slots) strobes)) (first_strobe-same is_hard watched slots good strobes)
-      ∙ ap (λ (possible : Option ℕ). verdict_by (first_strobe is_hard good (first_samples (faulty_machine design g) watched slots) strobes) possible) (first_strobe-same is_possible watched slots good strobes)
+      ∙ ap (λ (possible : Option ℕ). verdict_by (first_strobe is_hard good (first_samples (faulty_machine design g) watched slots) strobes) possible)
+      (first_strobe-same is_possible watched slots good strobes)
 
   pub grade-same : (plan : TestPlan) → grade design plan f ≡ grade design plan g
   grade-same plan =
@@ -181,7 +188,8 @@ module _ (design : FlatDesign) (f g : StuckAt) (same_start : start (faulty_machi
       let stop : Option Stop = first_stop (good_machine design) (first_run (good_machine design) plan.end) in
       let slots : List FirstSlot = first_run (faulty_machine design g) plan.end in
       ap (λ (s : List FirstSlot). grade_of_runs (good_machine design) (faulty_machine design f) plan (first_run (good_machine design) plan.end) s) (first_run-same plan.end)
-      ∙ ap (λ (o : Option Stop). graded stop o (first_strobe is_hard good (first_samples (faulty_machine design f) plan.watched slots) plan.strobes) (verdict good (first_samples (faulty_machine design f) plan.watched slots) plan.strobes))
+      ∙ ap (λ (o : Option Stop). graded stop o (first_strobe is_hard good (first_samples (faulty_machine design f) plan.watched slots) plan.strobes)
+      (verdict good (first_samples (faulty_machine design f) plan.watched slots) plan.strobes))
       (first_stop-same slots)
       ∙ ap (λ (hard : Option ℕ). graded stop (first_stop (faulty_machine design g) slots) hard (verdict good (first_samples (faulty_machine design f) plan.watched slots) plan.strobes))
       (first_strobe-same is_hard plan.watched slots good plan.strobes)

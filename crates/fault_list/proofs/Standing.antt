@@ -108,7 +108,8 @@ module _ (design : FlatDesign) (rules : KeepsRules design) where
   node-stands (Some node) number terminal object bit input output at e = pair-stands node number terminal object bit input output (writes-outputs number node at) e
 
   -- one fault stands for both of a pair
-  pair-alike : (one : FaultSite) (input : Bool) (other : FaultSite) (output : Bool) → is_gate_pair design one input other output ≡ true → standing_site design one input ≡ standing_site design other output
+  pair-alike : (one : FaultSite) (input : Bool) (other : FaultSite) (output : Bool) → is_gate_pair design one input other output ≡ true →
+      standing_site design one input ≡ standing_site design other output
   pair-alike (GateTerminal node terminal) input (OutputBit driver object bit) output e =
       let parts = and_parts (nat_eq node driver) (node_forces (slice_get design.nodes node) terminal input object bit output) e in
       node-stands (slice_get design.nodes node) node terminal object bit input output refl parts.1
@@ -160,13 +161,15 @@ module _ (design : FlatDesign) (rules : KeepsRules design) where
       let forced : node_forces (slice_get design.nodes number) terminal input object 0 output ≡ true = subst (λ o. node_forces o terminal input object 0 output ≡ true) (sym at) does in
       let pair : (nat_eq number number && node_forces (slice_get design.nodes number) terminal input object 0 output) ≡ true =
       and_from (nat_eq number number) (node_forces (slice_get design.nodes number) terminal input object 0 output) (eq-eqb number number refl) forced in
-      joined_by (record { site = GateTerminal number terminal; value = input }) (record { site = OutputBit number object 0; value = output }) (record { site = OutputBit number object 0; value = output })
+      joined_by (record { site = GateTerminal number terminal; value = input }) (record { site = OutputBit number object 0; value = output })
+      (record { site = OutputBit number object 0; value = output })
       (or_left (nat_eq number number && node_forces (slice_get design.nodes number) terminal input object 0 output) false pair) (same_fault _)
 
   at-alike : (o : Option FlatNode) (number terminal : ℕ) (input : Bool) → slice_get design.nodes number ≡ o →
       AreOneClass design (record { site = GateTerminal number terminal; value = input }) (held_at number terminal input o)
   at-alike None number terminal input at = same_fault _
-  at-alike (Some node) number terminal input at = held-alike node number terminal input node.outputs (output_of_kind node.kind input) (nat_le 1 terminal && nat_le terminal (terminal_count node.kind)) at refl refl refl
+  at-alike (Some node) number terminal input at = held-alike node number terminal input node.outputs (output_of_kind node.kind input)
+      (nat_le 1 terminal && nat_le terminal (terminal_count node.kind)) at refl refl refl
 
   site-alike : (site : FaultSite) (value : Bool) → AreOneClass design (record { site = site; value = value }) (standing_site design site value)
   site-alike (VariableBit object bit) value = same_fault _

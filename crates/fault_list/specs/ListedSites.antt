@@ -13,8 +13,10 @@ use Rattle.v_design.specs.Designs.{FlatObject, NameJoined, FlatNode, FlatDesign,
 use Rattle.v_design.specs.Sites.{is_variable, bits_if, bit_name, terminal_name, variable_sites, output_sites, terminal_sites, terminal_count, sites_of}
 use Rattle.v_design.specs.declared.logic.ObjectKind.{ObjectKind}
 use Rattle.v_design.specs.declared.logic.ObjectKind.TheVariants.{Var, Word, Net}
-use Rattle.fault_list.specs.Members.{In, here, there, in-left, in-right, in-map, in-cons, in-joined, in-numbered, contains-in, up-in, in-up, find-sound, answer-sound, filter-has, numbers-has, width-at, driver-sound, in-has}
-use Rattle.fault_list.specs.Spelled.{or_else, first_answer, driver_of, site_by_kind, site_if, site_at, bit_spelled, object_spelled, numbered_terminals, terminal_spelled, node_spelled, piece_bit, place_spelled, place_site, name_spelled, site_spelled}
+use Rattle.fault_list.specs.Members.{In, here, there, in-left, in-right, in-map, in-cons, in-joined, in-numbered, contains-in, up-in, in-up, find-sound, answer-sound, filter-has, numbers-has}
+use Rattle.fault_list.specs.Members.{width-at, driver-sound, in-has}
+use Rattle.fault_list.specs.Spelled.{or_else, first_answer, driver_of, site_by_kind, site_if, site_at, bit_spelled, object_spelled, numbered_terminals, terminal_spelled, node_spelled, piece_bit}
+use Rattle.fault_list.specs.Spelled.{place_spelled, place_site, name_spelled, site_spelled}
 
 -- Sites of bits and of terminals
 
@@ -25,17 +27,20 @@ module _ (design : FlatDesign) where
       subst (λ b. In (VariableBit number bit) (bits_if b (VariableBit number) object.width)) (sym (ap is_variable kind))
       (in-map (VariableBit number) bit (up_from 0 object.width) (in-up 0 object.width bit (omega arith) (omega arith))) in
       let zero_on : number ≡ 0 + number = omega arith in
-      in-left (VariableBit number bit) (joined (map_numbered variable_sites 0 design.objects)) (joined (map_numbered (output_sites design) 0 design.nodes) ++ joined (map_numbered terminal_sites 0 design.nodes))
+      in-left (VariableBit number bit) (joined (map_numbered variable_sites 0 design.objects))
+      (joined (map_numbered (output_sites design) 0 design.nodes) ++ joined (map_numbered terminal_sites 0 design.nodes))
       (in-numbered variable_sites (VariableBit number bit) 0 number object design.objects at (subst (λ k. In (VariableBit number bit) (variable_sites k object)) zero_on inside))
 
-  pub output-in : (node number bit : ℕ) (found : FlatNode) (object : FlatObject) → slice_get design.nodes node ≡ Some found → has found.outputs number ≡ true → slice_get design.objects number ≡ Some object →
+  pub output-in : (node number bit : ℕ) (found : FlatNode) (object : FlatObject) → slice_get design.nodes node ≡ Some found → has found.outputs number ≡ true →
+      slice_get design.objects number ≡ Some object →
       object.kind ≡ Net → bit < object.width → In (OutputBit node number bit) (sites_of design)
   output-in node number bit found object at drives there_at kind low =
       let zero_on : number ≡ 0 + number = omega arith in
       let is_piece : has (net_pieces design) number ≡ true =
       subst (λ k. has (net_pieces design) k ≡ true) (sym zero_on) (numbers-has (λ (o : FlatObject). is_net o.kind) 0 number object design.objects there_at (ap is_net kind)) in
       let width : width_in design number ≡ object.width = width-at design.objects number object there_at in
-      let kept : In number (filter (has found.outputs) (net_pieces design)) = in-has (filter (has found.outputs) (net_pieces design)) number (filter-has (has found.outputs) (net_pieces design) number is_piece drives) in
+      let kept : In number (filter (has found.outputs) (net_pieces design)) = in-has (filter (has found.outputs) (net_pieces design)) number
+      (filter-has (has found.outputs) (net_pieces design) number is_piece drives) in
       let bits : In (OutputBit node number bit) (map (OutputBit node number) (up_from 0 (width_in design number))) =
       in-map (OutputBit node number) bit (up_from 0 (width_in design number)) (in-up 0 (width_in design number) bit (omega arith) (omega (arith, width))) in
       let inside : In (OutputBit node number bit) (output_sites design node found) =
@@ -43,15 +48,19 @@ module _ (design : FlatDesign) where
       (map (λ object. map (OutputBit node object) (up_from 0 (width_in design object))) (filter (has found.outputs) (net_pieces design))) bits
       (in-map (λ object. map (OutputBit node object) (up_from 0 (width_in design object))) number (filter (has found.outputs) (net_pieces design)) kept) in
       let node_on : node ≡ 0 + node = omega arith in
-      in-right (OutputBit node number bit) (joined (map_numbered variable_sites 0 design.objects)) (joined (map_numbered (output_sites design) 0 design.nodes) ++ joined (map_numbered terminal_sites 0 design.nodes))
+      in-right (OutputBit node number bit) (joined (map_numbered variable_sites 0 design.objects))
+      (joined (map_numbered (output_sites design) 0 design.nodes) ++ joined (map_numbered terminal_sites 0 design.nodes))
       (in-left (OutputBit node number bit) (joined (map_numbered (output_sites design) 0 design.nodes)) (joined (map_numbered terminal_sites 0 design.nodes))
       (in-numbered (output_sites design) (OutputBit node number bit) 0 node found design.nodes at (subst (λ k. In (OutputBit node number bit) (output_sites design k found)) node_on inside)))
 
-  pub terminal-in : (node terminal : ℕ) (found : FlatNode) → slice_get design.nodes node ≡ Some found → 1 ≤ terminal → terminal < 1 + terminal_count found.kind → In (GateTerminal node terminal) (sites_of design)
+  pub terminal-in : (node terminal : ℕ) (found : FlatNode) → slice_get design.nodes node ≡ Some found → 1 ≤ terminal → terminal < 1 + terminal_count found.kind →
+      In (GateTerminal node terminal) (sites_of design)
   terminal-in node terminal found at low high =
       let node_on : node ≡ 0 + node = omega arith in
-      let inside : In (GateTerminal node terminal) (terminal_sites node found) = in-map (GateTerminal node) terminal (up_from 1 (terminal_count found.kind)) (in-up 1 (terminal_count found.kind) terminal low high) in
-      in-right (GateTerminal node terminal) (joined (map_numbered variable_sites 0 design.objects)) (joined (map_numbered (output_sites design) 0 design.nodes) ++ joined (map_numbered terminal_sites 0 design.nodes))
+      let inside : In (GateTerminal node terminal) (terminal_sites node found) = in-map (GateTerminal node) terminal (up_from 1 (terminal_count found.kind))
+      (in-up 1 (terminal_count found.kind) terminal low high) in
+      in-right (GateTerminal node terminal) (joined (map_numbered variable_sites 0 design.objects))
+      (joined (map_numbered (output_sites design) 0 design.nodes) ++ joined (map_numbered terminal_sites 0 design.nodes))
       (in-right (GateTerminal node terminal) (joined (map_numbered (output_sites design) 0 design.nodes)) (joined (map_numbered terminal_sites 0 design.nodes))
       (in-numbered terminal_sites (GateTerminal node terminal) 0 node found design.nodes at (subst (λ k. In (GateTerminal node terminal) (terminal_sites k found)) node_on inside)))
 
@@ -70,7 +79,8 @@ module _ (design : FlatDesign) where
           subst (λ s. In s (sites_of design)) same (output-in node number bit r.0 object r.1 r.2 at is low)
 
   -- the site that a word spells by an object's own name
-  pub object-in : (word : List ℕ) (number : ℕ) (object : FlatObject) (site : FaultSite) → slice_get design.objects number ≡ Some object → object_spelled design word number object ≡ Some site → In site (sites_of design)
+  pub object-in : (word : List ℕ) (number : ℕ) (object : FlatObject) (site : FaultSite) → slice_get design.objects number ≡ Some object → object_spelled design word number object ≡ Some site →
+      In site (sites_of design)
   object-in word number object site at e = by (bit_spelled object word) refl e
     where
       by : (o : Option ℕ) → bit_spelled object word ≡ o → option_and_then (site_by_kind design object.kind number) o ≡ Some site → In site (sites_of design)

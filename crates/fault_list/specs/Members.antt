@@ -1,5 +1,6 @@
 -- Membership in lists, ranges and searches, as far as the laws on sites and names need it (nothing of the language).
-use Rattle.std.proofs.Common.{◌≡◌, ℕ, zero, suc, ◌+◌, ◌<◌, ◌≤◌, Bool, true, false, List, [], ◌∷◌, ◌++◌, length, map, filter, get_or, Option, Some, None, refl, ap, sym, ◌∙◌, subst, arith, ◌⊎◌, inl, inr, ⊎_elim, cond, find}
+use Rattle.std.proofs.Common.{◌≡◌, ℕ, zero, suc, ◌+◌, ◌<◌, ◌≤◌, Bool, true, false, List, [], ◌∷◌, ◌++◌, length, map, filter, get_or, Option, Some, None, refl, ap, sym, ◌∙◌, subst, arith, ◌⊎◌, inl}
+use Rattle.std.proofs.Common.{inr, ⊎_elim, cond, find}
 use Rattle.std.specs.Prelude.{slice_get, nat_eq}
 use Rattle.std.specs.List.{Contains}
 use Rattle.std.proofs.lemmas.Bool.{or_cases, or_left, or_right, eqb-true, eq-eqb, false≢true}
@@ -179,7 +180,8 @@ filter-has test (x ∷ xs) n e passes =
 
 -- Objects and nodes
 
-pub numbers-has : (test : FlatObject → Bool) (n i : ℕ) (object : FlatObject) (objects : List FlatObject) → slice_get objects i ≡ Some object → test object ≡ true → has (numbers_of test n objects) (n + i) ≡ true
+pub numbers-has : (test : FlatObject → Bool) (n i : ℕ) (object : FlatObject) (objects : List FlatObject) → slice_get objects i ≡ Some object → test object ≡ true →
+    has (numbers_of test n objects) (n + i) ≡ true
 numbers-has test n i object [] at e = absurd (cc)
 numbers-has test n zero object (o ∷ os) at e =
     let same : o ≡ object = cc in let k : n ≡ n + 0 = omega arith in
@@ -193,11 +195,13 @@ numbers-has test n (suc i) object (o ∷ os) at e =
       | false ↦ rest
     ]
 
-pub one-later : (test : FlatObject → Bool) (n m : ℕ) (o : FlatObject) (os : List FlatObject) → ((i : ℕ) × (object : FlatObject) × (m ≡ n + 1 + i) × (slice_get os i ≡ Some object) × (test object ≡ true)) →
+pub one-later : (test : FlatObject → Bool) (n m : ℕ) (o : FlatObject) (os : List FlatObject) →
+    ((i : ℕ) × (object : FlatObject) × (m ≡ n + 1 + i) × (slice_get os i ≡ Some object) × (test object ≡ true)) →
     (i : ℕ) × (object : FlatObject) × (m ≡ n + i) × (slice_get (o ∷ os) i ≡ Some object) × (test object ≡ true)
 one-later test n m o os r = let k : m ≡ n + suc r.0 = omega (arith, r.2) in (suc r.0, r.1, k, r.3, r.4)
 
-pub has-number : (test : FlatObject → Bool) (n m : ℕ) (objects : List FlatObject) → has (numbers_of test n objects) m ≡ true → (i : ℕ) × (object : FlatObject) × (m ≡ n + i) × (slice_get objects i ≡ Some object) × (test object ≡ true)
+pub has-number : (test : FlatObject → Bool) (n m : ℕ) (objects : List FlatObject) → has (numbers_of test n objects) m ≡ true →
+    (i : ℕ) × (object : FlatObject) × (m ≡ n + i) × (slice_get objects i ≡ Some object) × (test object ≡ true)
 has-number test n m [] e = absurd (false≢true e)
 has-number test n m (o ∷ os) e =
     elim (test o) as (λ b. test o ≡ b → has (elim b [ true ↦ n ∷ numbers_of test (n + 1) os | false ↦ numbers_of test (n + 1) os ]) m ≡ true →
@@ -223,7 +227,8 @@ driver-later object x xs n (Some k) more is h =
     let r = more k is in let next : k + 1 ≡ n = cc in let e : suc k ≡ n = omega (arith, next) in
     (r.0, subst (λ m. slice_get (x ∷ xs) m ≡ Some r.0) e r.1, r.2)
 
-pub driver-sound : (object : ℕ) (nodes : List FlatNode) (n : ℕ) → first_place (λ (node : FlatNode). has node.outputs object) nodes ≡ Some n → (node : FlatNode) × (slice_get nodes n ≡ Some node) × (has node.outputs object ≡ true)
+pub driver-sound : (object : ℕ) (nodes : List FlatNode) (n : ℕ) → first_place (λ (node : FlatNode). has node.outputs object) nodes ≡ Some n →
+    (node : FlatNode) × (slice_get nodes n ≡ Some node) × (has node.outputs object ≡ true)
 driver-sound object [] n e = absurd (cc)
 driver-sound object (x ∷ xs) n e =
     elim (has x.outputs object) as (λ b. has x.outputs object ≡ b → earlier_place b (first_place (λ (node : FlatNode). has node.outputs object) xs) ≡ Some n →

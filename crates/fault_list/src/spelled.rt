@@ -9,7 +9,8 @@ ghost use Rattle.vf_base.specs.Lists.{has, first_place};
 ghost use Rattle.v_design.specs.Plain.{site_of, object_of, node_of, node_kind_of, name_joined, piece_of};
 ghost use Rattle.v_design.specs.PlainDesigns.{design_of};
 ghost use Rattle.v_design.specs.Sites.{index_of_bit, index_text, terminal_count, sites_of};
-ghost use Rattle.fault_list.specs.Spelled.{or_else, first_answer, numbered_terminals, driver_of, site_by_kind, site_at, bit_spelled, object_spelled, terminal_spelled, node_spelled, piece_bit, held_bit, place_spelled, place_site, name_spelled, site_spelled};
+ghost use Rattle.fault_list.specs.Spelled.{or_else, first_answer, numbered_terminals, driver_of, site_by_kind, site_at, bit_spelled, object_spelled};
+ghost use Rattle.fault_list.specs.Spelled.{terminal_spelled, node_spelled, piece_bit, held_bit, place_spelled, place_site, name_spelled, site_spelled};
 
 use crate::compare::{is_bit_name, is_terminal_name};
 use crate::name::index_of_bit;

@@ -40,7 +40,8 @@ pub numbers_covered : ShardsCover
 numbers_covered = record { cover = covered; within = from-shard }
 
 -- the part of a list that is a shard, seen as numbers
-pub part-shard : {A : Type 0} (f : A → ℕ) (xs : List A) (number : ℕ) → number < shard_count (length xs) → map f (take (min (length xs) (32 * number + 32) - 32 * number) (drop (32 * number) xs)) ≡ shard number (map f xs)
+pub part-shard : {A : Type 0} (f : A → ℕ) (xs : List A) (number : ℕ) → number < shard_count (length xs) →
+    map f (take (min (length xs) (32 * number + 32) - 32 * number) (drop (32 * number) xs)) ≡ shard number (map f xs)
 part-shard f xs number below =
     let size : length (drop (32 * number) xs) ≡ length xs - 32 * number = length-drop (32 * number) xs in
     let few : min (length xs) (32 * number + 32) - 32 * number ≡ min 32 (length (drop (32 * number) xs)) = omega (arith, size, below) in

@@ -71,7 +71,8 @@ pub number-at : (standing : List FaultId) (number : ℕ) (d : FaultId) → numbe
 number-at standing number d below = slice_get-map fault_number standing number ∙ ap (option_map fault_number) (slice_get-get_or standing number d below)
 
 -- a fault more, which stands for itself
-pub own-more : (standing own : List FaultId) (number : ℕ) (d : FaultId) → number < length standing → fault_number (get_or standing number d) ≡ number → OwnBelow (map fault_number standing) (map fault_number own) number →
+pub own-more : (standing own : List FaultId) (number : ℕ) (d : FaultId) → number < length standing → fault_number (get_or standing number d) ≡ number →
+    OwnBelow (map fault_number standing) (map fault_number own) number →
     OwnBelow (map fault_number standing) (map fault_number (own ++ get_or standing number d ∷ [])) (number + 1)
 own-more standing own number d below is h =
     let P : List ℕ → Type 0 = λ (l : List ℕ). OwnBelow (map fault_number standing) l (number + 1) in
@@ -79,7 +80,8 @@ own-more standing own number d below is h =
     (own-yes (map fault_number standing) (map fault_number own) number (fault_number (get_or standing number d)) (number-at standing number d below) is h)
 
 -- a fault more, for which another one stands
-pub own-other : (standing own : List FaultId) (number : ℕ) (d : FaultId) → number < length standing → (fault_number (get_or standing number d) ≡ number → ⊥) → OwnBelow (map fault_number standing) (map fault_number own) number →
+pub own-other : (standing own : List FaultId) (number : ℕ) (d : FaultId) → number < length standing → (fault_number (get_or standing number d) ≡ number → ⊥) →
+    OwnBelow (map fault_number standing) (map fault_number own) number →
     OwnBelow (map fault_number standing) (map fault_number own) (number + 1)
 own-other standing own number d below other h = own-no (map fault_number standing) (map fault_number own) number (fault_number (get_or standing number d)) (number-at standing number d below) other h
 
@@ -87,11 +89,16 @@ own-other standing own number d below other h = own-no (map fault_number standin
 pub own-all : (standing own : List ℕ) (end : ℕ) → length standing ≤ end → OwnBelow standing own end → StandForThemselves standing own
 own-all standing own end past h = record {
   ascend = h.ascend;
-  each = λ number. ((λ c. (h.there number c).1), (λ itself. h.all number (let within : number < length standing = slice_get_within standing number number itself in omega (arith, within, past)) itself));
+  each = λ number. (
+    (λ c. (h.there number c).1),
+    (λ itself. h.all number (let within : number < length standing = slice_get_within standing number number itself in omega (arith, within, past))
+        itself),
+  );
 }
 
 -- the fault that stands for a listed one is listed
-pub first-below : (standing : List FaultId) (number : ℕ) (d : FaultId) → number < length standing → ((k : ℕ) → k < length standing → get_or (map fault_number standing) k 0 < length standing) → fault_number (get_or standing number d) < length standing
+pub first-below : (standing : List FaultId) (number : ℕ) (d : FaultId) → number < length standing → ((k : ℕ) → k < length standing → get_or (map fault_number standing) k 0 < length standing) →
+    fault_number (get_or standing number d) < length standing
 first-below standing number d below within =
     let place : get_or (map fault_number standing) number 0 < length standing = within number below in
     let same : get_or (map fault_number standing) number 0 ≡ fault_number (get_or standing number d) = get_or-map fault_number standing number d 0 below in

@@ -1,5 +1,6 @@
 -- The findings on all listed faults, from those on the representatives.
-use Rattle.std.proofs.Common.{◌≡◌, ℕ, zero, suc, ◌+◌, ◌<◌, List, [], ◌∷◌, ◌++◌, length, take, get_or, set, replicate, All, Contains, arith, sym, ap, subst, ◌∙◌, ◌⊎◌, ⊎_elim, inl, inr, refl, length-set}
+use Rattle.std.proofs.Common.{◌≡◌, ℕ, zero, suc, ◌+◌, ◌<◌, List, [], ◌∷◌, ◌++◌, length, take, get_or, set, replicate, All, Contains, arith, sym, ap, subst, ◌∙◌, ◌⊎◌, ⊎_elim, inl, inr, refl}
+use Rattle.std.proofs.Common.{length-set}
 use Rattle.std.specs.Prelude.{Some, slice_get}
 use Rattle.std.specs.List.{AllZip}
 use Rattle.std.proofs.lemmas.Bool.{cases_eq}
@@ -39,7 +40,8 @@ slice_get-set_other (y ∷ xs) (suc i) (suc j) x other = slice_get-set_other xs 
 pub ends-start : (count : ℕ) (found : List Finding) (end : End) → HasEnds count (take 0 found) (replicate count end)
 ends-start count found end = record { counted = length-replicate count end; each = λ number c. absurd (omega (arith, c.1)) }
 
-ends-push : (count : ℕ) (taken : List Finding) (ends : List End) (finding : Finding) → fault_number finding.fault < count → HasEnds count taken ends → HasEnds count (taken ++ finding ∷ []) (set ends (fault_number finding.fault) finding.end)
+ends-push : (count : ℕ) (taken : List Finding) (ends : List End) (finding : Finding) → fault_number finding.fault < count → HasEnds count taken ends →
+    HasEnds count (taken ++ finding ∷ []) (set ends (fault_number finding.fault) finding.end)
 ends-push count taken ends finding below h = record {
   counted = length-set ends (fault_number finding.fault) finding.end ∙ h.counted;
   each = λ number c. ⊎_elim (this number) (λ (other : number ≡ fault_number finding.fault → ⊥). earlier number other c) (cases_eq number (fault_number finding.fault));
@@ -48,22 +50,31 @@ ends-push count taken ends finding below h = record {
     Tells : ℕ → Type 0
     Tells number = (end : End) × (slice_get (set ends (fault_number finding.fault) finding.end) number ≡ Some end) × IsFoundEnd (taken ++ finding ∷ []) number end
 
-    this : (number : ℕ) → number ≡ fault_number finding.fault → (end : End) × (slice_get (set ends (fault_number finding.fault) finding.end) number ≡ Some end) × IsFoundEnd (taken ++ finding ∷ []) number end
+    this : (number : ℕ) → number ≡ fault_number finding.fault → (end : End) × (slice_get (set ends (fault_number finding.fault) finding.end) number ≡ Some end)
+        × IsFoundEnd (taken ++ finding ∷ []) number end
     this number same =
-        let size : length ends ≡ count = h.counted in
-        (finding.end, ap (slice_get (set ends (fault_number finding.fault) finding.end)) same ∙ slice_get-set_same ends (fault_number finding.fault) finding.end (omega (arith, size, below)), record { finding = finding; there = Contains-push taken finding; fault = sym same; tells = refl })
+        let size : length ends ≡ count = h.counted in (
+          finding.end,
+          ap (slice_get (set ends (fault_number finding.fault) finding.end)) same ∙ slice_get-set_same ends (fault_number finding.fault) finding.end (omega (arith, size, below)),
+          record { finding = finding; there = Contains-push taken finding; fault = sym same; tells = refl },
+        )
 
     earlier : (number : ℕ) → (number ≡ fault_number finding.fault → ⊥) → Contains (found_faults (taken ++ finding ∷ [])) number →
         (end : End) × (slice_get (set ends (fault_number finding.fault) finding.end) number ≡ Some end) × IsFoundEnd (taken ++ finding ∷ []) number end
     earlier number other c =
         let P : List ℕ → Type 0 = λ (l : List ℕ). Contains l number in
         let pushed : Contains (found_faults taken ++ fault_number finding.fault ∷ []) number = subst P (map_push (λ (f : Finding). fault_number f.fault) taken finding) c in
-        let before : Contains (found_faults taken) number = ⊎_elim (λ (l : Contains (found_faults taken) number). l) (λ (r : fault_number finding.fault ≡ number). absurd (other (sym r))) (Contains-push_cases (found_faults taken) (fault_number finding.fault) number pushed) in
-        let e = h.each number before in
-        (e.0, slice_get-set_other ends (fault_number finding.fault) number finding.end other ∙ e.1, record { finding = e.2.finding; there = Contains-append_left taken (finding ∷ []) e.2.finding e.2.there; fault = e.2.fault; tells = e.2.tells })
+        let before : Contains (found_faults taken) number = ⊎_elim (λ (l : Contains (found_faults taken) number). l) (λ (r : fault_number finding.fault ≡ number). absurd (other (sym r)))
+        (Contains-push_cases (found_faults taken) (fault_number finding.fault) number pushed) in
+        let e = h.each number before in (
+          e.0,
+          slice_get-set_other ends (fault_number finding.fault) number finding.end other ∙ e.1,
+          record { finding = e.2.finding; there = Contains-append_left taken (finding ∷ []) e.2.finding e.2.there; fault = e.2.fault; tells = e.2.tells },
+        )
 
 -- a finding more
-pub ends-more : (count : ℕ) (found : List Finding) (ends : List End) (index : ℕ) (d : Finding) → index < length found → All (λ (finding : Finding). fault_number finding.fault < count) found → HasEnds count (take index found) ends →
+pub ends-more : (count : ℕ) (found : List Finding) (ends : List End) (index : ℕ) (d : Finding) → index < length found → All (λ (finding : Finding). fault_number finding.fault < count) found →
+    HasEnds count (take index found) ends →
     HasEnds count (take (index + 1) found) (set ends (fault_number (get_or found index d).fault) (get_or found index d).end)
 ends-more count found ends index d below listed h =
     let P : List Finding → Type 0 = λ (l : List Finding). HasEnds count l (set ends (fault_number (get_or found index d).fault) (get_or found index d).end) in
@@ -98,7 +109,8 @@ pub listed-start : (standing : List ℕ) (ends : List End) → ListedSoFar stand
 listed-start standing ends = record { counted = refl; in_order = refl; each = λ number finding at. cc }
 
 -- one fault more
-pub listed-more : (standing : List ℕ) (ends : List End) (count : ℕ) (findings : List Finding) (finding : Finding) (place : ℕ) → ListedSoFar standing ends count findings → fault_number finding.fault ≡ count → slice_get standing count ≡ Some place →
+pub listed-more : (standing : List ℕ) (ends : List End) (count : ℕ) (findings : List Finding) (finding : Finding) (place : ℕ) → ListedSoFar standing ends count findings →
+    fault_number finding.fault ≡ count → slice_get standing count ≡ Some place →
     slice_get ends place ≡ Some finding.end → ListedSoFar standing ends (count + 1) (findings ++ finding ∷ [])
 listed-more standing ends count findings finding place so own stands tells = record {
   counted = (let c : length findings ≡ count = so.counted in length_push findings finding ∙ ap (λ n. n + 1) c);
@@ -123,8 +135,10 @@ zip-all design plan (fault ∷ faults) (finding ∷ findings) e h =
     (h 0 fault finding refl refl, zip-all design plan faults findings (omega (arith, e)) (λ number other found there kept. h (suc number) other found there kept))
 
 -- the grade of a fault, by what was found of the one that stands for it
-grade-by-class : (design : FlatDesign) (plan : TestPlan) (places : List ℕ) (found : List Finding) (ends : List End) (count number place : ℕ) (fault : StuckAt) (end : End) → ClassesAgree → KeepsRules design → AreClasses design plan.faults places →
-    AreFound design plan found → HasEnds count found ends → slice_get plan.faults number ≡ Some fault → slice_get places number ≡ Some place → slice_get ends place ≡ Some end → grade design plan fault ≡ Some (grade_of end)
+grade-by-class : (design : FlatDesign) (plan : TestPlan) (places : List ℕ) (found : List Finding) (ends : List End) (count number place : ℕ) (fault : StuckAt) (end : End) → ClassesAgree →
+    KeepsRules design → AreClasses design plan.faults places →
+    AreFound design plan found → HasEnds count found ends → slice_get plan.faults number ≡ Some fault → slice_get places number ≡ Some place → slice_get ends place ≡ Some end →
+    grade design plan fault ≡ Some (grade_of end)
 grade-by-class design plan places found ends count number place fault end law rules classes complete has at stands told =
     let first = place-represents design plan.faults places classes number fault place at stands in
     let e = has.each place (complete.complete place first.0) in
@@ -134,8 +148,10 @@ grade-by-class design plan places found ends count number place fault end law ru
     sym (law design plan first.0.fault fault rules first.1) ∙ ap (grade design plan) (sym same_fault) ∙ g.graded ∙ ap (λ (one : End). Some (grade_of one)) (e.2.tells ∙ same_end)
 
 -- the findings on all listed faults are their grades
-pub listed-grades : (design : FlatDesign) (plan : TestPlan) (standing : List ℕ) (found : List Finding) (ends : List End) (count number : ℕ) (findings : List Finding) → ClassesAgree → KeepsRules design → length standing ≡ length plan.faults →
-    AreClasses design plan.faults standing → AreFound design plan found → HasEnds count found ends → number ≡ length standing → ListedSoFar standing ends number findings → AreGrades design plan (grades_of findings)
+pub listed-grades : (design : FlatDesign) (plan : TestPlan) (standing : List ℕ) (found : List Finding) (ends : List End) (count number : ℕ) (findings : List Finding) → ClassesAgree →
+    KeepsRules design → length standing ≡ length plan.faults →
+    AreClasses design plan.faults standing → AreFound design plan found → HasEnds count found ends → number ≡ length standing → ListedSoFar standing ends number findings →
+    AreGrades design plan (grades_of findings)
 listed-grades design plan standing found ends count number findings law rules counted classes complete has all so =
     zip-all design plan plan.faults findings (so.counted ∙ all ∙ counted)
     (λ k fault finding at kept. let e = so.each k finding kept in grade-by-class design plan standing found ends count k e.0 fault finding.end law rules classes complete has at e.1 e.2)

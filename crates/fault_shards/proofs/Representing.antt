@@ -43,7 +43,8 @@ classes-taken design faults places count same classes number fault at =
     (c.0, slice_get-take count places number (omega (arith, below, same)) ∙ c.1, c.2, c.3)
 
 -- the place of a fault's class is of a listed fault
-pub place-within : (design : FlatDesign) (faults : List StuckAt) (places : List ℕ) → length places ≡ length faults → AreClasses design faults places → (k : ℕ) → k < length places → get_or places k 0 < length places
+pub place-within : (design : FlatDesign) (faults : List StuckAt) (places : List ℕ) → length places ≡ length faults → AreClasses design faults places → (k : ℕ) → k < length places →
+    get_or places k 0 < length places
 place-within design faults places same classes k below =
     let f = element-at faults k (omega (arith, below, same)) in
     let c = classes k f.0 f.1 in
@@ -52,7 +53,8 @@ place-within design faults places same classes k below =
     omega (arith, below, is, least)
 
 -- the faults that stand for themselves are the representatives
-pub own-represent : (design : FlatDesign) (faults : List StuckAt) (standing own : List ℕ) → length standing ≡ length faults → AreClasses design faults standing → StandForThemselves standing own → AreRepresentatives design faults own
+pub own-represent : (design : FlatDesign) (faults : List StuckAt) (standing own : List ℕ) → length standing ≡ length faults → AreClasses design faults standing → StandForThemselves standing own →
+    AreRepresentatives design faults own
 own-represent design faults standing own same classes h = record { ascend = h.ascend; each = λ number. (there number, back number) }
   where
     there : (number : ℕ) → Contains own number → IsRepresentative design faults number
@@ -68,7 +70,8 @@ own-represent design faults standing own same classes h = record { ascend = h.as
     back number r =
         let class = classes number r.fault r.listed in
         let up : class.0 ≤ number = class.2 in
-        let place : class.0 ≡ number = ⊎_elim (λ (lt : class.0 < number). absurd (r.least class.0 class.3.first lt class.3.stands class.3.alike)) (λ (ge : number ≤ class.0). omega (arith, up, ge)) (cases_lt class.0 number) in
+        let place : class.0 ≡ number = ⊎_elim (λ (lt : class.0 < number). absurd (r.least class.0 class.3.first lt class.3.stands class.3.alike)) (λ (ge : number ≤ class.0). omega (arith, up, ge))
+        (cases_lt class.0 number) in
         (h.each number).1 (class.1 ∙ ap (λ (n : ℕ). Some n) place)
 
 -- what is of one class with a second, which is of one class with a third, is so with the third
@@ -77,13 +80,22 @@ class-chain design one other last (same_fault fault) more = more
 class-chain design one other last (joined_by first next end pair chain) more = joined_by first next last pair (class-chain design next end last chain more)
 
 -- the place of a fault's class is that of a representative
-pub place-represents : (design : FlatDesign) (faults : List StuckAt) (places : List ℕ) → AreClasses design faults places → (number : ℕ) (fault : StuckAt) (place : ℕ) → slice_get faults number ≡ Some fault → slice_get places number ≡ Some place →
+pub place-represents : (design : FlatDesign) (faults : List StuckAt) (places : List ℕ) → AreClasses design faults places → (number : ℕ) (fault : StuckAt) (place : ℕ) →
+    slice_get faults number ≡ Some fault → slice_get places number ≡ Some place →
     (r : IsRepresentative design faults place) × AreOneClass design r.fault fault
 place-represents design faults places classes number fault place at stands =
     let c = classes number fault at in
     let same : c.0 ≡ place = same_Some c.0 place (sym c.1 ∙ stands) in
     let P : ℕ → Type 0 = λ (p : ℕ). (r : IsRepresentative design faults p) × AreOneClass design r.fault fault in
-    let here : P c.0 = (record { fault = c.3.first; listed = c.3.stands; least = λ earlier other lt there alike. c.3.least earlier other lt there (class-chain design other c.3.first fault alike c.3.alike) }, c.3.alike) in
+    let here : P c.0 = (
+      record {
+        fault = c.3.first;
+        listed = c.3.stands;
+        least = λ earlier other lt there alike.
+            c.3.least earlier other lt there (class-chain design other c.3.first fault alike c.3.alike);
+      },
+      c.3.alike,
+    ) in
     subst P same here
 
 -- The code's lists
@@ -95,13 +107,15 @@ pub record IsCut (design : FlatDesign) (faults : List StuckAt) (standing own : L
   pub counted : length standing ≡ length faults
 
 -- so many places as there are faults
-pub standing-count : (design : FlatDesign) (faults : List Fault) (places : List ℕ) (standing : List FaultId) → AreClasses design (stuck faults) places → map fault_number standing ≡ take (length faults) places → length standing ≡ length faults
+pub standing-count : (design : FlatDesign) (faults : List Fault) (places : List ℕ) (standing : List FaultId) → AreClasses design (stuck faults) places →
+    map fault_number standing ≡ take (length faults) places → length standing ≡ length faults
 standing-count design faults places standing classes taken =
     let enough : length (stuck faults) ≤ length places = places-enough design (stuck faults) places classes in
     let size : length (stuck faults) ≡ length faults = length-map faults fault_of in
     sym (length-map standing fault_number) ∙ ap length taken ∙ length-take-le (length faults) places (omega (arith, enough, size))
 
-pub cut-made : (design : FlatDesign) (faults : List Fault) (places : List ℕ) (standing seen own : List FaultId) → AreClasses design (stuck faults) places → map fault_number standing ≡ take (length faults) places → seen ≡ standing →
+pub cut-made : (design : FlatDesign) (faults : List Fault) (places : List ℕ) (standing seen own : List FaultId) → AreClasses design (stuck faults) places →
+    map fault_number standing ≡ take (length faults) places → seen ≡ standing →
     StandForThemselves (map fault_number seen) (map fault_number own) → IsCut design (stuck faults) (map fault_number standing) (map fault_number own)
 cut-made design faults places standing seen own classes taken same own_stand =
     let size : length (stuck faults) ≡ length faults = length-map faults fault_of in
@@ -113,8 +127,10 @@ cut-made design faults places standing seen own classes taken same own_stand =
     record { representatives = own-represent design (stuck faults) (map fault_number standing) (map fault_number own) counted stand itself; classes = stand; counted = counted }
 
 -- each place is of a listed fault
-pub cut-within : (design : FlatDesign) (faults : List StuckAt) (standing : List FaultId) (own : List ℕ) → IsCut design faults (map fault_number standing) own → (k : ℕ) → k < length standing → get_or (map fault_number standing) k 0 < length standing
+pub cut-within : (design : FlatDesign) (faults : List StuckAt) (standing : List FaultId) (own : List ℕ) → IsCut design faults (map fault_number standing) own → (k : ℕ) → k < length standing →
+    get_or (map fault_number standing) k 0 < length standing
 cut-within design faults standing own cut k below =
     let size : length (map fault_number standing) ≡ length standing = length-map standing fault_number in
-    let place : get_or (map fault_number standing) k 0 < length (map fault_number standing) = place-within design faults (map fault_number standing) cut.counted cut.classes k (omega (arith, below, size)) in
+    let place : get_or (map fault_number standing) k 0 < length (map fault_number standing) =
+    place-within design faults (map fault_number standing) cut.counted cut.classes k (omega (arith, below, size)) in
     omega (arith, place, size)

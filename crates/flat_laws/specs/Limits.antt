@@ -31,7 +31,8 @@ inputs-few (node ∷ nodes) e =
     let none = refusal_or-none (inputs_over node) (some_inputs_over nodes) e in (over_limit-none Inputs most_inputs (length node.inputs) none.0, inputs-few nodes none.1)
 
 -- inputs are objects
-inputs-among : (parts : List Part) (objects : List HeldObject) (nodes : List WalkedNode) → AllHold (λ (node : FlatNode). AllHold (λ object. object < length objects) node.inputs) (walked_nodes parts objects nodes)
+inputs-among : (parts : List Part) (objects : List HeldObject) (nodes : List WalkedNode) →
+    AllHold (λ (node : FlatNode). AllHold (λ object. object < length objects) node.inputs) (walked_nodes parts objects nodes)
 inputs-among parts objects nodes =
     AllHold-from (λ (node : FlatNode). AllHold (λ object. object < length objects) node.inputs) (walked_nodes parts objects nodes)
     (λ i node at.
@@ -39,7 +40,8 @@ inputs-among parts objects nodes =
     let made = flat_node parts objects (0 + i) r.0 in
     let low : AllHold (λ object. object < length objects) made.inputs =
     AllHold-filter (λ object. object < length objects) (has (node_reads made.kind made.outputs)) (up_from 0 (length objects))
-    (AllHold-each (λ n. (0 ≤ n) × (n < 0 + length objects)) (λ n. n < length objects) (up_from 0 (length objects)) (λ n h. let below = h.1 in omega (arith, below)) (AllHold-up_from 0 (length objects))) in
+    (AllHold-each (λ n. (0 ≤ n) × (n < 0 + length objects)) (λ n. n < length objects) (up_from 0 (length objects)) (λ n h. let below = h.1 in omega (arith, below))
+    (AllHold-up_from 0 (length objects))) in
     subst (λ (n : FlatNode). AllHold (λ object. object < length objects) n.inputs) r.2 low)
 
 -- Loops

@@ -87,20 +87,30 @@ record NodesMade (parts : List Part) (objects : List HeldObject) (nodes : List F
 over_nodes-ok : (parts : List Part) (objects : List HeldObject) (processes : List WalkedProcess) (nodes : List FlatNode) (design : FlatDesign) → over_nodes parts objects processes nodes ≡ Ok design →
     NodesMade parts objects nodes processes design
 over_nodes-ok parts objects processes nodes design e =
-    let few = then_go-ok (unless_refused (some_inputs_over nodes) nodes) (λ few. then_go (unless_refused (loop_in objects few) few) (λ acyclic. Ok (design_with parts objects acyclic processes))) design e in
+    let few = then_go-ok (unless_refused (some_inputs_over nodes) nodes) (λ few. then_go (unless_refused (loop_in objects few) few) (λ acyclic. Ok (design_with parts objects acyclic processes)))
+    design e in
     let is = unless_refused-ok (some_inputs_over nodes) nodes few.0 few.1 in
     let rest : then_go (unless_refused (loop_in objects nodes) nodes) (λ acyclic. Ok (design_with parts objects acyclic processes)) ≡ Ok design =
     ap (λ n. then_go (unless_refused (loop_in objects n) n) (λ acyclic. Ok (design_with parts objects acyclic processes))) is.1 ∙ few.2 in
     let acyclic = then_go-ok (unless_refused (loop_in objects nodes) nodes) (λ acyclic. Ok (design_with parts objects acyclic processes)) design rest in
     let none = unless_refused-ok (loop_in objects nodes) nodes acyclic.0 acyclic.1 in
-    record { few_inputs = is.0; acyclic = none.0; is = ap (λ n. design_with parts objects n processes) none.1 ∙ same_answer (design_with parts objects acyclic.0 processes) design (Ok (design_with parts objects acyclic.0 processes)) refl acyclic.2 }
+    record {
+      few_inputs = is.0;
+      acyclic = none.0;
+      is = ap (λ n. design_with parts objects n processes) none.1
+          ∙ same_answer (design_with parts objects acyclic.0 processes) design (Ok (design_with parts objects acyclic.0 processes)) refl acyclic.2;
+    }
 
-over_parts-ok : (parts : List Part) (nodes : List WalkedNode) (processes : List WalkedProcess) (objects : List HeldObject) (design : FlatDesign) → over_parts parts nodes processes objects ≡ Ok design →
+over_parts-ok : (parts : List Part) (nodes : List WalkedNode) (processes : List WalkedProcess) (objects : List HeldObject) (design : FlatDesign) →
+    over_parts parts nodes processes objects ≡ Ok design →
     (length objects ≤ most_parts) × NodesMade parts objects (walked_nodes parts objects nodes) processes design
 over_parts-ok parts nodes processes objects design e =
     let few = then_go-ok (unless_refused (over_limit Objects most_parts (length objects)) objects) (λ few. over_nodes parts few processes (walked_nodes parts few nodes)) design e in
-    let is = unless_refused-ok (over_limit Objects most_parts (length objects)) objects few.0 few.1 in
-    (over_limit-none Objects most_parts (length objects) is.0, over_nodes-ok parts objects processes (walked_nodes parts objects nodes) design (ap (λ o. over_nodes parts o processes (walked_nodes parts o nodes)) is.1 ∙ few.2))
+    let is = unless_refused-ok (over_limit Objects most_parts (length objects)) objects few.0 few.1 in (
+      over_limit-none Objects most_parts (length objects) is.0,
+      over_nodes-ok parts objects processes (walked_nodes parts objects nodes) design
+          (ap (λ o. over_nodes parts o processes (walked_nodes parts o nodes)) is.1 ∙ few.2),
+    )
 
 flat_of_parts-ok : (parts : List Part) (design : FlatDesign) → flat_of_parts parts ≡ Ok design → IsMadeOf parts design
 flat_of_parts-ok parts design e =
@@ -112,7 +122,8 @@ flat_of_parts-ok parts design e =
     let driven = then_go-ok (unless_refused (two_drivers (signals_of parts) (nodes_of behaviours)) (nodes_of behaviours))
     (λ nodes. over_parts parts nodes (processes_of behaviours) (objects_of_parts parts nodes)) design rest in
     let none = unless_refused-ok (two_drivers (signals_of parts) (nodes_of behaviours)) (nodes_of behaviours) driven.0 driven.1 in
-    let made = over_parts-ok parts (nodes_in parts) (processes_in parts) (objects_in parts) design (ap (λ n. over_parts parts n (processes_of behaviours) (objects_of_parts parts n)) none.1 ∙ driven.2) in
+    let made = over_parts-ok parts (nodes_in parts) (processes_in parts) (objects_in parts) design
+    (ap (λ n. over_parts parts n (processes_of behaviours) (objects_of_parts parts n)) none.1 ∙ driven.2) in
     record {
       few_nodes = over_limit-none Nodes most_parts (length (nodes_of behaviours)) limits.0;
       few_processes = over_limit-none Processes most_parts (length (processes_of behaviours)) limits.1;
@@ -123,7 +134,8 @@ flat_of_parts-ok parts design e =
       is = made.1.is;
     }
 
-flat_from-ok : (modules : List SourceModule) (mode : Mode) (name : Identifier) (top : Option SourceModule) (design : FlatDesign) → module_named modules name ≡ top → flat_from modules mode top ≡ Ok design → IsFlatOf modules mode design
+flat_from-ok : (modules : List SourceModule) (mode : Mode) (name : Identifier) (top : Option SourceModule) (design : FlatDesign) → module_named modules name ≡ top →
+    flat_from modules mode top ≡ Ok design → IsFlatOf modules mode design
 flat_from-ok modules mode name None design found e = absurd (cc)
 flat_from-ok modules mode name (Some top) design named e =
     let found = then_go-ok (unless_refused (second_module [] modules) top) (λ found. then_go (walked_from modules mode found) flat_of_parts) design e in

@@ -95,7 +95,8 @@ ascending-once xs up = ascending-fresh [] xs (λ s x e h. absurd (cc)) up
 -- Counting
 
 -- what counts one at a single number at most counts one at most
-pub counted-once : {A : Type 0} (f : A → ℕ) (xs : List A) (number : ℕ) → ((i : ℕ) (x : A) → slice_get xs i ≡ Some x → f x ≤ 1) → ((i : ℕ) (x : A) → slice_get xs i ≡ Some x → (i ≡ number → ⊥) → f x ≡ 0) → sum_by f xs ≤ 1
+pub counted-once : {A : Type 0} (f : A → ℕ) (xs : List A) (number : ℕ) → ((i : ℕ) (x : A) → slice_get xs i ≡ Some x → f x ≤ 1) →
+    ((i : ℕ) (x : A) → slice_get xs i ≡ Some x → (i ≡ number → ⊥) → f x ≡ 0) → sum_by f xs ≤ 1
 counted-once f [] number few none = omega arith
 counted-once f (x ∷ xs) zero few none =
     let here : f x ≤ 1 = few 0 x refl in

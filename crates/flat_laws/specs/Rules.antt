@@ -58,7 +58,8 @@ made-ordered parts design made = record {
       each-node (λ node. AllHold (λ object. IsTrue (has (net_pieces design) object)) node.outputs) parts design made
       (AllHold-from (λ (node : FlatNode). AllHold (λ object. IsTrue (has (net_pieces design) object)) node.outputs) (flat_nodes_in parts)
       (λ i node at.
-      subst (AllHold (λ object. IsTrue (has (net_pieces design) object))) (sym (node-outputs parts (objects_in parts) (nodes_in parts) i node at)) (outputs-nets parts (nodes_in parts) i design (design-objects parts design made))));
+      subst (AllHold (λ object. IsTrue (has (net_pieces design) object))) (sym (node-outputs parts (objects_in parts) (nodes_in parts) i node at))
+      (outputs-nets parts (nodes_in parts) i design (design-objects parts design made))));
   outputs_once =
       each-node (λ node. without_repeats [] node.outputs ≡ node.outputs) parts design made
       (AllHold-from (λ (node : FlatNode). without_repeats [] node.outputs ≡ node.outputs) (flat_nodes_in parts)
@@ -98,7 +99,8 @@ pub record IsConsistent (modules : List SourceModule) (mode : Mode) (top : Sourc
   pub settled : (path : Identifier) (scope : Scope) → IsAt modules mode top path scope → IsSettled scope
 
 -- the nets, variables and memories of such a walk
-pub consistent-hierarchy : (modules : List SourceModule) (mode : Mode) (top : SourceModule) (parts : List Part) → walked_from modules mode top ≡ Ok parts → IsConsistent modules mode top parts → IsHierarchy parts
+pub consistent-hierarchy : (modules : List SourceModule) (mode : Mode) (top : SourceModule) (parts : List Part) → walked_from modules mode top ≡ Ok parts → IsConsistent modules mode top parts →
+    IsHierarchy parts
 consistent-hierarchy modules mode top parts e is =
     let walked = parts-signals modules mode top parts e in
     record {

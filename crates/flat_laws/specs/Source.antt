@@ -4,7 +4,8 @@ use Rattle.std.specs.Prelude.{◌≡◌, ℕ, ◌<◌, ◌≤◌, ◌^◌, List,
 use Rattle.vf_base.specs.Lists.{AllHold}
 use Rattle.vf_base.specs.declared.limits.TheConstants.{MAX_LEVELS_BELOW}
 use Rattle.v_design.specs.WellFormed.{TerminalsFit}
-use Rattle.v_tree.specs.Trees.{SourceExpression, Concatenated, no_parts, SourceWire, SourceAssignment, SourceGate, SourceConnection, SourceInstance, SourceItem, ParameterItem, PortItem, WireItem, RegItem, IntegerItem, AssignItem, GateItem, InstanceItem, InitialItem, AlwaysItem, SourceModule}
+use Rattle.v_tree.specs.Trees.{SourceExpression, Concatenated, no_parts, SourceWire, SourceAssignment, SourceGate, SourceConnection, SourceInstance, SourceItem, ParameterItem, PortItem, WireItem}
+use Rattle.v_tree.specs.Trees.{RegItem, IntegerItem, AssignItem, GateItem, InstanceItem, InitialItem, AlwaysItem, SourceModule}
 use Rattle.v_expr.specs.Heights.{height_of}
 use Rattle.v_stmt.specs.Heights.{statement_height}
 use Rattle.flat_laws.specs.Sizes.Statements.{HasSelects, HaveSelects}

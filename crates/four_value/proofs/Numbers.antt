@@ -11,7 +11,8 @@ use Rattle.std.proofs.Math.Facts.{to_z-neg, sfits_to_z}
 use Rattle.std.proofs.lemmas.Int.{ints, to_z_pos, of_z-to_z}
 use Rattle.four_value.specs.Bits.{is_one, is_unknown, bit_of, not_bit}
 use Rattle.four_value.specs.Planes.{is_one_or_z, one_if, plane_of}
-use Rattle.four_value.specs.Values.{LogicValue, bits_of, bits_of_whole, bits_or_unknown, both, by_divisor, whole_or_unknown, quotient_of, arithmetic, sum_of, difference_of, product_of, number_of, whole_of, whole_number, top_bit}
+use Rattle.four_value.specs.Values.{LogicValue, bits_of, bits_of_whole, bits_or_unknown, both, by_divisor, whole_or_unknown, quotient_of, arithmetic, sum_of, difference_of, product_of, number_of}
+use Rattle.four_value.specs.Values.{whole_of, whole_number, top_bit}
 use Rattle.four_value.specs.declared.logic.Bit.{Bit}
 use Rattle.four_value.specs.declared.logic.Bit.TheVariants.{Zero, One, X, Z}
 use Rattle.four_value.proofs.Words.{one_if-lt}

@@ -1,5 +1,6 @@
 -- The fields of a value with a part put in, and of a shifted one; lists that are parts of a value.
-use Rattle.std.proofs.Common.{◌≡◌, ℕ, zero, suc, ◌+◌, ◌-◌, ◌*◌, ◌/◌, ◌%◌, ◌^◌, ◌<◌, ◌≤◌, min, Bool, true, false, ◌&&◌, ◌||◌, [], ◌∷◌, ◌++◌, length, take, drop, replicate, get_or, refl, ap, ap₂, sym, ◌∙◌, arith}
+use Rattle.std.proofs.Common.{◌≡◌, ℕ, zero, suc, ◌+◌, ◌-◌, ◌*◌, ◌/◌, ◌%◌, ◌^◌, ◌<◌, ◌≤◌, min, Bool, true, false, ◌&&◌, ◌||◌, [], ◌∷◌, ◌++◌, length, take, drop, replicate, get_or, refl, ap, ap₂, sym}
+use Rattle.std.proofs.Common.{◌∙◌, arith}
 use Rattle.std.specs.Int.Bits.{bit_and, bit_or, and_zero_r, or_zero_r}
 use Rattle.std.proofs.lemmas.Nat.{pow_pos, mod-pow-add, mod_low, mod_below, and_mask, and_mod, and_le_r, shl_whole, or_comm, or_shifted}
 use Rattle.std.proofs.Math.Nat.{mod-eq_of_lt}
@@ -205,7 +206,8 @@ plane_of-more test bits i d m b h narrow hm hb =
     let below : m < 2 ^ i = rw (hm) (omega (arith, plane_of-lt test (take i bits), ap (λ k. 2 ^ k) taken)) in
     let one : b < 2 = omega (arith, hb, one_if-lt (test (get_or bits i d))) in
     let more : plane_of test (take (i + 1) bits) ≡ plane_of test (take i bits) + 2 ^ i * (one_if (test (get_or bits i d)) + 2 * 0)
-    = ap (plane_of test) (take_more bits i d h) ∙ plane_of-append test (take i bits) (get_or bits i d ∷ []) ∙ ap (λ k. plane_of test (take i bits) + 2 ^ k * (one_if (test (get_or bits i d)) + 2 * 0)) taken in
+    = ap (plane_of test) (take_more bits i d h) ∙ plane_of-append test (take i bits) (get_or bits i d ∷ [])
+    ∙ ap (λ k. plane_of test (take i bits) + 2 ^ k * (one_if (test (get_or bits i d)) + 2 * 0)) taken in
     let whole : b * 2 ^ i + m ≡ plane_of test (take i bits) + 2 ^ i * (one_if (test (get_or bits i d)) + 2 * 0) = rw (hm, hb) (omega arith) in
     ap (bit_or m) (shl_whole b 1 i 128 one (omega (arith, h, narrow))) ∙ or_comm m (b * 2 ^ i) ∙ or_shifted b i m below ∙ whole ∙ sym more
 

@@ -274,7 +274,8 @@ xor_known false (Zero ∷ bits) h =
     xor_known false bits (omega (arith, h)) ∙ ap (λ n. bit_of (odd n)) e
 xor_known true (One ∷ bits) h =
     xor_known false bits (omega (arith, h))
-    ∙ ap bit_of (sym (odd_two (one_if true + ones (one_if true + 2 * plane_of is_one_or_z bits)) (one_if false + ones (plane_of is_one_or_z bits)) (omega (arith, one_more true (plane_of is_one_or_z bits)))))
+    ∙ ap bit_of (sym (odd_two (one_if true + ones (one_if true + 2 * plane_of is_one_or_z bits)) (one_if false + ones (plane_of is_one_or_z bits))
+    (omega (arith, one_more true (plane_of is_one_or_z bits)))))
 xor_known false (One ∷ bits) h =
     let e : one_if true + ones (plane_of is_one_or_z bits) ≡ one_if false + ones (one_if true + 2 * plane_of is_one_or_z bits) = omega (arith, one_more true (plane_of is_one_or_z bits)) in
     xor_known true bits (omega (arith, h)) ∙ ap (λ n. bit_of (odd n)) e

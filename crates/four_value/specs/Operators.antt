@@ -1,7 +1,8 @@
 -- What each operator of an expression answers, and how a case matches (IEEE 1364-2001, clause 4.1 and clause 9.5).
 use Rattle.std.specs.Prelude.{Bool, false, not, ◌||◌, [], ◌∷◌}
 use Rattle.four_value.specs.Bits.{is_z, is_unknown, same_bit, bit_of, not_bit, and_bit, or_bit, xor_bit}
-use Rattle.four_value.specs.Values.{LogicValue, each_place, sum_of, difference_of, product_of, quotient_of, remainder_of, negated, plus_value, less_than, at_most, logical_equality, same_value, truth_of, truth_bit, and_value, or_value, xor_value, not_value, reduced, shifted_left, shifted_right}
+use Rattle.four_value.specs.Values.{LogicValue, each_place, sum_of, difference_of, product_of, quotient_of, remainder_of, negated, plus_value, less_than, at_most, logical_equality, same_value}
+use Rattle.four_value.specs.Values.{truth_of, truth_bit, and_value, or_value, xor_value, not_value, reduced, shifted_left, shifted_right}
 use Rattle.four_value.specs.declared.logic.Bit.{Bit}
 use Rattle.four_value.specs.declared.logic.Bit.TheVariants.{Zero, One}
 use Rattle.four_value.specs.declared.operator.CaseKind.{CaseKind}
@@ -9,7 +10,9 @@ use Rattle.four_value.specs.declared.operator.CaseKind.TheVariants.{Exact, Ignor
 use Rattle.four_value.specs.declared.operator.UnaryOperator.{UnaryOperator}
 use Rattle.four_value.specs.declared.operator.UnaryOperator.TheVariants.{Plus, Minus, LogicalNot, BitwiseNot, ReduceAnd, ReduceNand, ReduceOr, ReduceNor, ReduceXor, ReduceXnor}
 use Rattle.four_value.specs.declared.operator.BinaryOperator.{BinaryOperator}
-use Rattle.four_value.specs.declared.operator.BinaryOperator.TheVariants.{Multiply, Divide, Remainder, Add, Subtract, ShiftLeft, ShiftRight, ArithmeticShiftLeft, ArithmeticShiftRight, Less, LessEqual, Greater, GreaterEqual, Equal, NotEqual, CaseEqual, CaseNotEqual, BitwiseAnd, BitwiseXor, BitwiseXnor, BitwiseOr, LogicalAnd, LogicalOr}
+use Rattle.four_value.specs.declared.operator.BinaryOperator.TheVariants.{Multiply, Divide, Remainder, Add, Subtract, ShiftLeft, ShiftRight, ArithmeticShiftLeft, ArithmeticShiftRight, Less}
+use Rattle.four_value.specs.declared.operator.BinaryOperator.TheVariants.{LessEqual, Greater, GreaterEqual, Equal, NotEqual, CaseEqual, CaseNotEqual, BitwiseAnd, BitwiseXor, BitwiseXnor, BitwiseOr}
+use Rattle.four_value.specs.declared.operator.BinaryOperator.TheVariants.{LogicalAnd, LogicalOr}
 
 -- what a value says as a condition, as a bit
 abbrev pub truth_as_bit : LogicValue → Bit

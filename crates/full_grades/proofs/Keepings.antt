@@ -79,14 +79,16 @@ other-kept time kept shown items own e b t =
 
 -- The start
 
-pub keeping-begins : FirstRunsGoOn → (design : FlatDesign) (plan : TestPlan) (fault : StuckAt) (m : Simulated) (shown differs : List Sample) (stop : Option Stop) → KeepsRules design → IsPlan plan → machine_kept m ≡ faulty_machine design fault →
+pub keeping-begins : FirstRunsGoOn → (design : FlatDesign) (plan : TestPlan) (fault : StuckAt) (m : Simulated) (shown differs : List Sample) (stop : Option Stop) → KeepsRules design → IsPlan plan →
+    machine_kept m ≡ faulty_machine design fault →
     begins_next m ≡ Some (start (faulty_machine design fault)) → IsStanding m → IsGoodRun design plan shown stop → differs ≡ [] → IsKeepingAt design plan fault m shown differs
 keeping-begins law design plan fault m shown differs stop rules plan_rules same begins standing good none =
     record { passed = []; beside = begins-beside law design plan fault m shown stop rules plan_rules same begins standing good; differs_are = none }
 
 -- A strobe
 
-module _ (design : FlatDesign) (plan : TestPlan) (fault : StuckAt) (m new : Simulated) (sample : Sample) (next differs : List Sample) (at : IsKeepingAt design plan fault m (sample ∷ next) differs) where
+module _ (design : FlatDesign) (plan : TestPlan) (fault : StuckAt) (m new : Simulated) (sample : Sample) (next differs : List Sample)
+    (at : IsKeepingAt design plan fault m (sample ∷ next) differs) where
   -- the faulty machine stops
   pub keeping-stopped : FullGradesAre → (stop : Found) (end : End) → Advanced sample.time m (Some stop) new → Some (grade_of end) ≡ faulty_ending (stop_view stop).time (stop_view stop).outcome →
       EndsSo design plan fault (Some (grade_of end)) differs
@@ -116,7 +118,8 @@ module _ (design : FlatDesign) (plan : TestPlan) (fault : StuckAt) (m new : Simu
         beside = goes-beside design plan fault m new at.passed sample next at.beside advanced;
         differs_are =
             is
-            ∙ (λ i. at.differs_are i ++ differing-one (good_seen design plan) (faulty_seen design plan fault) sample.time sample.bits (samples watched (state_kept new).values) at.beside.beside.bits.0 (λ j. samples (sym same j) (sym shows.sees j)) i)
+            ∙ (λ i. at.differs_are i ++ differing-one (good_seen design plan) (faulty_seen design plan fault) sample.time sample.bits
+            (samples watched (state_kept new).values) at.beside.beside.bits.0 (λ j. samples (sym same j) (sym shows.sees j)) i)
             ∙ sym (differing-more (good_seen design plan) (faulty_seen design plan fault) at.passed sample.time);
       }
 
@@ -124,7 +127,8 @@ module _ (design : FlatDesign) (plan : TestPlan) (fault : StuckAt) (m new : Simu
 
 module _ (design : FlatDesign) (plan : TestPlan) (fault : StuckAt) (m new : Simulated) (differs : List Sample) (at : IsKeepingAt design plan fault m [] differs) where
   -- the faulty machine stops
-  pub ends-stopped : FullGradesAre → (race : Option Pair) (stop : Found) (end : End) → AdvancesTo (last_before race plan.end) m (Some stop) new → good_stop design plan ≡ race_if race → StopsWithin plan.end (race_if race) →
+  pub ends-stopped : FullGradesAre → (race : Option Pair) (stop : Found) (end : End) → AdvancesTo (last_before race plan.end) m (Some stop) new → good_stop design plan ≡ race_if race →
+      StopsWithin plan.end (race_if race) →
       Some (grade_of end) ≡ faulty_ending (stop_view stop).time (stop_view stop).outcome → EndsSo design plan fault (Some (grade_of end)) differs
   ends-stopped law race stop end advanced e within is =
       let s = stops-late design plan fault m new at.passed at.beside race stop advanced e within in
@@ -166,10 +170,12 @@ module _ (design : FlatDesign) (plan : TestPlan) (fault : StuckAt) (m new : Simu
         full = record { end = None; samples = samples_at (faulty_seen design plan fault) plan.strobes };
         full_is = law.whole design plan fault e (never-stops design plan fault m new at.passed at.beside advanced);
         end_is = refl;
-        differs_are = at.differs_are ∙ ap (λ strobes. differing (good_seen design plan) (samples_at (faulty_seen design plan fault) strobes)) (sym (all-passed design plan fault at.beside.now at.passed at.beside.beside e));
+        differs_are = at.differs_are ∙ ap (λ strobes. differing (good_seen design plan) (samples_at (faulty_seen design plan fault) strobes))
+            (sym (all-passed design plan fault at.beside.now at.passed at.beside.beside e));
       }
 
 -- What is kept
 
-pub kept-so : (design : FlatDesign) (plan : TestPlan) (fault : StuckAt) (kept : Kept) (differs : List Sample) → map sample_of kept.differs ≡ differs → EndsSo design plan fault (option_map grade_of kept.end) differs → Keeps design plan fault kept
+pub kept-so : (design : FlatDesign) (plan : TestPlan) (fault : StuckAt) (kept : Kept) (differs : List Sample) → map sample_of kept.differs ≡ differs →
+    EndsSo design plan fault (option_map grade_of kept.end) differs → Keeps design plan fault kept
 kept-so design plan fault kept differs same e = (e.full, e.full_is, record { end = sym e.end_is; differs = same ∙ e.differs_are })

@@ -31,4 +31,5 @@ LeadsTo design plan fault next (Some end) m differs = EndsSo design plan fault (
 -- a strobe of a full grade was passed
 abbrev pub Passes : List WatchedBit → Sample → Simulated → List Sample → Option End → Simulated → List Sample → Type 0
 Passes watched sample old before end new after =
-    (design : FlatDesign) (plan : TestPlan) (fault : StuckAt) (next : List Sample) → plan.watched ≡ watched → IsKeepingAt design plan fault old (sample ∷ next) before → LeadsTo design plan fault next end new after
+    (design : FlatDesign) (plan : TestPlan) (fault : StuckAt) (next : List Sample) → plan.watched ≡ watched → IsKeepingAt design plan fault old (sample ∷ next) before →
+    LeadsTo design plan fault next end new after

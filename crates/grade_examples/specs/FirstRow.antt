@@ -46,7 +46,8 @@ kept = refl
 -- the certificate's lines behind the second
 abbrev pub certificate_lines : List CertLine
 certificate_lines =
-    GoodBegins ∷ Runs (SlotAt 0) ∷ Runs (StepsOf 0 2) ∷ Runs (SlotAt 10) ∷ Runs (StepsOf 0 2) ∷ FaultyBegins ∷ Runs (SlotAt 0) ∷ Runs (StepsOf 0 2) ∷ Runs (SlotAt 10) ∷ Runs (StepsOf 0 2) ∷ Closes ∷ []
+    GoodBegins ∷ Runs (SlotAt 0) ∷ Runs (StepsOf 0 2) ∷ Runs (SlotAt 10) ∷ Runs (StepsOf 0 2) ∷ FaultyBegins ∷ Runs (SlotAt 0) ∷ Runs (StepsOf 0 2) ∷ Runs (SlotAt 10) ∷ Runs (StepsOf 0 2) ∷ Closes ∷
+    []
 
 pub written : lines_by design test_plan stuck_low (Some (Says (Detected 15))) ≡ certificate_lines
 written = refl
@@ -55,7 +56,8 @@ written = refl
 abbrev pub failing : Claim → RunLine → Option ℕ
 failing claim first_steps =
     failing_from design test_plan stuck_low claim 3 Before
-    (GoodBegins ∷ Runs (SlotAt 0) ∷ Runs first_steps ∷ Runs (SlotAt 10) ∷ Runs (StepsOf 0 2) ∷ FaultyBegins ∷ Runs (SlotAt 0) ∷ Runs (StepsOf 0 2) ∷ Runs (SlotAt 10) ∷ Runs (StepsOf 0 2) ∷ Closes ∷ [])
+    (GoodBegins ∷ Runs (SlotAt 0) ∷ Runs first_steps ∷ Runs (SlotAt 10) ∷ Runs (StepsOf 0 2) ∷ FaultyBegins ∷ Runs (SlotAt 0) ∷ Runs (StepsOf 0 2) ∷ Runs (SlotAt 10) ∷ Runs (StepsOf 0 2) ∷ Closes ∷
+    [])
 
 pub valid : failing (Says (Detected 15)) (StepsOf 0 2) ≡ None
 valid = refl
@@ -79,7 +81,8 @@ pub no_update : failing (Says (Detected 15)) (UpdatesOf 0 1) ≡ Some 5
 no_update = refl
 
 -- behind the end each line fails, and where it is missing the line after the last
-pub behind : failing_from design test_plan stuck_low (Says (Detected 15)) 3 Before (GoodBegins ∷ Runs (SlotAt 0) ∷ Runs (StepsOf 0 2) ∷ Runs (SlotAt 10) ∷ Runs (StepsOf 0 2) ∷ FaultyBegins ∷ Runs (SlotAt 0) ∷ Runs (StepsOf 0 2) ∷ Runs (SlotAt 10) ∷ Runs (StepsOf 0 2) ∷ Closes ∷ Closes ∷ []) ≡ Some 14
+pub behind : failing_from design test_plan stuck_low (Says (Detected 15)) 3 Before (GoodBegins ∷ Runs (SlotAt 0) ∷ Runs (StepsOf 0 2) ∷ Runs (SlotAt 10) ∷ Runs (StepsOf 0 2) ∷ FaultyBegins ∷
+    Runs (SlotAt 0) ∷ Runs (StepsOf 0 2) ∷ Runs (SlotAt 10) ∷ Runs (StepsOf 0 2) ∷ Closes ∷ Closes ∷ []) ≡ Some 14
 behind = refl
 
 pub missing : failing_from design test_plan stuck_low (Says (Detected 15)) 3 Before (GoodBegins ∷ Runs (SlotAt 0) ∷ Runs (StepsOf 0 2) ∷ []) ≡ Some 6

@@ -21,7 +21,8 @@ fit_if (Some full) = Some (fit response full.samples)
 abbrev pub three_strobes : TestPlan
 three_strobes = record possible.test_plan { strobes = 3 ∷ 7 ∷ 17 ∷ [] }
 
-pub good_fits : fit response (samples_at (first_samples (good_machine possible.design) three_strobes.watched (first_run (good_machine possible.design) three_strobes.end)) three_strobes.strobes) ≡ Possible
+pub good_fits : fit response (samples_at (first_samples (good_machine possible.design) three_strobes.watched (first_run (good_machine possible.design) three_strobes.end)) three_strobes.strobes) ≡
+    Possible
 good_fits = refl
 
 pub fault_fits : map (λ fault. fit_if (full_grade possible.design three_strobes fault)) three_strobes.faults ≡ Some Possible ∷ []

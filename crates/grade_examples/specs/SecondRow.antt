@@ -19,7 +19,10 @@ stuck = variable_fault 2 0 true
 
 abbrev pub certificate_lines : List CertLine
 certificate_lines =
-    GoodBegins ∷ Runs (SlotAt 0) ∷ Runs (StepsOf 0 1) ∷ Runs (StepsOf 1 1) ∷ Runs (StepsOf 2 1) ∷ Runs (SlotAt 5) ∷ Runs (StepsOf 0 4) ∷ Runs (StepsOf 1 4) ∷ Runs (StepsOf 2 4) ∷ Runs (PhaseNumber 2) ∷ Runs (UpdatesOf 1 1) ∷ Runs (UpdatesOf 2 1) ∷ Runs (SlotAt 10) ∷ Runs (StepsOf 0 4) ∷ FaultyBegins ∷ Runs (SlotAt 0) ∷ Runs (StepsOf 0 1) ∷ Runs (StepsOf 1 1) ∷ Runs (StepsOf 2 1) ∷ Runs (SlotAt 5) ∷ Runs (StepsOf 0 4) ∷ Runs (StepsOf 1 4) ∷ Runs (StepsOf 2 4) ∷ Runs (PhaseNumber 2) ∷ Runs (UpdatesOf 1 1) ∷ Runs (UpdatesOf 2 1) ∷ Runs (SlotAt 10) ∷ Runs (StepsOf 0 4) ∷ Closes ∷ []
+    GoodBegins ∷ Runs (SlotAt 0) ∷ Runs (StepsOf 0 1) ∷ Runs (StepsOf 1 1) ∷ Runs (StepsOf 2 1) ∷ Runs (SlotAt 5) ∷ Runs (StepsOf 0 4) ∷ Runs (StepsOf 1 4) ∷ Runs (StepsOf 2 4) ∷
+    Runs (PhaseNumber 2) ∷ Runs (UpdatesOf 1 1) ∷ Runs (UpdatesOf 2 1) ∷ Runs (SlotAt 10) ∷ Runs (StepsOf 0 4) ∷ FaultyBegins ∷ Runs (SlotAt 0) ∷ Runs (StepsOf 0 1) ∷ Runs (StepsOf 1 1) ∷
+    Runs (StepsOf 2 1) ∷ Runs (SlotAt 5) ∷ Runs (StepsOf 0 4) ∷ Runs (StepsOf 1 4) ∷ Runs (StepsOf 2 4) ∷ Runs (PhaseNumber 2) ∷ Runs (UpdatesOf 1 1) ∷ Runs (UpdatesOf 2 1) ∷ Runs (SlotAt 10) ∷
+    Runs (StepsOf 0 4) ∷ Closes ∷ []
 
 pub written : lines_by row.design row.test_plan stuck (Some (Says (Detected 13))) ≡ certificate_lines
 written = refl
@@ -29,7 +32,10 @@ valid = refl
 
 abbrev pub exchanged_lines : List CertLine
 exchanged_lines =
-    GoodBegins ∷ Runs (SlotAt 0) ∷ Runs (StepsOf 0 1) ∷ Runs (StepsOf 1 1) ∷ Runs (StepsOf 2 1) ∷ Runs (SlotAt 5) ∷ Runs (StepsOf 0 4) ∷ Runs (StepsOf 2 4) ∷ Runs (StepsOf 1 4) ∷ Runs (PhaseNumber 2) ∷ Runs (UpdatesOf 1 1) ∷ Runs (UpdatesOf 2 1) ∷ Runs (SlotAt 10) ∷ Runs (StepsOf 0 4) ∷ FaultyBegins ∷ Runs (SlotAt 0) ∷ Runs (StepsOf 0 1) ∷ Runs (StepsOf 1 1) ∷ Runs (StepsOf 2 1) ∷ Runs (SlotAt 5) ∷ Runs (StepsOf 0 4) ∷ Runs (StepsOf 1 4) ∷ Runs (StepsOf 2 4) ∷ Runs (PhaseNumber 2) ∷ Runs (UpdatesOf 1 1) ∷ Runs (UpdatesOf 2 1) ∷ Runs (SlotAt 10) ∷ Runs (StepsOf 0 4) ∷ Closes ∷ []
+    GoodBegins ∷ Runs (SlotAt 0) ∷ Runs (StepsOf 0 1) ∷ Runs (StepsOf 1 1) ∷ Runs (StepsOf 2 1) ∷ Runs (SlotAt 5) ∷ Runs (StepsOf 0 4) ∷ Runs (StepsOf 2 4) ∷ Runs (StepsOf 1 4) ∷
+    Runs (PhaseNumber 2) ∷ Runs (UpdatesOf 1 1) ∷ Runs (UpdatesOf 2 1) ∷ Runs (SlotAt 10) ∷ Runs (StepsOf 0 4) ∷ FaultyBegins ∷ Runs (SlotAt 0) ∷ Runs (StepsOf 0 1) ∷ Runs (StepsOf 1 1) ∷
+    Runs (StepsOf 2 1) ∷ Runs (SlotAt 5) ∷ Runs (StepsOf 0 4) ∷ Runs (StepsOf 1 4) ∷ Runs (StepsOf 2 4) ∷ Runs (PhaseNumber 2) ∷ Runs (UpdatesOf 1 1) ∷ Runs (UpdatesOf 2 1) ∷ Runs (SlotAt 10) ∷
+    Runs (StepsOf 0 4) ∷ Closes ∷ []
 
 pub exchanged : failing_from row.design row.test_plan stuck (Says (Detected 13)) 3 Before exchanged_lines ≡ None
 exchanged = refl

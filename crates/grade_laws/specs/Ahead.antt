@@ -42,7 +42,8 @@ pub record Shows (machine : Machine) (end time : ℕ) (values : List LogicValue)
 abbrev values_by : Machine → ℕ → List LogicValue → FirstSlot → List FirstSlot → Bool → List LogicValue
 values_by machine time last slot slots begun = elim begun [ true ↦ values_after machine (slot_end machine slot).values slots time | false ↦ last ]
 
-values-begun : (machine : Machine) (time : ℕ) (last : List LogicValue) (slot : FirstSlot) (slots : List FirstSlot) → slot.begins.time ≤ time → values_after machine last (slot ∷ slots) time ≡ values_after machine (slot_end machine slot).values slots time
+values-begun : (machine : Machine) (time : ℕ) (last : List LogicValue) (slot : FirstSlot) (slots : List FirstSlot) → slot.begins.time ≤ time →
+    values_after machine last (slot ∷ slots) time ≡ values_after machine (slot_end machine slot).values slots time
 values-begun machine time last slot slots h = ap (values_by machine time last slot slots) (le-leb slot.begins.time time h)
 
 values-later : (machine : Machine) (time : ℕ) (last : List LogicValue) (slot : FirstSlot) (slots : List FirstSlot) → time < slot.begins.time → values_after machine last (slot ∷ slots) time ≡ last
@@ -116,7 +117,8 @@ record Next (machine : Machine) (end now : ℕ) (begins : State) (values : List 
 next-slot : (machine : Machine) (end now : ℕ) (begins : State) (values : List LogicValue) → IsAhead machine end now (Some begins) values → Next machine end now begins values
 next-slot machine end now begins values a = go a.slots a.follow a.rise a.later a.stops a.sees
   where
-    go : (slots : List FirstSlot) → Follow machine end (Some begins) slots → Rise slots → AllHold (λ (slot : FirstSlot). now ≤ slot.begins.time) slots → first_stop machine (first_run machine end) ≡ first_stop machine slots →
+    go : (slots : List FirstSlot) → Follow machine end (Some begins) slots → Rise slots → AllHold (λ (slot : FirstSlot). now ≤ slot.begins.time) slots →
+        first_stop machine (first_run machine end) ≡ first_stop machine slots →
         ((time : ℕ) → now ≤ time → values_after machine [] (first_run machine end) time ≡ values_after machine values slots time) → Next machine end now begins values
     go [] f r l s v = absurd f
     go (slot ∷ rest) f r l s v = record {
@@ -130,7 +132,8 @@ next-slot machine end now begins values a = go a.slots a.follow a.rise a.later a
     }
 
 -- after a slot that is fine, those after it are ahead
-pub ahead-fine : (machine : Machine) (end now : ℕ) (begins : State) (values : List LogicValue) (next : Option State) → IsAhead machine end now (Some begins) values → slot_outcome machine (slot_from machine begins) ≡ Fine →
+pub ahead-fine : (machine : Machine) (end now : ℕ) (begins : State) (values : List LogicValue) (next : Option State) → IsAhead machine end now (Some begins) values →
+    slot_outcome machine (slot_from machine begins) ≡ Fine →
     next_slot machine end (slot_from machine begins) ≡ next → IsAhead machine end begins.time next (slot_end machine (slot_from machine begins)).values
 ahead-fine machine end now begins values next a fine is =
     let n = next-slot machine end now begins values a in
@@ -144,13 +147,15 @@ ahead-fine machine end now begins values next a fine is =
     }
 
 -- a slot with a race is the first stop
-pub ahead-race : (machine : Machine) (end now : ℕ) (begins : State) (values : List LogicValue) (pair : ReportedPair) → IsAhead machine end now (Some begins) values → slot_outcome machine (slot_from machine begins) ≡ Race pair →
+pub ahead-race : (machine : Machine) (end now : ℕ) (begins : State) (values : List LogicValue) (pair : ReportedPair) → IsAhead machine end now (Some begins) values →
+    slot_outcome machine (slot_from machine begins) ≡ Race pair →
     first_stop machine (first_run machine end) ≡ Some (record { time = begins.time; outcome = Race pair })
 ahead-race machine end now begins values pair a race =
     let n = next-slot machine end now begins values a in n.stops ∙ ap (stop_by machine (slot_from machine begins) n.rest) race
 
 -- a slot that is hyperactive is the first stop
-pub ahead-hyper : (machine : Machine) (end now : ℕ) (begins : State) (values : List LogicValue) → IsAhead machine end now (Some begins) values → slot_outcome machine (slot_from machine begins) ≡ Hyper →
+pub ahead-hyper : (machine : Machine) (end now : ℕ) (begins : State) (values : List LogicValue) → IsAhead machine end now (Some begins) values →
+    slot_outcome machine (slot_from machine begins) ≡ Hyper →
     first_stop machine (first_run machine end) ≡ Some (record { time = begins.time; outcome = Hyper })
 ahead-hyper machine end now begins values a hyper =
     let n = next-slot machine end now begins values a in n.stops ∙ ap (stop_by machine (slot_from machine begins) n.rest) hyper
@@ -160,7 +165,8 @@ pub ahead-since : (machine : Machine) (end now : ℕ) (begins : State) (values :
 ahead-since machine end now begins values a = (next-slot machine end now begins values a).since
 
 -- the slot after it is later
-pub ahead-rises : (machine : Machine) (end now : ℕ) (begins next : State) (values : List LogicValue) → IsAhead machine end now (Some begins) values → next_slot machine end (slot_from machine begins) ≡ Some next → begins.time < next.time
+pub ahead-rises : (machine : Machine) (end now : ℕ) (begins next : State) (values : List LogicValue) → IsAhead machine end now (Some begins) values →
+    next_slot machine end (slot_from machine begins) ≡ Some next → begins.time < next.time
 ahead-rises machine end now begins next values a is =
     let n = next-slot machine end now begins values a in go n.rest (subst (λ found. Follow machine end found n.rest) is n.follow) n.after
   where
@@ -186,7 +192,8 @@ ahead-over machine end now time values a h = record {
 }
 
 -- before the slot that is next the values stay
-pub ahead-later : (machine : Machine) (end now time : ℕ) (begins : State) (values : List LogicValue) → IsAhead machine end now (Some begins) values → now ≤ time → time < begins.time → Shows machine end time values
+pub ahead-later : (machine : Machine) (end now time : ℕ) (begins : State) (values : List LogicValue) → IsAhead machine end now (Some begins) values → now ≤ time → time < begins.time →
+    Shows machine end time values
 ahead-later machine end now time begins values a h late =
     let n = next-slot machine end now begins values a in
     record {

@@ -22,7 +22,8 @@ pub find-later : (test : ℕ → Bool) (early later : List ℕ) → find test ea
 find-later test [] later e = refl
 find-later test (x ∷ early) later e = go (test x) e (λ f. find-later test early later f)
   where
-    go : (b : Bool) → cond b (Some x) (find test early) ≡ None → (find test early ≡ None → find test (early ++ later) ≡ find test later) → cond b (Some x) (find test (early ++ later)) ≡ find test later
+    go : (b : Bool) → cond b (Some x) (find test early) ≡ None → (find test early ≡ None → find test (early ++ later) ≡ find test later) →
+        cond b (Some x) (find test (early ++ later)) ≡ find test later
     go true f rest = cc
     go false f rest = rest f
 
@@ -54,7 +55,8 @@ NotBefore time None = Unit {0}
 NotBefore time (Some stop) = time ≤ stop.time
 
 -- a hard strobe before both stops
-pub graded-hard : (good faulty : Option Stop) (time : ℕ) (possible : Option ℕ) → StopsAfter time good → StopsAfter time faulty → graded good faulty (Some time) (verdict_by (Some time) possible) ≡ Some (Judged (Detected time))
+pub graded-hard : (good faulty : Option Stop) (time : ℕ) (possible : Option ℕ) → StopsAfter time good → StopsAfter time faulty →
+    graded good faulty (Some time) (verdict_by (Some time) possible) ≡ Some (Judged (Detected time))
 graded-hard None None time possible a b = refl
 graded-hard None (Some stop) time possible a b = ap (λ early. faulty_or early stop (Some (Judged (Detected time)))) (after-strobe time stop b)
 graded-hard (Some stop) None time possible a b = ap (λ early. good_or early stop (Some (Judged (Detected time)))) (after-strobe time stop a)
@@ -64,7 +66,8 @@ graded-hard (Some stop) (Some other) time possible a b =
     ∙ ap (λ early. faulty_or early other (Some (Judged (Detected time)))) (after-strobe time other b)
 
 -- a stop of the faulty machine before one of the good machine, and no hard strobe before it
-pub graded-faulty : (good : Option Stop) (stop : Stop) (hard : Option ℕ) (otherwise : Verdict) → StopsAfter stop.time good → by_then stop.time hard ≡ true → graded good (Some stop) hard otherwise ≡ faulty_ending stop.time stop.outcome
+pub graded-faulty : (good : Option Stop) (stop : Stop) (hard : Option ℕ) (otherwise : Verdict) → StopsAfter stop.time good → by_then stop.time hard ≡ true →
+    graded good (Some stop) hard otherwise ≡ faulty_ending stop.time stop.outcome
 graded-faulty None stop hard otherwise a h = ap (λ early. faulty_or early stop (Some (Judged otherwise))) h
 graded-faulty (Some good) stop hard otherwise a h =
     ap (λ early. good_or (early && by_then good.time hard) good (graded_faulty (Some stop) hard otherwise)) (lt-leb good.time stop.time a)
@@ -75,7 +78,8 @@ not-before time None h = refl
 not-before time (Some stop) h = le-leb time stop.time h
 
 -- a stop of the good machine, not after one of the faulty machine, and no hard strobe before it
-pub graded-good : (stop : Stop) (faulty : Option Stop) (hard : Option ℕ) (otherwise : Verdict) → NotBefore stop.time faulty → by_then stop.time hard ≡ true → graded (Some stop) faulty hard otherwise ≡ good_ending stop.outcome
+pub graded-good : (stop : Stop) (faulty : Option Stop) (hard : Option ℕ) (otherwise : Verdict) → NotBefore stop.time faulty → by_then stop.time hard ≡ true →
+    graded (Some stop) faulty hard otherwise ≡ good_ending stop.outcome
 graded-good stop faulty hard otherwise n h =
     ap (λ early. good_or (early && by_then stop.time hard) stop (graded_faulty faulty hard otherwise)) (not-before stop.time faulty n)
     ∙ ap (λ early. good_or early stop (graded_faulty faulty hard otherwise)) h

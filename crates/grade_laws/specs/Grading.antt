@@ -6,7 +6,8 @@ use Rattle.four_value.specs.Values.{LogicValue}
 use Rattle.vf_base.specs.Lists.{AllHold}
 use Rattle.v_design.specs.Designs.{FlatDesign, Machine, StuckAt, TestPlan, good_machine, faulty_machine}
 use Rattle.v_design.specs.Runs.{first_run}
-use Rattle.v_design.specs.Grades.{Samples, samples, is_hard, is_possible, some_sample, first_strobe, Detected, verdict, verdict_by, first_samples, FaultGrade, Judged, Stop, first_stop, by_then, good_ending, faulty_ending, graded, grade, Sample}
+use Rattle.v_design.specs.Grades.{Samples, samples, is_hard, is_possible, some_sample, first_strobe, Detected, verdict, verdict_by, first_samples, FaultGrade, Judged, Stop, first_stop, by_then}
+use Rattle.v_design.specs.Grades.{good_ending, faulty_ending, graded, grade, Sample}
 use Rattle.v_design.specs.WellFormed.{IsAscending, IsPlan}
 use Rattle.strobe_detect.specs.Firsts.{first_time}
 use Rattle.strobe_detect.specs.Graders.{GraderState, IsShown, shown_at, shown-next, shown-verdict}
@@ -120,7 +121,8 @@ strobe-more P (x ∷ passed) strobe h p = (h.0, strobe-more P passed strobe h.1 
 -- From strobe to strobe
 
 -- before the first strobe, where the faulty machine didn't go on yet
-pub beside-start : (design : FlatDesign) (plan : TestPlan) (fault : StuckAt) (shown : List Sample) (stop : Option Stop) → IsPlan plan → IsGoodRun design plan shown stop → IsBeside design plan fault 0 [] shown
+pub beside-start : (design : FlatDesign) (plan : TestPlan) (fault : StuckAt) (shown : List Sample) (stop : Option Stop) → IsPlan plan → IsGoodRun design plan shown stop →
+    IsBeside design plan fault 0 [] shown
 beside-start design plan fault shown stop rules good = record {
   last = good.last;
   strobes = good.strobes;
@@ -151,7 +153,8 @@ module _ (design : FlatDesign) (plan : TestPlan) (fault : StuckAt) (now : ℕ) (
   pub strobes-more : plan.strobes ≡ (passed ++ sample.time ∷ []) ++ (times next ++ b.last)
   strobes-more = b.strobes ∙ sym (append_assoc passed (sample.time ∷ []) (times next ++ b.last))
 
-  pub beside-more : (values : List LogicValue) → Shows (faulty_machine design fault) plan.end sample.time values → (later : ℕ) → later ≤ sample.time → IsBeside design plan fault later (passed ++ sample.time ∷ []) next
+  pub beside-more : (values : List LogicValue) → Shows (faulty_machine design fault) plan.end sample.time values → (later : ℕ) → later ≤ sample.time →
+      IsBeside design plan fault later (passed ++ sample.time ∷ []) next
   beside-more values shows later h = record {
     last = b.last;
     strobes = strobes-more;
@@ -205,18 +208,21 @@ abbrev possible_in : FlatDesign → TestPlan → StuckAt → List ℕ → Option
 possible_in design plan fault strobes = first_strobe is_possible (good_seen design plan) (faulty_seen design plan fault) strobes
 
 -- nothing hard was found so far
-none-so-far : (design : FlatDesign) (plan : TestPlan) (fault : StuckAt) (now : ℕ) (next : List Sample) (grader : GraderState) (g : IsGrading design plan fault now next grader) → hard_in design plan fault g.compared ≡ None
+none-so-far : (design : FlatDesign) (plan : TestPlan) (fault : StuckAt) (now : ℕ) (next : List Sample) (grader : GraderState) (g : IsGrading design plan fault now next grader) →
+    hard_in design plan fault g.compared ≡ None
 none-so-far design plan fault now next grader g = sym g.shown.hard_is ∙ g.none_hard
 
 -- no hard strobe is before a time, where the strobes that weren't compared are at that time or later
-none-by : (design : FlatDesign) (plan : TestPlan) (fault : StuckAt) (now : ℕ) (next : List Sample) (grader : GraderState) (g : IsGrading design plan fault now next grader) (time : ℕ) → AllHold (λ strobe. time ≤ strobe) (times next ++ g.beside.last) →
+none-by : (design : FlatDesign) (plan : TestPlan) (fault : StuckAt) (now : ℕ) (next : List Sample) (grader : GraderState) (g : IsGrading design plan fault now next grader) (time : ℕ) →
+    AllHold (λ strobe. time ≤ strobe) (times next ++ g.beside.last) →
     by_then time (hard_in design plan fault plan.strobes) ≡ true
 none-by design plan fault now next grader g time since =
     ap (λ strobes. by_then time (hard_in design plan fault strobes)) g.beside.strobes
     ∙ none-before (hard_test design plan fault) time g.compared (times next ++ g.beside.last) (none-so-far design plan fault now next grader g) since
 
 -- a stop of the faulty machine decides
-by-faulty : (design : FlatDesign) (plan : TestPlan) (fault : StuckAt) (stop : Stop) → faulty_stop design plan fault ≡ Some stop → StopsAfter stop.time (good_stop design plan) → by_then stop.time (hard_in design plan fault plan.strobes) ≡ true →
+by-faulty : (design : FlatDesign) (plan : TestPlan) (fault : StuckAt) (stop : Stop) → faulty_stop design plan fault ≡ Some stop → StopsAfter stop.time (good_stop design plan) →
+    by_then stop.time (hard_in design plan fault plan.strobes) ≡ true →
     grade design plan fault ≡ faulty_ending stop.time stop.outcome
 by-faulty design plan fault stop e after none =
     let hard = hard_in design plan fault plan.strobes in
@@ -225,7 +231,8 @@ by-faulty design plan fault stop e after none =
 
 -- At a strobe
 
-module _ (design : FlatDesign) (plan : TestPlan) (fault : StuckAt) (now : ℕ) (sample : Sample) (next : List Sample) (grader : GraderState) (g : IsGrading design plan fault now (sample ∷ next) grader) where
+module _ (design : FlatDesign) (plan : TestPlan) (fault : StuckAt) (now : ℕ) (sample : Sample) (next : List Sample) (grader : GraderState)
+    (g : IsGrading design plan fault now (sample ∷ next) grader) where
   -- the faulty machine stops at the strobe's time or before it
   pub grading-stopped : (stop : Stop) → faulty_stop design plan fault ≡ Some stop → stop.time ≤ sample.time → grade design plan fault ≡ faulty_ending stop.time stop.outcome
   grading-stopped stop e h =
@@ -233,7 +240,8 @@ module _ (design : FlatDesign) (plan : TestPlan) (fault : StuckAt) (now : ℕ) (
       (none-by design plan fault now (sample ∷ next) grader g stop.time (rest-since design plan fault now g.compared sample next g.beside stop h))
 
   -- the samples of both machines are compared
-  module _ (values : List LogicValue) (shows : Shows (faulty_machine design fault) plan.end sample.time values) (new : GraderState) (is : new ≡ shown_at sample.time sample.bits (samples grader.watched values) grader) where
+  module _ (values : List LogicValue) (shows : Shows (faulty_machine design fault) plan.end sample.time values) (new : GraderState)
+      (is : new ≡ shown_at sample.time sample.bits (samples grader.watched values) grader) where
     shown-here : IsShown (good_seen design plan) (faulty_seen design plan fault) (g.compared ++ sample.time ∷ []) new
     shown-here =
         shown-next (good_seen design plan) (faulty_seen design plan fault) g.compared sample.time sample.bits (samples grader.watched values) grader new is g.shown g.beside.bits.0
@@ -288,6 +296,7 @@ module _ (design : FlatDesign) (plan : TestPlan) (fault : StuckAt) (now : ℕ) (
   -- the good machine stops, and the faulty one doesn't before it
   pub grading-good : (stop : Stop) → good_stop design plan ≡ Some stop → NotBefore stop.time (faulty_stop design plan fault) → grade design plan fault ≡ good_ending stop.outcome
   grading-good stop e before =
-      ap (λ (found : Option Stop). graded found (faulty_stop design plan fault) (hard_in design plan fault plan.strobes) (verdict (good_seen design plan) (faulty_seen design plan fault) plan.strobes)) e
+      ap (λ (found : Option Stop). graded found (faulty_stop design plan fault) (hard_in design plan fault plan.strobes)
+      (verdict (good_seen design plan) (faulty_seen design plan fault) plan.strobes)) e
       ∙ graded-good stop (faulty_stop design plan fault) (hard_in design plan fault plan.strobes) (verdict (good_seen design plan) (faulty_seen design plan fault) plan.strobes) before
       (none-by design plan fault now [] grader g stop.time (good-since design plan fault now g.compared g.beside stop e))

@@ -79,7 +79,8 @@ module _ (design : FlatDesign) (plan : TestPlan) (now : ℕ) (shown : List Sampl
   }
 
 -- after the last strobe, the machine went on to the plan's end or stopped
-pub sampling-ends : (design : FlatDesign) (plan : TestPlan) (now : ℕ) (shown : List Sample) (stop : Option Stop) → IsSampling design plan now shown [] → good_stop design plan ≡ stop → StopsWithin plan.end stop → IsGoodRun design plan shown stop
+pub sampling-ends : (design : FlatDesign) (plan : TestPlan) (now : ℕ) (shown : List Sample) (stop : Option Stop) → IsSampling design plan now shown [] → good_stop design plan ≡ stop →
+    StopsWithin plan.end stop → IsGoodRun design plan shown stop
 sampling-ends design plan now shown stop s e within = record {
   stop_is = e;
   within = within;

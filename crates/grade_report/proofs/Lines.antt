@@ -26,7 +26,8 @@ pub lines-more : (design : FlatDesign) (faults : List Fault) (findings : List Fi
     more ≡ base ++ fault_lines design (map fault_of (take (n + 1) faults)) (grades_of (take (n + 1) findings))
 lines-more design faults findings n d e base out more low within had added =
     let grade : Finding → FaultGrade = λ (f : Finding). grade_of f.end in
-    let left : map fault_of (take (n + 1) faults) ≡ map fault_of (take n faults) ++ fault_of (get_or faults n d) ∷ [] = ap (map fault_of) (take_more faults n d low) ∙ map_push fault_of (take n faults) (get_or faults n d) in
+    let left : map fault_of (take (n + 1) faults) ≡ map fault_of (take n faults) ++ fault_of (get_or faults n d) ∷
+    [] = ap (map fault_of) (take_more faults n d low) ∙ map_push fault_of (take n faults) (get_or faults n d) in
     let right : grades_of (take (n + 1) findings) ≡ grades_of (take n findings) ++ grade_of (get_or findings n e).end ∷ [] =
     ap grades_of (take_more findings n e within) ∙ map_push (λ (f : Finding). grade_of f.end) (take n findings) (get_or findings n e) in
     let count : length (map fault_of (take n faults)) ≡ length (grades_of (take n findings)) =
@@ -34,7 +35,8 @@ lines-more design faults findings n d e base out more low within had added =
     let line : List ℕ = fault_line design (fault_of (get_or faults n d)) (grade_of (get_or findings n e).end) in
     added ∙ (ap (λ l. l ++ line) had ∙ (append_assoc base (fault_lines design (map fault_of (take n faults)) (grades_of (take n findings))) line
     ∙ ap (λ l. base ++ l) (sym (lines-push (fault_line design) (map fault_of (take n faults)) (grades_of (take n findings)) (fault_of (get_or faults n d)) (grade_of (get_or findings n e).end) count)
-    ∙ (ap (λ l. fault_lines design l (grades_of (take n findings) ++ grade_of (get_or findings n e).end ∷ [])) (sym left) ∙ ap (λ l. fault_lines design (map fault_of (take (n + 1) faults)) l) (sym right)))))
+    ∙ (ap (λ l. fault_lines design l (grades_of (take n findings) ++ grade_of (get_or findings n e).end ∷ [])) (sym left)
+    ∙ ap (λ l. fault_lines design (map fault_of (take (n + 1) faults)) l) (sym right)))))
 
 up_from-length : (start count : ℕ) → length (up_from start count) ≡ count
 up_from-length start zero = refl

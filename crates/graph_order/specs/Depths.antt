@@ -46,7 +46,8 @@ depth_over-agree needs counted one other v same =
     ap greatest (map-agree_has (λ need. get_or one need 0 + step_to counted v) (λ need. get_or other need 0 + step_to counted v) (needs_of needs v) (λ d e. ap (λ n. n + step_to counted v) (same d e)))
 
 -- one more vertex
-pub DepthsBefore-more : (needs : List (List ℕ)) (counted : ℕ) (vertices : List ℕ) (i : ℕ) (depths : List ℕ) (x value : ℕ) → IsInOrder needs vertices → i < length vertices → x ≡ get_or vertices i 0 → x < length needs →
+pub DepthsBefore-more : (needs : List (List ℕ)) (counted : ℕ) (vertices : List ℕ) (i : ℕ) (depths : List ℕ) (x value : ℕ) → IsInOrder needs vertices → i < length vertices → x ≡ get_or vertices i 0 →
+    x < length needs →
     value ≡ depth_over needs counted depths x → DepthsBefore needs counted vertices i depths → DepthsBefore needs counted vertices (i + 1) (set depths x value)
 DepthsBefore-more needs counted vertices i depths x value in_order within is_next low is had = record {
   same_length = length-set depths x value ∙ had.same_length;

@@ -15,12 +15,14 @@ use Rattle.graph_order.specs.Depths.{needs_before}
 -- Walks
 
 -- one step more
-pub IsWalk-push : (needs : List (List ℕ)) (from : ℕ) (between : List ℕ) (last to : ℕ) → IsWalk needs from between last → has (needs_of needs last) to ≡ true → IsWalk needs from (between ++ last ∷ []) to
+pub IsWalk-push : (needs : List (List ℕ)) (from : ℕ) (between : List ℕ) (last to : ℕ) → IsWalk needs from between last → has (needs_of needs last) to ≡ true →
+    IsWalk needs from (between ++ last ∷ []) to
 IsWalk-push needs from [] last to walk step = (walk, step)
 IsWalk-push needs from (next ∷ rest) last to walk step = (walk.0, IsWalk-push needs next rest last to walk.1 step)
 
 -- a walk from a vertex of an order ends before it
-walk_back : (needs : List (List ℕ)) (vertices : List ℕ) (i from : ℕ) (between : List ℕ) (to : ℕ) → IsInOrder needs vertices → i ≤ length vertices → has (take i vertices) from ≡ true → IsWalk needs from between to →
+walk_back : (needs : List (List ℕ)) (vertices : List ℕ) (i from : ℕ) (between : List ℕ) (to : ℕ) → IsInOrder needs vertices → i ≤ length vertices → has (take i vertices) from ≡ true →
+    IsWalk needs from between to →
     (j : ℕ) × (j < i) × (has (take j vertices) to ≡ true)
 walk_back needs vertices i from [] to in_order short e walk = needs_before needs vertices i from to in_order short e walk
 walk_back needs vertices i from (next ∷ rest) to in_order short e walk =
@@ -36,20 +38,23 @@ not_in_front needs vertices (suc most) i v in_order low short loop e =
     not_in_front needs vertices most back.0 v in_order (omega (arith, back.1)) (omega (arith, back.1)) loop back.2
 
 -- no vertex with a place is on a loop
-pub placed_not_on_loop : (needs : List (List ℕ)) (placed : List Bool) (vertices : List ℕ) (v : ℕ) → IsOrder needs placed vertices → v < length needs → get_or placed v false ≡ true → IsOnLoop needs v → ⊥
+pub placed_not_on_loop : (needs : List (List ℕ)) (placed : List Bool) (vertices : List ℕ) (v : ℕ) → IsOrder needs placed vertices → v < length needs → get_or placed v false ≡ true →
+    IsOnLoop needs v → ⊥
 placed_not_on_loop needs placed vertices v order low e loop =
     not_in_front needs vertices (length vertices) (length vertices) v order.in_order (omega arith) (omega arith) loop
     (ap (λ l. has l v) (take_all (length vertices) vertices (omega arith)) ∙ sym (order.places v low) ∙ e)
 
 -- a vertex with a place needs none but such
-placed_needs : (needs : List (List ℕ)) (placed : List Bool) (vertices : List ℕ) (v d : ℕ) → NeedVertices needs → IsOrder needs placed vertices → v < length needs → get_or placed v false ≡ true → has (needs_of needs v) d ≡ true →
+placed_needs : (needs : List (List ℕ)) (placed : List Bool) (vertices : List ℕ) (v d : ℕ) → NeedVertices needs → IsOrder needs placed vertices → v < length needs → get_or placed v false ≡ true →
+    has (needs_of needs v) d ≡ true →
     get_or placed d false ≡ true
 placed_needs needs placed vertices v d graph order low e needed =
     let all : has (take (length vertices) vertices) v ≡ true = ap (λ l. has l v) (take_all (length vertices) vertices (omega arith)) ∙ sym (order.places v low) ∙ e in
     let r = needs_before needs vertices (length vertices) v d order.in_order (omega arith) all needed in
     order.places d (graph v d needed) ∙ has-take vertices r.0 d r.2
 
-placed_walk : (needs : List (List ℕ)) (placed : List Bool) (vertices : List ℕ) (from : ℕ) (between : List ℕ) (to : ℕ) → NeedVertices needs → IsOrder needs placed vertices → from < length needs → get_or placed from false ≡ true →
+placed_walk : (needs : List (List ℕ)) (placed : List Bool) (vertices : List ℕ) (from : ℕ) (between : List ℕ) (to : ℕ) → NeedVertices needs → IsOrder needs placed vertices → from < length needs →
+    get_or placed from false ≡ true →
     IsWalk needs from between to → get_or placed to false ≡ true
 placed_walk needs placed vertices from [] to graph order low e walk = placed_needs needs placed vertices from to graph order low e walk
 placed_walk needs placed vertices from (next ∷ rest) to graph order low e walk =
@@ -143,7 +148,8 @@ AddsNeeds-skip placed vertex own before later d had here = record {
 }
 
 -- one need that is found
-pub AddsNeeds-more : (placed : List Bool) (vertex : ℕ) (own before later : List ℕ) (d : ℕ) → AddsNeeds placed vertex own before later → (d ≡ vertex → ⊥) → AddsNeeds placed vertex (own ++ d ∷ []) before (later ++ d ∷ [])
+pub AddsNeeds-more : (placed : List Bool) (vertex : ℕ) (own before later : List ℕ) (d : ℕ) → AddsNeeds placed vertex own before later → (d ≡ vertex → ⊥) →
+    AddsNeeds placed vertex (own ++ d ∷ []) before (later ++ d ∷ [])
 AddsNeeds-more placed vertex own before later d had other = record {
   longer = omega (arith, had.longer, length_push later d);
   front = λ k low. take-append-le k later (d ∷ []) (omega (arith, had.longer)) ∙ had.front k low;
@@ -159,7 +165,8 @@ AddsNeeds-more placed vertex own before later d had other = record {
 }
 
 -- what is found from a vertex that can be reached can be reached
-pub AreReached-more : (needs : List (List ℕ)) (placed : List Bool) (vertex x : ℕ) (own before later : List ℕ) → AddsNeeds placed vertex own before later → own ≡ needs_of needs x → has before x ≡ true →
+pub AreReached-more : (needs : List (List ℕ)) (placed : List Bool) (vertex x : ℕ) (own before later : List ℕ) → AddsNeeds placed vertex own before later → own ≡ needs_of needs x →
+    has before x ≡ true →
     AreReached needs vertex before → AreReached needs vertex later
 AreReached-more needs placed vertex x own before later adds is there had v e =
     elim (adds.from v e) [
@@ -183,7 +190,8 @@ closes_loop needs vertex x found had there step =
     ]
 
 -- the next of the found vertices has its needs added
-pub IsClosed-more : (needs : List (List ℕ)) (placed : List Bool) (vertex done x : ℕ) (own before later : List ℕ) → AddsNeeds placed vertex own before later → own ≡ needs_of needs x → done < length before → x ≡ get_or before done 0 →
+pub IsClosed-more : (needs : List (List ℕ)) (placed : List Bool) (vertex done x : ℕ) (own before later : List ℕ) → AddsNeeds placed vertex own before later → own ≡ needs_of needs x →
+    done < length before → x ≡ get_or before done 0 →
     IsClosed needs placed vertex done before → IsClosed needs placed vertex (done + 1) later
 IsClosed-more needs placed vertex done x own before later adds is within is_next had v d e needed free =
     elim (has_push (take done before) (get_or before done 0) v (ap (λ l. has l v) (sym (adds.front (done + 1) (omega arith) ∙ take_more before done 0 within)) ∙ e)) [
@@ -191,7 +199,8 @@ IsClosed-more needs placed vertex done x own before later adds is within is_next
       | inr last ↦ adds.added d (ap (λ l. has l d) is ∙ ap (λ y. has (needs_of needs y) d) (is_next ∙ last) ∙ needed) free
     ]
 
-stays_found : (needs : List (List ℕ)) (placed : List Bool) (vertices : List ℕ) (vertex : ℕ) (found : List ℕ) (from : ℕ) (between : List ℕ) → NeedVertices needs → IsOrder needs placed vertices → get_or placed vertex false ≡ false →
+stays_found : (needs : List (List ℕ)) (placed : List Bool) (vertices : List ℕ) (vertex : ℕ) (found : List ℕ) (from : ℕ) (between : List ℕ) → NeedVertices needs → IsOrder needs placed vertices →
+    get_or placed vertex false ≡ false →
     IsClosed needs placed vertex (length found) found → has found from ≡ true → IsWalk needs from between vertex → ⊥
 stays_found needs placed vertices vertex found from [] graph order free closed there walk =
     (closed from vertex (ap (λ l. has l from) (take_all (length found) found (omega arith)) ∙ there) walk free).1 refl
@@ -204,7 +213,8 @@ stays_found needs placed vertices vertex found from (next ∷ rest) graph order 
     ]
 
 -- a search that finds no way back
-pub no_loop : (needs : List (List ℕ)) (placed : List Bool) (vertices : List ℕ) (vertex done : ℕ) (found : List ℕ) → NeedVertices needs → IsOrder needs placed vertices → get_or placed vertex false ≡ false →
+pub no_loop : (needs : List (List ℕ)) (placed : List Bool) (vertices : List ℕ) (vertex done : ℕ) (found : List ℕ) → NeedVertices needs → IsOrder needs placed vertices →
+    get_or placed vertex false ≡ false →
     length found ≤ done → IsClosed needs placed vertex done found → has found vertex ≡ true → IsOnLoop needs vertex → ⊥
 no_loop needs placed vertices vertex done found graph order free past closed begins loop =
     stays_found needs placed vertices vertex found vertex loop.0 graph order free
@@ -227,7 +237,8 @@ any_has (x ∷ path) q e =
       | inr there ↦ or_right (nat_eq x q) (has path q) (any_has path q there)
     ]
 
-trail : (needs : List (List ℕ)) (placed : List Bool) (left : ℕ) (path : List ℕ) (v : ℕ) → NeedVertices needs → LeavesLoops needs placed → v < length needs → get_or placed v false ≡ false → IsDistinct nat_eq path →
+trail : (needs : List (List ℕ)) (placed : List Bool) (left : ℕ) (path : List ℕ) (v : ℕ) → NeedVertices needs → LeavesLoops needs placed → v < length needs → get_or placed v false ≡ false →
+    IsDistinct nat_eq path →
     ((p : ℕ) → has path p ≡ true → p < length needs) → ((p : ℕ) → has path p ≡ true → (between : List ℕ) × IsWalk needs p between v) → length path + left ≡ length needs + 1 →
     (u : ℕ) × IsOnLoop needs u
 unfolding IsDistinct
@@ -247,7 +258,8 @@ trail needs placed (suc left) path v graph leaves low free distinct vertices rea
     ]
 
 -- where a vertex has no place, one is on a loop
-pub left_on_loop : (needs : List (List ℕ)) (placed : List Bool) (vertices : List ℕ) (v : ℕ) → NeedVertices needs → IsOrder needs placed vertices → v < length needs → get_or placed v false ≡ false → (u : ℕ) × IsOnLoop needs u
+pub left_on_loop : (needs : List (List ℕ)) (placed : List Bool) (vertices : List ℕ) (v : ℕ) → NeedVertices needs → IsOrder needs placed vertices → v < length needs → get_or placed v false ≡ false →
+    (u : ℕ) × IsOnLoop needs u
 unfolding IsDistinct
 left_on_loop needs placed vertices v graph order low free =
     trail needs placed (length needs + 1) [] v graph order.left low free tt (λ p e. absurd (cc)) (λ p e. absurd (cc)) (omega arith)
@@ -278,9 +290,11 @@ pub unmarked_more : (seen : List Bool) (found : List ℕ) (i : ℕ) → i < leng
     (v : ℕ) → get_or (set seen (get_or found i 0) false) v false ≡ true → has (drop (i + 1) found) v ≡ true
 unmarked_more seen found i within low had v e =
     elim (cases_eq v (get_or found i 0)) [
-      | inl same ↦ absurd (both_ways (get_or (set seen (get_or found i 0) false) v false) (ap (λ j. get_or (set seen (get_or found i 0) false) j false) same ∙ get_or-set_same seen (get_or found i 0) false false low) e)
+      | inl same ↦ absurd (both_ways (get_or (set seen (get_or found i 0) false) v false) (ap (λ j. get_or (set seen (get_or found i 0) false) j false) same
+          ∙ get_or-set_same seen (get_or found i 0) false false low) e)
       | inr other ↦
-          elim (or_cases (nat_eq (get_or found i 0) v) (has (drop (i + 1) found) v) (ap (λ l. has l v) (sym (drop_more found i 0 within)) ∙ had v (sym (get_or-set_other seen (get_or found i 0) v false false other) ∙ e))) [
+          elim (or_cases (nat_eq (get_or found i 0) v) (has (drop (i + 1) found) v) (ap (λ l. has l v) (sym (drop_more found i 0 within))
+          ∙ had v (sym (get_or-set_other seen (get_or found i 0) v false false other) ∙ e))) [
             | inl same ↦ absurd (other (sym (eqb-true (get_or found i 0) v same)))
             | inr later ↦ later
           ]

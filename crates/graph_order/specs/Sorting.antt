@@ -3,7 +3,8 @@ use Rattle.std.proofs.Common.{◌≡◌, ℕ, zero, suc, ◌+◌, ◌<◌, ◌�
 use Rattle.std.specs.Prelude.{nat_eq, nat_le, not, ◌&&◌, ◌||◌, ◌⊎◌, sum_by, Vec}
 use Rattle.std.specs.declared.alloc.Global.{Global}
 use Rattle.std.proofs.lemmas.Bool.{cases_eq, cases_lt, both_ways, eq-eqb, ne_eqb, eqb-true, or_cases, and_from, and_parts, not-true, leb-true, le-leb, false_from_ne_true}
-use Rattle.std.proofs.lemmas.List.{get_or-set_same, get_or-set_other, length-set, length_push, get_or_append_left, get_or_push, take-append-le, take_all, take_more, get_or-replicate, length-replicate, get_or-map, length-map, map-set, drop_more}
+use Rattle.std.proofs.lemmas.List.{get_or-set_same, get_or-set_other, length-set, length_push, get_or_append_left, get_or_push, take-append-le, take_all, take_more, get_or-replicate}
+use Rattle.std.proofs.lemmas.List.{length-replicate, get_or-map, length-map, map-set, drop_more}
 use Rattle.std.proofs.lemmas.List.Sums.{sum_by-set, sum_by-cons}
 use Rattle.vf_base.specs.Lists.{has}
 use Rattle.graph_order.specs.ListLaws.{has-append, or-false, has-get_or, has_place, has-take, has_push, has_before, now_has, still_has}
@@ -72,7 +73,8 @@ IsSorting-place needs met placed vertices v at had vertices_needed low is_free e
   placed_length = length-set placed v true ∙ had.placed_length;
   met_within = λ u low_u.
       elim (cases_eq u v) [
-        | inl same ↦ subst (λ j. get_or (set met v at) j 0 ≤ length (needs_of needs j)) (sym same) (let now : get_or (set met v at) v 0 ≡ at = get_or-set_same met v at 0 (omega (arith, had.met_length)) in omega arith)
+        | inl same ↦ subst (λ j. get_or (set met v at) j 0 ≤ length (needs_of needs j)) (sym same)
+            (let now : get_or (set met v at) v 0 ≡ at = get_or-set_same met v at 0 (omega (arith, had.met_length)) in omega arith)
         | inr other ↦ let old : get_or (set met v at) u 0 ≡ get_or met u 0 = get_or-set_other met v u at 0 other in omega (arith, had.met_within u low_u)
       ];
   met_placed = λ u k low_u within.
@@ -113,7 +115,8 @@ IsSorting-met needs met placed vertices v at had low within all = record {
   placed_length = had.placed_length;
   met_within = λ u low_u.
       elim (cases_eq u v) [
-        | inl same ↦ subst (λ j. get_or (set met v at) j 0 ≤ length (needs_of needs j)) (sym same) (let now : get_or (set met v at) v 0 ≡ at = get_or-set_same met v at 0 (omega (arith, had.met_length)) in omega arith)
+        | inl same ↦ subst (λ j. get_or (set met v at) j 0 ≤ length (needs_of needs j)) (sym same)
+            (let now : get_or (set met v at) v 0 ≡ at = get_or-set_same met v at 0 (omega (arith, had.met_length)) in omega arith)
         | inr other ↦ let old : get_or (set met v at) u 0 ≡ get_or met u 0 = get_or-set_other met v u at 0 other in omega (arith, had.met_within u low_u)
       ];
   met_placed = λ u k low_u below.
@@ -173,7 +176,8 @@ AllWait-skip needs waiters placed vertices done but v has_place had u low_u free
     ]
 
 -- one that waits for a need without a place
-pub AllWait-wait : (needs waiters : List (List ℕ)) (placed : List Bool) (vertices : List ℕ) (done : ℕ) (but : ℕ → Bool) (v d : ℕ) → Places needs placed vertices → d < length needs → length waiters ≡ length needs →
+pub AllWait-wait : (needs waiters : List (List ℕ)) (placed : List Bool) (vertices : List ℕ) (done : ℕ) (but : ℕ → Bool) (v d : ℕ) → Places needs placed vertices → d < length needs →
+    length waiters ≡ length needs →
     has (needs_of needs v) d ≡ true → get_or placed d false ≡ false →
     AllWait needs waiters placed vertices done but → AllWait needs (set waiters d (get_or waiters d [] ++ v ∷ [])) placed vertices done (one_less but v)
 AllWait-wait needs waiters placed vertices done but v d places low sized needed unmet had u low_u free =
@@ -203,7 +207,8 @@ AllWait-wait needs waiters placed vertices done but v d places low sized needed 
         ]
 
 -- the next vertex of the order takes those that wait for it out of its list
-pub AllWait-told : (needs waiters : List (List ℕ)) (placed : List Bool) (vertices : List ℕ) (done x : ℕ) (told : List ℕ) → done < length vertices → x ≡ get_or vertices done 0 → told ≡ get_or waiters x [] →
+pub AllWait-told : (needs waiters : List (List ℕ)) (placed : List Bool) (vertices : List ℕ) (done x : ℕ) (told : List ℕ) → done < length vertices → x ≡ get_or vertices done 0 →
+    told ≡ get_or waiters x [] →
     AllWait needs waiters placed vertices done (λ _. false) → AllWait needs (set waiters x []) placed vertices (done + 1) (has told)
 AllWait-told needs waiters placed vertices done x told within is_next is_told had u low_u free =
     elim (had u low_u free) [
@@ -228,7 +233,8 @@ pub AllWait-but : (needs waiters : List (List ℕ)) (placed : List Bool) (vertic
 AllWait-but needs waiters placed vertices done but other more had u low_u free = elim (had u low_u free) [ inl held ↦ inl (more u low_u held) | inr waits ↦ inr waits ]
 
 -- in the end
-pub IsOrder-all : (needs waiters : List (List ℕ)) (met : List ℕ) (placed : List Bool) (vertices : List ℕ) (done : ℕ) → NeedVertices needs → IsSorting needs met placed vertices → length vertices ≤ done →
+pub IsOrder-all : (needs waiters : List (List ℕ)) (met : List ℕ) (placed : List Bool) (vertices : List ℕ) (done : ℕ) → NeedVertices needs → IsSorting needs met placed vertices →
+    length vertices ≤ done →
     AllWait needs waiters placed vertices done (λ _. false) → IsOrder needs placed vertices
 IsOrder-all needs waiters met placed vertices done vertices_needed sorted past waiting = record {
   same_length = sorted.placed_length;
@@ -256,7 +262,8 @@ own_need lists v own k graph low is within =
     omega (arith, length-map lists (λ (list : Vec ℕ Global). list.items))
 
 -- the needs before a place are met, if they were so far and those on the way are placed
-pub met_to : (needs : List (List ℕ)) (met : List ℕ) (placed : List Bool) (vertices : List ℕ) (v at : ℕ) (own : List ℕ) → IsSorting needs met placed vertices → v < length needs → own ≡ needs_of needs v →
+pub met_to : (needs : List (List ℕ)) (met : List ℕ) (placed : List Bool) (vertices : List ℕ) (v at : ℕ) (own : List ℕ) → IsSorting needs met placed vertices → v < length needs →
+    own ≡ needs_of needs v →
     ((k : ℕ) → get_or met v 0 ≤ k → k < at → get_or placed (get_or own k 0) false ≡ true) → (k : ℕ) → k < at → get_or placed (get_or (needs_of needs v) k 0) false ≡ true
 met_to needs met placed vertices v at own had low is more k within =
     elim (cases_lt k (get_or met v 0)) [
@@ -287,13 +294,15 @@ VerticesWait-none needs count d v e = absurd (both_ways (has (get_or (replicate 
     all_empty (suc count) (suc d) = all_empty count d
 
 -- one more waits
-pub VerticesWait-wait : (needs waiters : List (List ℕ)) (d v : ℕ) → VerticesWait needs waiters → v < length needs → d < length waiters → VerticesWait needs (set waiters d (get_or waiters d [] ++ v ∷ []))
+pub VerticesWait-wait : (needs waiters : List (List ℕ)) (d v : ℕ) → VerticesWait needs waiters → v < length needs → d < length waiters →
+    VerticesWait needs (set waiters d (get_or waiters d [] ++ v ∷ []))
 VerticesWait-wait needs waiters d v had low within f u e =
     elim (cases_eq f d) [
-      | inl same ↦ elim (has_push (get_or waiters d []) v u (ap (λ l. has l u) (sym (get_or-set_same waiters d (get_or waiters d [] ++ v ∷ []) [] within) ∙ ap (λ j. get_or (set waiters d (get_or waiters d [] ++ v ∷ [])) j []) (sym same)) ∙ e)) [
-        | inl before ↦ had d u before
-        | inr last ↦ subst (λ x. x < length needs) last low
-      ]
+      | inl same ↦ elim (has_push (get_or waiters d []) v u (ap (λ l. has l u) (sym (get_or-set_same waiters d (get_or waiters d [] ++ v ∷ []) [] within)
+          ∙ ap (λ j. get_or (set waiters d (get_or waiters d [] ++ v ∷ [])) j []) (sym same)) ∙ e)) [
+            | inl before ↦ had d u before
+            | inr last ↦ subst (λ x. x < length needs) last low
+          ]
       | inr other ↦ had f u (ap (λ l. has l u) (sym (get_or-set_other waiters d f (get_or waiters d [] ++ v ∷ []) [] other)) ∙ e)
     ]
 

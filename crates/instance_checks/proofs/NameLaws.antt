@@ -2,7 +2,8 @@
 use Rattle.std.specs.Borrow.{Bor}
 use Rattle.std.proofs.lemmas.List.{map-append}
 use Rattle.std.proofs.lemmas.Option.{slice_get-map}
-use Rattle.std.proofs.Common.{cond, map, Option, Some, None, option_map, is_some, slice_get, ◌≡◌, ℕ, ◌+◌, ◌<◌, ◌≤◌, Bool, true, false, ◌||◌, List, [], ◌∷◌, ◌++◌, drop, get_or, length, refl, sym, ap, subst, ◌∙◌, append_assoc, append-nil}
+use Rattle.std.proofs.Common.{cond, map, Option, Some, None, option_map, is_some, slice_get, ◌≡◌, ℕ, ◌+◌, ◌<◌, ◌≤◌, Bool, true, false, ◌||◌, List, [], ◌∷◌, ◌++◌, drop, get_or, length, refl, sym, ap}
+use Rattle.std.proofs.Common.{subst, ◌∙◌, append_assoc, append-nil}
 use Rattle.v_tree.specs.Trees.{Identifier, same_name, has_name}
 use Rattle.name_checks.specs.Rows.{drop-step, drop-past}
 use Rattle.instance_checks.specs.declared.name_lists.Names.{Names}
@@ -20,7 +21,8 @@ pub names-then : (one other : List Identifier) (a b c : Names) → NamesGrow one
 names-then one other a b c g h = record { grows = λ names are. subst (λ (list : List Identifier). AreNames list c) (append_assoc names one other) (h.grows (names ++ one) (g.grows names are)) }
 
 -- what is left of a list, behind one turn
-pub names-step : {A : Type 0} (g : A → List Identifier) (h : List A → List Identifier) (xs : List A) (i : ℕ) (x : A) (old new final : Names) → ((y : A) (ys : List A) → h (y ∷ ys) ≡ g y ++ h ys) → i < length xs → x ≡ get_or xs i x
+pub names-step : {A : Type 0} (g : A → List Identifier) (h : List A → List Identifier) (xs : List A) (i : ℕ) (x : A) (old new final : Names) → ((y : A) (ys : List A) → h (y ∷ ys) ≡ g y ++ h ys) →
+    i < length xs → x ≡ get_or xs i x
     → NamesGrow (g x) old new → NamesGrow (h (drop (i + 1) xs)) new final → NamesGrow (h (drop i xs)) old final
 names-step {A} g h xs i x old new final c below at turn rest =
     subst (λ (list : List Identifier). NamesGrow list old final) (sym (ap h (drop-step xs i x below at) ∙ c x (drop (i + 1) xs))) (names-then (g x) (h (drop (i + 1) xs)) old new final turn rest)
@@ -40,7 +42,8 @@ has-more (n ∷ names) name other = ap (λ b. same_name n other || b) (has-more 
     turned false b c = refl
 
 -- a name that is put behind others, and kept
-pub names-push : (name : Bor Identifier) (old new : Names) → new.order.items ≡ old.order.items ++ name ∷ [] → ((other : Identifier) → is_some (kept new.places other) ≡ (same_name name.now other || is_some (kept old.places other)))
+pub names-push : (name : Bor Identifier) (old new : Names) → new.order.items ≡ old.order.items ++ name ∷ [] →
+    ((other : Identifier) → is_some (kept new.places other) ≡ (same_name name.now other || is_some (kept old.places other)))
     → NamesGrow (name.now ∷ []) old new
 names-push name old new order places = record {
   grows = λ names are. record {
@@ -62,7 +65,8 @@ pub by-position : (names : List Identifier) (offered : Names) (position : ℕ) �
 by-position names offered position are = sym (slice_get-map name_seen offered.order.items position) ∙ ap (λ list. slice_get list position) are.order_is
 
 -- a connection by its name
-pub by-name : (names : List Identifier) (offered : Names) (name : Identifier) → AreNames names offered → (there : Bool) → is_some (kept offered.places name) ≡ there → name_if (has_name names name) name ≡ name_if there name
+pub by-name : (names : List Identifier) (offered : Names) (name : Identifier) → AreNames names offered → (there : Bool) → is_some (kept offered.places name) ≡ there →
+    name_if (has_name names name) name ≡ name_if there name
 by-name names offered name are there e = ap (λ b. name_if b name) (sym (are.found_are name) ∙ e)
 
 -- the parameters that may be set, from one declaration on

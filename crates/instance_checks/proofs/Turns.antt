@@ -20,10 +20,12 @@ pub record GivenLeft (scope : Scope) (order : List Identifier) (position : ℕ) 
   pub known_are : AreKnown known earlier
   pub left : noted first (given_faults scope order position earlier rest) ≡ whole
 
-pub given-turn : (scope : Scope) (order : List Identifier) (position : ℕ) (known new : Identifier → Bool) (first one two whole : Option Fault) (connection : SourceConnection) (rest : List SourceConnection)
+pub given-turn : (scope : Scope) (order : List Identifier) (position : ℕ) (known new : Identifier → Bool) (first one two whole : Option Fault) (connection : SourceConnection)
+    (rest : List SourceConnection)
     → GivenLeft scope order position known first whole (connection ∷ rest)
     → ((names : List Identifier) → AreKnown known names → one ≡ noted first (given_fault names connection (connected_name order position connection.name)))
-    → ((names : List Identifier) → AreKnown known names → AreKnown new (name_before (connected_name order position connection.name) names)) → two ≡ noted one (optional_faults (size_faults scope) connection.actual)
+    → ((names : List Identifier) → AreKnown known names → AreKnown new (name_before (connected_name order position connection.name) names)) →
+    two ≡ noted one (optional_faults (size_faults scope) connection.actual)
     → GivenLeft scope order (position + 1) new two whole rest
 given-turn scope order position known new first one two whole connection rest before named known_more sized =
     let name : Option Identifier = connected_name order position connection.name in
@@ -45,7 +47,8 @@ pub record PortsLeft (child : Child) (position : ℕ) (known : Identifier → Bo
 pub port-turn : (child : Child) (position : ℕ) (known new : Identifier → Bool) (first more whole : Option Fault) (connection : SourceConnection) (rest : List SourceConnection)
     → PortsLeft child position known first whole (connection ∷ rest)
     → ((names : List Identifier) → AreKnown known names → more ≡ noted first (port_faults child names connection (connected_name (head_names child.inner.heads) position connection.name)))
-    → ((names : List Identifier) → AreKnown known names → AreKnown new (name_before (connected_name (head_names child.inner.heads) position connection.name) names)) → PortsLeft child (position + 1) new more whole rest
+    → ((names : List Identifier) → AreKnown known names → AreKnown new (name_before (connected_name (head_names child.inner.heads) position connection.name) names)) →
+    PortsLeft child (position + 1) new more whole rest
 port-turn child position known new first more whole connection rest before named known_more =
     let port : Option Identifier = connected_name (head_names child.inner.heads) position connection.name in
     let a : List Fault = port_faults child before.earlier connection port in
@@ -57,34 +60,45 @@ port-turn child position known new first more whole connection rest before named
     }
 
 -- a turn of a loop over connections
-pub given-step : {A : Type 0} (view : A → SourceConnection) (xs : List A) (i : ℕ) (x : A) (scope : Scope) (order : List Identifier) (known new : Identifier → Bool) (first one two whole : Option Fault) → i < length xs → x ≡ get_or xs i x
+pub given-step : {A : Type 0} (view : A → SourceConnection) (xs : List A) (i : ℕ) (x : A) (scope : Scope) (order : List Identifier) (known new : Identifier → Bool)
+    (first one two whole : Option Fault) → i < length xs → x ≡ get_or xs i x
     → GivenLeft scope order i known first whole (map view (drop i xs))
     → ((names : List Identifier) → AreKnown known names → one ≡ noted first (given_fault names (view x) (connected_name order i (view x).name)))
-    → ((names : List Identifier) → AreKnown known names → AreKnown new (name_before (connected_name order i (view x).name) names)) → two ≡ noted one (optional_faults (size_faults scope) (view x).actual)
+    → ((names : List Identifier) → AreKnown known names → AreKnown new (name_before (connected_name order i (view x).name) names)) →
+    two ≡ noted one (optional_faults (size_faults scope) (view x).actual)
     → GivenLeft scope order (i + 1) new two whole (map view (drop (i + 1) xs))
 given-step {A} view xs i x scope order known new first one two whole below at before named known_more sized =
-    given-turn scope order i known new first one two whole (view x) (map view (drop (i + 1) xs)) (subst (λ (ys : List A). GivenLeft scope order i known first whole (map view ys)) (drop-step xs i x below at) before) named known_more sized
+    given-turn scope order i known new first one two whole (view x) (map view (drop (i + 1) xs))
+    (subst (λ (ys : List A). GivenLeft scope order i known first whole (map view ys)) (drop-step xs i x below at) before) named known_more sized
 
-pub given-end : {A : Type 0} (view : A → SourceConnection) (xs : List A) (i : ℕ) (scope : Scope) (order : List Identifier) (known : Identifier → Bool) (first whole : Option Fault) → length xs ≤ i → GivenLeft scope order i known first whole (map view (drop i xs)) → first ≡ whole
+pub given-end : {A : Type 0} (view : A → SourceConnection) (xs : List A) (i : ℕ) (scope : Scope) (order : List Identifier) (known : Identifier → Bool) (first whole : Option Fault) → length xs ≤ i →
+    GivenLeft scope order i known first whole (map view (drop i xs)) → first ≡ whole
 given-end {A} view xs i scope order known first whole past before = (subst (λ (ys : List A). GivenLeft scope order i known first whole (map view ys)) (drop-past xs i past) before).left
 
-pub port-step : {A : Type 0} (view : A → SourceConnection) (xs : List A) (i : ℕ) (x : A) (child : Child) (known new : Identifier → Bool) (first more whole : Option Fault) → i < length xs → x ≡ get_or xs i x
+pub port-step : {A : Type 0} (view : A → SourceConnection) (xs : List A) (i : ℕ) (x : A) (child : Child) (known new : Identifier → Bool) (first more whole : Option Fault) → i < length xs →
+    x ≡ get_or xs i x
     → PortsLeft child i known first whole (map view (drop i xs))
     → ((names : List Identifier) → AreKnown known names → more ≡ noted first (port_faults child names (view x) (connected_name (head_names child.inner.heads) i (view x).name)))
-    → ((names : List Identifier) → AreKnown known names → AreKnown new (name_before (connected_name (head_names child.inner.heads) i (view x).name) names)) → PortsLeft child (i + 1) new more whole (map view (drop (i + 1) xs))
+    → ((names : List Identifier) → AreKnown known names → AreKnown new (name_before (connected_name (head_names child.inner.heads) i (view x).name) names)) →
+    PortsLeft child (i + 1) new more whole (map view (drop (i + 1) xs))
 port-step {A} view xs i x child known new first more whole below at before named known_more =
-    port-turn child i known new first more whole (view x) (map view (drop (i + 1) xs)) (subst (λ (ys : List A). PortsLeft child i known first whole (map view ys)) (drop-step xs i x below at) before) named known_more
+    port-turn child i known new first more whole (view x) (map view (drop (i + 1) xs)) (subst (λ (ys : List A). PortsLeft child i known first whole (map view ys)) (drop-step xs i x below at) before)
+    named known_more
 
-pub port-end : {A : Type 0} (view : A → SourceConnection) (xs : List A) (i : ℕ) (child : Child) (known : Identifier → Bool) (first whole : Option Fault) → length xs ≤ i → PortsLeft child i known first whole (map view (drop i xs)) → first ≡ whole
+pub port-end : {A : Type 0} (view : A → SourceConnection) (xs : List A) (i : ℕ) (child : Child) (known : Identifier → Bool) (first whole : Option Fault) → length xs ≤ i →
+    PortsLeft child i known first whole (map view (drop i xs)) → first ≡ whole
 port-end {A} view xs i child known first whole past before = (subst (λ (ys : List A). PortsLeft child i known first whole (map view ys)) (drop-past xs i past) before).left
 
 -- parameters that are set, from one connection on
-pub set-step : {A : Type 0} (view : A → SourceConnection) (xs : List A) (i : ℕ) (x : A) (scope : Scope) (order : List Identifier) (old new whole : List GivenParameter) → i < length xs → x ≡ get_or xs i x
-    → new ≡ old ++ given_parameter scope (connected_name order i (view x).name) (view x).actual → old ++ given_parameters scope order i (map view (drop i xs)) ≡ whole → new ++ given_parameters scope order (i + 1) (map view (drop (i + 1) xs)) ≡ whole
+pub set-step : {A : Type 0} (view : A → SourceConnection) (xs : List A) (i : ℕ) (x : A) (scope : Scope) (order : List Identifier) (old new whole : List GivenParameter) → i < length xs →
+    x ≡ get_or xs i x
+    → new ≡ old ++ given_parameter scope (connected_name order i (view x).name) (view x).actual → old ++ given_parameters scope order i (map view (drop i xs)) ≡ whole →
+    new ++ given_parameters scope order (i + 1) (map view (drop (i + 1) xs)) ≡ whole
 set-step {A} view xs i x scope order old new whole below at turn before =
     let rest : List GivenParameter = given_parameters scope order (i + 1) (map view (drop (i + 1) xs)) in
     ap (λ list. list ++ rest) turn ∙ append_assoc old (given_parameter scope (connected_name order i (view x).name) (view x).actual) rest
     ∙ ap (λ (ys : List A). old ++ given_parameters scope order i (map view ys)) (sym (drop-step xs i x below at)) ∙ before
 
-pub set-end : {A : Type 0} (view : A → SourceConnection) (xs : List A) (i : ℕ) (scope : Scope) (order : List Identifier) (list whole : List GivenParameter) → length xs ≤ i → list ++ given_parameters scope order i (map view (drop i xs)) ≡ whole → list ≡ whole
+pub set-end : {A : Type 0} (view : A → SourceConnection) (xs : List A) (i : ℕ) (scope : Scope) (order : List Identifier) (list whole : List GivenParameter) → length xs ≤ i →
+    list ++ given_parameters scope order i (map view (drop i xs)) ≡ whole → list ≡ whole
 set-end {A} view xs i scope order list whole past before = sym (append-nil list) ∙ subst (λ (ys : List A). list ++ given_parameters scope order i (map view ys) ≡ whole) (drop-past xs i past) before

@@ -22,7 +22,8 @@ pub labels-before : (scope : Scope) (labels : SourceExpressions) (group : GroupF
 labels-before scope no_parts group = refl
 labels-before scope (more_parts label rest) group =
     ap (with_reading (reading_of scope label)) (labels-before scope rest group)
-    ∙ ap₂ group_with (sym (append_assoc (reading_of scope label).here (labels_group scope rest).here group.here)) (sym (append_assoc (reading_of scope label).inside (labels_group scope rest).inside group.inside))
+    ∙ ap₂ group_with (sym (append_assoc (reading_of scope label).here (labels_group scope rest).here group.here))
+    (sym (append_assoc (reading_of scope label).inside (labels_group scope rest).inside group.inside))
 
 -- the labels of the items of a case, from one item on
 pub items-first : (scope : Scope) (item : CaseItem) (rest : List CaseItem)
@@ -46,7 +47,8 @@ grows-then one other a b c g h = record {
 }
 
 -- what is left of a list, behind one turn
-pub grows-step : {A : Type 0} (g : A → GroupFaults) (h : List A → GroupFaults) (xs : List A) (i : ℕ) (x : A) (old new final : Faults) → ((y : A) (ys : List A) → h (y ∷ ys) ≡ joined_groups (g y) (h ys)) → i < length xs → x ≡ get_or xs i x
+pub grows-step : {A : Type 0} (g : A → GroupFaults) (h : List A → GroupFaults) (xs : List A) (i : ℕ) (x : A) (old new final : Faults) →
+    ((y : A) (ys : List A) → h (y ∷ ys) ≡ joined_groups (g y) (h ys)) → i < length xs → x ≡ get_or xs i x
     → Grows (g x) old new → Grows (h (drop (i + 1) xs)) new final → Grows (h (drop i xs)) old final
 grows-step {A} g h xs i x old new final c below at turn rest =
     subst (λ (group : GroupFaults). Grows group old final) (sym (ap h (drop-step xs i x below at) ∙ c x (drop (i + 1) xs))) (grows-then (g x) (h (drop (i + 1) xs)) old new final turn rest)

@@ -35,7 +35,8 @@ others-kinds [] = refl
 others-kinds (n ∷ names) = ap (λ faults. fault_at n.place WrongKind ∷ faults) (others-kinds names)
 
 -- the first of a fault of the wrong kind and of such faults is of the wrong kind
-earlier-kind : (one : SourcePlace) (other : Fault) → other ≡ fault_at other.place WrongKind → earlier_of (fault_at one WrongKind) (Some other) ≡ fault_at (earlier_of (fault_at one WrongKind) (Some other)).place WrongKind
+earlier-kind : (one : SourcePlace) (other : Fault) → other ≡ fault_at other.place WrongKind →
+    earlier_of (fault_at one WrongKind) (Some other) ≡ fault_at (earlier_of (fault_at one WrongKind) (Some other)).place WrongKind
 earlier-kind one other e = by (comes_before other (fault_at one WrongKind)) refl
   where
     by : (b : Bool) → comes_before other (fault_at one WrongKind) ≡ b → earlier_of (fault_at one WrongKind) (Some other) ≡ fault_at (earlier_of (fault_at one WrongKind) (Some other)).place WrongKind
@@ -46,7 +47,8 @@ first-kind : (names : List NamedPlace) (first : Fault) → first_fault (wrong_ki
 first-kind [] first e = cc
 first-kind (n ∷ names) first e = by (first_fault (wrong_kinds names)) refl (λ other h. first-kind names other h)
   where
-    by : (rest : Option Fault) → first_fault (wrong_kinds names) ≡ rest → ((other : Fault) → first_fault (wrong_kinds names) ≡ Some other → other ≡ fault_at other.place WrongKind) → first ≡ fault_at first.place WrongKind
+    by : (rest : Option Fault) → first_fault (wrong_kinds names) ≡ rest → ((other : Fault) → first_fault (wrong_kinds names) ≡ Some other → other ≡ fault_at other.place WrongKind) →
+        first ≡ fault_at first.place WrongKind
     by None h rest_kind =
         let f : Some first ≡ Some (earlier_of (fault_at n.place WrongKind) None) = sym e ∙ ap (λ r. Some (earlier_of (fault_at n.place WrongKind) r)) h in
         let g : first ≡ fault_at n.place WrongKind = cc in
@@ -62,7 +64,8 @@ none-kinds [] faults e h = h
 none-kinds (n ∷ names) faults e h = absurd (let x : ⊥ = cc in x)
 
 -- where one comes first, it stands for all of them
-some-kinds : (names : List NamedPlace) (first : Fault) (faults : Faults) → first_fault (wrong_kinds names) ≡ Some first → AreFaults (fault_at first.place WrongKind ∷ []) [] faults → AreFaults (wrong_kinds names) [] faults
+some-kinds : (names : List NamedPlace) (first : Fault) (faults : Faults) → first_fault (wrong_kinds names) ≡ Some first → AreFaults (fault_at first.place WrongKind ∷ []) [] faults →
+    AreFaults (wrong_kinds names) [] faults
 some-kinds [] first faults e h = absurd (let x : ⊥ = cc in x)
 some-kinds (n ∷ names) first faults e h =
     let first_is : Some (fault_at first.place WrongKind) ≡ first_fault (wrong_kinds (n ∷ names)) = ap (λ (x : Fault). Some x) (sym (first-kind (n ∷ names) first e)) ∙ sym e in
@@ -74,10 +77,12 @@ some-kinds (n ∷ names) first faults e h =
     }
 
 -- the memories that are named, from the first of them
-pub kinds-none : (scope : Scope) (names : List NamedPlace) (faults : Faults) → first_fault (memories_faults scope names) ≡ None → AreFaults [] [] faults → AreFaults (memories_faults scope names) [] faults
+pub kinds-none : (scope : Scope) (names : List NamedPlace) (faults : Faults) → first_fault (memories_faults scope names) ≡ None → AreFaults [] [] faults →
+    AreFaults (memories_faults scope names) [] faults
 kinds-none scope names faults e h = none-kinds (filter (λ (n : NamedPlace). is_memory (looked_up scope n.name)) names) faults e h
 
-pub kinds-some : (scope : Scope) (names : List NamedPlace) (first : Fault) (faults : Faults) → first_fault (memories_faults scope names) ≡ Some first → AreFaults (fault_at first.place WrongKind ∷ []) [] faults → AreFaults (memories_faults scope names) [] faults
+pub kinds-some : (scope : Scope) (names : List NamedPlace) (first : Fault) (faults : Faults) → first_fault (memories_faults scope names) ≡ Some first →
+    AreFaults (fault_at first.place WrongKind ∷ []) [] faults → AreFaults (memories_faults scope names) [] faults
 kinds-some scope names first faults e h = some-kinds (filter (λ (n : NamedPlace). is_memory (looked_up scope n.name)) names) first faults e h
 
 -- Expressions of parts
@@ -90,7 +95,8 @@ pub part-memories : (scope : Scope) (place : Place) (name : Identifier) (from to
 part-memories scope place name from to one two e f =
     let named : List NamedPlace = record { name = name; place = source_place place } ∷ [] in
     memories_append scope named (named_in (expression_of from.value) ++ named_in (expression_of to.value))
-    ∙ ap (λ more. memories_faults scope named ++ more) (memories_append scope (named_in (expression_of from.value)) (named_in (expression_of to.value)) ∙ ap₂ (λ (x y : Expr). memories_of scope x ++ memories_of scope y) (sym e) (sym f))
+    ∙ ap (λ more. memories_faults scope named ++ more) (memories_append scope (named_in (expression_of from.value)) (named_in (expression_of to.value))
+    ∙ ap₂ (λ (x y : Expr). memories_of scope x ++ memories_of scope y) (sym e) (sym f))
 
 pub binary-memories : (scope : Scope) (place : Place) (operator : BinaryOperator) (left right : Box Expr Global) (one two : Expr) → one ≡ left.value → two ≡ right.value
     → memories_faults scope (named_in (expression_of (code.Binary place operator left right))) ≡ memories_of scope one ++ memories_of scope two
@@ -112,4 +118,5 @@ pub repeat-memories : (scope : Scope) (place : Place) (count : Box Expr Global) 
     → memories_faults scope (named_in (expression_of (code.Repeat place count parts))) ≡ memories_of scope one ++ memories_faults scope (named_in_parts (expressions_of list))
 repeat-memories scope place count parts one list e f =
     ap (λ ps. memories_faults scope (named_in (expression_of count.value) ++ named_in_parts ps)) (expressions-hidden parts ∙ ap expressions_of (sym f))
-    ∙ memories_append scope (named_in (expression_of count.value)) (named_in_parts (expressions_of list)) ∙ ap (λ (x : Expr). memories_of scope x ++ memories_faults scope (named_in_parts (expressions_of list))) (sym e)
+    ∙ memories_append scope (named_in (expression_of count.value)) (named_in_parts (expressions_of list))
+    ∙ ap (λ (x : Expr). memories_of scope x ++ memories_faults scope (named_in_parts (expressions_of list))) (sym e)

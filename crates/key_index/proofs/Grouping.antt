@@ -61,7 +61,8 @@ item-here {T} items key from place x e is =
     let same : bytes_eq key x.key.now ≡ true = sym (ap (bytes_eq key) (key-at items place x low is)) ∙ sound.2 in
     rest-here keyed_of (under {T = T} key) [] items place x low is ∙ ap (λ b. item_if b x.item (items_under (map keyed_of (drop (place + 1) items)) key)) same
 
-pub found-goes : {T : Type 0} (items : List (Keyed T)) (key : List ℕ) (found more : List T) (place : ℕ) (x : Keyed T) (next : Option ℕ) → AreFound items key found (Some place) → x ≡ get_or items place x
+pub found-goes : {T : Type 0} (items : List (Keyed T)) (key : List ℕ) (found more : List T) (place : ℕ) (x : Keyed T) (next : Option ℕ) → AreFound items key found (Some place) →
+    x ≡ get_or items place x
     → more ≡ found ++ x.item ∷ [] → next ≡ key_from (all_keys items) (get_or (all_keys items) place []) (place + 1) → AreFound items key more next
 found-goes {T} items key found more place x next walk is pushed e =
     let sound = key-sound (all_keys items) key walk.place.from place walk.place.found in
@@ -94,5 +95,6 @@ found-smaller items place next low e =
 pub first-none : {T : Type 0} (items : List (Keyed T)) (key : List ℕ) → None ≡ key_from (all_keys items) key 0 → None ≡ first_under (map keyed_of items) key
 first-none items key e = sym (ap first_of (begins items key None e))
 
-pub first-some : {T : Type 0} (items : List (Keyed T)) (key : List ℕ) (place : ℕ) (x : Keyed T) → Some place ≡ key_from (all_keys items) key 0 → x ≡ get_or items place x → Some x.item ≡ first_under (map keyed_of items) key
+pub first-some : {T : Type 0} (items : List (Keyed T)) (key : List ℕ) (place : ℕ) (x : Keyed T) → Some place ≡ key_from (all_keys items) key 0 → x ≡ get_or items place x →
+    Some x.item ≡ first_under (map keyed_of items) key
 first-some items key place x e is = sym (ap first_of (begins items key (Some place) e ∙ item-here items key 0 place x e is))

@@ -11,4 +11,5 @@ keys_in index = keys_of index.keys.items
 pub record IsIndex (index : Inside) : Type 0 where
   pub firsts : (word : List ℕ) → place_in index.firsts word ≡ key_from (keys_in index) word 0
   pub count : length index.nexts.items ≡ length (keys_in index)
-  pub nexts : (place : ℕ) → place < length (keys_in index) → slice_index_or index.nexts.items (length (keys_in index) - 1 - place) None ≡ key_from (keys_in index) (slice_index_or (keys_in index) place []) (place + 1)
+  pub nexts : (place : ℕ) → place < length (keys_in index) → slice_index_or index.nexts.items (length (keys_in index) - 1 - place) None ≡ key_from (keys_in index)
+      (slice_index_or (keys_in index) place []) (place + 1)

@@ -1,5 +1,6 @@
 -- Going through the places of a key (nothing of the language).
-use Rattle.std.proofs.Common.{◌≡◌, ℕ, zero, suc, ◌+◌, ◌-◌, ◌<◌, ◌≤◌, Bool, true, false, cond, List, [], ◌∷◌, ◌++◌, length, map, get_or, drop, drop-cons, Option, Some, None, refl, ap, sym, ◌∙◌, subst, arith}
+use Rattle.std.proofs.Common.{◌≡◌, ℕ, zero, suc, ◌+◌, ◌-◌, ◌<◌, ◌≤◌, Bool, true, false, cond, List, [], ◌∷◌, ◌++◌, length, map, get_or, drop, drop-cons, Option, Some, None, refl, ap, sym, ◌∙◌}
+use Rattle.std.proofs.Common.{subst, arith}
 use Rattle.std.specs.Str.{bytes_eq}
 use Rattle.std.proofs.lemmas.List.{get_or-drop, drop-map, length-drop}
 use Rattle.std.proofs.lemmas.Slice.Eq.{bytes_eq-Decides}
@@ -50,7 +51,8 @@ abbrev pub places_left : ℕ → Option ℕ → ℕ
 places_left count None = 0
 places_left count (Some place) = count - place
 
-pub left-smaller : (keys : List (List ℕ)) (key : List ℕ) (place : ℕ) (next : Option ℕ) → place < length keys → next ≡ key_from keys key (place + 1) → places_left (length keys) next < places_left (length keys) (Some place)
+pub left-smaller : (keys : List (List ℕ)) (key : List ℕ) (place : ℕ) (next : Option ℕ) → place < length keys → next ≡ key_from keys key (place + 1) →
+    places_left (length keys) next < places_left (length keys) (Some place)
 left-smaller keys key place None low e = omega arith
 left-smaller keys key place (Some more) low e = let r = key-sound keys key (place + 1) more e in omega (arith, r.0, r.1)
 

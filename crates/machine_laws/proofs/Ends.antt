@@ -15,7 +15,8 @@ use Rattle.machine_laws.proofs.Moments.{append-nothing, on_move, none-first}
 -- Ends
 
 -- where no move is left the slot ends
-no-moves-left : (machine : Machine) (hyper : Bool) (at : Moment) (r : ComesTo machine at) → slot_moves r.most_left r.steps_left machine at.state ≡ [] → is_hyper (slot_from machine at.begins) ≡ hyper → EndsAt machine hyper at
+no-moves-left : (machine : Machine) (hyper : Bool) (at : Moment) (r : ComesTo machine at) → slot_moves r.most_left r.steps_left machine at.state ≡ [] →
+    is_hyper (slot_from machine at.begins) ≡ hyper → EndsAt machine hyper at
 no-moves-left machine hyper at r none is = record {
   end_is = ap (all_made machine at.begins) all ∙ sym r.made_so_far;
   phases_are = parts;
@@ -58,10 +59,12 @@ hyper_slots_end machine at r many =
 -- Races
 
 race-more : (machine : Machine) (number : ℕ) (before : List Phase) (phase : Phase) →
-    first_race machine number (before ++ phase ∷ []) ≡ or_race (first_race machine number before) (option_map (race_of phase.begins.time (length before + number)) (phase_race machine phase.begins phase.events))
+    first_race machine number (before ++ phase ∷ []) ≡ or_race (first_race machine number before)
+    (option_map (race_of phase.begins.time (length before + number)) (phase_race machine phase.begins phase.events))
 race-more machine number [] phase = go (phase_race machine phase.begins phase.events)
   where
-    go : (found : Option (PhaseAccess × PhaseAccess)) → elim found [ None ↦ None | Some pair ↦ Some (race_of phase.begins.time number pair) ] ≡ option_map (race_of phase.begins.time (0 + number)) found
+    go : (found : Option (PhaseAccess × PhaseAccess)) → elim found [ None ↦ None | Some pair ↦ Some (race_of phase.begins.time number pair) ] ≡ option_map
+        (race_of phase.begins.time (0 + number)) found
     go None = refl
     go (Some pair) = let z : number ≡ 0 + number = omega arith in ap (λ n. Some (race_of phase.begins.time n pair)) z
 race-more machine number (first ∷ before) phase = go (phase_race machine first.begins first.events) (race-more machine (number + 1) before phase)
@@ -84,7 +87,8 @@ races_go_on machine before phase = race-more machine 1 before phase
 -- Notes
 
 notes-more : (machine : Machine) (earlier : List NotedEvent) (state : State) (events : List Event) (event : Event) →
-    noted_from machine earlier state (events ++ event ∷ []) ≡ noted_from machine earlier state events ++ note_of machine (noted_from machine earlier state events) (happened machine state events) event ∷ []
+    noted_from machine earlier state (events ++ event ∷ []) ≡ noted_from machine earlier state events
+    ++ note_of machine (noted_from machine earlier state events) (happened machine state events) event ∷ []
 notes-more machine earlier state [] event = refl
 notes-more machine earlier state (first ∷ events) event = notes-more machine (earlier ++ note_of machine earlier state first ∷ []) (after machine state first) events event
 

@@ -5,12 +5,16 @@ use Rattle.std.proofs.lemmas.List.Sums.{sum_by-append}
 use Rattle.four_value.specs.Values.{LogicValue}
 use Rattle.v_design.specs.Designs.{FlatNode, Machine}
 use Rattle.v_design.specs.Assignments.{ValueUpdate, node_outputs}
-use Rattle.v_design.specs.States.{State, ProcessState, Event, Step, LaneStep, Evaluation, NetUpdate, TurnKind, PostponedTurn, UpdatesTurn, TimeTurn, after, possible, node_at, idle_process, with_value, with_values, with_process, written_if, write_of, first_update, step_of, process_at, evaluated, nets_updated, is_ready, is_any, is_quiescent, turn_of, turned}
-use Rattle.v_design.specs.Runs.{Move, Happens, Turns, named_event, or_event, work_of, first_event, turn_in_slot, event_or_turn, turned_by, made, all_made, is_counted, counted_steps, less_one_if, slot_moves, most_steps, most_moves, first_moves, happened, all_possible, IsPhase}
+use Rattle.v_design.specs.States.{State, ProcessState, Event, Step, LaneStep, Evaluation, NetUpdate, TurnKind, PostponedTurn, UpdatesTurn, TimeTurn, after, possible, node_at, idle_process}
+use Rattle.v_design.specs.States.{with_value, with_values, with_process, written_if, write_of, first_update, step_of, process_at, evaluated, nets_updated, is_ready, is_any, is_quiescent, turn_of}
+use Rattle.v_design.specs.States.{turned}
+use Rattle.v_design.specs.Runs.{Move, Happens, Turns, named_event, or_event, work_of, first_event, turn_in_slot, event_or_turn, turned_by, made, all_made, is_counted, counted_steps, less_one_if}
+use Rattle.v_design.specs.Runs.{slot_moves, most_steps, most_moves, first_moves, happened, all_possible, IsPhase}
 use Rattle.v_design.specs.WellFormed.{KeepsRules}
 use Rattle.v_design.specs.Laws.{BeginsPhase, SlotsEnd, PhasesBegin}
 use Rattle.v_design.specs.Grades.{cut}
-use Rattle.machine_laws.specs.SlotLoop.{Moment, ComesTo, after_event, steps_of, present_phase, NoNodeWorks, IsIdle, first_lane, first_ready, SlotsBegin, NodesGoOn, LanesGoOn, StepsGoOn, TurnsGoOn, NextSlotsBegin}
+use Rattle.machine_laws.specs.SlotLoop.{Moment, ComesTo, after_event, steps_of, present_phase, NoNodeWorks, IsIdle, first_lane, first_ready, SlotsBegin, NodesGoOn, LanesGoOn, StepsGoOn, TurnsGoOn}
+use Rattle.machine_laws.specs.SlotLoop.{NextSlotsBegin}
 use Rattle.machine_laws.proofs.Places.{placed, to-evaluate, updates, pends, idle-quiet, busy-lane, busy-step, busy-node}
 
 -- The first moment
@@ -49,7 +53,8 @@ happened-more : (machine : Machine) (state : State) (events : List Event) (event
 happened-more machine state [] event = refl
 happened-more machine state (first ∷ events) event = happened-more machine (after machine state first) events event
 
-possible-more : (machine : Machine) (state : State) (events : List Event) (event : Event) → all_possible machine state events ≡ true → possible (happened machine state events) event ≡ true → all_possible machine state (events ++ event ∷ []) ≡ true
+possible-more : (machine : Machine) (state : State) (events : List Event) (event : Event) → all_possible machine state events ≡ true → possible (happened machine state events) event ≡ true →
+    all_possible machine state (events ++ event ∷ []) ≡ true
 possible-more machine state [] event a p = λ i. p i && true
 possible-more machine state (first ∷ events) event a p =
     let both = both-true (possible state first) (all_possible machine (after machine state first) events) a in
@@ -114,7 +119,8 @@ moves-on machine at r ends rules few goes = go r.most_left r.steps_left r.goes_o
         let end = ends machine at.begins rules r.slot_asked (omega (arith, count, few)) in
         absurd (goes (ap is_quiescent (sym here) ∙ end.0) (ap (λ s. turn_in_slot (turn_of s)) (sym here) ∙ end.1))
 
-    go : (most steps : ℕ) → first_moves machine at.begins ≡ r.moves ++ slot_moves most steps machine at.state → at.steps + steps ≡ most_steps + 1 → MovesOn machine at (slot_moves most steps machine at.state)
+    go : (most steps : ℕ) → first_moves machine at.begins ≡ r.moves ++ slot_moves most steps machine at.state → at.steps + steps ≡ most_steps + 1 →
+        MovesOn machine at (slot_moves most steps machine at.state)
     go zero steps e room = at_end e
     go (suc most) zero e room = absurd (omega (arith, room, few))
     go (suc most) (suc steps) e room = record { most = most; steps = steps; goes_on = refl; room = room }
@@ -141,13 +147,15 @@ pub event-on : (machine : Machine) (at : Moment) (event : Event) → SlotsEnd �
     possible at.state event ≡ true → (is_quiescent at.state ≡ true → ⊥) → ComesTo machine (after_event machine event at)
 event-on machine at event ends rules r few first may busy =
     let m = moves-on machine at r ends rules few (λ q t. busy q) in
-    let next : slot_moves (suc m.most) (suc m.steps) machine at.state ≡ Happens event ∷ slot_moves m.most (less_one_if (is_counted (Happens event)) (suc m.steps)) machine (after machine at.state event) =
+    let next : slot_moves (suc m.most) (suc m.steps) machine at.state ≡ Happens event ∷ slot_moves m.most (less_one_if (is_counted (Happens event)) (suc m.steps)) machine
+    (after machine at.state event) =
     ap (λ f. on_move m.most (suc m.steps) machine at.state (event_or_turn f (turn_of at.state))) first in
     record {
       moves = r.moves ++ Happens event ∷ [];
       most_left = m.most;
       steps_left = less_one_if (is_counted (Happens event)) (suc m.steps);
-      goes_on = r.goes_on ∙ ap (λ l. r.moves ++ l) (m.goes_on ∙ next) ∙ sym (append_assoc r.moves (Happens event ∷ []) (slot_moves m.most (less_one_if (is_counted (Happens event)) (suc m.steps)) machine (after machine at.state event)));
+      goes_on = r.goes_on ∙ ap (λ l. r.moves ++ l) (m.goes_on ∙ next) ∙ sym (append_assoc r.moves (Happens event ∷ [])
+          (slot_moves m.most (less_one_if (is_counted (Happens event)) (suc m.steps)) machine (after machine at.state event)));
       room = counts event at.steps m.steps most_steps m.room;
       made_so_far = ap (λ s. after machine s event) r.made_so_far ∙ sym (all_made-more machine at.begins r.moves (Happens event));
       counted = (λ i. r.counted i + step-count event i) ∙ sym (counted-more r.moves (Happens event));
@@ -186,7 +194,8 @@ steps_go_on ends machine at process rules r few idle none first =
 
 pub nodes_go_on : SlotsEnd → NodesGoOn
 nodes_go_on ends machine at node text rules r few is_text work =
-    event-on machine mid (NetUpdate node) ends rules evaluated_on (let e : at.steps + 0 ≡ at.steps = omega arith in omega (arith, few)) (ap (λ w. or_event w (others mid.state)) update) pending (busy-node mid.state (NetUpdate node) update)
+    event-on machine mid (NetUpdate node) ends rules evaluated_on (let e : at.steps + 0 ≡ at.steps = omega arith in omega (arith, few)) (ap (λ w. or_event w (others mid.state)) update) pending
+    (busy-node mid.state (NetUpdate node) update)
   where
     mid : Moment
     mid = after_event machine (Evaluation node) at

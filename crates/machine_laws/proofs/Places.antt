@@ -43,7 +43,8 @@ some-placed test weaker (x ∷ xs) n h e = go (test x) (first_place test xs) ref
     or-true true = refl
     or-true false = refl
 
-    go : (b : Bool) (o : Option ℕ) → test x ≡ b → first_place test xs ≡ o → earlier_place b o ≡ Some n → ((m : ℕ) → first_place test xs ≡ Some m → some_in weaker xs ≡ true) → (weaker x || some_in weaker xs) ≡ true
+    go : (b : Bool) (o : Option ℕ) → test x ≡ b → first_place test xs ≡ o → earlier_place b o ≡ Some n → ((m : ℕ) → first_place test xs ≡ Some m → some_in weaker xs ≡ true) →
+        (weaker x || some_in weaker xs) ≡ true
     go true o t f k rest = ap (λ b. b || some_in weaker xs) (h x t)
     go false None t f k rest = cc
     go false (Some m) t f k rest = ap (λ b. weaker x || b) (rest m f) ∙ or-true (weaker x)

@@ -9,8 +9,10 @@ use Rattle.v_design.specs.Trees.{Entry, Statement, Null, Block, If, Case, For, W
 use Rattle.v_design.specs.Expressions.{Progress, Needs, Has, read_expression}
 use Rattle.v_design.specs.Designs.{FlatProcess, Machine, forced_variable}
 use Rattle.v_design.specs.Assignments.{ValueUpdate, value_at}
-use Rattle.v_design.specs.Processes.{Task, Run, Turns, Writes, Appends, Activity, Ready, Waiting, Asleep, Postponed, Done, Action, WritesObject, ReadsObject, AppendsUpdate, TouchesNothing, ProcessStep, goes_on, turns_to, reads_or, write_step, append_step, assignment_step, turns_step, wait_step, statement_step, end_step, process_step, loop_of}
-use Rattle.v_design.specs.States.{State, NodeState, ProcessState, Event, Step, LaneStep, found_or, idle_process, process_at, is_ready, written, written_if, write_of, step_of, activity_step, source_at, after, after_step, after_lane_step, with_process, next_activity, first_update}
+use Rattle.v_design.specs.Processes.{Task, Run, Turns, Writes, Appends, Activity, Ready, Waiting, Asleep, Postponed, Done, Action, WritesObject, ReadsObject, AppendsUpdate, TouchesNothing}
+use Rattle.v_design.specs.Processes.{ProcessStep, goes_on, turns_to, reads_or, write_step, append_step, assignment_step, turns_step, wait_step, statement_step, end_step, process_step, loop_of}
+use Rattle.v_design.specs.States.{State, NodeState, ProcessState, Event, Step, LaneStep, found_or, idle_process, process_at, is_ready, written, written_if, write_of, step_of, activity_step}
+use Rattle.v_design.specs.States.{source_at, after, after_step, after_lane_step, with_process, next_activity, first_update}
 use Rattle.v_design.specs.Accesses.{ObjectAccess, Writing, Awaiting, is_waiting, accesses_of, action_accesses, await_accesses, update_accesses, lane_accesses}
 use Rattle.v_design.specs.PhaseLogs.{writer_process, writer_line, lane_line}
 use Rattle.event_causes.specs.Causes.{Tells}
@@ -39,12 +41,14 @@ StaysReady step = (update : ValueUpdate) → write_of step.action ≡ Some updat
 goes-on : (line : ℕ) (next : Activity) → StaysReady (goes_on line next)
 goes-on line next = λ update e. cc
 
-reads : {A : Type 0} (line : ℕ) (tasks : List Task) (operands : List LogicValue) (progress : Progress A) (act : A → ProcessStep) → ((answer : A) → StaysReady (act answer)) → StaysReady (reads_or line tasks operands progress act)
+reads : {A : Type 0} (line : ℕ) (tasks : List Task) (operands : List LogicValue) (progress : Progress A) (act : A → ProcessStep) → ((answer : A) → StaysReady (act answer)) →
+    StaysReady (reads_or line tasks operands progress act)
 reads line tasks operands (Needs object) act acts = λ update e. cc
 reads line tasks operands (Has answer left) act acts = λ update e. acts answer update e
 
 -- a step that reads, or goes on to some tasks
-reads-on : {A : Type 0} (line : ℕ) (tasks : List Task) (operands : List LogicValue) (progress : Progress A) (other : ℕ) (left : A → List Task) → StaysReady (reads_or line tasks operands progress (λ answer. turns_to other (left answer)))
+reads-on : {A : Type 0} (line : ℕ) (tasks : List Task) (operands : List LogicValue) (progress : Progress A) (other : ℕ) (left : A → List Task) →
+    StaysReady (reads_or line tasks operands progress (λ answer. turns_to other (left answer)))
 reads-on line tasks operands progress other left = reads line tasks operands progress (λ answer. turns_to other (left answer)) (λ answer. goes-on other (Ready (left answer) []))
 
 writes : (place : SourcePlace) (updates : List (Option ValueUpdate)) (tasks : List Task) → StaysReady (write_step place updates tasks)
@@ -72,7 +76,8 @@ statement now operands Null tasks = λ update e. cc
 statement now operands (Block parts) tasks = λ update e. cc
 statement now operands (If place condition first second) tasks = reads-on _ _ operands _ _ _
 statement now operands (Case place kind value items default) tasks = reads-on _ _ operands _ _ _
-statement now operands (For place first_targets first condition next_targets next body) tasks = reads _ _ operands _ _ (λ updates. writes place updates (Run (loop_of place condition next_targets next body) ∷ tasks))
+statement now operands (For place first_targets first condition next_targets next body) tasks =
+    reads _ _ operands _ _ (λ updates. writes place updates (Run (loop_of place condition next_targets next body) ∷ tasks))
 statement now operands (While place condition body) tasks = reads-on _ _ operands _ _ _
 statement now operands (Repeat place count body) tasks = reads-on _ _ operands _ _ _
 statement now operands (Forever place body) tasks = λ update e. cc
@@ -139,7 +144,8 @@ append-nothing [] = refl
 append-nothing (x ∷ xs) = ap (λ l. x ∷ l) (append-nothing xs)
 
 -- where a ready process writes, all waits stay as they were
-same-waits : (machine : Machine) (state : State) (process : ℕ) (update : ValueUpdate) → is_ready (process_at state process).activity ≡ true → write_of (step_of machine state process).action ≡ Some update →
+same-waits : (machine : Machine) (state : State) (process : ℕ) (update : ValueUpdate) → is_ready (process_at state process).activity ≡ true →
+    write_of (step_of machine state process).action ≡ Some update →
     AreInSameWaits state.processes (gone_on machine process state).processes
 same-waits machine state process update ready is =
     same-seen wait_of idle_process state.processes process (after_step state (step_of machine state process))
@@ -149,7 +155,8 @@ same-waits machine state process update ready is =
 
 -- a write in the midst of an event tells what the event does, where all waits stay as they were
 write-tells : (machine : Machine) (state mid : State) (event : Event) (update : ValueUpdate) (process line : ℕ) (accesses : List ObjectAccess) (changed ended : List ℕ) →
-    mid.values ≡ state.values → AreInSameWaits state.processes mid.processes → after machine state event ≡ written machine update mid → TellsWrite machine mid update process line accesses changed ended →
+    mid.values ≡ state.values → AreInSameWaits state.processes mid.processes → after machine state event ≡ written machine update mid →
+    TellsWrite machine mid update process line accesses changed ended →
     Tells machine state event changed ended
 write-tells machine state mid event update process line accesses changed ended values same is told = record {
   objects = λ object low. told.objects object ∙ (λ i. not (same_value (value_at (values i) object) (value_at (sym is i).values object)));
@@ -161,7 +168,12 @@ same-accesses : (machine : Machine) (time : ℕ) (nodes : List NodeState) (value
     update_accesses machine process line update (record { time = time; values = values; nodes = nodes; processes = new })
     ≡ update_accesses machine process line update (record { time = time; values = values; nodes = nodes; processes = old })
 same-accesses machine time nodes values old new update process line same =
-    ap (λ l. record { act = Writing (value_at values update.object) (forced_variable machine.fault update.object (with_part (value_at values update.object) update.low update.value)); object = update.object; process = process; line = line } ∷ l)
+    ap (λ l. record {
+      act = Writing (value_at values update.object) (forced_variable machine.fault update.object (with_part (value_at values update.object) update.low update.value));
+      object = update.object;
+      process = process;
+      line = line;
+    } ∷ l)
     (ended-alike update.object (value_at values update.object) (forced_variable machine.fault update.object (with_part (value_at values update.object) update.low update.value)) old new same)
 
 -- the state after a step that writes
@@ -170,8 +182,10 @@ pub write-step-after : (machine : Machine) (state : State) (process : ℕ) (upda
 write-step-after machine state process update is = ap (λ w. written_if machine w (gone_on machine process state)) is
 
 -- a step that writes is told by its write
-pub write-step-told : (machine : Machine) (state : State) (process line : ℕ) (update : ValueUpdate) (accesses : List ObjectAccess) (changed ended : List ℕ) → is_ready (process_at state process).activity ≡ true →
-    line ≡ (step_of machine state process).line → write_of (step_of machine state process).action ≡ Some update → TellsWrite machine (gone_on machine process state) update process line accesses changed ended →
+pub write-step-told : (machine : Machine) (state : State) (process line : ℕ) (update : ValueUpdate) (accesses : List ObjectAccess) (changed ended : List ℕ) →
+    is_ready (process_at state process).activity ≡ true →
+    line ≡ (step_of machine state process).line → write_of (step_of machine state process).action ≡ Some update →
+    TellsWrite machine (gone_on machine process state) update process line accesses changed ended →
     TellsStep machine state (Step process) line accesses changed ended
 write-step-told machine state process line update accesses changed ended ready line_is is told = record {
   line_is = line_is;
@@ -179,7 +193,8 @@ write-step-told machine state process line update accesses changed ended ready l
       ∙ same-accesses machine state.time state.nodes state.values state.processes (gone_on machine process state).processes update process line (same-waits machine state process update ready is)
       ∙ (λ i. action_accesses machine process (line_is i) (sym (write-is (step_of machine state process).action update is) i) state)
       ∙ sym (append-nothing (action_accesses machine process (step_of machine state process).line (step_of machine state process).action state))
-      ∙ ap (λ (w : WaitSeen). action_accesses machine process (step_of machine state process).line (step_of machine state process).action state ++ awaited process (step_of machine state process).line w.entries)
+      ∙ ap (λ (w : WaitSeen). action_accesses machine process (step_of machine state process).line (step_of machine state process).action state
+      ++ awaited process (step_of machine state process).line w.entries)
       (sym (stays-ready machine state process update is));
   tells = write-tells machine state (gone_on machine process state) (Step process) update process line accesses changed ended refl (same-waits machine state process update ready is)
       (write-step-after machine state process update is) told;
@@ -249,26 +264,31 @@ same-lane-waits : (state : State) (process : ℕ) → AreInSameWaits state.proce
 same-lane-waits state process = same-seen wait_of idle_process state.processes process after_lane_step refl
 
 -- a step of a lane is told by its write
-pub lane-told : (machine : Machine) (state : State) (process : ℕ) (update : ValueUpdate) (accesses : List ObjectAccess) (changed ended : List ℕ) → first_update (process_at state process).lane ≡ Some update →
+pub lane-told : (machine : Machine) (state : State) (process : ℕ) (update : ValueUpdate) (accesses : List ObjectAccess) (changed ended : List ℕ) →
+    first_update (process_at state process).lane ≡ Some update →
     TellsWrite machine (lane_gone_on process state) update process update.line accesses changed ended → TellsStep machine state (LaneStep process) update.line accesses changed ended
 lane-told machine state process update accesses changed ended is told = record {
   line_is = first-line (process_at state process).lane update is;
   accesses_are = told.accesses_are
       ∙ same-accesses machine state.time state.nodes state.values state.processes (lane_gone_on process state).processes update process update.line (same-lane-waits state process)
       ∙ first-accesses machine process (process_at state process).lane update state is;
-  tells = write-tells machine state (lane_gone_on process state) (LaneStep process) update process update.line accesses changed ended refl (same-lane-waits state process) (lane-after machine state process update is) told;
+  tells = write-tells machine state (lane_gone_on process state) (LaneStep process) update process update.line accesses changed ended refl (same-lane-waits state process)
+      (lane-after machine state process update is) told;
 }
 
 -- The laws
 
 -- process and lane steps that write are told by their writes, and a step that writes nothing changes nothing and ends no wait
 pub record StepsTell : Type 0 where
-  pub writes : (machine : Machine) (state : State) (process line : ℕ) (update : ValueUpdate) (accesses : List ObjectAccess) (changed ended : List ℕ) → is_ready (process_at state process).activity ≡ true →
-      line ≡ (step_of machine state process).line → write_of (step_of machine state process).action ≡ Some update → TellsWrite machine (gone_on machine process state) update process line accesses changed ended →
+  pub writes : (machine : Machine) (state : State) (process line : ℕ) (update : ValueUpdate) (accesses : List ObjectAccess) (changed ended : List ℕ) →
+      is_ready (process_at state process).activity ≡ true →
+      line ≡ (step_of machine state process).line → write_of (step_of machine state process).action ≡ Some update →
+      TellsWrite machine (gone_on machine process state) update process line accesses changed ended →
       TellsStep machine state (Step process) line accesses changed ended
   pub quiet : (machine : Machine) (state : State) (process line : ℕ) (accesses : List ObjectAccess) → is_ready (process_at state process).activity ≡ true →
       line ≡ (step_of machine state process).line → write_of (step_of machine state process).action ≡ None →
       accesses ≡ action_accesses machine process line (step_of machine state process).action state ++ await_accesses process line (step_of machine state process).next →
       TellsStep machine state (Step process) line accesses [] []
-  pub lanes : (machine : Machine) (state : State) (process : ℕ) (update : ValueUpdate) (accesses : List ObjectAccess) (changed ended : List ℕ) → first_update (process_at state process).lane ≡ Some update →
+  pub lanes : (machine : Machine) (state : State) (process : ℕ) (update : ValueUpdate) (accesses : List ObjectAccess) (changed ended : List ℕ) →
+      first_update (process_at state process).lane ≡ Some update →
       TellsWrite machine (lane_gone_on process state) update process update.line accesses changed ended → TellsStep machine state (LaneStep process) update.line accesses changed ended

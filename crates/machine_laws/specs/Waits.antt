@@ -44,7 +44,8 @@ found-seen see default (x ∷ xs) zero = refl
 found-seen see default (x ∷ xs) (suc n) = found-seen see default xs n
 
 -- where an element is changed to one that shows the same, all show the same
-pub same-seen : {A B : Type 0} (see : A → B) (default : A) (xs : List A) (n : ℕ) (f : A → A) → see (f (found_or default (slice_get xs n))) ≡ see (found_or default (slice_get xs n)) → map see (change_at xs n f) ≡ map see xs
+pub same-seen : {A B : Type 0} (see : A → B) (default : A) (xs : List A) (n : ℕ) (f : A → A) → see (f (found_or default (slice_get xs n))) ≡ see (found_or default (slice_get xs n)) →
+    map see (change_at xs n f) ≡ map see xs
 same-seen see default [] n f e = refl
 same-seen see default (x ∷ xs) zero f e = ap (λ y. y ∷ map see xs) e
 same-seen see default (x ∷ xs) (suc n) f e = ap (λ l. see x ∷ l) (same-seen see default xs n f e)

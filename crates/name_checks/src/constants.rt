@@ -4,7 +4,8 @@ ghost use Rattle.std.specs.Prelude.{◌≡◌, ◌≤◌, OnOk};
 ghost use Rattle.v_tree.specs.Views.{expression_of, expressions_of, expression_in, range_of, range_in};
 ghost use Rattle.vf_base.specs.Base.{source_place};
 ghost use Rattle.v_names.specs.Scopes.{looked_up};
-ghost use Rattle.v_names.specs.Constants.{most_bound, IndexOrCount, BoundUpTo, DelayValue, parameter_faults, constant_name_faults, constant_part_faults, value_faults, value_faults_within, constant_faults, optional_faults, bound_faults};
+ghost use Rattle.v_names.specs.Constants.{most_bound, IndexOrCount, BoundUpTo, DelayValue, parameter_faults, constant_name_faults};
+ghost use Rattle.v_names.specs.Constants.{constant_part_faults, value_faults, value_faults_within, constant_faults, optional_faults, bound_faults};
 ghost use Rattle.v_names.specs.SizeViews.{kind_of};
 ghost use Rattle.name_checks.specs.Noted.{noted};
 

@@ -5,7 +5,8 @@ ghost use Rattle.v_tree.specs.Trees.{selects_of};
 ghost use Rattle.v_tree.specs.Views.{expression_of, expressions_of, expression_in, index_of, select_of, target_of};
 ghost use Rattle.vf_base.specs.Base.{source_place};
 ghost use Rattle.v_names.specs.Scopes.{looked_up};
-ghost use Rattle.v_names.specs.Constants.{most_bound, BoundUpTo, constant_faults, known_faults, name_faults, part_faults, index_faults, optional_faults, fixed_index_faults, fixed_select_faults, select_faults};
+ghost use Rattle.v_names.specs.Constants.{most_bound, BoundUpTo, constant_faults, known_faults, name_faults};
+ghost use Rattle.v_names.specs.Constants.{part_faults, index_faults, optional_faults, fixed_index_faults, fixed_select_faults, select_faults};
 ghost use Rattle.v_names.specs.Names.{target_faults, fixed_target_faults};
 ghost use Rattle.name_checks.specs.Noted.{noted};
 

@@ -1,5 +1,6 @@
 -- Marking what reaches a net piece, from the last node back (continuous assignments and gates of IEEE 1364-2001, clause 6 and clause 7).
-use Rattle.std.proofs.Common.{◌≡◌, ℕ, zero, suc, ◌+◌, ◌<◌, ◌≤◌, Bool, true, false, List, [], ◌∷◌, ◌++◌, length, get_or, take, drop, set, map, replicate, refl, ap, sym, ◌∙◌, subst, inl, inr, arith, zero-add}
+use Rattle.std.proofs.Common.{◌≡◌, ℕ, zero, suc, ◌+◌, ◌<◌, ◌≤◌, Bool, true, false, List, [], ◌∷◌, ◌++◌, length, get_or, take, drop, set, map, replicate, refl, ap, sym, ◌∙◌, subst, inl, inr, arith}
+use Rattle.std.proofs.Common.{zero-add}
 use Rattle.std.specs.Prelude.{Some, slice_get, nat_eq, nat_lt, ◌||◌, ◌&&◌, not, filter, cond}
 use Rattle.std.specs.List.{All, list_any}
 use Rattle.vf_base.specs.declared.ids.ObjectId.{ObjectId}
@@ -95,14 +96,17 @@ pub AreReached-marked : (nodes : List FlatNode) (k : ℕ) (test : ℕ → Bool) 
 AreReached-marked nodes k test n before later at had outputs some marks o low =
     let rest : List FlatNode = drop (k + 1) nodes in
     let here : drop k nodes ≡ n ∷ drop (k + 1) nodes = slice_get_dropped nodes k n at in
-    let feeds : list_any (reaches_some (drop (k + 1) nodes) test) n.outputs ≡ true = sym (any_agree (λ x. get_or before x false) (reaches_some (drop (k + 1) nodes) test) n.outputs (λ x e. had x (outputs x e))) ∙ some in
+    let feeds : list_any (reaches_some (drop (k + 1) nodes) test) n.outputs ≡ true = sym (any_agree (λ x. get_or before x false) (reaches_some (drop (k + 1) nodes) test) n.outputs
+    (λ x e. had x (outputs x e))) ∙ some in
     elim (cases_Bool (has n.inputs o)) [
       | inl reads ↦
           marks.marked o low reads
-          ∙ sym (ap (λ l. reaches_some l test o) here ∙ or_right (reaches_some (drop (k + 1) nodes) test o) (has n.inputs o && list_any (reaches_some (drop (k + 1) nodes) test) n.outputs) (and_from (has n.inputs o) (list_any (reaches_some (drop (k + 1) nodes) test) n.outputs) reads feeds))
+          ∙ sym (ap (λ l. reaches_some l test o) here ∙ or_right (reaches_some (drop (k + 1) nodes) test o) (has n.inputs o && list_any (reaches_some (drop (k + 1) nodes) test) n.outputs)
+          (and_from (has n.inputs o) (list_any (reaches_some (drop (k + 1) nodes) test) n.outputs) reads feeds))
       | inr other ↦
           marks.kept o low other ∙ had o (omega (arith, marks.same_length))
-          ∙ unfed (reaches_some (drop (k + 1) nodes) test o) (has n.inputs o && list_any (reaches_some (drop (k + 1) nodes) test) n.outputs) (and_left (has n.inputs o) (list_any (reaches_some (drop (k + 1) nodes) test) n.outputs) other)
+          ∙ unfed (reaches_some (drop (k + 1) nodes) test o) (has n.inputs o && list_any (reaches_some (drop (k + 1) nodes) test) n.outputs)
+          (and_left (has n.inputs o) (list_any (reaches_some (drop (k + 1) nodes) test) n.outputs) other)
           ∙ sym (ap (λ l. reaches_some l test o) here)
     ]
 
@@ -111,9 +115,11 @@ pub AreReached-unmarked : (nodes : List FlatNode) (k : ℕ) (test : ℕ → Bool
     ((o : ℕ) → has n.outputs o ≡ true → o < length before) → list_any (λ o. get_or before o false) n.outputs ≡ false → later ≡ before → AreReached nodes k test later
 AreReached-unmarked nodes k test n before later at had outputs none same o low =
     let here : drop k nodes ≡ n ∷ drop (k + 1) nodes = slice_get_dropped nodes k n at in
-    let feeds : list_any (reaches_some (drop (k + 1) nodes) test) n.outputs ≡ false = sym (any_agree (λ x. get_or before x false) (reaches_some (drop (k + 1) nodes) test) n.outputs (λ x e. had x (outputs x e))) ∙ none in
+    let feeds : list_any (reaches_some (drop (k + 1) nodes) test) n.outputs ≡ false = sym (any_agree (λ x. get_or before x false) (reaches_some (drop (k + 1) nodes) test) n.outputs
+    (λ x e. had x (outputs x e))) ∙ none in
     ap (λ l. get_or l o false) same ∙ had o (subst (λ l. o < length l) same low)
-    ∙ unfed (reaches_some (drop (k + 1) nodes) test o) (has n.inputs o && list_any (reaches_some (drop (k + 1) nodes) test) n.outputs) (and_right (has n.inputs o) (list_any (reaches_some (drop (k + 1) nodes) test) n.outputs) feeds)
+    ∙ unfed (reaches_some (drop (k + 1) nodes) test o) (has n.inputs o && list_any (reaches_some (drop (k + 1) nodes) test) n.outputs)
+    (and_right (has n.inputs o) (list_any (reaches_some (drop (k + 1) nodes) test) n.outputs) feeds)
     ∙ sym (ap (λ l. reaches_some l test o) here)
 
 -- one more node, whichever
@@ -139,7 +145,8 @@ numbers_of-push test number [] object =
 numbers_of-push test number (first ∷ objects) object =
     let rest : List ℕ = numbers_of test (number + 1) objects in
     let step : numbers_of test (number + 1) (objects ++ object ∷ []) ≡ numbers_of test (number + 1) objects ++ before_if (test object) (number + suc (length objects)) [] =
-    numbers_of-push test (number + 1) objects object ∙ ap (λ n. numbers_of test (number + 1) objects ++ before_if (test object) n []) (let e : number + 1 + length objects ≡ number + suc (length objects) = omega arith in e) in
+    numbers_of-push test (number + 1) objects object ∙ ap (λ n. numbers_of test (number + 1) objects ++ before_if (test object) n [])
+    (let e : number + 1 + length objects ≡ number + suc (length objects) = omega arith in e) in
     elim (test first) as (λ b.
     (elim b [ true ↦ number ∷ numbers_of test (number + 1) (objects ++ object ∷ []) | false ↦ numbers_of test (number + 1) (objects ++ object ∷ []) ])
     ≡ (elim b [ true ↦ number ∷ numbers_of test (number + 1) objects | false ↦ numbers_of test (number + 1) objects ]) ++ before_if (test object) (number + suc (length objects)) []) [
@@ -162,7 +169,8 @@ pub sources_before-more : (design : FlatDesign) → ∥ KeepsRules design ∥₁
     later ≡ sources ++ before_if (not (is_net object.kind) && get_or marked k false) k [] → later ≡ sources_before design net (k + 1)
 sources_before-more design rules net k object marked sources later at low reached had pushed =
     let within : k < length design.objects = slice_get_within design.objects k object at in
-    let more : take (k + 1) design.objects ≡ take k design.objects ++ object ∷ [] = take_more design.objects k object within ∙ ap (λ o. take k design.objects ++ o ∷ []) (get_or_from_slice_get design.objects k object object at) in
+    let more : take (k + 1) design.objects ≡ take k design.objects ++ object ∷ [] = take_more design.objects k object within
+    ∙ ap (λ o. take k design.objects ++ o ∷ []) (get_or_from_slice_get design.objects k object object at) in
     let test : ℕ → Bool = λ source. nat_lt 0 (paths design source net) in
     let counted : 0 + length (take k design.objects) ≡ k = ap (λ n. 0 + n) (length-take-le k design.objects (omega arith)) ∙ zero-add k in
     let is : nat_lt 0 (paths design k net) ≡ get_or marked k false =
@@ -181,7 +189,8 @@ sources_before-all design net k past =
     ap (λ l. filter (λ source. nat_lt 0 (paths design source net)) (numbers_of (λ object. not (is_net object.kind)) 0 l)) (take_all k design.objects past)
 
 -- an object of the code's list, as one of the design
-pub object_in : (objects list : List Object) (k : ℕ) (object : Object) → list ≡ objects → k < length list → object ≡ get_or list k object → slice_get (map object_of objects) k ≡ Some (object_of object)
+pub object_in : (objects list : List Object) (k : ℕ) (object : Object) → list ≡ objects → k < length list → object ≡ get_or list k object →
+    slice_get (map object_of objects) k ≡ Some (object_of object)
 object_in objects list k object same low at =
     subst (λ l. slice_get (map object_of l) k ≡ Some (object_of object)) same (slice_get-map object_of list k ∙ ap (option_map object_of) (slice_get_read list (length list) k object refl low at))
 
@@ -207,7 +216,8 @@ all-below [] count length e each = tt
 all-below (x ∷ nets) count length e each = (omega (arith, e, each 0 x (omega arith)), all-below nets count length e (λ k d low. each (suc k) d (omega arith)))
 
 -- several objects were marked, and all nodes gone through
-pub ReachSome-all : (design : FlatDesign) → ∥ KeepsRules design ∥₁ → (nets : List ℕ) (blank before later : List Bool) → ((o : ℕ) → get_or blank o false ≡ false) → AllHold (λ net. net < length blank) nets →
+pub ReachSome-all : (design : FlatDesign) → ∥ KeepsRules design ∥₁ → (nets : List ℕ) (blank before later : List Bool) → ((o : ℕ) → get_or blank o false ≡ false) →
+    AllHold (λ net. net < length blank) nets →
     Marks nets blank before → AreReached design.nodes 0 (λ o. get_or before o false) later → ReachSome design nets later
 ReachSome-all design rules nets blank before later none below marks had = record {
   reaching = λ object net low listed path.

@@ -11,7 +11,8 @@ use Rattle.v_design.specs.Designs.{FlatNode, FlatNodeKind, AssignNode, GateNode,
 use Rattle.v_design.specs.Paths.{path_weight, one_if, paths_through}
 use Rattle.v_design.specs.WellFormed.{KeepsRules}
 use Rattle.graph_order.specs.ListLaws.{AllHold-has, has-without_repeats, now_has, still_has}
-use Rattle.net_graph.specs.PathLaws.{all_paths, paths_before, paths_before-more, paths_before-driven, paths_before-undriven, paths_before-all, input_driven_below, paths_through-output, paths_through-other}
+use Rattle.net_graph.specs.PathLaws.{all_paths, paths_before, paths_before-more, paths_before-driven, paths_before-undriven, paths_before-all, input_driven_below, paths_through-output}
+use Rattle.net_graph.specs.PathLaws.{paths_through-other}
 use Rattle.net_graph.specs.RuleLaws.{inputs_are_objects}
 use Rattle.net_graph.specs.Tables.{distinct_inputs, AreCounts}
 
@@ -78,11 +79,14 @@ counts_stepped design rules from k n at counts later through sized had is_throug
           let in_counts : x < length design.objects = AllHold-has (λ o. o < length design.objects) n.inputs x (inputs_are_objects design k n rules at) is_input in
           had x (omega arith) ∙ ap (min 2) (paths_before-driven design.nodes rules.ranked from k x (input_driven_below design.nodes rules.ranked k n at x is_input)) in
           let sums : min 2 (path_weight n.kind * sum_by (λ o. get_or counts o 0) (distinct_inputs n)) ≡ min 2 (path_weight n.kind * sum_by (all_paths design.nodes from) (distinct_inputs n)) =
-          weight_capped n.kind (sum_by (λ o. get_or counts o 0) (distinct_inputs n)) (sum_by (all_paths design.nodes from) (distinct_inputs n)) (sum_capped (λ o. get_or counts o 0) (all_paths design.nodes from) (distinct_inputs n) inputs) in
+          weight_capped n.kind (sum_by (λ o. get_or counts o 0) (distinct_inputs n)) (sum_by (all_paths design.nodes from) (distinct_inputs n))
+          (sum_capped (λ o. get_or counts o 0) (all_paths design.nodes from) (distinct_inputs n) inputs) in
           let now : get_or later o 0 ≡ min 2 (one_if (nat_eq from o) + through) = writes.written o low drives in
           let more : paths_before design.nodes from (k + 1) o ≡ paths_before design.nodes from k o + paths_through (all_paths design.nodes from) o n = paths_before-more design.nodes from k n o at in
-          let part : paths_through (all_paths design.nodes from) o n ≡ path_weight n.kind * sum_by (all_paths design.nodes from) (distinct_inputs n) = paths_through-output (all_paths design.nodes from) o n drives in
-          joined (get_or later o 0) (one_if (nat_eq from o)) through _ _ (paths_before design.nodes from k o) (paths_before design.nodes from (k + 1) o) (paths_through (all_paths design.nodes from) o n) now is_through sums start more part
+          let part : paths_through (all_paths design.nodes from) o n ≡ path_weight n.kind * sum_by (all_paths design.nodes from) (distinct_inputs n) =
+          paths_through-output (all_paths design.nodes from) o n drives in
+          joined (get_or later o 0) (one_if (nat_eq from o)) through _ _ (paths_before design.nodes from k o) (paths_before design.nodes from (k + 1) o)
+          (paths_through (all_paths design.nodes from) o n) now is_through sums start more part
       | inr other ↦
           let now : get_or later o 0 ≡ get_or counts o 0 = writes.kept o low other in
           let before : get_or counts o 0 ≡ min 2 (paths_before design.nodes from k o) = had o (omega (arith, writes.same_length)) in

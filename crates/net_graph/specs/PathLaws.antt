@@ -22,7 +22,8 @@ number_if false n = 0
 pub paths_through-if : (p : ℕ → ℕ) (o : ℕ) (n : FlatNode) → paths_through p o n ≡ number_if (has n.outputs o) (path_weight n.kind * sum_by p (without_repeats [] n.inputs))
 paths_through-if p o n =
     let m : ℕ = path_weight n.kind * sum_by p (without_repeats [] n.inputs) in
-    elim (has n.outputs o) as (λ b. (elim b [ true ↦ path_weight n.kind * sum_by p (without_repeats [] n.inputs) | false ↦ 0 ]) ≡ number_if b (path_weight n.kind * sum_by p (without_repeats [] n.inputs))) [ true ↦ refl | false ↦ refl ]
+    elim (has n.outputs o) as (λ b. (elim b [ true ↦ path_weight n.kind * sum_by p (without_repeats [] n.inputs) | false ↦ 0 ]) ≡ number_if b
+    (path_weight n.kind * sum_by p (without_repeats [] n.inputs))) [ true ↦ refl | false ↦ refl ]
 
 pub paths_through-other : (p : ℕ → ℕ) (o : ℕ) (n : FlatNode) → has n.outputs o ≡ false → paths_through p o n ≡ 0
 paths_through-other p o n e = paths_through-if p o n ∙ ap (λ b. number_if b (path_weight n.kind * sum_by p (without_repeats [] n.inputs))) e
@@ -262,7 +263,8 @@ path-reaches nodes below from net (suc k) short o r h =
     let within : k < length nodes = omega arith in
     elim (slice_get nodes k) as (λ s. slice_get nodes k ≡ s → reaches_in nodes net from ≡ true) [
       | None ↦ λ at. absurd (none_within nodes k within at)
-      | Some n ↦ λ at. back_over nodes below from net k o n at (path-reaches nodes below from net k (omega arith)) (subst (λ j. reaches_in (drop j nodes) net o ≡ true) (sym (add-one k)) r) (subst (λ j. 0 < paths_before nodes from j o) (sym (add-one k)) h)
+      | Some n ↦ λ at. back_over nodes below from net k o n at (path-reaches nodes below from net k (omega arith)) (subst (λ j. reaches_in (drop j nodes) net o ≡ true) (sym (add-one k)) r)
+          (subst (λ j. 0 < paths_before nodes from j o) (sym (add-one k)) h)
     ] refl
   where
     none_within : (xs : List FlatNode) (i : ℕ) → i < length xs → slice_get xs i ≡ None → ⊥
@@ -277,7 +279,8 @@ path-reaches nodes below from net (suc k) short o r h =
         let here : drop k nodes ≡ n ∷ drop (k + 1) nodes = slice_get_dropped nodes k n at in
         elim (cases_lt 0 (paths_before nodes from k o)) [
           | inl had ↦
-              earlier o (subst (λ l. reaches_in l net o ≡ true) (sym here) (or_left (reaches_in (drop (k + 1) nodes) net o) (has n.inputs o && list_any (reaches_in (drop (k + 1) nodes) net) n.outputs) r)) had
+              earlier o (subst (λ l. reaches_in l net o ≡ true) (sym here) (or_left (reaches_in (drop (k + 1) nodes) net o)
+              (has n.inputs o && list_any (reaches_in (drop (k + 1) nodes) net) n.outputs) r)) had
           | inr new ↦
               let given = through_input (all_paths nodes from) n o (omega (arith, paths_before-more nodes from k n o at)) in
               let x : ℕ = given.1.0 in
@@ -286,7 +289,8 @@ path-reaches nodes below from net (suc k) short o r h =
               let feeds_on : (has n.inputs x && list_any (reaches_in (drop (k + 1) nodes) net) n.outputs) ≡ true =
               and_from (has n.inputs x) (list_any (reaches_in (drop (k + 1) nodes) net) n.outputs) given.1.1
               (output_passes (reaches_in (drop (k + 1) nodes) net) n.outputs o given.0 r) in
-              earlier x (subst (λ l. reaches_in l net x ≡ true) (sym here) (or_right (reaches_in (drop (k + 1) nodes) net x) (has n.inputs x && list_any (reaches_in (drop (k + 1) nodes) net) n.outputs) feeds_on)) (omega arith)
+              earlier x (subst (λ l. reaches_in l net x ≡ true) (sym here) (or_right (reaches_in (drop (k + 1) nodes) net x)
+              (has n.inputs x && list_any (reaches_in (drop (k + 1) nodes) net) n.outputs) feeds_on)) (omega arith)
         ]
 
 bools_agree : (a b : Bool) → (a ≡ true → b ≡ true) → (b ≡ true → a ≡ true) → a ≡ b
@@ -315,7 +319,8 @@ reaches_in-some (n ∷ rest) test net o passes r =
           let parts = and_parts (has n.inputs o) (list_any (reaches_in rest net) n.outputs) here in
           let out = some_output (reaches_in rest net) n.outputs parts.1 in
           or_right (reaches_some rest test o) (has n.inputs o && list_any (reaches_some rest test) n.outputs)
-          (and_from (has n.inputs o) (list_any (reaches_some rest test) n.outputs) parts.0 (output_passes (reaches_some rest test) n.outputs out.0 out.1 (reaches_in-some rest test net out.0 passes out.2)))
+          (and_from (has n.inputs o) (list_any (reaches_some rest test) n.outputs) parts.0
+          (output_passes (reaches_some rest test) n.outputs out.0 out.1 (reaches_in-some rest test net out.0 passes out.2)))
     ]
 
 -- what reaches some object that passes the test reaches one

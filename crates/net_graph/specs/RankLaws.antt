@@ -102,10 +102,12 @@ step_none : (v counted : ℕ) → counted ≤ v → step_to counted v ≡ 0
 step_none v counted past = ap (λ b. elim b [ true ↦ 1 | false ↦ 0 ]) (le-ltb v counted past)
 
 -- a vertex is at least as deep as each of its needs, and an object deeper
-need-le : (needs : List (List ℕ)) (counted : ℕ) (depths : List ℕ) (v d : ℕ) → AreDepths needs counted depths → v < length needs → has (needs_of needs v) d ≡ true → get_or depths d 0 + step_to counted v ≤ get_or depths v 0
+need-le : (needs : List (List ℕ)) (counted : ℕ) (depths : List ℕ) (v d : ℕ) → AreDepths needs counted depths → v < length needs → has (needs_of needs v) d ≡ true →
+    get_or depths d 0 + step_to counted v ≤ get_or depths v 0
 need-le needs counted depths v d are low needed =
     let term : get_or depths d 0 + step_to counted v ≤ depth_over needs counted depths v =
-    le-greatest (map (λ need. get_or depths need 0 + step_to counted v) (needs_of needs v)) (get_or depths d 0 + step_to counted v) (has-map (λ need. get_or depths need 0 + step_to counted v) (needs_of needs v) d needed) in
+    le-greatest (map (λ need. get_or depths need 0 + step_to counted v) (needs_of needs v)) (get_or depths d 0 + step_to counted v)
+    (has-map (λ need. get_or depths need 0 + step_to counted v) (needs_of needs v) d needed) in
     omega (arith, are v low)
 
 -- a vertex that isn't at depth 0 is as deep as one of its needs says
@@ -146,7 +148,8 @@ depths_rank objects nodes needs depths wiring among are = record {
 
 -- The rank as it is defined, looking back over so many nodes
 
-pub rank_within-min : (depth : ℕ) (nodes : List FlatNode) (rank : ℕ → ℕ) → AreRanks nodes rank → (k : ℕ) (node : FlatNode) → slice_get nodes k ≡ Some node → rank_within depth nodes node ≡ min depth (rank k)
+pub rank_within-min : (depth : ℕ) (nodes : List FlatNode) (rank : ℕ → ℕ) → AreRanks nodes rank → (k : ℕ) (node : FlatNode) → slice_get nodes k ≡ Some node →
+    rank_within depth nodes node ≡ min depth (rank k)
 rank_within-min zero nodes rank are k node at = let e : 0 ≡ min 0 (rank k) = omega arith in e
 rank_within-min (suc depth) nodes rank are k node at =
     let f : FlatNode → ℕ = λ driver. suc (rank_within depth nodes driver) in

@@ -99,7 +99,8 @@ distinct_below design k node inputs count rules at same enough j d low =
     ∥∥₁_elim rules le_prop
     (λ kept.
     let number : ℕ = get_or (map object_number inputs) j (object_number d) in
-    let there : has (map object_number inputs) (get_or (map object_number inputs) j (object_number d)) ≡ true = has-get_or (map object_number inputs) j (object_number d) (omega (arith, length-map inputs object_number)) in
+    let there : has (map object_number inputs) (get_or (map object_number inputs) j (object_number d)) ≡ true =
+    has-get_or (map object_number inputs) j (object_number d) (omega (arith, length-map inputs object_number)) in
     let is_input : has node.inputs (get_or (map object_number inputs) j (object_number d)) ≡ true =
     has-without_repeats [] node.inputs (get_or (map object_number inputs) j (object_number d)) (subst (λ l. has l (get_or (map object_number inputs) j (object_number d)) ≡ true) same there) in
     let bound : get_or (map object_number inputs) j (object_number d) < length design.objects =

@@ -12,7 +12,8 @@ use Rattle.v_design.specs.Paths.{path_weight, one_if, paths_through}
 use Rattle.v_design.specs.WellFormed.{KeepsRules}
 use Rattle.graph_order.specs.ListLaws.{AllHold-has, has-without_repeats, now_has, still_has}
 use Rattle.net_graph.specs.CountLaws.{weight_capped}
-use Rattle.net_graph.specs.PathLaws.{all_paths, paths_before, paths_before-more, paths_before-driven, paths_before-undriven, paths_before-all, input_driven_below, paths_through-output, paths_through-other}
+use Rattle.net_graph.specs.PathLaws.{all_paths, paths_before, paths_before-more, paths_before-driven, paths_before-undriven, paths_before-all, input_driven_below, paths_through-output}
+use Rattle.net_graph.specs.PathLaws.{paths_through-other}
 use Rattle.net_graph.specs.RuleLaws.{inputs_are_objects}
 use Rattle.net_graph.specs.Tables.{distinct_inputs, weighted, AreTotalPaths}
 
@@ -181,7 +182,8 @@ totals_stepped design rules counts k n at totals later through counts_sized size
           (λ from. paths_before-driven design.nodes rules.ranked from k x (input_driven_below design.nodes rules.ranked k n at x is_input))) in
           let sums = weight_capped n.kind (sum_by (λ o. get_or totals o 0) (distinct_inputs n)) (sum_by (λ x. weighted (λ from. all_paths design.nodes from x) 0 counts) (distinct_inputs n))
           (sum_alike (λ o. get_or totals o 0) (λ x. weighted (λ from. all_paths design.nodes from x) 0 counts) (distinct_inputs n) inputs) in
-          joined (get_or later o 0) (get_or counts o 0) through _ _ _ _ _ (writes.written o low drives) is_through sums start (node_adds design counts k n o at) (through_output design counts n o drives)
+          joined (get_or later o 0) (get_or counts o 0) through _ _ _ _ _ (writes.written o low drives) is_through sums start (node_adds design counts k n o at)
+          (through_output design counts n o drives)
       | inr other ↦
           let now : get_or later o 0 ≡ get_or totals o 0 = writes.kept o low other in
           let before = had o (omega (arith, writes.same_length)) in
@@ -190,7 +192,8 @@ totals_stepped design rules counts k n at totals later through counts_sized size
           ap (min 2) now ∙ before ∙ ap (min 2) (nothing _ _ _ more part)
     ]
   where
-    joined : (now start through a b before later part : ℕ) → min 2 now ≡ min 2 (start + through) → through ≡ min 2 a → min 2 a ≡ min 2 b → before ≡ start → later ≡ before + part → part ≡ b → min 2 now ≡ min 2 later
+    joined : (now start through a b before later part : ℕ) → min 2 now ≡ min 2 (start + through) → through ≡ min 2 a → min 2 a ≡ min 2 b → before ≡ start → later ≡ before + part → part ≡ b →
+        min 2 now ≡ min 2 later
     joined now start through a b before later part e f g h i j = omega arith
 
     nothing : (later before part : ℕ) → later ≡ before + part → part ≡ 0 → before ≡ later
@@ -211,7 +214,8 @@ TotalsBefore-none design counts totals same o low =
     ap (min 2) (ap (λ l. get_or l o 0) same ∙ sym (undriven_total design counts 0 o (omega arith) (λ i n before at. absurd (omega arith))))
 
 -- after the last node
-pub AreTotals-all : (design : FlatDesign) → ∥ KeepsRules design ∥₁ → (counts : List ℕ) (k : ℕ) (totals : List ℕ) → length design.nodes ≤ k → TotalsBefore design counts k totals → AreTotalPaths design counts totals
+pub AreTotals-all : (design : FlatDesign) → ∥ KeepsRules design ∥₁ → (counts : List ℕ) (k : ℕ) (totals : List ℕ) → length design.nodes ≤ k → TotalsBefore design counts k totals →
+    AreTotalPaths design counts totals
 AreTotals-all design rules counts k totals past had o low =
     ∥∥₁_elim rules (ℕ_set _ _)
     (λ kept. had o low

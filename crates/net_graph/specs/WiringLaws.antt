@@ -36,13 +36,15 @@ or_assoc true b c = refl
 or_assoc false b c = refl
 
 -- the drivers by one more node
-pub driven_by-push : (first : ℕ) (nodes : List FlatNode) (node : FlatNode) (o v : ℕ) → driven_by first (nodes ++ node ∷ []) o v ≡ (driven_by first nodes o v || (has node.outputs o && nat_eq (first + length nodes) v))
+pub driven_by-push : (first : ℕ) (nodes : List FlatNode) (node : FlatNode) (o v : ℕ) → driven_by first (nodes ++ node ∷ []) o v ≡
+    (driven_by first nodes o v || (has node.outputs o && nat_eq (first + length nodes) v))
 driven_by-push first [] node o v =
     or-false (has node.outputs o && nat_eq first v) ∙ ap (λ n. has node.outputs o && nat_eq n v) (let e : first ≡ first + 0 = omega arith in e)
 driven_by-push first (n ∷ nodes) node o v =
     ap (λ b. (has n.outputs o && nat_eq first v) || b) (driven_by-push (first + 1) nodes node o v)
     ∙ sym (or_assoc (has n.outputs o && nat_eq first v) (driven_by (first + 1) nodes o v) (has node.outputs o && nat_eq (first + 1 + length nodes) v))
-    ∙ ap (λ m. ((has n.outputs o && nat_eq first v) || driven_by (first + 1) nodes o v) || (has node.outputs o && nat_eq m v)) (let e : first + 1 + length nodes ≡ first + suc (length nodes) = omega arith in e)
+    ∙ ap (λ m. ((has n.outputs o && nat_eq first v) || driven_by (first + 1) nodes o v) || (has node.outputs o && nat_eq m v))
+    (let e : first + 1 + length nodes ≡ first + suc (length nodes) = omega arith in e)
 
 -- a driver is a node
 pub driver_node : (first : ℕ) (nodes : List FlatNode) (o v : ℕ) → driven_by first nodes o v ≡ true →
@@ -114,7 +116,8 @@ DriversListed-none objects = record {
   drivers = λ o v low. ap (λ l. has l v) (get_or-replicate {A = List ℕ} objects o [] [] low);
 }
 
-pub DriversListed-more : (objects : ℕ) (nodes : List FlatNode) (node : FlatNode) (lists later : List (List ℕ)) → DriversListed objects nodes lists → DriverAdded (objects + length nodes) node.outputs lists later →
+pub DriversListed-more : (objects : ℕ) (nodes : List FlatNode) (node : FlatNode) (lists later : List (List ℕ)) → DriversListed objects nodes lists →
+    DriverAdded (objects + length nodes) node.outputs lists later →
     DriversListed objects (nodes ++ node ∷ []) later
 DriversListed-more objects nodes node lists later had adds = record {
   same_length = adds.same_length ∙ had.same_length;
@@ -146,7 +149,8 @@ step_back objects nodes needs from to wiring among step = (
   ap (λ l. has l from) (wiring.inputs step.number step.node step.is) ∙ step.reads,
 )
 
-path_walk : (objects : ℕ) (nodes : List FlatNode) (needs : List (List ℕ)) (from : ℕ) (between : List ℕ) (to : ℕ) → IsWiring objects nodes needs → AreAmong objects nodes → IsPath nodes from between to →
+path_walk : (objects : ℕ) (nodes : List FlatNode) (needs : List (List ℕ)) (from : ℕ) (between : List ℕ) (to : ℕ) → IsWiring objects nodes needs → AreAmong objects nodes →
+    IsPath nodes from between to →
     (back : List ℕ) × IsWalk needs to back from
 path_walk objects nodes needs from [] to wiring among path = let two = step_back objects nodes needs from to wiring among path in (two.0 ∷ [], (two.1, two.2))
 path_walk objects nodes needs from (next ∷ rest) to wiring among path =
@@ -172,7 +176,8 @@ path_push nodes from [] last to path step = (path, step)
 path_push nodes from (next ∷ rest) last to path step = (path.0, path_push nodes next rest last to path.1 step)
 
 -- two steps back in the graph are a step from one object to another
-two_back : (objects : ℕ) (nodes : List FlatNode) (needs : List (List ℕ)) (to v from : ℕ) → IsWiring objects nodes needs → to < objects → has (needs_of needs to) v ≡ true → has (needs_of needs v) from ≡ true → IsStep nodes from to
+two_back : (objects : ℕ) (nodes : List FlatNode) (needs : List (List ℕ)) (to v from : ℕ) → IsWiring objects nodes needs → to < objects → has (needs_of needs to) v ≡ true →
+    has (needs_of needs v) from ≡ true → IsStep nodes from to
 two_back objects nodes needs to v from wiring low needed reads =
     let r = driver_node objects nodes to v (sym (wiring.drivers to v low) ∙ needed) in
     record {
@@ -183,7 +188,8 @@ two_back objects nodes needs to v from wiring low needed reads =
       drives = r.3;
     }
 
-walk_path : (objects : ℕ) (nodes : List FlatNode) (needs : List (List ℕ)) (to : ℕ) (back : List ℕ) (from : ℕ) → IsWiring objects nodes needs → AreAmong objects nodes → to < objects → from < objects → IsWalk needs to back from →
+walk_path : (objects : ℕ) (nodes : List FlatNode) (needs : List (List ℕ)) (to : ℕ) (back : List ℕ) (from : ℕ) → IsWiring objects nodes needs → AreAmong objects nodes → to < objects →
+    from < objects → IsWalk needs to back from →
     (between : List ℕ) × IsPath nodes from between to
 walk_path objects nodes needs to [] from wiring among low low_from walk =
     let r = driver_node objects nodes to from (sym (wiring.drivers to from low) ∙ walk) in absurd (omega (arith, r.4))
@@ -198,7 +204,8 @@ pub on_loop_looping : (objects : ℕ) (nodes : List FlatNode) (needs : List (Lis
 on_loop_looping objects nodes needs o wiring among low loop = walk_path objects nodes needs o loop.0 o wiring among low low loop.1
 
 -- the least object on a loop
-pub least_loops : (objects : ℕ) (nodes : List FlatNode) (needs : List (List ℕ)) (o : ℕ) → IsWiring objects nodes needs → AreAmong objects nodes → o < objects → IsOnLoop needs o → NoneOnLoop needs o → IsLeastLooping nodes o
+pub least_loops : (objects : ℕ) (nodes : List FlatNode) (needs : List (List ℕ)) (o : ℕ) → IsWiring objects nodes needs → AreAmong objects nodes → o < objects → IsOnLoop needs o →
+    NoneOnLoop needs o → IsLeastLooping nodes o
 least_loops objects nodes needs o wiring among low loop none = record {
   loops = on_loop_looping objects nodes needs o wiring among low loop;
   least = λ other less loops. none other less (looping_on_loop objects nodes needs other wiring among loops);
@@ -210,7 +217,8 @@ node_there (n ∷ nodes) zero low = (n, refl)
 node_there (n ∷ nodes) (suc k) low = node_there nodes k (omega arith)
 
 -- what a node needs are objects
-pub node_needs : (objects : ℕ) (nodes : List FlatNode) (needs : List (List ℕ)) (v d : ℕ) → IsWiring objects nodes needs → AreAmong objects nodes → objects ≤ v → has (needs_of needs v) d ≡ true → d < objects
+pub node_needs : (objects : ℕ) (nodes : List FlatNode) (needs : List (List ℕ)) (v d : ℕ) → IsWiring objects nodes needs → AreAmong objects nodes → objects ≤ v → has (needs_of needs v) d ≡ true →
+    d < objects
 node_needs objects nodes needs v d wiring among past e =
     elim (cases_lt v (length needs)) [
       | inl within ↦
@@ -231,7 +239,8 @@ wiring_graph objects nodes needs wiring among v d e =
     ]
 
 -- where some vertex is on a loop, some object is
-pub some_object_on_loop : (objects : ℕ) (nodes : List FlatNode) (needs : List (List ℕ)) (u : ℕ) → IsWiring objects nodes needs → AreAmong objects nodes → IsOnLoop needs u → NoneOnLoop needs objects → ⊥
+pub some_object_on_loop : (objects : ℕ) (nodes : List FlatNode) (needs : List (List ℕ)) (u : ℕ) → IsWiring objects nodes needs → AreAmong objects nodes → IsOnLoop needs u →
+    NoneOnLoop needs objects → ⊥
 some_object_on_loop objects nodes needs u wiring among loop none =
     elim (cases_lt u objects) [
       | inl low ↦ none u low loop

@@ -62,7 +62,8 @@ has-get_or (x ∷ xs) (suc i) d low = or_right (nat_eq x (get_or xs i d)) (has x
 pub readers_below : (design : FlatDesign) (object : ℕ) (readers : List NodeId) (count : ℕ) → map node_number readers ≡ readers_of design object → length design.nodes ≤ count →
     All (λ reader. node_number reader < count) readers
 readers_below design object readers count same enough j d low =
-    let there : has (map node_number readers) (get_or (map node_number readers) j (node_number d)) ≡ true = has-get_or (map node_number readers) j (node_number d) (omega (arith, length-map readers node_number)) in
+    let there : has (map node_number readers) (get_or (map node_number readers) j (node_number d)) ≡ true =
+    has-get_or (map node_number readers) j (node_number d) (omega (arith, length-map readers node_number)) in
     let itself : get_or (map node_number readers) j (node_number d) ≡ node_number (get_or readers j d) = get_or-map node_number readers j d (node_number d) low in
     let is_reader : node_reads_at design object (get_or (map node_number readers) j (node_number d)) ≡ true =
     sym (has-readers_of design object (get_or (map node_number readers) j (node_number d))) ∙ subst (λ l. has l (get_or (map node_number readers) j (node_number d)) ≡ true) same there in

@@ -47,7 +47,8 @@ zipped R [] (y ∷ ys) h = absurd h
 zipped R (x ∷ xs) [] h = absurd h
 zipped R (x ∷ xs) (y ∷ ys) h = ap suc (zipped R xs ys h.1)
 
-pub may-assign : (design : FlatDesign) (values : List LogicValue) (node : Node) (outputs : List ObjectId) (value : Expression) (places : List ℕ) → IsNodeOf design (node_of node) → AreValuesOf design values →
+pub may-assign : (design : FlatDesign) (values : List LogicValue) (node : Node) (outputs : List ObjectId) (value : Expression) (places : List ℕ) → IsNodeOf design (node_of node) →
+    AreValuesOf design values →
     (node_of node).kind ≡ AssignNode value places → node.outputs ≡ outputs → MayAssign values value places (length outputs)
 may-assign design values node outputs value places rules are is same =
     let sized = subst (λ kind. IsSizedNode design kind (map object_number node.outputs)) is rules.sized in
@@ -94,23 +95,28 @@ put-first f (output ∷ outputs) [] value r d some room is = absurd (omega arith
 put-first f (output ∷ outputs) (v ∷ held) value r d some room is = ap (λ x. x ∷ []) is ∙ sym (zip-single f (object_number output) (map object_number outputs) value)
 
 -- a node of the code's list, as one of the design
-pub at-list : (design : Design) (list : List Node) (k : ℕ) (node : Node) → list ≡ design.nodes → k < length (design_of design).nodes → node ≡ get_or list k node → slice_get (design_of design).nodes k ≡ Some (node_of node)
+pub at-list : (design : Design) (list : List Node) (k : ℕ) (node : Node) → list ≡ design.nodes → k < length (design_of design).nodes → node ≡ get_or list k node →
+    slice_get (design_of design).nodes k ≡ Some (node_of node)
 at-list design list k node same low is = node_in design.nodes list k node same (omega (arith, low, ap length same, length-map design.nodes node_of)) is
 
-pub rules-at : (design : Design) (list : List Node) (k : ℕ) (node : Node) → list ≡ design.nodes → k < length (design_of design).nodes → node ≡ get_or list k node → IsNodeOf (design_of design) (node_of node)
+pub rules-at : (design : Design) (list : List Node) (k : ℕ) (node : Node) → list ≡ design.nodes → k < length (design_of design).nodes → node ≡ get_or list k node →
+    IsNodeOf (design_of design) (node_of node)
 rules-at design list k node same low is = rules_of_node (design_of design) k (node_of node) (rules_hold (design_of design) design.rules) (at-list design list k node same low is)
 
 -- its outputs are objects
-pub outputs-there : (design : Design) (k : ℕ) (node : Node) (outputs : List ObjectId) (count : ℕ) → slice_get (design_of design).nodes k ≡ Some (node_of node) → node.outputs ≡ outputs → count ≡ length (design_of design).objects →
+pub outputs-there : (design : Design) (k : ℕ) (node : Node) (outputs : List ObjectId) (count : ℕ) → slice_get (design_of design).nodes k ≡ Some (node_of node) → node.outputs ≡ outputs →
+    count ≡ length (design_of design).objects →
     (i : ℕ) → i < length outputs → get_or (map object_number outputs) i 0 < count
 outputs-there design k node outputs count at same enough i low =
-    let there = subst (λ l. AllHold (λ o. o < length (design_of design).objects) (map object_number l)) same (outputs_are_objects (design_of design) k (node_of node) (rules_hold (design_of design) design.rules) at) in
+    let there = subst (λ l. AllHold (λ o. o < length (design_of design).objects) (map object_number l)) same
+    (outputs_are_objects (design_of design) k (node_of node) (rules_hold (design_of design) design.rules) at) in
     let here : get_or (map object_number outputs) i 0 < length (design_of design).objects =
     AllHold-get_or (λ o. o < length (design_of design).objects) (map object_number outputs) i 0 there (omega (arith, low, length-map outputs object_number)) in
     omega (arith, here, enough)
 
 -- what is put for a node is its function
-pub put-node : (machine : Machine) (k : ℕ) (node : Node) (flat : FlatNode) (kind : FlatNodeKind) (outputs : List ObjectId) (values put : List LogicValue) (found : Option FlatNode) → found ≡ Some (node_of node) → found ≡ Some flat →
+pub put-node : (machine : Machine) (k : ℕ) (node : Node) (flat : FlatNode) (kind : FlatNodeKind) (outputs : List ObjectId) (values put : List LogicValue) (found : Option FlatNode) →
+    found ≡ Some (node_of node) → found ≡ Some flat →
     node_kind_of node.kind ≡ kind → node.outputs ≡ outputs →
     put ≡ zip_with (forced_output machine.fault k) (map object_number outputs) (node_value machine k kind (map object_number outputs) values) → put ≡ node_outputs machine k flat values
 put-node machine k node flat kind outputs values put found own other is same was =
@@ -121,7 +127,8 @@ put-node machine k node flat kind outputs values put found own other is same was
     ∙ ap (λ f. node_outputs machine k f values) one
 
 -- no node has more outputs than the most
-pub few-outputs : (nodes : List Node) (most number : ℕ) (flat : FlatNode) → All (λ (node : Node). length node.outputs ≤ most) nodes → slice_get (map node_of nodes) number ≡ Some flat → length flat.outputs ≤ most
+pub few-outputs : (nodes : List Node) (most number : ℕ) (flat : FlatNode) → All (λ (node : Node). length node.outputs ≤ most) nodes → slice_get (map node_of nodes) number ≡ Some flat →
+    length flat.outputs ≤ most
 few-outputs [] most number flat few at = absurd (cc)
 few-outputs (node ∷ nodes) most zero flat few at =
     let same : node_of node ≡ flat = cc in

@@ -20,7 +20,8 @@ use Rattle.net_state.specs.Held.{node_marked, HaveWidths}
 use Rattle.net_state.specs.HeldLaws.{worked}
 use Rattle.net_state.specs.OutputLaws.{nets-there, outputs-wide}
 
-fit-of : (design : FlatDesign) (held : List LogicValue) (outputs : List ℕ) (values : List LogicValue) → AreValuesOf design held → AllHold (λ o. o < length held) outputs → HaveWidths design outputs values → FitValues held outputs values
+fit-of : (design : FlatDesign) (held : List LogicValue) (outputs : List ℕ) (values : List LogicValue) → AreValuesOf design held → AllHold (λ o. o < length held) outputs →
+    HaveWidths design outputs values → FitValues held outputs values
 fit-of design held [] values are there have = tt
 fit-of design held (o ∷ outputs) [] are there have = tt
 fit-of design held (o ∷ outputs) (v ∷ values) are there have = (
@@ -41,14 +42,16 @@ worked-time machine number node state at low =
     ∙ time-stays machine node.outputs (node_outputs machine number node state.values) (with_node number (λ old. node_marked false) state)
 
 -- the processes are made ready by the changes of its nets
-pub worked-processes : (machine : Machine) (number : ℕ) (node : FlatNode) (state : State) → KeepsRules machine.design → slice_get machine.design.nodes number ≡ Some node → number < length state.nodes →
+pub worked-processes : (machine : Machine) (number : ℕ) (node : FlatNode) (state : State) → KeepsRules machine.design → slice_get machine.design.nodes number ≡ Some node →
+    number < length state.nodes →
     AreValuesOf machine.design state.values →
     (after machine (after machine state (Evaluation number)) (NetUpdate number)).processes
     ≡ map (woken_by (net_changes machine.design node.outputs state.values (after machine (after machine state (Evaluation number)) (NetUpdate number)).values)) state.processes
 worked-processes machine number node state rules at low are =
     let own : IsNodeOf machine.design node = rules_of_node machine.design number node rules at in
     ap (λ (s : State). s.processes) (worked machine number node state at low)
-    ∙ wakes-by-nets machine node.outputs (node_outputs machine number node state.values) (with_node number (λ old. node_marked false) state) (distinct-once node.outputs own.outputs_once) own.outputs_nets
+    ∙ wakes-by-nets machine node.outputs (node_outputs machine number node state.values) (with_node number (λ old. node_marked false) state)
+    (distinct-once node.outputs own.outputs_once) own.outputs_nets
     (fit-of machine.design state.values node.outputs (node_outputs machine number node state.values) are (nets-there machine.design node.outputs (length state.values) own.outputs_nets are.count)
     (outputs-wide machine number node state.values rules at are))
     ∙ ap (λ (s : State). map (woken_by (net_changes machine.design node.outputs state.values s.values)) state.processes) (sym (worked machine number node state at low))
@@ -57,7 +60,8 @@ worked-processes machine number node state rules at low are =
 pub worked-accesses : (machine : Machine) (process line number : ℕ) (node : FlatNode) (state : State) → KeepsRules machine.design → slice_get machine.design.nodes number ≡ Some node →
     accesses_of machine process line (after machine state (Evaluation number)) (NetUpdate number)
     ≡ map (write_of_change process line) (net_changes machine.design node.outputs state.values (after machine (after machine state (Evaluation number)) (NetUpdate number)).values)
-    ++ joined (map_numbered (ended_by_changes (net_changes machine.design node.outputs state.values (after machine (after machine state (Evaluation number)) (NetUpdate number)).values)) 0 state.processes)
+    ++ joined (map_numbered (ended_by_changes (net_changes machine.design node.outputs state.values (after machine (after machine state (Evaluation number)) (NetUpdate number)).values)) 0
+    state.processes)
 worked-accesses machine process line number node state rules at =
     (λ i. net_accesses machine.design process line (at i) (evaluated machine number (at i) state) (after machine (after machine state (Evaluation number)) (NetUpdate number)))
     ∙ accesses-of-nets machine.design process line node (evaluated machine number (Some node) state) (after machine (after machine state (Evaluation number)) (NetUpdate number))
@@ -72,19 +76,22 @@ or-nothing false c e = refl
 changed-one : (x o : ℕ) (b : Bool) (old new : LogicValue) (rest : List ObjectChange) → same_value old new ≡ b →
     has (map (λ (change : ObjectChange). change.object) (elim b [ true ↦ rest | false ↦ record { object = x; old = old; new = new } ∷ rest ])) o
     ≡ ((nat_eq x o && not (same_value old new)) || has (map (λ (change : ObjectChange). change.object) rest) o)
-changed-one x o true old new rest e = sym (ap (λ b. (nat_eq x o && not b) || has (map (λ (change : ObjectChange). change.object) rest) o) e ∙ or-nothing (nat_eq x o && false) (has (map (λ (change : ObjectChange). change.object) rest) o) (none (nat_eq x o)))
+changed-one x o true old new rest e = sym (ap (λ b. (nat_eq x o && not b) || has (map (λ (change : ObjectChange). change.object) rest) o) e
+    ∙ or-nothing (nat_eq x o && false) (has (map (λ (change : ObjectChange). change.object) rest) o) (none (nat_eq x o)))
   where
     none : (b : Bool) → (b && false) ≡ false
     none true = refl
     none false = refl
-changed-one x o false old new rest e = sym (ap (λ b. (nat_eq x o && not b) || has (map (λ (change : ObjectChange). change.object) rest) o) e ∙ ap (λ b. b || has (map (λ (change : ObjectChange). change.object) rest) o) (all (nat_eq x o)))
+changed-one x o false old new rest e = sym (ap (λ b. (nat_eq x o && not b) || has (map (λ (change : ObjectChange). change.object) rest) o) e
+    ∙ ap (λ b. b || has (map (λ (change : ObjectChange). change.object) rest) o) (all (nat_eq x o)))
   where
     all : (b : Bool) → (b && true) ≡ b
     all true = refl
     all false = refl
 
 -- of some objects just those change whose values differ
-pub changed-between : (old new : List LogicValue) (xs : List ℕ) (o : ℕ) → has (map (λ (change : ObjectChange). change.object) (changes_between old new xs)) o ≡ (has xs o && not (same_value (value_at old o) (value_at new o)))
+pub changed-between : (old new : List LogicValue) (xs : List ℕ) (o : ℕ) → has (map (λ (change : ObjectChange). change.object) (changes_between old new xs)) o ≡
+    (has xs o && not (same_value (value_at old o) (value_at new o)))
 changed-between old new [] o = refl
 changed-between old new (x ∷ xs) o =
     changed-one x o (same_value (value_at old x) (value_at new x)) (value_at old x) (value_at new x) (changes_between old new xs) refl
@@ -97,7 +104,8 @@ changed-between old new (x ∷ xs) o =
     either false false = refl
 
     here : (x ≡ o) ⊎ (x ≡ o → ⊥) →
-        ((nat_eq x o && not (same_value (value_at old x) (value_at new x))) || (has xs o && not (same_value (value_at old o) (value_at new o)))) ≡ ((nat_eq x o || has xs o) && not (same_value (value_at old o) (value_at new o)))
+        ((nat_eq x o && not (same_value (value_at old x) (value_at new x))) || (has xs o && not (same_value (value_at old o) (value_at new o)))) ≡
+        ((nat_eq x o || has xs o) && not (same_value (value_at old o) (value_at new o)))
     here (inl same) =
         ap (λ b. (b && not (same_value (value_at old x) (value_at new x))) || (has xs o && not (same_value (value_at old o) (value_at new o)))) (eq-eqb x o same)
         ∙ ap (λ y. not (same_value (value_at old y) (value_at new y)) || (has xs o && not (same_value (value_at old o) (value_at new o)))) same
@@ -108,12 +116,14 @@ changed-between old new (x ∷ xs) o =
         ∙ sym (ap (λ b. (b || has xs o) && not (same_value (value_at old o) (value_at new o))) (ne_eqb x o other))
 
 -- the changes of a node's nets are all that its update changes
-pub worked-changes : (machine : Machine) (number : ℕ) (node : FlatNode) (state : State) (o : ℕ) → KeepsRules machine.design → slice_get machine.design.nodes number ≡ Some node → number < length state.nodes →
+pub worked-changes : (machine : Machine) (number : ℕ) (node : FlatNode) (state : State) (o : ℕ) → KeepsRules machine.design → slice_get machine.design.nodes number ≡ Some node →
+    number < length state.nodes →
     has (map (λ (change : ObjectChange). change.object) (net_changes machine.design node.outputs state.values (after machine (after machine state (Evaluation number)) (NetUpdate number)).values)) o
     ≡ not (same_value (value_at state.values o) (value_at (after machine (after machine state (Evaluation number)) (NetUpdate number)).values o))
 worked-changes machine number node state o rules at low =
     changed-between state.values (after machine (after machine state (Evaluation number)) (NetUpdate number)).values (filter (has node.outputs) (net_pieces machine.design)) o
-    ∙ ap (λ b. b && not (same_value (value_at state.values o) (value_at (after machine (after machine state (Evaluation number)) (NetUpdate number)).values o))) (has-filter (has node.outputs) (net_pieces machine.design) o)
+    ∙ ap (λ b. b && not (same_value (value_at state.values o) (value_at (after machine (after machine state (Evaluation number)) (NetUpdate number)).values o)))
+    (has-filter (has node.outputs) (net_pieces machine.design) o)
     ∙ go (cases_Bool (has node.outputs o))
   where
     and-none : (a b : Bool) → ((a && false) && b) ≡ false
@@ -121,17 +131,21 @@ worked-changes machine number node state o rules at low =
     and-none false b = refl
 
     go : (has node.outputs o ≡ true) ⊎ (has node.outputs o ≡ false) →
-        ((has (net_pieces machine.design) o && has node.outputs o) && not (same_value (value_at state.values o) (value_at (after machine (after machine state (Evaluation number)) (NetUpdate number)).values o)))
+        ((has (net_pieces machine.design) o && has node.outputs o) && not (same_value (value_at state.values o)
+        (value_at (after machine (after machine state (Evaluation number)) (NetUpdate number)).values o)))
         ≡ not (same_value (value_at state.values o) (value_at (after machine (after machine state (Evaluation number)) (NetUpdate number)).values o))
     go (inl here) =
-        (λ i. (nets (rules_of_node machine.design number node rules at).outputs_nets here i && here i) && not (same_value (value_at state.values o) (value_at (after machine (after machine state (Evaluation number)) (NetUpdate number)).values o)))
+        (λ i. (nets (rules_of_node machine.design number node rules at).outputs_nets here i && here i)
+        && not (same_value (value_at state.values o) (value_at (after machine (after machine state (Evaluation number)) (NetUpdate number)).values o)))
       where
         nets : AllHold (λ object. has (net_pieces machine.design) object ≡ true) node.outputs → has node.outputs o ≡ true → has (net_pieces machine.design) o ≡ true
         nets hold e = AllHold-has (λ object. has (net_pieces machine.design) object ≡ true) node.outputs o hold e
     go (inr none) =
-        ap (λ b. (has (net_pieces machine.design) o && b) && not (same_value (value_at state.values o) (value_at (after machine (after machine state (Evaluation number)) (NetUpdate number)).values o))) none
+        ap (λ b. (has (net_pieces machine.design) o && b) && not (same_value (value_at state.values o)
+        (value_at (after machine (after machine state (Evaluation number)) (NetUpdate number)).values o))) none
         ∙ and-none (has (net_pieces machine.design) o) (not (same_value (value_at state.values o) (value_at (after machine (after machine state (Evaluation number)) (NetUpdate number)).values o)))
         ∙ sym
         (ap (λ (s : State). not (same_value (value_at state.values o) (value_at s.values o))) (worked machine number node state at low)
-        ∙ ap (λ v. not (same_value (value_at state.values o) v)) (values-elsewhere machine node.outputs (node_outputs machine number node state.values) (with_node number (λ old. node_marked false) state) o none)
+        ∙ ap (λ v. not (same_value (value_at state.values o) v)) (values-elsewhere machine node.outputs (node_outputs machine number node state.values)
+        (with_node number (λ old. node_marked false) state) o none)
         ∙ ap not (same_value-refl (value_at state.values o)))

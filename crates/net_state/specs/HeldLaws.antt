@@ -33,7 +33,8 @@ pub marks-changed : (design : FlatDesign) (object : ℕ) (before later : List Bo
     later ≡ marks_with design object true before
 marks-changed design object before later one other h = readers-marked object design.nodes before later one other h
 
-none-marked-more : (object : ℕ) (nodes : List FlatNode) (marks : List Bool) → length marks ≡ length nodes → marks ≡ zip_with (λ (node : FlatNode) marked. marked || (false && has node.inputs object)) nodes marks
+none-marked-more : (object : ℕ) (nodes : List FlatNode) (marks : List Bool) → length marks ≡ length nodes →
+    marks ≡ zip_with (λ (node : FlatNode) marked. marked || (false && has node.inputs object)) nodes marks
 none-marked-more object [] [] e = refl
 none-marked-more object [] (m ∷ marks) e = absurd (omega (arith, e))
 none-marked-more object (node ∷ nodes) [] e = absurd (omega (arith, e))
@@ -57,7 +58,8 @@ set-change (v ∷ values) zero new = refl
 set-change (v ∷ values) (suc object) new = ap (λ rest. v ∷ rest) (set-change values object new)
 
 -- one value of its width in another's stead
-pub values-set : (design : FlatDesign) (values : List LogicValue) (object : ℕ) (new : LogicValue) → AreValuesOf design values → length new ≡ width_in design object → AreValuesOf design (set values object new)
+pub values-set : (design : FlatDesign) (values : List LogicValue) (object : ℕ) (new : LogicValue) → AreValuesOf design values → length new ≡ width_in design object →
+    AreValuesOf design (set values object new)
 values-set design values object new are width = record {
   count = length-set values object new ∙ are.count;
   widths = λ x low.
@@ -70,11 +72,13 @@ values-set design values object new are width = record {
 }
 
 -- the values and the nodes after a value is put in code are those of the state after it is put
-pub put-values : (old new : List LogicValue) (object : ℕ) (value : LogicValue) (machine : Machine) (state : State) → new ≡ set old object value → old ≡ state.values → new ≡ (with_value machine object value state).values
+pub put-values : (old new : List LogicValue) (object : ℕ) (value : LogicValue) (machine : Machine) (state : State) → new ≡ set old object value → old ≡ state.values →
+    new ≡ (with_value machine object value state).values
 put-values old new object value machine state is same = is ∙ set-change old object value ∙ ap (λ vs. change_at vs object (λ old. value)) same
 
 pub put-nodes : (design : FlatDesign) (values : List LogicValue) (old new : List Bool) (object : ℕ) (value : LogicValue) (machine : Machine) (state : State) → machine.design ≡ design →
-    new ≡ marks_with design object (not (same_value (value_at values object) value)) old → values ≡ state.values → map node_marked old ≡ state.nodes → map node_marked new ≡ (with_value machine object value state).nodes
+    new ≡ marks_with design object (not (same_value (value_at values object) value)) old → values ≡ state.values → map node_marked old ≡ state.nodes →
+    map node_marked new ≡ (with_value machine object value state).nodes
 put-nodes design values old new object value machine state is marks same nodes =
     ap (map node_marked) marks
     ∙ nodes-with object (not (same_value (value_at values object) value)) design.nodes old
@@ -175,6 +179,7 @@ pub least-event : (result : Option NodeId) (marks : List Bool) → MatchOption r
 least-event None marks h = least-none 0 marks h
 least-event (Some node) marks h = least-some 0 (node_number node) marks h ∙ ap (λ n. Some (Evaluation n)) (let e : 0 + node_number node ≡ node_number node = omega arith in e)
 
-pub least-there : (result : Option NodeId) (marks : List Bool) → MatchOption result (NoneMarked marks) (λ node. IsLeastMarked (node_number node) marks) → IfSome result (λ node. node_number node < length (map node_marked marks))
+pub least-there : (result : Option NodeId) (marks : List Bool) → MatchOption result (NoneMarked marks) (λ node. IsLeastMarked (node_number node) marks) →
+    IfSome result (λ node. node_number node < length (map node_marked marks))
 least-there None marks h = tt
 least-there (Some node) marks h = marked-within marks (node_number node) h.is_marked

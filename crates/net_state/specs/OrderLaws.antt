@@ -153,7 +153,11 @@ with-further : (change : ObjectChange) (object : ℕ) (old new : LogicValue) (ch
 with-further change object old new changes low = one (same_value old new) (same_value change.old change.new)
   where
     one : (b c : Bool) → ◌≡◌ {A = List ObjectChange}
-        (elim b [ true ↦ elim c [ true ↦ changes | false ↦ put_in_order change changes ] | false ↦ record { object = object; old = old; new = new } ∷ elim c [ true ↦ changes | false ↦ put_in_order change changes ] ])
+        (elim b [
+          | true ↦ elim c [ true ↦ changes | false ↦ put_in_order change changes ]
+          | false ↦ record { object = object; old = old; new = new } ∷
+              elim c [ true ↦ changes | false ↦ put_in_order change changes ]
+        ])
         (elim c [
           | true ↦ elim b [ true ↦ changes | false ↦ record { object = object; old = old; new = new } ∷ changes ]
           | false ↦ put_in_order change (elim b [ true ↦ changes | false ↦ record { object = object; old = old; new = new } ∷ changes ])
@@ -163,7 +167,8 @@ with-further change object old new changes low = one (same_value old new) (same_
     one false true = refl
     one false false =
         sym
-        (ap (λ b. cond b (change ∷ record { object = object; old = old; new = new } ∷ changes) (record { object = object; old = old; new = new } ∷ put_in_order change changes)) (le-ltb change.object object low))
+        (ap (λ b. cond b (change ∷ record { object = object; old = old; new = new } ∷ changes) (record { object = object; old = old; new = new } ∷ put_in_order change changes))
+        (le-ltb change.object object low))
 
 -- what changes besides when one object more is looked at, whose value alone is another
 pub record OneMore (object : ℕ) (before after : List LogicValue) (test more : ℕ → Bool) : Type 0 where
@@ -186,12 +191,14 @@ apart-above object (x ∷ xs) old before after test more one h =
     both false other rest = rest
 
 between-here : (object x : ℕ) (xs : List ℕ) (old before after : List LogicValue) (test more : ℕ → Bool) → object ≡ x → OneMore object before after test more → AllHold (λ later. x < later) xs →
-    changes_between old after (filter more (x ∷ xs)) ≡ with_change (record { object = object; old = value_at old object; new = value_at after object }) (changes_between old before (filter test (x ∷ xs)))
+    changes_between old after (filter more (x ∷ xs)) ≡ with_change (record { object = object; old = value_at old object; new = value_at after object })
+    (changes_between old before (filter test (x ∷ xs)))
 between-here object x xs old before after test more same one h =
     ap (λ b. changes_between old after (cond b (x ∷ filter more xs) (filter more xs))) (ap more (sym same) ∙ one.is)
     ∙ ap (λ o. changed_before o (value_at old o) (value_at after o) (changes_between old after (filter more xs))) (sym same)
     ∙ ap (changed_before object (value_at old object) (value_at after object)) (apart-above object xs old before after test more one above)
-    ∙ with-first object (value_at old object) (value_at after object) (changes_between old before (filter test xs)) (between-above old before object (filter test xs) (AllHold-filter (λ later. object < later) test xs above))
+    ∙ with-first object (value_at old object) (value_at after object) (changes_between old before (filter test xs))
+    (between-above old before object (filter test xs) (AllHold-filter (λ later. object < later) test xs above))
     ∙ ap (λ b. with_change (record { object = object; old = value_at old object; new = value_at after object }) (changes_between old before (cond b (x ∷ filter test xs) (filter test xs))))
     (sym (ap test (sym same) ∙ one.was_not))
   where
@@ -200,7 +207,8 @@ between-here object x xs old before after test more same one h =
 
 between-further : (object x : ℕ) (xs : List ℕ) (old before after : List LogicValue) (test more : ℕ → Bool) → (object ≡ x → ⊥) → x ≤ object → OneMore object before after test more →
     changes_between old after (filter more xs) ≡ with_change (record { object = object; old = value_at old object; new = value_at after object }) (changes_between old before (filter test xs)) →
-    changes_between old after (filter more (x ∷ xs)) ≡ with_change (record { object = object; old = value_at old object; new = value_at after object }) (changes_between old before (filter test (x ∷ xs)))
+    changes_between old after (filter more (x ∷ xs)) ≡ with_change (record { object = object; old = value_at old object; new = value_at after object })
+    (changes_between old before (filter test (x ∷ xs)))
 between-further object x xs old before after test more other low one rest =
     ap (λ b. changes_between old after (cond b (x ∷ filter more xs) (filter more xs))) (one.others x other) ∙ both (test x)
   where

@@ -11,7 +11,8 @@ use Rattle.vf_base.specs.declared.ids.ObjectId.{ObjectId}
 use Rattle.vf_base.specs.Base.{object_number}
 use Rattle.vf_base.specs.Lists.{zip_with, AllHold, has}
 use Rattle.v_design.specs.Expressions.{value_of, width_of}
-use Rattle.v_design.specs.Designs.{FlatNode, FlatDesign, FlatNodeKind, AssignNode, GateNode, BlockNode, Machine, StuckAt, FaultSite, VariableBit, OutputBit, GateTerminal, width_in, forced_if, forced_output, forced_variable, forced_at_output, forced_at_variable}
+use Rattle.v_design.specs.Designs.{FlatNode, FlatDesign, FlatNodeKind, AssignNode, GateNode, BlockNode, Machine, StuckAt, FaultSite, VariableBit, OutputBit, GateTerminal, width_in, forced_if}
+use Rattle.v_design.specs.Designs.{forced_output, forced_variable, forced_at_output, forced_at_variable}
 use Rattle.v_design.specs.Paths.{net_pieces}
 use Rattle.v_design.specs.Assignments.{value_at, run_statement, node_value, node_outputs, object_width}
 use Rattle.v_design.specs.WellFormed.{KeepsRules, IsNodeOf, IsSizedNode}
@@ -58,7 +59,8 @@ forced-all design f (o ∷ outputs) (v ∷ values) same have =
     forced-all design f outputs values same (record { count = omega (arith, have.count); widths = λ k low. have.widths (suc k) (omega (arith, low)) }) in
     record { count = omega (arith, rest.count); widths = each rest }
   where
-    each : HaveWidths design outputs (zip_with f outputs values) → (k : ℕ) → k < length (o ∷ outputs) → length (get_or (zip_with f (o ∷ outputs) (v ∷ values)) k []) ≡ width_in design (get_or (o ∷ outputs) k 0)
+    each : HaveWidths design outputs (zip_with f outputs values) → (k : ℕ) → k < length (o ∷ outputs) →
+        length (get_or (zip_with f (o ∷ outputs) (v ∷ values)) k []) ≡ width_in design (get_or (o ∷ outputs) k 0)
     each rest zero low = same o v ∙ have.widths 0 (omega arith)
     each rest (suc k) low = rest.widths k (omega (arith, low))
 
@@ -84,7 +86,8 @@ left-wide design values left (o ∷ outputs) are alike there =
     let rest : HaveWidths design outputs (map (value_at left) outputs) = left-wide design values left outputs are alike there.1 in
     record { count = omega (arith, rest.count); widths = each rest }
   where
-    each : HaveWidths design outputs (map (value_at left) outputs) → (k : ℕ) → k < length (o ∷ outputs) → length (get_or (map (value_at left) (o ∷ outputs)) k []) ≡ width_in design (get_or (o ∷ outputs) k 0)
+    each : HaveWidths design outputs (map (value_at left) outputs) → (k : ℕ) → k < length (o ∷ outputs) →
+        length (get_or (map (value_at left) (o ∷ outputs)) k []) ≡ width_in design (get_or (o ∷ outputs) k 0)
     each rest zero low = alike o ∙ are.widths o there.0
     each rest (suc k) low = rest.widths k (omega (arith, low))
 
@@ -117,7 +120,8 @@ nets-there design outputs count nets enough =
     (λ o e. let low : o < 0 + length design.objects = numbers_of-bound _ 0 design.objects o e in omega (arith, low, enough)) nets
 
 -- what a node gives its outputs has their widths
-pub outputs-wide : (machine : Machine) (number : ℕ) (node : FlatNode) (values : List LogicValue) → KeepsRules machine.design → slice_get machine.design.nodes number ≡ Some node → AreValuesOf machine.design values →
+pub outputs-wide : (machine : Machine) (number : ℕ) (node : FlatNode) (values : List LogicValue) → KeepsRules machine.design → slice_get machine.design.nodes number ≡ Some node →
+    AreValuesOf machine.design values →
     HaveWidths machine.design node.outputs (node_outputs machine number node values)
 outputs-wide machine number node values rules at are =
     let own : IsNodeOf machine.design node = rules_of_node machine.design number node rules at in
@@ -131,7 +135,8 @@ output-there design outputs count i d nets enough low =
     held-at (λ o. o < count) (map object_number outputs) i 0 (nets-there design (map object_number outputs) count nets enough) (omega (arith, low, length-map outputs object_number)) in
     omega (arith, here, get_or-map object_number outputs i d 0 low)
 
-pub output-width : (design : FlatDesign) (outputs : List ObjectId) (values : List LogicValue) (i : ℕ) (d : ObjectId) (value : LogicValue) → HaveWidths design (map object_number outputs) values → i < length outputs →
+pub output-width : (design : FlatDesign) (outputs : List ObjectId) (values : List LogicValue) (i : ℕ) (d : ObjectId) (value : LogicValue) → HaveWidths design (map object_number outputs) values →
+    i < length outputs →
     value ≡ get_or values i value → length value ≡ width_in design (object_number (get_or outputs i d))
 output-width design outputs values i d value have low is =
     let inside : i < length (map object_number outputs) = omega (arith, low, length-map outputs object_number) in

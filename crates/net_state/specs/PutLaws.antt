@@ -44,7 +44,8 @@ distinct-before (x ∷ xs) (suc i) d low =
     ap (λ b. b || has (take i xs) (get_or xs i 0)) (ne_eqb x (get_or xs i 0) (λ same. false≢true (sym (ap (has xs) (sym same) ∙ d.0) ∙ has-get_or xs i 0 inside))) ∙ distinct-before xs i d.1 inside
 
 -- one object more
-pub one-more : (xs : List ℕ) (i o : ℕ) (values : List LogicValue) (value : LogicValue) → AreDistinct xs → i < length xs → get_or xs i 0 ≡ o → OneMore o values (set values o value) (has (take i xs)) (has (take (i + 1) xs))
+pub one-more : (xs : List ℕ) (i o : ℕ) (values : List LogicValue) (value : LogicValue) → AreDistinct xs → i < length xs → get_or xs i 0 ≡ o →
+    OneMore o values (set values o value) (has (take i xs)) (has (take (i + 1) xs))
 one-more xs i o values value d low is = record {
   was_not = ap (has (take i xs)) (sym is) ∙ distinct-before xs i d low;
   is = has-take_more xs i o low ∙ ap (λ b. has (take i xs) o || b) (eq-eqb (get_or xs i 0) o is) ∙ or-true (has (take i xs) o);
@@ -52,7 +53,8 @@ one-more xs i o values value d low is = record {
   same = λ x other. get_or-set_other values o x value [] (λ e. other (sym e));
 }
 
-pub changes-more : (design : FlatDesign) (xs : List ℕ) (i o : ℕ) (first values : List LogicValue) (value : LogicValue) → AreDistinct xs → AreNets design xs → i < length xs → get_or xs i 0 ≡ o → o < length values →
+pub changes-more : (design : FlatDesign) (xs : List ℕ) (i o : ℕ) (first values : List LogicValue) (value : LogicValue) → AreDistinct xs → AreNets design xs → i < length xs → get_or xs i 0 ≡ o →
+    o < length values →
     value_at first o ≡ value_at values o →
     net_changes design (take (i + 1) xs) first (set values o value) ≡ with_change (record { object = o; old = value_at values o; new = value }) (net_changes design (take i xs) first values)
 changes-more design xs i o first values value d nets low is there same =
@@ -60,7 +62,8 @@ changes-more design xs i o first values value d nets low is there same =
     (AllHold-has (λ x. has (net_pieces design) x ≡ true) xs o nets (ap (has xs) (sym is) ∙ has-get_or xs i 0 low)) (one-more xs i o values value d low is)
     ∙ (λ j. with_change (record { object = o; old = same j; new = get_or-set_same values o value [] there j }) (net_changes design (take i xs) first values))
 
-pub others-more : (xs : List ℕ) (i o x : ℕ) (first values : List LogicValue) (value : LogicValue) → i < length xs → get_or xs i 0 ≡ o → ((y : ℕ) → has (take i xs) y ≡ false → value_at values y ≡ value_at first y) →
+pub others-more : (xs : List ℕ) (i o x : ℕ) (first values : List LogicValue) (value : LogicValue) → i < length xs → get_or xs i 0 ≡ o →
+    ((y : ℕ) → has (take i xs) y ≡ false → value_at values y ≡ value_at first y) →
     has (take (i + 1) xs) x ≡ false → value_at (set values o value) x ≡ value_at first x
 others-more xs i o x first values value low is had none =
     let apart = or-neither (has (take i xs) x) (nat_eq (get_or xs i 0) x) (sym (has-take_more xs i x low) ∙ none) in
@@ -68,7 +71,8 @@ others-more xs i o x first values value low is had none =
 
 -- What changes are told
 
-between-all : (P : ObjectChange → Type 0) (Q : ℕ → Type 0) (old new : List LogicValue) (xs : List ℕ) → ((x : ℕ) → Q x → P (record { object = x; old = value_at old x; new = value_at new x })) → AllHold Q xs →
+between-all : (P : ObjectChange → Type 0) (Q : ℕ → Type 0) (old new : List LogicValue) (xs : List ℕ) → ((x : ℕ) → Q x → P (record { object = x; old = value_at old x; new = value_at new x })) →
+    AllHold Q xs →
     AllHold P (changes_between old new xs)
 between-all P Q old new [] f h = tt
 between-all P Q old new (x ∷ xs) f h = one (same_value (value_at old x) (value_at new x)) (between-all P Q old new xs f h.1)
@@ -105,7 +109,8 @@ pub told-objects : (design : FlatDesign) (xs : List ℕ) (old new : List LogicVa
 told-objects design xs old new changes is = told (λ change. change.object < length design.objects) design xs old new changes is (λ x low. low)
 
 -- and their values of one width
-pub told-widths : (design : FlatDesign) (xs : List ℕ) (old new : List LogicValue) (changes : List Change) → AreValuesOf design old → AreValuesOf design new → map change_seen changes ≡ net_changes design xs old new →
+pub told-widths : (design : FlatDesign) (xs : List ℕ) (old new : List LogicValue) (changes : List Change) → AreValuesOf design old → AreValuesOf design new →
+    map change_seen changes ≡ net_changes design xs old new →
     All (λ (change : Change). length change.old ≡ length change.new) changes
 told-widths design xs old new changes one other is =
     λ k d within. held-at (λ (change : Change). length change.old ≡ length change.new) changes k d

@@ -18,7 +18,8 @@ map_numbered-push f n (y ∷ xs) x =
     ap (λ l. f n y ∷ l) (map_numbered-push f (n + 1) xs x ∙ ap (λ m. map_numbered f (n + 1) xs ++ f m x ∷ []) (let e : n + 1 + length xs ≡ n + suc (length xs) = omega arith in e))
 
 -- one element more
-pub map_numbered-more : {A B : Type 0} (f : ℕ → A → B) (xs : List A) (i : ℕ) (x : A) → i < length xs → get_or xs i x ≡ x → map_numbered f 0 (take (i + 1) xs) ≡ map_numbered f 0 (take i xs) ++ f i x ∷ []
+pub map_numbered-more : {A B : Type 0} (f : ℕ → A → B) (xs : List A) (i : ℕ) (x : A) → i < length xs → get_or xs i x ≡ x →
+    map_numbered f 0 (take (i + 1) xs) ≡ map_numbered f 0 (take i xs) ++ f i x ∷ []
 map_numbered-more f xs i x low is =
     ap (map_numbered f 0) (take_more xs i x low ∙ ap (λ y. take i xs ++ y ∷ []) is)
     ∙ map_numbered-push f 0 (take i xs) x

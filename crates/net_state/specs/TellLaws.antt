@@ -52,7 +52,8 @@ work-tells nets new state number changes h low g tells =
         is ∙ (λ j. net_changes (machine_in nets).design node.outputs (h.values j) (g.values j)) in
         record {
           time = worked-time (machine_in nets) number node state at low;
-          processes = worked-processes (machine_in nets) number node state rules at low (subst (AreValuesOf (machine_in nets).design) h.values nets.objects.are) ∙ ap (λ cs. map (woken_by cs) state.processes) (sym same);
+          processes = worked-processes (machine_in nets) number node state rules at low (subst (AreValuesOf (machine_in nets).design) h.values nets.objects.are)
+              ∙ ap (λ cs. map (woken_by cs) state.processes) (sym same);
           accesses = λ process line.
               worked-accesses (machine_in nets) process line number node state rules at
               ∙ ap (λ cs. map (write_of_change process line) cs ++ joined (map_numbered (ended_by_changes cs) 0 state.processes)) (sym same);

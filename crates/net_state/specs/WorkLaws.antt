@@ -23,18 +23,22 @@ use Rattle.net_state.specs.OutputLaws.{outputs-wide}
 pub same-node : (found : Option FlatNode) (one other : FlatNode) → found ≡ Some one → found ≡ Some other → one ≡ other
 same-node found one other a b = cc
 
-pub nets-of : (design : Design) (list : List Node) (k : ℕ) (node : Node) (outputs : List ObjectId) → list ≡ design.nodes → k < length (design_of design).nodes → node ≡ get_or list k node → outputs ≡ node.outputs →
+pub nets-of : (design : Design) (list : List Node) (k : ℕ) (node : Node) (outputs : List ObjectId) → list ≡ design.nodes → k < length (design_of design).nodes → node ≡ get_or list k node →
+    outputs ≡ node.outputs →
     AreNets (design_of design) (map object_number outputs)
 nets-of design list k node outputs same low is own = subst (λ l. AreNets (design_of design) (map object_number l)) (sym own) (rules-at design list k node same low is).outputs_nets
 
-pub distinct-of : (design : Design) (list : List Node) (k : ℕ) (node : Node) (outputs : List ObjectId) → list ≡ design.nodes → k < length (design_of design).nodes → node ≡ get_or list k node → outputs ≡ node.outputs →
+pub distinct-of : (design : Design) (list : List Node) (k : ℕ) (node : Node) (outputs : List ObjectId) → list ≡ design.nodes → k < length (design_of design).nodes → node ≡ get_or list k node →
+    outputs ≡ node.outputs →
     AreDistinct (map object_number outputs)
 distinct-of design list k node outputs same low is own =
     subst (λ l. AreDistinct (map object_number l)) (sym own) (distinct-once (map object_number node.outputs) (rules-at design list k node same low is).outputs_once)
 
-pub wide-of : (design : Design) (fault : Option Fault) (list : List Node) (k : ℕ) (node : Node) (outputs : List ObjectId) (values put : List LogicValue) → list ≡ design.nodes → k < length (design_of design).nodes →
+pub wide-of : (design : Design) (fault : Option Fault) (list : List Node) (k : ℕ) (node : Node) (outputs : List ObjectId) (values put : List LogicValue) → list ≡ design.nodes →
+    k < length (design_of design).nodes →
     node ≡ get_or list k node → outputs ≡ node.outputs → AreValuesOf (design_of design) values →
-    ((flat : FlatNode) → slice_get (design_of design).nodes k ≡ Some flat → put ≡ node_outputs (machine_with design fault) k flat values) → HaveWidths (design_of design) (map object_number outputs) put
+    ((flat : FlatNode) → slice_get (design_of design).nodes k ≡ Some flat → put ≡ node_outputs (machine_with design fault) k flat values) →
+    HaveWidths (design_of design) (map object_number outputs) put
 wide-of design fault list k node outputs values put same low is own are gives =
     let at : slice_get (design_of design).nodes k ≡ Some (node_of node) = at-list design list k node same low is in
     subst (λ l. HaveWidths (design_of design) (map object_number l) put) (sym own)

@@ -139,7 +139,8 @@ length-label_values values [] = refl
 length-label_values values (first ∷ parts) = ap suc (length-label_values values parts)
 
 -- the output over the first so many terminals and one more
-pub gate-more : (kind : GateKind) (fault : Option StuckAt) (node : ℕ) (values : ℕ → LogicValue) (terminals : List FlatExpr) (i : ℕ) (terminal : FlatExpr) (bit : Bit) → i < length terminals → terminal ≡ get_or terminals i terminal →
+pub gate-more : (kind : GateKind) (fault : Option StuckAt) (node : ℕ) (values : ℕ → LogicValue) (terminals : List FlatExpr) (i : ℕ) (terminal : FlatExpr) (bit : Bit) → i < length terminals →
+    terminal ≡ get_or terminals i terminal →
     bit ≡ fold (gate_step kind) (gate_start kind) (terminal_bits fault node (label_values values (expressions_of (take i terminals)))) →
     gate_step kind bit (forced_terminal fault node (i + 1) (bit_at (value_of values (expression_of terminal)) 0))
     ≡ fold (gate_step kind) (gate_start kind) (terminal_bits fault node (label_values values (expressions_of (take (i + 1) terminals))))
@@ -151,8 +152,10 @@ gate-more kind fault node values terminals i terminal bit low is had =
     let more : label_values values (expressions_of (take (i + 1) terminals)) ≡ label_values values (expressions_of (take i terminals)) ++ value_of values (expression_of terminal) ∷ [] =
     ap (λ l. label_values values (expressions_of l)) (take_more terminals i terminal low ∙ ap (λ t. take i terminals ++ t ∷ []) (sym is)) ∙ label_values-push values (take i terminals) terminal in
     ap (λ b. gate_step kind b (forced_terminal fault node (i + 1) (bit_at (value_of values (expression_of terminal)) 0))) had
-    ∙ sym (fold-push (gate_step kind) (gate_start kind) (terminal_bits fault node (label_values values (expressions_of (take i terminals)))) (forced_terminal fault node (i + 1) (bit_at (value_of values (expression_of terminal)) 0)))
-    ∙ ap (λ n. fold (gate_step kind) (gate_start kind) (terminal_bits fault node (label_values values (expressions_of (take i terminals))) ++ forced_terminal fault node n (bit_at (value_of values (expression_of terminal)) 0) ∷ [])) (sym number)
+    ∙ sym (fold-push (gate_step kind) (gate_start kind) (terminal_bits fault node (label_values values (expressions_of (take i terminals))))
+    (forced_terminal fault node (i + 1) (bit_at (value_of values (expression_of terminal)) 0)))
+    ∙ ap (λ n. fold (gate_step kind) (gate_start kind) (terminal_bits fault node (label_values values (expressions_of (take i terminals)))
+    ++ forced_terminal fault node n (bit_at (value_of values (expression_of terminal)) 0) ∷ [])) (sym number)
     ∙ ap (fold (gate_step kind) (gate_start kind))
     (sym (map_numbered-push (λ n value. forced_terminal fault node n (bit_at value 0)) 1 (label_values values (expressions_of (take i terminals))) (value_of values (expression_of terminal))))
     ∙ ap (λ l. fold (gate_step kind) (gate_start kind) (terminal_bits fault node l)) (sym more)
@@ -164,7 +167,8 @@ terminal_sized [] i d sized low = absurd (omega arith)
 terminal_sized (t ∷ terminals) zero d sized low = sized.0.1
 terminal_sized (t ∷ terminals) (suc i) d sized low = terminal_sized terminals i d sized.2 (omega arith)
 
-pub terminal_there : (values : List LogicValue) (terminals : List FlatExpr) (i : ℕ) (d : FlatExpr) → AreThere values (named_in_parts (expressions_of terminals)) → i < length terminals → AreThere values (named_in (expression_of (get_or terminals i d)))
+pub terminal_there : (values : List LogicValue) (terminals : List FlatExpr) (i : ℕ) (d : FlatExpr) → AreThere values (named_in_parts (expressions_of terminals)) → i < length terminals →
+    AreThere values (named_in (expression_of (get_or terminals i d)))
 terminal_there values [] i d there low = absurd (omega arith)
 terminal_there values (t ∷ terminals) zero d there low = AllHold-left (IsThere values) (named_in (expression_of t)) (named_in_parts (expressions_of terminals)) there
 terminal_there values (t ∷ terminals) (suc i) d there low =
@@ -173,4 +177,5 @@ terminal_there values (t ∷ terminals) (suc i) d there low =
 pub terminal_levels : (terminals : List FlatExpr) (i : ℕ) (d : FlatExpr) → i < length terminals → levels_of (expression_of (get_or terminals i d)) ≤ levels_of_parts (expressions_of terminals)
 terminal_levels [] i d low = absurd (omega arith)
 terminal_levels (t ∷ terminals) zero d low = omega arith
-terminal_levels (t ∷ terminals) (suc i) d low = let rest : levels_of (expression_of (get_or terminals i d)) ≤ levels_of_parts (expressions_of terminals) = terminal_levels terminals i d (omega arith) in omega arith
+terminal_levels (t ∷ terminals) (suc i) d low = let rest : levels_of (expression_of (get_or terminals i d)) ≤ levels_of_parts (expressions_of terminals) =
+    terminal_levels terminals i d (omega arith) in omega arith

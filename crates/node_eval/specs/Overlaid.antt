@@ -120,7 +120,8 @@ unfolding overlaid
 length-overlaid objects held values = length-with_outputs (map object_number objects) held values
 
 -- what isn't in front shows the value behind
-pub overlaid-behind : (objects : List ObjectId) (held values : List LogicValue) (object : ℕ) → IsNone (map object_number objects) object → value_at (overlaid objects held values) object ≡ value_at values object
+pub overlaid-behind : (objects : List ObjectId) (held values : List LogicValue) (object : ℕ) → IsNone (map object_number objects) object →
+    value_at (overlaid objects held values) object ≡ value_at values object
 unfolding overlaid
 overlaid-behind objects held values object none = out_of (map object_number objects) held values object none
 
@@ -130,10 +131,12 @@ pub overlaid-front : (objects : List ObjectId) (held values : List LogicValue) (
 unfolding overlaid
 overlaid-front objects held values k object once enough low is there =
     ap (value_at (with_outputs (map object_number objects) held values)) (sym is)
-    ∙ within (map object_number objects) held values k once (omega (arith, length-map objects object_number)) (omega (arith, length-map objects object_number)) (subst (λ n. n < length values) (sym is) there)
+    ∙ within (map object_number objects) held values k once (omega (arith, length-map objects object_number)) (omega (arith, length-map objects object_number))
+    (subst (λ n. n < length values) (sym is) there)
 
 -- a write in front is a change of the values
-pub overlaid-put : (objects : List ObjectId) (held values : List LogicValue) (k object : ℕ) (v : LogicValue) → StandOnce (map object_number objects) → length objects ≤ length held → k < length objects →
+pub overlaid-put : (objects : List ObjectId) (held values : List LogicValue) (k object : ℕ) (v : LogicValue) → StandOnce (map object_number objects) → length objects ≤ length held →
+    k < length objects →
     get_or (map object_number objects) k 0 ≡ object → overlaid objects (set held k v) values ≡ change_at (overlaid objects held values) object (λ old. v)
 unfolding overlaid
 overlaid-put objects held values k object v once enough low is =
@@ -171,7 +174,8 @@ pub overlaid-all : (objects : List ObjectId) (held values : List LogicValue) →
     ((k : ℕ) → k < length objects → get_or (map object_number objects) k 0 < length values) →
     take (length objects) held ≡ map (value_at (overlaid objects held values)) (map object_number objects)
 overlaid-all objects held values once enough there =
-    let count : length (map (value_at (overlaid objects held values)) (map object_number objects)) ≡ length objects = length-map (map object_number objects) (value_at (overlaid objects held values)) ∙ length-map objects object_number in
+    let count : length (map (value_at (overlaid objects held values)) (map object_number objects)) ≡ length objects = length-map (map object_number objects) (value_at (overlaid objects held values))
+    ∙ length-map objects object_number in
     let taken : length (take (length objects) held) ≡ length objects = length-take-le (length objects) held enough in
     ext_get_or [] (take (length objects) held) (map (value_at (overlaid objects held values)) (map object_number objects)) (taken ∙ sym count)
     (λ k low.
@@ -208,6 +212,7 @@ pub once-distinct : (seen objects : List ℕ) → without_repeats seen objects �
 once-distinct seen [] e = tt
 once-distinct seen (o ∷ objects) e =
     let tail = (fresh-tail (has seen o) o (without_repeats (o ∷ seen) objects) objects (no_longer (o ∷ seen) objects) e).1 in (
-      λ k low same. both_ways (has (o ∷ seen) (get_or objects k 0)) (unseen (o ∷ seen) objects k tail low) (or_left (nat_eq o (get_or objects k 0)) (has seen (get_or objects k 0)) (eq-eqb o (get_or objects k 0) (sym same))),
+      λ k low same. both_ways (has (o ∷ seen) (get_or objects k 0)) (unseen (o ∷ seen) objects k tail low)
+          (or_left (nat_eq o (get_or objects k 0)) (has seen (get_or objects k 0)) (eq-eqb o (get_or objects k 0) (sym same))),
       once-distinct (o ∷ seen) objects tail,
     )

@@ -17,7 +17,8 @@ length-zip_with f (z ∷ xs) [] same = absurd (omega arith)
 length-zip_with f (a ∷ xs) (b ∷ ys) same = ap suc (length-zip_with f xs ys (omega arith))
 
 -- one more output: g makes its part of the place, and f forces it
-pub parts-more : {A B C D : Type 0} (f : A → C → D) (g : A → B → C) (outputs : List A) (places : List B) (results : List D) (i : ℕ) (o : A) (p : B) (r : D) → i < length outputs → length places ≡ length outputs → i < length results →
+pub parts-more : {A B C D : Type 0} (f : A → C → D) (g : A → B → C) (outputs : List A) (places : List B) (results : List D) (i : ℕ) (o : A) (p : B) (r : D) → i < length outputs →
+    length places ≡ length outputs → i < length results →
     get_or outputs i o ≡ o → get_or places i p ≡ p → r ≡ f o (g o p) → take i results ≡ zip_with f (take i outputs) (zip_with g (take i outputs) (take i places)) →
     take (i + 1) (set results i r) ≡ zip_with f (take (i + 1) outputs) (zip_with g (take (i + 1) outputs) (take (i + 1) places))
 parts-more f g outputs places results i o p r low same room is_o is_p is_r had =
@@ -34,7 +35,8 @@ parts-more f g outputs places results i o p r low same room is_o is_p is_r had =
     ∙ ap (λ l. zip_with f l (zip_with g l (take (i + 1) places))) (sym one)
 
 -- one output more is forced
-pub forced-more : (f : ℕ → LogicValue → LogicValue) (outputs : List ℕ) (old held : List LogicValue) (i o : ℕ) (r : LogicValue) → i < length outputs → length outputs ≤ length old → length held ≡ length old →
+pub forced-more : (f : ℕ → LogicValue → LogicValue) (outputs : List ℕ) (old held : List LogicValue) (i o : ℕ) (r : LogicValue) → i < length outputs → length outputs ≤ length old →
+    length held ≡ length old →
     get_or outputs i 0 ≡ o → r ≡ f o (get_or old i []) → take i held ≡ zip_with f (take i outputs) (take i old) → take (i + 1) (set held i r) ≡ zip_with f (take (i + 1) outputs) (take (i + 1) old)
 forced-more f outputs old held i o r low enough alike is_o is_r had =
     let short : length (take i outputs) ≡ length (take i old) = length-take-le i outputs (omega arith) ∙ sym (length-take-le i old (omega arith)) in

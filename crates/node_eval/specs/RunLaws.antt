@@ -36,7 +36,8 @@ has-right [] ys object h = h
 has-right (x ∷ xs) ys object h = or_right (nat_eq x object) (has (xs ++ ys) object) (has-right xs ys object h)
 
 -- the branches of an if
-pub may-first : (values : List LogicValue) (outputs : List ObjectId) (place : SourcePlace) (condition : Expression) (first second : Statement) → MayRun values outputs (If place condition first second) → MayRun values outputs first
+pub may-first : (values : List LogicValue) (outputs : List ObjectId) (place : SourcePlace) (condition : Expression) (first second : Statement) →
+    MayRun values outputs (If place condition first second) → MayRun values outputs first
 may-first values outputs place condition first second may = record {
   sized = may.sized.1;
   there = AllHold-left _ (named_by first) (named_by second) (AllHold-right _ (named_in condition) (named_by first ++ named_by second) may.there);
@@ -44,7 +45,8 @@ may-first values outputs place condition first second may = record {
   levels = omega (arith, may.levels);
 }
 
-pub may-second : (values : List LogicValue) (outputs : List ObjectId) (place : SourcePlace) (condition : Expression) (first second : Statement) → MayRun values outputs (If place condition first second) → MayRun values outputs second
+pub may-second : (values : List LogicValue) (outputs : List ObjectId) (place : SourcePlace) (condition : Expression) (first second : Statement) →
+    MayRun values outputs (If place condition first second) → MayRun values outputs second
 may-second values outputs place condition first second may = record {
   sized = may.sized.2;
   there = AllHold-right _ (named_by first) (named_by second) (AllHold-right _ (named_in condition) (named_by first ++ named_by second) may.there);
@@ -53,7 +55,8 @@ may-second values outputs place condition first second may = record {
 }
 
 -- a statement of a block
-pub may-at : (values : List LogicValue) (outputs : List ObjectId) (statements : List FlatStmt) (i : ℕ) (d : FlatStmt) → i < length statements → MayRun values outputs (Block (statements_of statements)) → MayRun values outputs (statement_of (get_or statements i d))
+pub may-at : (values : List LogicValue) (outputs : List ObjectId) (statements : List FlatStmt) (i : ℕ) (d : FlatStmt) → i < length statements →
+    MayRun values outputs (Block (statements_of statements)) → MayRun values outputs (statement_of (get_or statements i d))
 may-at values outputs [] i d low may = absurd (omega arith)
 may-at values outputs (s ∷ statements) zero d low may = record {
   sized = may.sized.0;
@@ -68,7 +71,8 @@ may-at values outputs (s ∷ statements) (suc i) d low may = may-at values outpu
   levels = omega (arith, may.levels);
 })
 
-pub levels-at : (statements : List FlatStmt) (i : ℕ) (d : FlatStmt) → i < length statements → levels_of_statement (statement_of (get_or statements i d)) ≤ levels_of_statements (statements_of statements)
+pub levels-at : (statements : List FlatStmt) (i : ℕ) (d : FlatStmt) → i < length statements →
+    levels_of_statement (statement_of (get_or statements i d)) ≤ levels_of_statements (statements_of statements)
 levels-at [] i d low = absurd (omega arith)
 levels-at (s ∷ statements) zero d low = omega arith
 levels-at (s ∷ statements) (suc i) d low = let rest = levels-at statements i d (omega arith) in omega arith
@@ -81,7 +85,8 @@ statements-from statements i d values low = ap (λ l. run_statements (statements
 -- Cases
 
 -- the default
-pub may-default : (values : List LogicValue) (outputs : List ObjectId) (place : SourcePlace) (kind : CaseKind) (value : Expression) (items : CaseItems) (default : Statement) → MayRun values outputs (Case place kind value items default) → MayRun values outputs default
+pub may-default : (values : List LogicValue) (outputs : List ObjectId) (place : SourcePlace) (kind : CaseKind) (value : Expression) (items : CaseItems) (default : Statement) →
+    MayRun values outputs (Case place kind value items default) → MayRun values outputs default
 may-default values outputs place kind value items default may = record {
   sized = may.sized.3;
   there = AllHold-right _ (named_by_items items) (named_by default) (AllHold-right _ (named_in value) (named_by_items items ++ named_by default) may.there);
@@ -89,12 +94,14 @@ may-default values outputs place kind value items default may = record {
   levels = omega (arith, may.levels);
 }
 
-sized-item : (width : ℕ) (signed : Bool) (items : List CaseItem) (i : ℕ) (d : CaseItem) → i < length items → AreSizedItems width signed (items_of items) → IsSizedStatement (statement_of (get_or items i d).statement)
+sized-item : (width : ℕ) (signed : Bool) (items : List CaseItem) (i : ℕ) (d : CaseItem) → i < length items → AreSizedItems width signed (items_of items) →
+    IsSizedStatement (statement_of (get_or items i d).statement)
 sized-item width signed [] i d low h = absurd (omega arith)
 sized-item width signed (item ∷ items) zero d low h = h.1
 sized-item width signed (item ∷ items) (suc i) d low h = sized-item width signed items i d (omega arith) h.2
 
-there-item : (values : List LogicValue) (items : List CaseItem) (i : ℕ) (d : CaseItem) → i < length items → AreThere values (named_by_items (items_of items)) → AreThere values (named_by (statement_of (get_or items i d).statement))
+there-item : (values : List LogicValue) (items : List CaseItem) (i : ℕ) (d : CaseItem) → i < length items → AreThere values (named_by_items (items_of items)) →
+    AreThere values (named_by (statement_of (get_or items i d).statement))
 there-item values [] i d low h = absurd (omega arith)
 there-item values (item ∷ items) zero d low h =
     AllHold-left _ (named_by (statement_of item.statement)) (named_by_items (items_of items))
@@ -104,7 +111,8 @@ there-item values (item ∷ items) (suc i) d low h =
     (AllHold-right _ (named_by (statement_of item.statement)) (named_by_items (items_of items))
     (AllHold-right _ (named_in_parts (expressions_of item.labels.items)) (named_by (statement_of item.statement) ++ named_by_items (items_of items)) h))
 
-written-item : (items : List CaseItem) (i : ℕ) (d : CaseItem) (object : ℕ) → i < length items → has (written_objects (statement_of (get_or items i d).statement)) object ≡ true → has (items_written (items_of items)) object ≡ true
+written-item : (items : List CaseItem) (i : ℕ) (d : CaseItem) (object : ℕ) → i < length items → has (written_objects (statement_of (get_or items i d).statement)) object ≡ true →
+    has (items_written (items_of items)) object ≡ true
 written-item [] i d object low h = absurd (omega arith)
 written-item (item ∷ items) zero d object low h = has-left (written_objects (statement_of item.statement)) (items_written (items_of items)) object h
 written-item (item ∷ items) (suc i) d object low h =
@@ -116,7 +124,8 @@ levels-item (item ∷ items) zero d low = omega arith
 levels-item (item ∷ items) (suc i) d low = let rest = levels-item items i d (omega arith) in omega arith
 
 -- an item
-pub may-item : (values : List LogicValue) (outputs : List ObjectId) (place : SourcePlace) (kind : CaseKind) (value : Expression) (items : List CaseItem) (default : Statement) (i : ℕ) (d : CaseItem) → i < length items →
+pub may-item : (values : List LogicValue) (outputs : List ObjectId) (place : SourcePlace) (kind : CaseKind) (value : Expression) (items : List CaseItem) (default : Statement) (i : ℕ)
+    (d : CaseItem) → i < length items →
     MayRun values outputs (Case place kind value (items_of items) default) → MayRun values outputs (statement_of (get_or items i d).statement)
 may-item values outputs place kind value items default i d low may =
     let named = AllHold-left _ (named_by_items (items_of items)) (named_by default) (AllHold-right _ (named_in value) (named_by_items (items_of items) ++ named_by default) may.there) in
@@ -128,7 +137,8 @@ may-item values outputs place kind value items default i d low may =
     }
 
 -- the labels of an item
-pub labels-sized : (width : ℕ) (signed : Bool) (items : List CaseItem) (i : ℕ) (d : CaseItem) → i < length items → AreSizedItems width signed (items_of items) → AreLabels width signed (expressions_of (get_or items i d).labels.items)
+pub labels-sized : (width : ℕ) (signed : Bool) (items : List CaseItem) (i : ℕ) (d : CaseItem) → i < length items → AreSizedItems width signed (items_of items) →
+    AreLabels width signed (expressions_of (get_or items i d).labels.items)
 labels-sized width signed [] i d low h = absurd (omega arith)
 labels-sized width signed (item ∷ items) zero d low h = h.0
 labels-sized width signed (item ∷ items) (suc i) d low h = labels-sized width signed items i d (omega arith) h.2
@@ -149,7 +159,8 @@ labels-levels (item ∷ items) zero d low = omega arith
 labels-levels (item ∷ items) (suc i) d low = let rest = labels-levels items i d (omega arith) in omega arith
 
 -- one label
-pub label-there : (values : List LogicValue) (labels : List FlatExpr) (i : ℕ) (d : FlatExpr) → i < length labels → AreThere values (named_in_parts (expressions_of labels)) → AreThere values (named_in (expression_of (get_or labels i d)))
+pub label-there : (values : List LogicValue) (labels : List FlatExpr) (i : ℕ) (d : FlatExpr) → i < length labels → AreThere values (named_in_parts (expressions_of labels)) →
+    AreThere values (named_in (expression_of (get_or labels i d)))
 label-there values [] i d low h = absurd (omega arith)
 label-there values (label ∷ labels) zero d low h = AllHold-left _ (named_in (expression_of label)) (named_in_parts (expressions_of labels)) h
 label-there values (label ∷ labels) (suc i) d low h =

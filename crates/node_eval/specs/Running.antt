@@ -7,7 +7,8 @@ use Rattle.four_value.specs.Values.{LogicValue, is_true, with_part}
 use Rattle.four_value.specs.ValueLaws.{length-with_part}
 use Rattle.four_value.specs.declared.operator.CaseKind.{CaseKind}
 use Rattle.vf_base.specs.Lists.{has, change_at}
-use Rattle.v_design.specs.Trees.{Piece, Statement, Null, Block, If, Case, For, While, Repeat, Forever, Delay, EventControl, Wait, Blocking, Nonblocking, Finish, Statements, no_statements, more_statements, CaseItems, no_items, more_items}
+use Rattle.v_design.specs.Trees.{Piece, Statement, Null, Block, If, Case, For, While, Repeat, Forever, Delay, EventControl, Wait, Blocking, Nonblocking, Finish, Statements, no_statements}
+use Rattle.v_design.specs.Trees.{more_statements, CaseItems, no_items, more_items}
 use Rattle.v_design.specs.Expressions.{value_of}
 use Rattle.v_design.specs.Assignments.{ValueUpdate, value_at, updated, either_values, some_label_matches, label_values, run_statement, run_statements, run_items, target_updates, index_value}
 use Rattle.v_design.specs.Reads.{named_by, written_objects}
@@ -85,7 +86,8 @@ mutual
   alike-statements no_statements values = alike-same values
   alike-statements (more_statements first rest) values = alike-then _ _ _ (alike-statements rest (run_statement first values)) (alike-run first values)
 
-  alike-items : (kind : CaseKind) (value : LogicValue) (items : CaseItems) (values otherwise : List LogicValue) → AreAlike otherwise values → AreAlike (run_items kind value items values otherwise) values
+  alike-items : (kind : CaseKind) (value : LogicValue) (items : CaseItems) (values otherwise : List LogicValue) → AreAlike otherwise values →
+      AreAlike (run_items kind value items values otherwise) values
   alike-items kind value no_items values otherwise h = h
   alike-items kind value (more_items labels statement rest) values otherwise h =
       alike-either (some_label_matches kind value (label_values (value_at values) labels)) (run_statement statement values) (run_items kind value rest values otherwise) values

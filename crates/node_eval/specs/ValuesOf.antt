@@ -21,7 +21,8 @@ pub record AreValuesOf (design : FlatDesign) (values : List LogicValue) : Type 0
   pub count : length values ≡ length design.objects
   pub widths : (object : ℕ) → object < length values → length (value_at values object) ≡ width_in design object
 
-one_width : (design : FlatDesign) (values : List LogicValue) (piece : Piece) (found : Option FlatObject) → AreValuesOf design values → slice_get design.objects piece.object ≡ found → width_is piece.width found ≡ true → IsThere values piece
+one_width : (design : FlatDesign) (values : List LogicValue) (piece : Piece) (found : Option FlatObject) → AreValuesOf design values → slice_get design.objects piece.object ≡ found →
+    width_is piece.width found ≡ true → IsThere values piece
 one_width design values piece None are at e = absurd (cc)
 one_width design values piece (Some object) are at e =
     let low : piece.object < length design.objects = slice_get_within design.objects piece.object object at in
@@ -50,7 +51,9 @@ pub width_in-IsWidth : (design : FlatDesign) (object : ℕ) → KeepsRules desig
 width_in-IsWidth design object rules low = widths_of-IsWidth design.objects object rules.objects low
 
 -- the width of an object of the code's list
-pub width_in-read : (objects list : List Object) (k : ℕ) (d : Object) → list ≡ objects → k < length list → (get_or list k d).width ≡ get_or (map (λ (o : FlatObject). o.width) (map object_of objects)) k 0
+pub width_in-read : (objects list : List Object) (k : ℕ) (d : Object) → list ≡ objects → k < length list →
+    (get_or list k d).width ≡ get_or (map (λ (o : FlatObject). o.width) (map object_of objects)) k 0
 width_in-read objects list k d same low =
     subst (λ l. (get_or list k d).width ≡ get_or (map (λ (o : FlatObject). o.width) (map object_of l)) k 0) same
-    (sym (get_or-map (λ (o : FlatObject). o.width) (map object_of list) k (object_of d) 0 (omega (arith, length-map list object_of)) ∙ ap (λ (o : FlatObject). o.width) (get_or-map object_of list k d (object_of d) low)))
+    (sym (get_or-map (λ (o : FlatObject). o.width) (map object_of list) k (object_of d) 0 (omega (arith, length-map list object_of))
+    ∙ ap (λ (o : FlatObject). o.width) (get_or-map object_of list k d (object_of d) low)))

@@ -23,12 +23,14 @@ use Rattle.node_eval.specs.RunLaws.{has-left, has-right}
 
 pub updates-from : (line : ℕ) (targets : List FlatTarget) (i : ℕ) (d : FlatTarget) (values : List LogicValue) (bits : LogicValue) → i < length targets →
     target_updates line (map target_of (drop i targets)) (map (index_value values) (map target_of (drop i targets))) bits
-    ≡ target_update line (target_of (get_or targets i d)) (index_value values (target_of (get_or targets i d))) (part_of bits (targets_width (map target_of (drop (i + 1) targets))) (target_width (target_of (get_or targets i d))))
+    ≡ target_update line (target_of (get_or targets i d)) (index_value values (target_of (get_or targets i d)))
+    (part_of bits (targets_width (map target_of (drop (i + 1) targets))) (target_width (target_of (get_or targets i d))))
     ∷ target_updates line (map target_of (drop (i + 1) targets)) (map (index_value values) (map target_of (drop (i + 1) targets))) bits
 updates-from line targets i d values bits low =
     ap (λ l. target_updates line (map target_of l) (map (index_value values) (map target_of l)) bits) (drop_more targets i d low)
 
-pub target-there : (values : List LogicValue) (targets : List FlatTarget) (i : ℕ) (d : FlatTarget) → i < length targets → AreThere values (named_in_targets (map target_of targets)) → AreThere values (named_in_target (target_of (get_or targets i d)))
+pub target-there : (values : List LogicValue) (targets : List FlatTarget) (i : ℕ) (d : FlatTarget) → i < length targets → AreThere values (named_in_targets (map target_of targets)) →
+    AreThere values (named_in_target (target_of (get_or targets i d)))
 target-there values [] i d low h = absurd (omega arith)
 target-there values (target ∷ targets) zero d low h = AllHold-left _ (named_in_target (target_of target)) (named_in_targets (map target_of targets)) h
 target-there values (target ∷ targets) (suc i) d low h =
@@ -73,7 +75,8 @@ found-has (word ∷ words) (suc k) object e = or_right (nat_eq word object) (has
 word-has : (memory : Memory) (index : Option ℕ) (object : ℕ) → word_at memory index ≡ Some object → has memory.words object ≡ true
 word-has memory None object e = cc
 word-has memory (Some address) object e =
-    elim (nat_le (min memory.first memory.last) address) as (λ b. (if b then slice_get memory.words (address - min memory.first memory.last) else None) ≡ Some object → has memory.words object ≡ true) [
+    elim (nat_le (min memory.first memory.last) address) as (λ b. (if b then slice_get memory.words (address - min memory.first memory.last) else None) ≡ Some object →
+    has memory.words object ≡ true) [
       | true ↦ λ h. found-has memory.words (address - min memory.first memory.last) object h
       | false ↦ λ h. absurd (cc)
     ] e
@@ -85,12 +88,15 @@ word-among objects line (Some object) value h = h object refl
 target-among : (objects : List ℕ) (line : ℕ) (target : Target) (index : Option ℕ) (value : LogicValue) → ((object : ℕ) → has (target_objects target) object ≡ true → has objects object ≡ true) →
     IsAmong objects (target_update line target index value)
 target-among objects line (WholeTarget variable) index value h = h variable.object (here variable.object [])
-target-among objects line (BitTarget variable at) index value h = bit-among objects line variable.object (place_of_number variable.high variable.low index) value (h variable.object (here variable.object []))
-target-among objects line (PartTarget variable from to) index value h = part-among objects line variable.object (part_places variable.high variable.low from to) value (h variable.object (here variable.object []))
+target-among objects line (BitTarget variable at) index value h = bit-among objects line variable.object (place_of_number variable.high variable.low index) value
+    (h variable.object (here variable.object []))
+target-among objects line (PartTarget variable from to) index value h = part-among objects line variable.object (part_places variable.high variable.low from to) value
+    (h variable.object (here variable.object []))
 target-among objects line (WordTarget memory at) index value h = word-among objects line (word_at memory index) value (λ object e. h object (word-has memory index object e))
 
 -- an assignment writes its targets' objects
-pub targets-among : (objects : List ℕ) (line : ℕ) (targets : List Target) (indexes : List (Option ℕ)) (value : LogicValue) → ((object : ℕ) → has (targets_objects targets) object ≡ true → has objects object ≡ true) →
+pub targets-among : (objects : List ℕ) (line : ℕ) (targets : List Target) (indexes : List (Option ℕ)) (value : LogicValue) →
+    ((object : ℕ) → has (targets_objects targets) object ≡ true → has objects object ≡ true) →
     AllHold (IsAmong objects) (target_updates line targets indexes value)
 targets-among objects line [] indexes value h = tt
 targets-among objects line (target ∷ targets) [] value h = tt

@@ -22,7 +22,8 @@ pub one-more : (nodes : List Node) (i : ℕ) (n : Node) → i < length nodes →
 one-more nodes i n low is = map_more node_of nodes i n low ∙ ap (λ m. map node_of (take i nodes) ++ node_of m ∷ []) (sym is)
 
 -- no node is crowded
-pub few-of : (nodes seen : List Node) (test : Bool) → seen ≡ nodes → some_inputs_over (map node_of seen) ≡ too_many_if test Inputs most_inputs → test ≡ false → some_inputs_over (map node_of nodes) ≡ None
+pub few-of : (nodes seen : List Node) (test : Bool) → seen ≡ nodes → some_inputs_over (map node_of seen) ≡ too_many_if test Inputs most_inputs → test ≡ false →
+    some_inputs_over (map node_of nodes) ≡ None
 few-of nodes seen test same told none = ap (λ l. some_inputs_over (map node_of l)) (sym same) ∙ told ∙ ap (λ b. too_many_if b Inputs most_inputs) none
 
 got : (f : FlatNode → ℕ) (nodes : List FlatNode) (k : ℕ) (node : FlatNode) → slice_get nodes k ≡ Some node → get_or (map f nodes) k 0 ≡ f node
@@ -31,7 +32,8 @@ got f (first ∷ nodes) zero node at = ap f (same_some first node at)
 got f (first ∷ nodes) (suc k) node at = got f nodes k node at
 
 -- the ranks that are found are those of the nodes
-pub ranks-are : (objects : ℕ) (nodes seen : List Node) (ranks held : List ℕ) → seen ≡ nodes → AreAmong objects (map node_of nodes) → held ≡ ranks → ranks ≡ map (rank_in (map node_of seen)) (map node_of seen) →
+pub ranks-are : (objects : ℕ) (nodes seen : List Node) (ranks held : List ℕ) → seen ≡ nodes → AreAmong objects (map node_of nodes) → held ≡ ranks →
+    ranks ≡ map (rank_in (map node_of seen)) (map node_of seen) →
     ((object : ℕ) → IsLooping (map node_of seen) object → ⊥) → AreRanksOf (map node_of nodes) held
 ranks-are objects nodes seen ranks held same among is ranked acyclic =
     let all = map node_of nodes in

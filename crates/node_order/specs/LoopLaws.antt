@@ -34,7 +34,8 @@ step-back nodes objects to e =
     let read = any-at (has objects) r.1.inputs kept.2 in
     (read.0, read.2, record { number = kept.0; node = r.1; is = kept.1; reads = read.1; drives = r.3 })
 
-reached-path : (nodes : List FlatNode) (steps : ℕ) (objects : List ℕ) (to : ℕ) → has (reached steps nodes objects) to ≡ true → (from : ℕ) × (has objects from ≡ true) × (between : List ℕ) × IsPath nodes from between to
+reached-path : (nodes : List FlatNode) (steps : ℕ) (objects : List ℕ) (to : ℕ) → has (reached steps nodes objects) to ≡ true →
+    (from : ℕ) × (has objects from ≡ true) × (between : List ℕ) × IsPath nodes from between to
 reached-path nodes zero objects to e = absurd (cc)
 reached-path nodes (suc steps) objects to e =
     let next = outputs_reading objects nodes in
@@ -145,7 +146,8 @@ one-more nodes from k numbers to h r =
 shortened : (nodes : List FlatNode) (from : ℕ) (numbers : List ℕ) (to : ℕ) → Over nodes from numbers to → Distinct nodes from to 0
 unfolding IsDistinct
 shortened nodes from [] to h = record { numbers = []; over = h; distinct = tt; more = omega arith }
-shortened nodes from (k ∷ numbers) to h = let r = one-more nodes from k numbers to h (shortened nodes h.3 numbers to h.5) in record { numbers = r.numbers; over = r.over; distinct = r.distinct; more = omega arith }
+shortened nodes from (k ∷ numbers) to h = let r = one-more nodes from k numbers to h (shortened nodes h.3 numbers to h.5) in
+    record { numbers = r.numbers; over = r.over; distinct = r.distinct; more = omega arith }
 
 -- an object that reaches itself is reached through as many nodes as there are
 looping-reaches : (nodes : List FlatNode) (object : ℕ) → IsLooping nodes object → reaches_itself nodes object ≡ true
@@ -172,7 +174,8 @@ looping-reaches nodes object loops =
 
 -- The least of some numbers that passes a test
 
-first-passes : (test : ℕ → Bool) (start count o : ℕ) → start ≤ o → o < start + count → test o ≡ true → ((p : ℕ) → start ≤ p → p < o → test p ≡ false) → first_of (filter test (up_from start count)) ≡ Some o
+first-passes : (test : ℕ → Bool) (start count o : ℕ) → start ≤ o → o < start + count → test o ≡ true → ((p : ℕ) → start ≤ p → p < o → test p ≡ false) →
+    first_of (filter test (up_from start count)) ≡ Some o
 first-passes test start zero o low high passes before = absurd (omega (arith, low, high))
 first-passes test start (suc count) o low high passes before =
     elim (cases_eq start o) [
@@ -184,7 +187,8 @@ first-passes test start (suc count) o low high passes before =
 
 none-pass : (test : ℕ → Bool) (start count : ℕ) → ((p : ℕ) → test p ≡ false) → filter test (up_from start count) ≡ []
 none-pass test start zero none = refl
-none-pass test start (suc count) none = cond-false (test start) (start ∷ filter test (up_from (start + 1) count)) (filter test (up_from (start + 1) count)) (none start) ∙ none-pass test (start + 1) count none
+none-pass test start (suc count) none = cond-false (test start) (start ∷ filter test (up_from (start + 1) count)) (filter test (up_from (start + 1) count)) (none start)
+    ∙ none-pass test (start + 1) count none
 
 no-reach : (nodes : List FlatNode) (object : ℕ) → (IsLooping nodes object → ⊥) → reaches_itself nodes object ≡ false
 no-reach nodes object never = by_test (reaches_itself nodes object) refl

@@ -64,8 +64,10 @@ nodes-give-design parts objects processes nodes = by_inputs (some_inputs_over no
     by_loop (Some refusal) None e = absurd (cc)
     by_loop (Some refusal) (Some other) e = let same = same_some refusal other e in ap Err same
 
-    by_inputs : (refused : Option Refusal) → then_go (unless_refused refused nodes) (λ few. then_go (unless_refused (loop_in objects few) few) (λ acyclic. Ok (design_with parts objects acyclic processes)))
-        ≡ then_go (then_go (unless_refused refused nodes) (λ few. then_go (unless_refused (loop_among all few) few) (λ acyclic. Ok (by_rank acyclic)))) (λ sorted. Ok (design_of_nodes parts objects processes sorted))
+    by_inputs : (refused : Option Refusal) → then_go (unless_refused refused nodes) (λ few.
+        then_go (unless_refused (loop_in objects few) few) (λ acyclic. Ok (design_with parts objects acyclic processes)))
+        ≡ then_go (then_go (unless_refused refused nodes) (λ few. then_go (unless_refused (loop_among all few) few) (λ acyclic. Ok (by_rank acyclic))))
+        (λ sorted. Ok (design_of_nodes parts objects processes sorted))
     by_inputs None = by_loop (loop_in objects nodes) (loop_among all nodes) (loop-same objects nodes)
     by_inputs (Some refusal) = refl
 
@@ -82,12 +84,14 @@ pub inputs-more : (nodes : List FlatNode) (node : FlatNode) → some_inputs_over
 inputs-more [] node none few = ap (λ r. refusal_or r None) (over-none (length node.inputs) few)
 inputs-more (first ∷ nodes) node none few = by_first (inputs_over first) none (λ rest. inputs-more nodes node rest few)
   where
-    by_first : (refused : Option Refusal) → refusal_or refused (some_inputs_over nodes) ≡ None → (some_inputs_over nodes ≡ None → some_inputs_over (nodes ++ node ∷ []) ≡ None) → refusal_or refused (some_inputs_over (nodes ++ node ∷ [])) ≡ None
+    by_first : (refused : Option Refusal) → refusal_or refused (some_inputs_over nodes) ≡ None → (some_inputs_over nodes ≡ None → some_inputs_over (nodes ++ node ∷ []) ≡ None) →
+        refusal_or refused (some_inputs_over (nodes ++ node ∷ [])) ≡ None
     by_first None e more = more e
     by_first (Some refusal) e more = absurd (cc)
 
 -- a node with too many
-pub inputs-many : (nodes : List FlatNode) (k : ℕ) (node : FlatNode) → slice_get nodes k ≡ Some node → most_inputs < length node.inputs → some_inputs_over nodes ≡ Some (TooMany Inputs (most_inputs + 1))
+pub inputs-many : (nodes : List FlatNode) (k : ℕ) (node : FlatNode) → slice_get nodes k ≡ Some node → most_inputs < length node.inputs →
+    some_inputs_over nodes ≡ Some (TooMany Inputs (most_inputs + 1))
 inputs-many [] k node at many = absurd (cc)
 inputs-many (first ∷ nodes) zero node at many =
     ap (λ r. refusal_or r (some_inputs_over nodes)) (ap (λ (n : FlatNode). over_limit Inputs most_inputs (length n.inputs)) (same_some first node at) ∙ over-some (length node.inputs) many)
@@ -100,14 +104,17 @@ inputs-many (first ∷ nodes) (suc k) node at many =
 -- What is answered
 
 -- too many inputs
-pub crowded : (objects : List FlatObject) (nodes : List FlatNode) → some_inputs_over nodes ≡ Some (TooMany Inputs (most_inputs + 1)) → ordered_nodes objects nodes ≡ Err (TooMany Inputs (most_inputs + 1))
+pub crowded : (objects : List FlatObject) (nodes : List FlatNode) → some_inputs_over nodes ≡ Some (TooMany Inputs (most_inputs + 1)) →
+    ordered_nodes objects nodes ≡ Err (TooMany Inputs (most_inputs + 1))
 crowded objects nodes e = ap (λ r. then_go (unless_refused r nodes) (λ few. then_go (unless_refused (loop_among objects few) few) (λ acyclic. Ok (by_rank acyclic)))) e
 
-after-few : (objects : List FlatObject) (nodes : List FlatNode) → some_inputs_over nodes ≡ None → ordered_nodes objects nodes ≡ then_go (unless_refused (loop_among objects nodes) nodes) (λ acyclic. Ok (by_rank acyclic))
+after-few : (objects : List FlatObject) (nodes : List FlatNode) → some_inputs_over nodes ≡ None →
+    ordered_nodes objects nodes ≡ then_go (unless_refused (loop_among objects nodes) nodes) (λ acyclic. Ok (by_rank acyclic))
 after-few objects nodes e = ap (λ r. then_go (unless_refused r nodes) (λ few. then_go (unless_refused (loop_among objects few) few) (λ acyclic. Ok (by_rank acyclic)))) e
 
 -- a loop
-pub looped : (objects : List FlatObject) (nodes : List FlatNode) (number : ℕ) (object : FlatObject) → some_inputs_over nodes ≡ None → AreAmong (length objects) nodes → IsLeastLooping nodes number → slice_get objects number ≡ Some object →
+pub looped : (objects : List FlatObject) (nodes : List FlatNode) (number : ℕ) (object : FlatObject) → some_inputs_over nodes ≡ None → AreAmong (length objects) nodes → IsLeastLooping nodes number →
+    slice_get objects number ≡ Some object →
     ordered_nodes objects nodes ≡ Err (LoopAt object.place)
 looped objects nodes number object few among is at =
     let found : loop_among objects nodes ≡ Some (LoopAt object.place) = ap (loop_of_number objects) (least-found (length objects) nodes number among is) ∙ ap loop_of at in
@@ -124,5 +131,6 @@ inputs-of objects [] among = tt
 inputs-of objects (node ∷ nodes) among = (among.0.0, inputs-of objects nodes among.1)
 
 -- the rank of a node among nodes without a loop is less than their number
-pub rank-low : (objects : ℕ) (nodes : List FlatNode) → AreAmong objects nodes → ((object : ℕ) → IsLooping nodes object → ⊥) → (k : ℕ) (node : FlatNode) → slice_get nodes k ≡ Some node → rank_among nodes node < length nodes
+pub rank-low : (objects : ℕ) (nodes : List FlatNode) → AreAmong objects nodes → ((object : ℕ) → IsLooping nodes object → ⊥) → (k : ℕ) (node : FlatNode) → slice_get nodes k ≡ Some node →
+    rank_among nodes node < length nodes
 rank-low objects nodes among acyclic = rank-below objects nodes (record { none = none-found objects nodes acyclic; among = inputs-of objects nodes among })

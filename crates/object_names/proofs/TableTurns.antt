@@ -32,12 +32,14 @@ memories-over (GatePart name kind drives path terminals ∷ xs) ys = memories-ov
 memories-over (ProcessPart process ∷ xs) ys = memories-over xs ys
 memories-over (InstancePart ∷ xs) ys = memories-over xs ys
 
-pub joined-over : (names : NameTables) (xs ys : List Part) → flat_map (joined_by names) (signals_of (xs ++ ys)) ≡ flat_map (joined_by names) (signals_of xs) ++ flat_map (joined_by names) (signals_of ys)
+pub joined-over : (names : NameTables) (xs ys : List Part) → flat_map (joined_by names) (signals_of (xs ++ ys)) ≡ flat_map (joined_by names) (signals_of xs)
+    ++ flat_map (joined_by names) (signals_of ys)
 joined-over names xs ys = ap (flat_map (joined_by names)) (signals-append xs ys) ∙ flat_map-append (joined_by names) (signals_of xs) (signals_of ys)
 
 -- Pieces
 
-pieces-push : (n : ℕ) (objects : List plain.HeldObject) (held : plain.HeldObject) → all_pieces n (objects ++ held ∷ []) ≡ all_pieces n objects ++ (held.holder, record { object = n + length objects; width = held.object.width }) ∷ []
+pieces-push : (n : ℕ) (objects : List plain.HeldObject) (held : plain.HeldObject) → all_pieces n (objects ++ held ∷ []) ≡ all_pieces n objects
+    ++ (held.holder, record { object = n + length objects; width = held.object.width }) ∷ []
 pieces-push n [] held =
     let at : n ≡ n + 0 = omega arith in
     ap (λ k. (held.holder, record { object = k; width = held.object.width }) ∷ []) at
@@ -47,7 +49,8 @@ pieces-push n (first ∷ objects) held =
     (pieces-push (n + 1) objects held ∙ ap (λ k. all_pieces (n + 1) objects ++ (held.holder, record { object = k; width = held.object.width }) ∷ []) on)
 
 -- one object more
-pub pieces-turn : (xs : List HeldObject) (i : ℕ) (x : HeldObject) (old more : List (Keyed PieceRef)) (k : Keyed PieceRef) → i < length xs → x ≡ get_or xs i x → pieces_listed old ≡ all_pieces 0 (held_objects (take i xs))
+pub pieces-turn : (xs : List HeldObject) (i : ℕ) (x : HeldObject) (old more : List (Keyed PieceRef)) (k : Keyed PieceRef) → i < length xs → x ≡ get_or xs i x →
+    pieces_listed old ≡ all_pieces 0 (held_objects (take i xs))
     → more ≡ old ++ k ∷ [] → k.key.now ≡ x.object.name → object_number k.item.object ≡ i → k.item.width ≡ x.object.width → pieces_listed more ≡ all_pieces 0 (held_objects (take (i + 1) xs))
 pieces-turn xs i x old more k low is had pushed key number width =
     let long : length (held_objects (take i xs)) ≡ i = length-map (take i xs) held_of ∙ length-take-le i xs (omega arith) in

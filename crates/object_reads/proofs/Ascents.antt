@@ -1,5 +1,6 @@
 -- Numbers in ascending order, those among some in particular.
-use Rattle.std.proofs.Common.{◌≡◌, ℕ, zero, suc, ◌+◌, ◌-◌, ◌<◌, ◌≤◌, Bool, true, false, List, [], ◌∷◌, ◌++◌, length, map, get_or, drop, append-nil, refl, sym, ap, ap₂, ◌∙◌, subst, arith, inl, inr, ◌⊎◌}
+use Rattle.std.proofs.Common.{◌≡◌, ℕ, zero, suc, ◌+◌, ◌-◌, ◌<◌, ◌≤◌, Bool, true, false, List, [], ◌∷◌, ◌++◌, length, map, get_or, drop, append-nil, refl, sym, ap, ap₂, ◌∙◌, subst, arith, inl, inr}
+use Rattle.std.proofs.Common.{◌⊎◌}
 use Rattle.std.specs.Prelude.{nat_eq, ◌||◌, Contains, filter, cond}
 use Rattle.std.specs.List.Sorted.{IsNonDecreasing, IsPermutation}
 use Rattle.std.proofs.lemmas.List.Sorted.{Contains-permutation, IsPermutation-sym}
@@ -38,7 +39,8 @@ has-either-order old new n moved = both-ways (has old n) (has new n) (has-moved 
 pub filter-alike : (p q : ℕ → Bool) (start count : ℕ) → ((n : ℕ) → start ≤ n → n < start + count → p n ≡ q n) → filter p (up_from start count) ≡ filter q (up_from start count)
 filter-alike p q start zero same = refl
 filter-alike p q start (suc count) same =
-    ap₂ (λ (b : Bool) (l : List ℕ). cond b (start ∷ l) l) (same start (omega arith) (omega arith)) (filter-alike p q (start + 1) count (λ n low high. same n (omega (arith, low)) (omega (arith, high))))
+    ap₂ (λ (b : Bool) (l : List ℕ). cond b (start ∷ l) l) (same start (omega arith) (omega arith))
+    (filter-alike p q (start + 1) count (λ n low high. same n (omega (arith, low)) (omega (arith, high))))
 
 -- the least number that is among some is found first
 pub filter-least : (p : ℕ → Bool) (start count least : ℕ) → start ≤ least → least < start + count → p least ≡ true → ((n : ℕ) → start ≤ n → n < least → p n ≡ false) →
@@ -97,7 +99,8 @@ step-found numbers i x next count low is rises past among =
     let rest = drop (i + 1) numbers in
     let stands = here numbers i x low is in
     let whole : next + (count - next) ≡ count = omega (arith, past, among) in
-    filter-least (has (drop i numbers)) next (count - next) x past (omega (arith, whole, among)) (ap (λ l. has l x) stands ∙ has-here x rest) (λ n l h. not-before numbers i n rises low (omega (arith, is, h)))
+    filter-least (has (drop i numbers)) next (count - next) x past (omega (arith, whole, among)) (ap (λ l. has l x) stands ∙ has-here x rest)
+    (λ n l h. not-before numbers i n rises low (omega (arith, is, h)))
     ∙ ap (λ l. x ∷ l) (ap (λ n. filter (has (drop i numbers)) (up_from (x + 1) (n - (x + 1)))) whole
     ∙ filter-alike (has (drop i numbers)) (has rest) (x + 1) (count - (x + 1)) (λ n l h. ap (λ l. has l n) stands ∙ has-other x n rest (λ e. absurd (omega (arith, e, l)))))
 

@@ -11,11 +11,13 @@ joined_of width signed own = record { width = width; signed = signed; own = own 
 one-more : (n : ℕ) → 1 * n ≡ n
 one-more n = omega arith
 
-replicated : (parts : Expressions) (total width count : ℕ) (signed : Bool) → HaveWidth parts total → signed ≡ false → HasRoom width (count * total) → HasShape (Replication width signed count parts) (joined_of width signed (count * total))
+replicated : (parts : Expressions) (total width count : ℕ) (signed : Bool) → HaveWidth parts total → signed ≡ false → HasRoom width (count * total) →
+    HasShape (Replication width signed count parts) (joined_of width signed (count * total))
 replicated parts total width count signed have plain room =
     record { sized = (subst (λ n. HasRoom width (count * n)) (sym have.own) room, plain, have.sized); width = refl; sign = refl; own = ap (λ n. count * n) have.own }
 
-concatenated : (parts : Expressions) (total width : ℕ) (signed : Bool) → HaveWidth parts total → signed ≡ false → HasRoom width (1 * total) → HasShape (Concatenation width signed parts) (joined_of width signed (1 * total))
+concatenated : (parts : Expressions) (total width : ℕ) (signed : Bool) → HaveWidth parts total → signed ≡ false → HasRoom width (1 * total) →
+    HasShape (Concatenation width signed parts) (joined_of width signed (1 * total))
 concatenated parts total width signed have plain room =
     record { sized = (subst (HasRoom width) (one-more total ∙ sym have.own) room, plain, have.sized); width = refl; sign = refl; own = have.own ∙ sym (one-more total) }
 

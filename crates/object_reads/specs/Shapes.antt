@@ -2,7 +2,8 @@
 use Rattle.std.specs.Prelude.{◌≡◌, ℕ, Bool, false, max}
 use Rattle.v_design.specs.Trees.{Expression, Expressions}
 use Rattle.v_design.specs.Expressions.{width_of, sign_of}
-use Rattle.v_design.specs.Sized.{IsSized, AreSizedAlone, own_width, own_width_of_parts, UnarySizing, OperandWithWhole, OperandAlone, BinarySizing, BothWithWhole, LeftWithWhole, BothTogether, EachAlone}
+use Rattle.v_design.specs.Sized.{IsSized, AreSizedAlone, own_width, own_width_of_parts, UnarySizing, OperandWithWhole, OperandAlone, BinarySizing, BothWithWhole, LeftWithWhole, BothTogether}
+use Rattle.v_design.specs.Sized.{EachAlone}
 use Rattle.object_reads.specs.declared.shape.Shape.{Shape}
 
 -- an expression is sized, and has this width, this sign, and this width where it is sized alone

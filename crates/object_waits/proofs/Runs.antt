@@ -1,5 +1,6 @@
 -- The bits of a piece that are in a run of bits are where two intervals overlap.
-use Rattle.std.proofs.Common.{◌≡◌, ℕ, zero, suc, ◌+◌, ◌-◌, ◌<◌, ◌≤◌, min, max, Bool, true, false, ◌&&◌, List, [], ◌∷◌, ◌++◌, map, replicate, Option, Some, None, nat_le, refl, sym, ap, ap₂, ◌∙◌, inl, inr, arith}
+use Rattle.std.proofs.Common.{◌≡◌, ℕ, zero, suc, ◌+◌, ◌-◌, ◌<◌, ◌≤◌, min, max, Bool, true, false, ◌&&◌, List, [], ◌∷◌, ◌++◌, map, replicate, Option, Some, None, nat_le, refl, sym, ap, ap₂, ◌∙◌, inl}
+use Rattle.std.proofs.Common.{inr, arith}
 use Rattle.std.specs.Prelude.{nat_eq, nat_lt, if◌then◌else◌}
 use Rattle.std.proofs.lemmas.Bool.{cases_Bool, eqb-true, le-leb}
 use Rattle.std.proofs.lemmas.Bool.Decides.{leb_tells}
@@ -53,13 +54,16 @@ past-it low high place h =
       | inr past ↦ right-out (nat_le low place) (nat_lt place high) past.0
     ]
 
-first-bit : (low high place : ℕ) (places : List (Option ℕ)) → (nat_le low place && nat_lt place high) ≡ true → run_within low high (Some place ∷ places) None ≡ run_within low high places (bits (place - low) 1)
+first-bit : (low high place : ℕ) (places : List (Option ℕ)) → (nat_le low place && nat_lt place high) ≡ true →
+    run_within low high (Some place ∷ places) None ≡ run_within low high places (bits (place - low) 1)
 first-bit low high place places e = rw e
 
-more-bit : (low high place : ℕ) (places : List (Option ℕ)) (l w : ℕ) → (nat_le low place && nat_lt place high) ≡ true → run_within low high (Some place ∷ places) (bits l w) ≡ run_within low high places (bits l (w + 1))
+more-bit : (low high place : ℕ) (places : List (Option ℕ)) (l w : ℕ) → (nat_le low place && nat_lt place high) ≡ true →
+    run_within low high (Some place ∷ places) (bits l w) ≡ run_within low high places (bits l (w + 1))
 more-bit low high place places l w e = rw e
 
-no-bit : (low high place : ℕ) (places : List (Option ℕ)) (found : Option Entry) → (nat_le low place && nat_lt place high) ≡ false → run_within low high (Some place ∷ places) found ≡ run_within low high places found
+no-bit : (low high place : ℕ) (places : List (Option ℕ)) (found : Option Entry) → (nat_le low place && nat_lt place high) ≡ false →
+    run_within low high (Some place ∷ places) found ≡ run_within low high places found
 no-bit low high place places found e = rw e
 
 -- Runs
@@ -89,7 +93,8 @@ run-on low high start (suc count) l w h k =
     ]
 
 -- a run that has bits of the piece
-pub run-some : (low high start count : ℕ) → max low start < min high (start + count) → run_within low high (run start count) None ≡ bits (max low start - low) (min high (start + count) - max low start)
+pub run-some : (low high start count : ℕ) → max low start < min high (start + count) → run_within low high (run start count) None ≡ bits (max low start - low)
+    (min high (start + count) - max low start)
 run-some low high start zero h = absurd (omega (arith, h))
 run-some low high start (suc count) h =
     elim (leb_tells low start) [
@@ -169,7 +174,8 @@ pub entries_same : (edge : Edge) (below start width above offset : ℕ) (pieces 
     entries_on edge (places_by_edge edge (run_places below start width above)) offset pieces ≡ entries_on edge (run start (width_by_edge edge below width)) offset pieces
 entries_same edge below start width above offset [] = refl
 entries_same edge below start width above offset (piece ∷ pieces) =
-    ap₂ (λ found rest. entry_on piece edge found ++ rest) (edge-same edge offset (offset + piece.width) below start width above) (entries_same edge below start width above (offset + piece.width) pieces)
+    ap₂ (λ found rest. entry_on piece edge found ++ rest) (edge-same edge offset (offset + piece.width) below start width above)
+    (entries_same edge below start width above (offset + piece.width) pieces)
 
 -- One piece
 

@@ -1,7 +1,8 @@
 -- The objects of a select in text order are those of the pieces that it reads.
 use Rattle.std.proofs.Common.{◌≡◌, ℕ, Bool, true, false, ◌&&◌, List, [], ◌∷◌, ◌++◌, refl, sym, ap, ap₂, ◌∙◌}
 use Rattle.std.proofs.lemmas.List.{map-append, append_assoc}
-use Rattle.v_design.specs.Trees.{Piece, Vector, Expression, Constant, Name, BitSelect, PartSelect, WordSelect, Unary, Binary, Conditional, Concatenation, Replication, Expressions, no_expressions, more_expressions}
+use Rattle.v_design.specs.Trees.{Piece, Vector, Expression, Constant, Name, BitSelect, PartSelect, WordSelect, Unary, Binary, Conditional, Concatenation, Replication, Expressions, no_expressions}
+use Rattle.v_design.specs.Trees.{more_expressions}
 use Rattle.v_design.specs.Expressions.{is_constant, are_constant, pieces_read, parts_read, piece_objects, objects_of, slice_pieces, whole_slices, bit_slices, index_number, no_values}
 use Rattle.v_elab.specs.Statements.{objects_in_text, part_objects_in_text}
 
@@ -62,7 +63,8 @@ mutual
       none-more (objects_in_text part) (part_objects_in_text rest) (constant-text part hs.0) (constants-text rest hs.1)
 
 -- a bit-select with a constant index
-pub bit_constant : (width : ℕ) (signed : Bool) (v : Vector) (index : Expression) → is_constant index ≡ true → objects_of (BitSelect width signed v index) ≡ objects_in_text (BitSelect width signed v index)
+pub bit_constant : (width : ℕ) (signed : Bool) (v : Vector) (index : Expression) → is_constant index ≡ true →
+    objects_of (BitSelect width signed v index) ≡ objects_in_text (BitSelect width signed v index)
 bit_constant width signed v index h =
     let own = slice_pieces (bit_slices (is_constant index) v (index_number no_values index)) in
     map-append (λ (piece : Piece). piece.object) own (pieces_read index)
@@ -75,13 +77,15 @@ whole-pieces [] = refl
 whole-pieces (piece ∷ pieces) = ap (λ l. piece ∷ l) (whole-pieces pieces)
 
 -- one with another index
-pub bit_any : (width : ℕ) (signed : Bool) (v : Vector) (index : Expression) → is_constant index ≡ false → piece_objects v.pieces ++ objects_in_text index ≡ objects_in_text (BitSelect width signed v index)
+pub bit_any : (width : ℕ) (signed : Bool) (v : Vector) (index : Expression) → is_constant index ≡ false →
+    piece_objects v.pieces ++ objects_in_text index ≡ objects_in_text (BitSelect width signed v index)
 bit_any width signed v index h =
     ap (λ l. piece_objects l ++ objects_in_text index) (sym (whole-pieces v.pieces))
     ∙ ap (λ b. piece_objects (slice_pieces (bit_slices b v (index_number no_values index))) ++ objects_in_text index) (sym h)
 
 -- what is added for one, to the objects so far
-pub added-constant : (e : Expression) (width : ℕ) (signed : Bool) (v : Vector) (index : Expression) (before after : List ℕ) → e ≡ BitSelect width signed v index → is_constant index ≡ true → after ≡ before ++ objects_of e →
+pub added-constant : (e : Expression) (width : ℕ) (signed : Bool) (v : Vector) (index : Expression) (before after : List ℕ) → e ≡ BitSelect width signed v index → is_constant index ≡ true →
+    after ≡ before ++ objects_of e →
     after ≡ before ++ objects_in_text e
 added-constant e width signed v index before after is h had =
     had ∙ ap (λ l. before ++ l) (ap objects_of is ∙ bit_constant width signed v index h ∙ sym (ap objects_in_text is))

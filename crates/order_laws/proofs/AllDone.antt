@@ -7,7 +7,8 @@ use Rattle.vf_base.specs.Lists.{has, without_repeats}
 use Rattle.four_value.specs.Values.{LogicValue, same_value}
 use Rattle.v_design.specs.Designs.{FlatNode, Machine}
 use Rattle.v_design.specs.Assignments.{value_at}
-use Rattle.v_design.specs.States.{State, ProcessState, NodeState, Event, Step, LaneStep, Evaluation, NetUpdate, found_or, idle_process, is_process_event, process_at, is_ready, is_any, is_quiescent, has_event, has_work, some_in}
+use Rattle.v_design.specs.States.{State, ProcessState, NodeState, Event, Step, LaneStep, Evaluation, NetUpdate, found_or, idle_process, is_process_event, process_at, is_ready, is_any, is_quiescent}
+use Rattle.v_design.specs.States.{has_event, has_work, some_in}
 use Rattle.v_design.specs.Runs.{happened}
 use Rattle.v_design.specs.Paths.{one_if, path_weight, paths_through, paths, net_pieces}
 use Rattle.v_design.specs.Laws.{IsStateOf}
@@ -45,7 +46,8 @@ far : (machine : Machine) (state : State) (events : List Event) (k : ℕ) → le
 far machine state events k h = at_past machine state events k (none_past events k h)
 
 -- a part that nothing touches from a place on is as at the end
-pub last-part : {X : Type 0} (touches : ℕ → Bool) (content : ℕ → X) (end place : ℕ) → Stays touches content → ((k : ℕ) → end ≤ k → content k ≡ content end) → ((k : ℕ) → place ≤ k → touches k ≡ false) → content place ≡ content end
+pub last-part : {X : Type 0} (touches : ℕ → Bool) (content : ℕ → X) (end place : ℕ) → Stays touches content → ((k : ℕ) → end ≤ k → content k ≡ content end) →
+    ((k : ℕ) → place ≤ k → touches k ≡ false) → content place ≡ content end
 last-part touches content end place stays past none = elim (le_or place end) [
   | inl le ↦ sym (stays_between touches content stays place end le (λ k a b. none k a))
   | inr gt ↦ past place (omega (arith, gt))
@@ -98,7 +100,8 @@ module _ (machine : Machine) (state : State) (first events : List Event) (matche
           | inr f ↦ f
         ]) in
         true-false (is_ready (activity_at (state_at machine state first i) p)) (possible_at machine state first i (Step p) r.run.possible e)
-        (ap (λ (x : ProcessPart). is_ready x.activity) same ∙ ap (λ (x : ProcessPart). is_ready x.activity) (sym (c.processes p).same) ∙ ap (λ s. is_ready (activity_at s p)) (clean.at_end machine state events) ∙ (ended_process (happened machine state events) p ends).0))
+        (ap (λ (x : ProcessPart). is_ready x.activity) same ∙ ap (λ (x : ProcessPart). is_ready x.activity) (sym (c.processes p).same)
+        ∙ ap (λ s. is_ready (activity_at s p)) (clean.at_end machine state events) ∙ (ended_process (happened machine state events) p ends).0))
   ]
 
   lane_done : (i p : ℕ) → slice_get first i ≡ Some (LaneStep p) → ((k : ℕ) → k < i → lane_there first p k ≡ true → has done k ≡ true) → has done i ≡ true
@@ -112,7 +115,8 @@ module _ (machine : Machine) (state : State) (first events : List Event) (matche
           | inr f ↦ f
         ]) in
         true-false (is_any (process_at (state_at machine state first i) p).lane) (possible_at machine state first i (LaneStep p) r.run.possible e)
-        (ap (λ (x : LanePart). is_any x.lane) same ∙ ap (λ (x : LanePart). is_any x.lane) (sym (c.lanes p).same) ∙ ap (λ s. is_any (process_at s p).lane) (clean.at_end machine state events) ∙ (ended_process (happened machine state events) p ends).1))
+        (ap (λ (x : LanePart). is_any x.lane) same ∙ ap (λ (x : LanePart). is_any x.lane) (sym (c.lanes p).same) ∙ ap (λ s. is_any (process_at s p).lane) (clean.at_end machine state events)
+        ∙ (ended_process (happened machine state events) p ends).1))
   ]
 
   few_once : (x : ℕ) → reached machine.design (run_changes machine state first) x ≤ 1 → change_count machine state first x ≤ 1
@@ -122,8 +126,10 @@ module _ (machine : Machine) (state : State) (first events : List Event) (matche
   lone x k j h t u = elim (decided (nat_eq k j)) [
     | inl same ↦ eqb-true k j same
     | inr apart ↦ elim (below_other k j (other_number k j apart)) [
-      | inl low ↦ (let two : 2 ≤ change_count machine state first x = changes_twice machine state first x k j low u t in let one : change_count machine state first x ≤ 1 = few_once x h in absurd (omega (arith, two, one)))
-      | inr high ↦ (let two : 2 ≤ change_count machine state first x = changes_twice machine state first x j k high t u in let one : change_count machine state first x ≤ 1 = few_once x h in absurd (omega (arith, two, one)))
+      | inl low ↦ (let two : 2 ≤ change_count machine state first x = changes_twice machine state first x k j low u t in let one : change_count machine state first x ≤ 1 = few_once x h in
+          absurd (omega (arith, two, one)))
+      | inr high ↦ (let two : 2 ≤ change_count machine state first x = changes_twice machine state first x j k high t u in let one : change_count machine state first x ≤ 1 = few_once x h in
+          absurd (omega (arith, two, one)))
     ]
   ]
 
@@ -144,7 +150,8 @@ module _ (machine : Machine) (state : State) (first events : List Event) (matche
   ]
 
   -- each update of a clean net is done
-  update_done : (i m object : ℕ) (node : FlatNode) → slice_get first i ≡ Some (NetUpdate m) → slice_get machine.design.nodes m ≡ Some node → has node.outputs object ≡ true → wild_in machine state first object ≡ false →
+  update_done : (i m object : ℕ) (node : FlatNode) → slice_get first i ≡ Some (NetUpdate m) → slice_get machine.design.nodes m ≡ Some node → has node.outputs object ≡ true →
+      wild_in machine state first object ≡ false →
       changes_there machine state first object i ≡ true → ((k x : ℕ) → k < i → wild_in machine state first x ≡ false → changes_there machine state first x k ≡ true → has done k ≡ true) →
       ((x : ℕ) → reached machine.design (run_changes machine state (first_of (length events) events)) x ≤ reached machine.design (run_changes machine state first) x) → has done i ≡ true
   update_done i m object node e found out tame t before below = elim (le_or (c.values object tame).place i) [
@@ -158,7 +165,8 @@ module _ (machine : Machine) (state : State) (first events : List Event) (matche
         (subst (λ s. Fit machine s.values) (clean.at_end machine state events) (follows_at machine state events (length events) run).fit) inputs
         ∙ sym (phase_ends_settled machine state events run.rules (rest_on_inputs machine run.rules) run.begins (record { each_possible = run.possible; ends = ends }) m node found)) object out
         ∙ sym (ap (λ s. value_at s.values object) (clean.at_end machine state events)) ∙ (c.values object tame).same
-        ∙ sym (stays_between (changes_there machine state first object) (λ l. value_at (state_at machine state first l).values object) (value_stays machine state first object) (c.values object tame).place i le
+        ∙ sym (stays_between (changes_there machine state first object) (λ l. value_at (state_at machine state first l).values object) (value_stays machine state first object)
+        (c.values object tame).place i le
         (λ k a b. elim (decided (changes_there machine state first object k)) [
           | inl u ↦ (let z : k ≡ i = lone object k i few t u in absurd (omega (arith, z, b)))
           | inr f ↦ f
@@ -218,7 +226,8 @@ module _ (machine : Machine) (state : State) (first events : List Event) (matche
   told-lane p (Some (Evaluation m)) k e h = cc
   told-lane p (Some (NetUpdate m)) k e h = cc
 
-  value_told : (i object : ℕ) → ((k : ℕ) → k < i → Told k) → wild_in machine state first object ≡ false → changes_there machine state first object i ≡ true → (event : Event) → slice_get first i ≡ Some event → has done i ≡ true
+  value_told : (i object : ℕ) → ((k : ℕ) → k < i → Told k) → wild_in machine state first object ≡ false → changes_there machine state first object i ≡ true → (event : Event) →
+      slice_get first i ≡ Some event → has done i ≡ true
   value_told i object before tame t (Step p) e = step_done i p e (λ k b u. (before k b).0 p u)
   value_told i object before tame t (LaneStep p) e = lane_done i p e (λ k b u. (before k b).1 p u)
   value_told i object before tame t (Evaluation m) e =
@@ -226,7 +235,8 @@ module _ (machine : Machine) (state : State) (first events : List Event) (matche
       (unchanged_in (state_at machine state first i) (state_at machine state first (suc i)) object
       (ap (λ s. value_at s.values object) (at_next machine state first i (Evaluation m) e) ∙ ap (λ vs. value_at vs object) (evaluation-value machine m (state_at machine state first i))))
   value_told i object before tame t (NetUpdate m) e =
-      let d = changed_output machine m (state_at machine state first i) object (ap (λ s. changed_in (state_at machine state first i) s object) (sym (at_next machine state first i (NetUpdate m) e)) ∙ t) in
+      let d = changed_output machine m (state_at machine state first i) object (ap (λ s. changed_in (state_at machine state first i) s object) (sym (at_next machine state first i (NetUpdate m) e))
+      ∙ t) in
       update_done i m object d.0 e d.1 d.2 tame t (λ k x b tx u. (before k b).2 x tx u) all-below
 
   process_told : (i p : ℕ) → ((k : ℕ) → k < i → Told k) → process_there machine state first p i ≡ true → has done i ≡ true
@@ -235,7 +245,8 @@ module _ (machine : Machine) (state : State) (first events : List Event) (matche
       elim h.2 [
         | inl own ↦ step_done i p (h.1 ∙ ap Some own) (λ k b u. (before k b).0 p u)
         | inr wakes ↦
-            (let m = some_entry-true (changed_entry (state_at machine state first i) (state_at machine state first (suc i))) (waiting_entries (activity_at (state_at machine state first i) p)) wakes.1 in
+            (let m = some_entry-true (changed_entry (state_at machine state first i) (state_at machine state first (suc i)))
+            (waiting_entries (activity_at (state_at machine state first i) p)) wakes.1 in
             value_told i m.0.object before (waits_tame machine state first i p m.0 r m.1) (entry_changed (state_at machine state first i) (state_at machine state first (suc i)) m.0 m.2) h.0 h.1)
       ]
 
@@ -266,13 +277,15 @@ module _ (machine : Machine) (state : State) (first events : List Event) (matche
       ap (λ es. reached machine.design (run_changes machine state es) x) (sym (first_of-all events)) ∙ c.reach x
       ∙ done_all machine state done 0 first x (λ k event e. go k event e (is_process_event event) refl)
     where
-      go : (k : ℕ) (event : Event) → slice_get first k ≡ Some event → (b : Bool) → is_process_event event ≡ b → (has done (0 + k) ≡ true) ⊎ (reached machine.design (event_changes machine (state_at machine state first k) event) x ≡ 0)
+      go : (k : ℕ) (event : Event) → slice_get first k ≡ Some event → (b : Bool) → is_process_event event ≡ b →
+          (has done (0 + k) ≡ true) ⊎ (reached machine.design (event_changes machine (state_at machine state first k) event) x ≡ 0)
       go k event e true h = inl (ap (has done) (let z : 0 + k ≡ k = omega arith in z) ∙ steps_done k event e h)
       go k event e false h = inr (node_changes machine (state_at machine state first k) event x h)
 
   -- Both end alike
 
-  pub past-place : {X : Type 0} (touches : ℕ → Bool) (content : ℕ → X) (x : X) → (cell : Cell touches content done x) → ((k : ℕ) → touches k ≡ true → has done k ≡ true) → (k : ℕ) → cell.place ≤ k → touches k ≡ false
+  pub past-place : {X : Type 0} (touches : ℕ → Bool) (content : ℕ → X) (x : X) → (cell : Cell touches content done x) → ((k : ℕ) → touches k ≡ true → has done k ≡ true) → (k : ℕ) → cell.place ≤ k →
+      touches k ≡ false
   past-place touches content x cell h k le = elim (decided (touches k)) [
     | inl t ↦ (let z : k < cell.place = cell.before k t (h k t) in absurd (omega (arith, z, le)))
     | inr f ↦ f
@@ -289,10 +302,12 @@ module _ (machine : Machine) (state : State) (first events : List Event) (matche
       ap (λ s. value_at s.values x) (sym (clean.at_end machine state events)) ∙ (c.values x tame).same
       ∙ last-part (changes_there machine state first x) (λ k. value_at (state_at machine state first k).values x) (length first) (c.values x tame).place (value_stays machine state first x)
       (λ k h. ap (λ s. value_at s.values x) (last-state k h))
-      (past-place (changes_there machine state first x) (λ k. value_at (state_at machine state first k).values x) (value_at (state_at machine state events (length events)).values x) (c.values x tame) (λ k t. (all_told k).2 x tame t))
+      (past-place (changes_there machine state first x) (λ k. value_at (state_at machine state first k).values x) (value_at (state_at machine state events (length events)).values x)
+      (c.values x tame) (λ k t. (all_told k).2 x tame t))
       ∙ ap (λ s. value_at s.values x) (clean.at_end machine state first)
 
-  process-last : (p : ℕ) → (activity_at (happened machine state events) p ≡ activity_at (happened machine state first) p) × ((process_at (happened machine state events) p).later ≡ (process_at (happened machine state first) p).later)
+  process-last : (p : ℕ) → (activity_at (happened machine state events) p ≡ activity_at (happened machine state first) p)
+      × ((process_at (happened machine state events) p).later ≡ (process_at (happened machine state first) p).later)
   process-last p =
       let whole : process_part machine state first p (c.processes p).place ≡ process_part machine state first p (length first) =
       last-part (process_there machine state first p) (process_part machine state first p) (length first) (c.processes p).place (process_stays machine state first p r.run)
@@ -302,8 +317,10 @@ module _ (machine : Machine) (state : State) (first events : List Event) (matche
         cause = cause_of machine (new_notes machine [] state (last-cause p k h i)) (Step p);
       })
       (past-place (process_there machine state first p) (process_part machine state first p) _ (c.processes p) (λ k t. (all_told k).0 p t)) in (
-        ap (λ s. activity_at s p) (sym (clean.at_end machine state events)) ∙ ap (λ (x : ProcessPart). x.activity) ((c.processes p).same ∙ whole) ∙ ap (λ s. activity_at s p) (clean.at_end machine state first),
-        ap (λ s. (process_at s p).later) (sym (clean.at_end machine state events)) ∙ ap (λ (x : ProcessPart). x.later) ((c.processes p).same ∙ whole) ∙ ap (λ s. (process_at s p).later) (clean.at_end machine state first),
+        ap (λ s. activity_at s p) (sym (clean.at_end machine state events)) ∙ ap (λ (x : ProcessPart). x.activity) ((c.processes p).same ∙ whole)
+            ∙ ap (λ s. activity_at s p) (clean.at_end machine state first),
+        ap (λ s. (process_at s p).later) (sym (clean.at_end machine state events)) ∙ ap (λ (x : ProcessPart). x.later) ((c.processes p).same ∙ whole)
+            ∙ ap (λ s. (process_at s p).later) (clean.at_end machine state first),
       )
 
   lane-last : (p : ℕ) → (process_at (happened machine state events) p).lane ≡ (process_at (happened machine state first) p).lane
@@ -312,7 +329,8 @@ module _ (machine : Machine) (state : State) (first events : List Event) (matche
       last-part (lane_there first p) (lane_part machine state first p) (length first) (c.lanes p).place (lane_stays machine state first p)
       (λ k h i. record { lane = (process_at (last-state k h i) p).lane; cause = cause_of machine (new_notes machine [] state (last-cause p k h i)) (LaneStep p) })
       (past-place (lane_there first p) (lane_part machine state first p) _ (c.lanes p) (λ k t. (all_told k).1 p t)) in
-      ap (λ s. (process_at s p).lane) (sym (clean.at_end machine state events)) ∙ ap (λ (x : LanePart). x.lane) ((c.lanes p).same ∙ whole) ∙ ap (λ s. (process_at s p).lane) (clean.at_end machine state first)
+      ap (λ s. (process_at s p).lane) (sym (clean.at_end machine state events)) ∙ ap (λ (x : LanePart). x.lane) ((c.lanes p).same ∙ whole)
+      ∙ ap (λ s. (process_at s p).lane) (clean.at_end machine state first)
 
   -- an object that no node writes isn't wild
   undriven-tame : (x : ℕ) → ((number : ℕ) (node : FlatNode) → slice_get machine.design.nodes number ≡ Some node → has node.outputs x ≡ false) → wild_in machine state first x ≡ false
@@ -327,7 +345,8 @@ module _ (machine : Machine) (state : State) (first events : List Event) (matche
     where
       no-path : (source : ℕ) → nat_eq source x ≡ false → paths machine.design source x ≡ 0
       no-path source d =
-          let s : paths machine.design source x ≡ one_if (nat_eq source x) + sum_by (paths_through (paths machine.design source) x) machine.design.nodes = paths-step machine.design run.rules.ranked source x in
+          let s : paths machine.design source x ≡ one_if (nat_eq source x) + sum_by (paths_through (paths machine.design source) x) machine.design.nodes =
+          paths-step machine.design run.rules.ranked source x in
           let a : one_if (nat_eq source x) ≡ 0 = ap one_if d in
           let b : sum_by (paths_through (paths machine.design source) x) machine.design.nodes ≡ 0 =
           sum-nothing (paths_through (paths machine.design source) x) machine.design.nodes
@@ -357,7 +376,8 @@ module _ (machine : Machine) (state : State) (first events : List Event) (matche
   pub same_end : happened machine state events ≡ happened machine state first
   same_end =
       same_state (happened machine state events) (happened machine state first)
-      (ap (λ s. s.time) (sym (clean.at_end machine state events)) ∙ time_at machine state events (length events) ∙ sym (time_at machine state first (length first)) ∙ ap (λ s. s.time) (clean.at_end machine state first))
+      (ap (λ s. s.time) (sym (clean.at_end machine state events)) ∙ time_at machine state events (length events) ∙ sym (time_at machine state first (length first))
+      ∙ ap (λ s. s.time) (clean.at_end machine state first))
       (values_equal (happened machine state events).values (happened machine state first).values (e-state.values ∙ sym f-state.values)
       (settled_determined machine (happened machine state events).values (happened machine state first).values run.rules (rest_on_inputs machine run.rules)
       (subst (λ s. Fit machine s.values) (clean.at_end machine state events) (follows_at machine state events (length events) run).fit)
@@ -365,6 +385,7 @@ module _ (machine : Machine) (state : State) (first events : List Event) (matche
       (phase_ends_settled machine state events run.rules (rest_on_inputs machine run.rules) run.begins (record { each_possible = run.possible; ends = ends }))
       (phase_ends_settled machine state first run.rules (rest_on_inputs machine run.rules) run.begins (record { each_possible = r.run.possible; ends = r.ends }))
       (λ x none. value-last x (undriven-tame x none))))
-      (idle-same (happened machine state events).nodes (happened machine state first).nodes (e-state.nodes ∙ sym f-state.nodes) (both-ended (happened machine state events) ends) (both-ended (happened machine state first) r.ends))
+      (idle-same (happened machine state events).nodes (happened machine state first).nodes (e-state.nodes ∙ sym f-state.nodes) (both-ended (happened machine state events) ends)
+      (both-ended (happened machine state first) r.ends))
       (processes-same (happened machine state events).processes (happened machine state first).processes (e-state.processes ∙ sym f-state.processes)
       (λ p i. record { activity = (process-last p).0 i; later = (process-last p).1 i; lane = lane-last p i }))

@@ -10,8 +10,10 @@ use Rattle.v_design.specs.Assignments.{value_at}
 use Rattle.v_design.specs.Paths.{paths, net_pieces, class_of_paths, is_wild_class, is_wild}
 use Rattle.v_design.specs.States.{State, ProcessState, Event, Step, LaneStep, Evaluation, NetUpdate, after, found_or, idle_process, is_process_event, process_at, some_entry, entry_matches}
 use Rattle.v_design.specs.Runs.{IsPhase}
-use Rattle.v_design.specs.Accesses.{AccessAct, Reading, Writing, Awaiting, Ending, Holding, Settling, ObjectAccess, waiting_entries, waiting_line, ended_of, accesses_of, net_write, some_change_matches, net_ended_by, net_accesses, held_by, held_accesses}
-use Rattle.v_design.specs.Logs.{LoggedEvent, LoggedPhase, PhaseAccess, change_of, phase_changes, is_write, counts, settles_of, counted_accesses, event_accesses, log_accesses, causes_from, cause_at, orders, acts_clash, orders_others, access_orders, conflict}
+use Rattle.v_design.specs.Accesses.{AccessAct, Reading, Writing, Awaiting, Ending, Holding, Settling, ObjectAccess, waiting_entries, waiting_line, ended_of, accesses_of, net_write}
+use Rattle.v_design.specs.Accesses.{some_change_matches, net_ended_by, net_accesses, held_by, held_accesses}
+use Rattle.v_design.specs.Logs.{LoggedEvent, LoggedPhase, PhaseAccess, change_of, phase_changes, is_write, counts, settles_of, counted_accesses, event_accesses, log_accesses, causes_from, cause_at}
+use Rattle.v_design.specs.Logs.{orders, acts_clash, orders_others, access_orders, conflict}
 use Rattle.v_design.specs.PhaseLogs.{NotedEvent, log_of}
 use Rattle.v_design.specs.Laws.{RunsBeside, HasNoConflict}
 use Rattle.order_laws.specs.EveryRun.{PhasesStayFree, FirstOrder, AnyOrder}
@@ -40,7 +42,8 @@ in_events-back : (design : FlatDesign) (changes : List ℕ) (start : ℕ) (event
     (n : ℕ) × (x : ObjectAccess) × (u ≡ tagged (start + n) x) × In x (counted_accesses design changes (found_or [] (slice_get (map (λ (event : LoggedEvent). event.accesses) events) n)))
 in_events-back design changes start [] u i = absurd i
 in_events-back design changes start (event ∷ events) u i = elim (In-append u (event_accesses design changes start event) (joined (map_numbered (event_accesses design changes) (start + 1) events)) i) [
-  | inl here ↦ (let r = In-map-back (tagged start) u (counted_accesses design changes event.accesses) here in (0, r.0, r.2 ∙ ap (λ k. tagged k r.0) (let e : start ≡ start + 0 = omega arith in e), r.1))
+  | inl here ↦ (let r = In-map-back (tagged start) u (counted_accesses design changes event.accesses) here in
+      (0, r.0, r.2 ∙ ap (λ k. tagged k r.0) (let e : start ≡ start + 0 = omega arith in e), r.1))
   | inr there ↦ (let r = in_events-back design changes (start + 1) events u there in (suc r.0, r.1, r.2 ∙ ap (λ k. tagged k r.1) (let e : start + 1 + r.0 ≡ start + suc r.0 = omega arith in e), r.3))
 ]
 
@@ -62,7 +65,8 @@ in-filter-back test (y ∷ xs) x i = go (test y) refl i (λ j. in-filter-back te
     go true e (inr j) rest = let r = rest j in (inr r.0, r.1)
     go false e j rest = let r = rest j in (inr r.0, r.1)
 
-in-numbered-back : {A B : Type 0} (f : ℕ → A → List B) (start : ℕ) (xs : List A) (y : B) → In y (joined (map_numbered f start xs)) → (n : ℕ) × (x : A) × (slice_get xs n ≡ Some x) × In y (f (start + n) x)
+in-numbered-back : {A B : Type 0} (f : ℕ → A → List B) (start : ℕ) (xs : List A) (y : B) → In y (joined (map_numbered f start xs)) →
+    (n : ℕ) × (x : A) × (slice_get xs n ≡ Some x) × In y (f (start + n) x)
 in-numbered-back f start [] y i = absurd i
 in-numbered-back f start (x ∷ xs) y i = elim (In-append y (f start x) (joined (map_numbered f (start + 1) xs)) i) [
   | inl here ↦ (0, x, refl, subst (λ k. In y (f k x)) (let e : start ≡ start + 0 = omega arith in e) here)
@@ -129,7 +133,8 @@ nothing-past : (machine : Machine) (state : State) (events : List Event) (j : �
 nothing-past machine state events j e =
     accesses_at-new machine state events j
     ∙ ap (λ o. found_or [] o) (past-mapped (λ (note : NotedEvent). accesses_of machine note.process note.line note.before note.event) (new_notes machine [] state events) j
-    (none_past (new_notes machine [] state events) j (let l : length (new_notes machine [] state events) ≡ length events = length-new_notes machine [] state events in let p : length events ≤ j = past_none events j e in omega (arith, l, p))))
+    (none_past (new_notes machine [] state events) j (let l : length (new_notes machine [] state events) ≡ length events = length-new_notes machine [] state events in
+    let p : length events ≤ j = past_none events j e in omega (arith, l, p))))
   where
     past-mapped : {A B : Type 0} (f : A → B) (xs : List A) (n : ℕ) → slice_get xs n ≡ None → slice_get (map f xs) n ≡ None
     past-mapped f [] n e = refl
@@ -154,7 +159,8 @@ module _ (machine : Machine) (state : State) (first events : List Event) (beside
     abbrev before : State
     before = state_at machine state events j
 
-    no-writes : (process line : ℕ) (node : FlatNode) (x : ObjectAccess) → In x (joined (map (net_write process line before (after machine before event)) (filter (has node.outputs) (net_pieces machine.design)))) →
+    no-writes : (process line : ℕ) (node : FlatNode) (x : ObjectAccess) → In x (joined (map (net_write process line before (after machine before event))
+        (filter (has node.outputs) (net_pieces machine.design)))) →
         (has (net_pieces machine.design) x.object ≡ true) × (is_write x.act ≡ true) × (changes_there machine state events x.object j ≡ true)
     no-writes process line node x i =
         let r = in_joined_back (net_write process line before (after machine before event)) (filter (has node.outputs) (net_pieces machine.design)) x i in
@@ -183,15 +189,18 @@ module _ (machine : Machine) (state : State) (first events : List Event) (beside
     -- it ends no wait
     matches-changed : (objects : List ℕ) (entry : Entry) → some_change_matches before (after machine before event) objects entry ≡ true → changed_entry before (after machine before event) entry ≡ true
     matches-changed objects entry e =
-        (both-true (nat_eq entry.object entry.object) (edge_matches entry.edge (part_of (value_at before.values entry.object) entry.low entry.width) (part_of (value_at (after machine before event).values entry.object) entry.low entry.width))
+        (both-true (nat_eq entry.object entry.object) (edge_matches entry.edge (part_of (value_at before.values entry.object) entry.low entry.width)
+        (part_of (value_at (after machine before event).values entry.object) entry.low entry.width))
         (both-true (has objects entry.object) (entry_matches entry.object (value_at before.values entry.object) (value_at (after machine before event).values entry.object) entry) e).1).1
 
-    some-changed : (objects : List ℕ) (entries : List Entry) → some_entry (some_change_matches before (after machine before event) objects) entries ≡ true → some_entry (changed_entry before (after machine before event)) entries ≡ true
+    some-changed : (objects : List ℕ) (entries : List Entry) → some_entry (some_change_matches before (after machine before event) objects) entries ≡ true →
+        some_entry (changed_entry before (after machine before event)) entries ≡ true
     some-changed objects [] e = cc
-    some-changed objects (entry ∷ entries) e = elim (or-either (some_change_matches before (after machine before event) objects entry) (some_entry (some_change_matches before (after machine before event) objects) entries) e) [
-      | inl here ↦ ap (λ b. b || some_entry (changed_entry before (after machine before event)) entries) (matches-changed objects entry here)
-      | inr there ↦ ap (λ b. changed_entry before (after machine before event) entry || b) (some-changed objects entries there) ∙ either (changed_entry before (after machine before event) entry)
-    ]
+    some-changed objects (entry ∷ entries) e = elim (or-either (some_change_matches before (after machine before event) objects entry)
+        (some_entry (some_change_matches before (after machine before event) objects) entries) e) [
+          | inl here ↦ ap (λ b. b || some_entry (changed_entry before (after machine before event)) entries) (matches-changed objects entry here)
+          | inr there ↦ ap (λ b. changed_entry before (after machine before event) entry || b) (some-changed objects entries there) ∙ either (changed_entry before (after machine before event) entry)
+        ]
       where
         either : (b : Bool) → (b || true) ≡ true
         either true = refl
@@ -208,9 +217,11 @@ module _ (machine : Machine) (state : State) (first events : List Event) (beside
         let r = in-numbered-back (net_ended_by before (after machine before event) objects) 0 before.processes x i in
         let here : process_at before r.0 ≡ r.1 = ap (found_or idle_process) r.2 in
         ended r.1 (some_entry (some_change_matches before (after machine before event) objects) (waiting_entries r.1.activity)) (0 + r.0)
-        (λ e. wakes-none r.0 (some-changed objects (waiting_entries (activity_at before r.0)) (ap (λ (p : ProcessState). some_entry (some_change_matches before (after machine before event) objects) (waiting_entries p.activity)) here ∙ e))) r.3
+        (λ e. wakes-none r.0 (some-changed objects (waiting_entries (activity_at before r.0))
+        (ap (λ (p : ProcessState). some_entry (some_change_matches before (after machine before event) objects) (waiting_entries p.activity)) here ∙ e))) r.3
       where
-        ended : (p : ProcessState) (b : Bool) (n : ℕ) → (b ≡ true → ⊥) → In x (ended_of b (some_change_matches before (after machine before event) objects) n (waiting_line p.activity) (waiting_entries p.activity)) → ⊥
+        ended : (p : ProcessState) (b : Bool) (n : ℕ) → (b ≡ true → ⊥) → In x (ended_of b (some_change_matches before (after machine before event) objects) n (waiting_line p.activity)
+            (waiting_entries p.activity)) → ⊥
         ended p true n h k = h refl
         ended p false n h k = k
 
@@ -223,7 +234,8 @@ module _ (machine : Machine) (state : State) (first events : List Event) (beside
             (has (net_pieces machine.design) x.object ≡ true) × (is_write x.act ≡ true) × (changes_there machine state events x.object j ≡ true)
         nets number None e k = absurd k
         nets number (Some node) e k =
-            elim (In-append x (joined (map (net_write process line before (after machine before event)) (filter (has node.outputs) (net_pieces machine.design)))) (joined (map_numbered (net_ended_by before (after machine before event) node.outputs) 0 before.processes)) k) [
+            elim (In-append x (joined (map (net_write process line before (after machine before event)) (filter (has node.outputs) (net_pieces machine.design))))
+            (joined (map_numbered (net_ended_by before (after machine before event) node.outputs) 0 before.processes)) k) [
               | inl w ↦ no-writes process line node x w
               | inr l ↦ absurd (no-ends node.outputs x l)
             ]
@@ -233,7 +245,8 @@ module _ (machine : Machine) (state : State) (first events : List Event) (beside
         by (Step p) e h k = true-false (is_process_event event) (ap is_process_event e) h
         by (LaneStep p) e h k = true-false (is_process_event event) (ap is_process_event e) h
         by (Evaluation n) e h k = absurd k
-        by (NetUpdate n) e h k = nets n (slice_get machine.design.nodes n) e (subst (λ (ev : Event). In x (net_accesses machine.design process line (slice_get machine.design.nodes n) before (after machine before ev))) (sym e) k)
+        by (NetUpdate n) e h k = nets n (slice_get machine.design.nodes n) e (subst (λ (ev : Event).
+            In x (net_accesses machine.design process line (slice_get machine.design.nodes n) before (after machine before ev))) (sym e) k)
 
     reach-wild : (net : ℕ) → is_wild machine.design (phase_changes machine.design log) net ≡ is_wild machine.design (phase_changes machine.design free) net
     reach-wild net = wild-same machine.design (phase_changes machine.design log) (phase_changes machine.design free) net (reaches_same machine state first events beside net)
@@ -244,7 +257,8 @@ module _ (machine : Machine) (state : State) (first events : List Event) (beside
         let w = only-writes process line x i in
         go w (wild_in machine state first x.object) refl
       where
-        go : (has (net_pieces machine.design) x.object ≡ true) × (is_write x.act ≡ true) × (changes_there machine state events x.object j ≡ true) → (b : Bool) → wild_in machine state first x.object ≡ b →
+        go : (has (net_pieces machine.design) x.object ≡ true) × (is_write x.act ≡ true) × (changes_there machine state events x.object j ≡ true) → (b : Bool) →
+            wild_in machine state first x.object ≡ b →
             counts machine.design (phase_changes machine.design log) x ≡ false
         go w false e = true-false (changes_there machine state events x.object j) w.2 (silent.changes x.object e)
         go w true e =
@@ -254,7 +268,8 @@ module _ (machine : Machine) (state : State) (first events : List Event) (beside
     settles-none : (process line : ℕ) (y x : ObjectAccess) → In y (accesses_of machine process line before event) → In x (settles_of machine.design (phase_changes machine.design log) y) → ⊥
     settles-none process line y x i k =
         let w = only-writes process line y i in
-        subst (λ objects. In x (joined (map (λ changed. map (λ net. record { act = Settling; object = net; process = y.process; line = y.line }) (filter (λ net. is_wild machine.design (phase_changes machine.design log) net && nat_lt 0 (paths machine.design changed net)) (net_pieces machine.design))) objects)))
+        subst (λ objects. In x (joined (map (λ changed. map (λ net. record { act = Settling; object = net; process = y.process; line = y.line })
+        (filter (λ net. is_wild machine.design (phase_changes machine.design log) net && nat_lt 0 (paths machine.design changed net)) (net_pieces machine.design))) objects)))
         (no-change y.act y.object w.1 w.0) k
       where
         left-out : ℕ → Bool → List ℕ
@@ -278,11 +293,12 @@ module _ (machine : Machine) (state : State) (first events : List Event) (beside
         none here
       where
         none : In x (counted_accesses machine.design (phase_changes machine.design log) (accesses_before machine state events j event)) → ⊥
-        none k = elim (In-append x (filter (counts machine.design (phase_changes machine.design log)) (accesses_before machine state events j event)) (joined (map (settles_of machine.design (phase_changes machine.design log)) (accesses_before machine state events j event))) k) [
-          | inl f ↦ (let r = in-filter-back (counts machine.design (phase_changes machine.design log)) (accesses_before machine state events j event) x f in
-              true-false (counts machine.design (phase_changes machine.design log) x) r.1 (counts-none _ _ x r.0))
-          | inr s ↦ (let r = in_joined_back (settles_of machine.design (phase_changes machine.design log)) (accesses_before machine state events j event) x s in settles-none _ _ r.0 x r.1 r.2)
-        ]
+        none k = elim (In-append x (filter (counts machine.design (phase_changes machine.design log)) (accesses_before machine state events j event))
+            (joined (map (settles_of machine.design (phase_changes machine.design log)) (accesses_before machine state events j event))) k) [
+              | inl f ↦ (let r = in-filter-back (counts machine.design (phase_changes machine.design log)) (accesses_before machine state events j event) x f in
+                  true-false (counts machine.design (phase_changes machine.design log) x) r.1 (counts-none _ _ x r.0))
+              | inr s ↦ (let r = in_joined_back (settles_of machine.design (phase_changes machine.design log)) (accesses_before machine state events j event) x s in settles-none _ _ r.0 x r.1 r.2)
+            ]
 
   -- An access of the one run is one of the other
 
@@ -302,7 +318,8 @@ module _ (machine : Machine) (state : State) (first events : List Event) (beside
             k,
             m,
             subst (λ xs. In x xs)
-                (ap (counted_accesses machine.design (phase_changes machine.design log)) (accesses_at-place machine state events j p.event p.stands ∙ p.accesses ∙ sym (accesses_at-place machine state first k p.event p.first_stands))
+                (ap (counted_accesses machine.design (phase_changes machine.design log)) (accesses_at-place machine state events j p.event p.stands ∙ p.accesses
+                ∙ sym (accesses_at-place machine state first k p.event p.first_stands))
                 ∙ counted-same machine.design (phase_changes machine.design log) (phase_changes machine.design free) (accesses_at free k) (reaches_same machine state first events beside)) i,
           )
 
@@ -310,7 +327,8 @@ module _ (machine : Machine) (state : State) (first events : List Event) (beside
       there None e = absurd (subst (λ xs. In x (counted_accesses machine.design (phase_changes machine.design log) xs)) (nothing-past machine state events j e) i)
       there (Some event) e = by event e ((whole machine state first events beside).0 j) refl
 
-  no-held : (x : ObjectAccess) (n : ℕ) (y : ObjectAccess) → In x (held_accesses machine state) → In y (counted_at machine.design log n) → x.object ≡ y.object → acts_clash x.object x.act y.act ≡ true → ⊥
+  no-held : (x : ObjectAccess) (n : ℕ) (y : ObjectAccess) → In x (held_accesses machine state) → In y (counted_at machine.design log n) → x.object ≡ y.object →
+      acts_clash x.object x.act y.act ≡ true → ⊥
   no-held x n y i k same clash = let f = found n y k in held_clash machine.design free beside.no_conflict f.0 x y i f.2 same clash
 
   holding : (z : ObjectAccess) → In z (held_accesses machine state) → (entry : Entry) × (z.act ≡ Holding entry)
@@ -352,7 +370,8 @@ module _ (machine : Machine) (state : State) (first events : List Event) (beside
       go (inl x) (inl y) =
           let c = subst (λ (w : PhaseAccess). Conflicts log (carried x.0) w) y.1 (subst (λ (w : PhaseAccess). Conflicts log w v) x.1 (conflicts log u v e)) in held-apart x.0 y.0 x.2 y.2 c.clash
       go (inl x) (inr y) =
-          let c = subst (λ (w : PhaseAccess). Conflicts log (carried x.0) w) y.2 (subst (λ (w : PhaseAccess). Conflicts log w v) x.1 (conflicts log u v e)) in no-held x.0 y.0 y.1 x.2 y.3 c.same c.clash
+          let c = subst (λ (w : PhaseAccess). Conflicts log (carried x.0) w) y.2 (subst (λ (w : PhaseAccess). Conflicts log w v) x.1 (conflicts log u v e)) in
+          no-held x.0 y.0 y.1 x.2 y.3 c.same c.clash
       go (inr x) (inl y) =
           let c = subst (λ (w : PhaseAccess). Conflicts log (tagged x.0 x.1) w) y.1 (subst (λ (w : PhaseAccess). Conflicts log w v) x.2 (conflicts log u v e)) in
           no-held y.0 x.0 x.1 y.2 x.3 (sym c.same) (ap (λ o. acts_clash o y.0.act x.1.act) (sym c.same) ∙ clash-symmetric x.1.object y.0.act x.1.act ∙ c.clash)

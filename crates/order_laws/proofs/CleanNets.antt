@@ -23,13 +23,16 @@ use Rattle.order_laws.proofs.CountedChanges.{changes_bounded}
 
 -- One change
 
-no-changes : (machine : Machine) (state : State) (events : List Event) (object : ℕ) → changes_at machine state events object ≡ [] → value_at (happened machine state events).values object ≡ value_at state.values object
+no-changes : (machine : Machine) (state : State) (events : List Event) (object : ℕ) → changes_at machine state events object ≡ [] →
+    value_at (happened machine state events).values object ≡ value_at state.values object
 no-changes machine state [] object e = refl
-no-changes machine state (event ∷ events) object e = go (same_value (value_at state.values object) (value_at (after machine state event).values object)) refl e (no-changes machine (after machine state event) events object)
+no-changes machine state (event ∷ events) object e = go (same_value (value_at state.values object) (value_at (after machine state event).values object)) refl e
+    (no-changes machine (after machine state event) events object)
   where
     go : (b : Bool) → same_value (value_at state.values object) (value_at (after machine state event).values object) ≡ b →
         change_if (not b) (value_at state.values object) (value_at (after machine state event).values object) (changes_at machine (after machine state event) events object) ≡ [] →
-        (changes_at machine (after machine state event) events object ≡ [] → value_at (happened machine (after machine state event) events).values object ≡ value_at (after machine state event).values object) →
+        (changes_at machine (after machine state event) events object ≡ [] → value_at (happened machine (after machine state event) events).values object ≡ value_at
+        (after machine state event).values object) →
         value_at (happened machine (after machine state event) events).values object ≡ value_at state.values object
     go true s f deeper = deeper f ∙ sym (same_value-true (value_at state.values object) (value_at (after machine state event).values object) s)
     go false s f deeper = cc
@@ -55,7 +58,8 @@ changes-once machine state (event ∷ events) object h =
         change_if (not b) (value_at state.values object) (value_at (after machine state event).values object) (changes_at machine (after machine state event) events object)
         ≡ one_change (value_at state.values object) (value_at (happened machine (after machine state event) events).values object)
     go true s f deeper =
-        deeper f ∙ ap (λ v. one_change v (value_at (happened machine (after machine state event) events).values object)) (sym (same_value-true (value_at state.values object) (value_at (after machine state event).values object) s))
+        deeper f ∙ ap (λ v. one_change v (value_at (happened machine (after machine state event) events).values object))
+        (sym (same_value-true (value_at state.values object) (value_at (after machine state event).values object) s))
     go false s f deeper =
         let none : changes_at machine (after machine state event) events object ≡ [] = empty-list (changes_at machine (after machine state event) events object) f in
         ap (λ cs. (value_at state.values object, value_at (after machine state event).values object) ∷ cs) none
@@ -77,8 +81,10 @@ same-changes machine state (NetUpdate number) writer line = go (slice_get machin
       where
         one : (b : Bool) →
             changes_of machine.design (joined (map (net_write writer line state next) xs) ++ rest) ≡ changes_of machine.design (joined (map (net_write 0 0 state next) xs) ++ rest) →
-            changes_of machine.design ((elim b [ true ↦ [] | false ↦ record { act = Writing (value_at state.values x) (value_at next.values x); object = x; process = writer; line = line } ∷ [] ] ++ joined (map (net_write writer line state next) xs)) ++ rest)
-            ≡ changes_of machine.design ((elim b [ true ↦ [] | false ↦ record { act = Writing (value_at state.values x) (value_at next.values x); object = x; process = 0; line = 0 } ∷ [] ] ++ joined (map (net_write 0 0 state next) xs)) ++ rest)
+            changes_of machine.design ((elim b [ true ↦ [] | false ↦ record { act = Writing (value_at state.values x) (value_at next.values x); object = x; process = writer; line = line } ∷ [] ]
+            ++ joined (map (net_write writer line state next) xs)) ++ rest)
+            ≡ changes_of machine.design ((elim b [ true ↦ [] | false ↦ record { act = Writing (value_at state.values x) (value_at next.values x); object = x; process = 0; line = 0 } ∷ [] ]
+            ++ joined (map (net_write 0 0 state next) xs)) ++ rest)
         one true h = h
         one false h = ap (λ cs. change_of machine.design (Writing (value_at state.values x) (value_at next.values x)) x ++ cs) h
 
@@ -108,7 +114,8 @@ phases_settle machine state events rules begins phase = phase_ends_settled machi
 
 pub changes_have_bounds : ChangesHaveBounds
 changes_have_bounds machine state events object rules begins p =
-    subst (λ cs. length (changes_at machine state events object) ≤ reached machine.design cs object) (sym (phase_changes-run machine state events)) (changes_bounded machine state events object rules begins p)
+    subst (λ cs. length (changes_at machine state events object) ≤ reached machine.design cs object) (sym (phase_changes-run machine state events))
+    (changes_bounded machine state events object rules begins p)
 
 -- two runs of a phase that end alike change a net alike that is quiet or clean in both
 pub clean_alike : (machine : Machine) (state : State) (first events : List Event) (net : ℕ) → KeepsRules machine.design → BeginsPhase machine state →

@@ -41,18 +41,22 @@ append-nothing : (xs : List ℕ) → xs ≡ xs ++ []
 append-nothing [] = refl
 append-nothing (x ∷ xs) = ap (λ ys. x ∷ ys) (append-nothing xs)
 
-counts_to : (machine : Machine) (state : State) (changes : List ℕ) (count : ℕ → ℕ) (events : List Event) → KeepsRules machine.design → AreClear (NotNet machine) state → Follows machine Everywhere state →
+counts_to : (machine : Machine) (state : State) (changes : List ℕ) (count : ℕ → ℕ) (events : List Event) → KeepsRules machine.design → AreClear (NotNet machine) state →
+    Follows machine Everywhere state →
     all_possible machine state events ≡ true → Counts machine state changes count → CountsTo machine state changes count events
 counts_to machine state changes count [] rules clear f p c = (count, subst (λ cs. Counts machine state cs count) (append-nothing changes) c, λ x. omega arith)
 counts_to machine state changes count (event ∷ events) rules clear f p c =
-    let may : (possible state event ≡ true) × (all_possible machine (after machine state event) events ≡ true) = and-first (possible state event) (all_possible machine (after machine state event) events) p in
+    let may : (possible state event ≡ true) × (all_possible machine (after machine state event) events ≡ true) =
+    and-first (possible state event) (all_possible machine (after machine state event) events) p in
     let rest = counts_to machine (after machine state event) (changes ++ event_changes machine state event) (next_count state (after machine state event) count) events rules
     (after-clear (NotNet machine) machine state event (bodies_clear machine rules) clear) (follows-after machine state event rules (rest_on_inputs machine rules) clear f) may.1
     (counts-after machine state changes count event rules clear f may.0 c) in (
       rest.0,
-      subst (λ cs. Counts machine (happened machine (after machine state event) events) cs rest.0) (append_assoc' changes (event_changes machine state event) (run_changes machine (after machine state event) events)) rest.1,
+      subst (λ cs. Counts machine (happened machine (after machine state event) events) cs rest.0)
+          (append_assoc' changes (event_changes machine state event) (run_changes machine (after machine state event) events)) rest.1,
       λ x. (let a : rest.0 x ≡ next_count state (after machine state event) count x + change_count machine (after machine state event) events x = rest.2 x in
-          let b : change_count machine state (event ∷ events) x ≡ one_if (changed_in state (after machine state event) x) + change_count machine (after machine state event) events x = count-step machine state event events x in
+          let b : change_count machine state (event ∷ events) x ≡ one_if (changed_in state (after machine state event) x) + change_count machine (after machine state event) events x =
+          count-step machine state event events x in
           omega (arith, a, b)),
     )
 
@@ -73,7 +77,8 @@ counts_at machine state events r =
 
 -- The outputs of one node are reached alike
 
-pub undriven : (design : FlatDesign) → KeepsRules design → (m k : ℕ) (node other : FlatNode) (object : ℕ) → slice_get design.nodes m ≡ Some node → slice_get design.nodes k ≡ Some other → k ≢ m → has node.outputs object ≡ true →
+pub undriven : (design : FlatDesign) → KeepsRules design → (m k : ℕ) (node other : FlatNode) (object : ℕ) → slice_get design.nodes m ≡ Some node → slice_get design.nodes k ≡ Some other → k ≢ m →
+    has node.outputs object ≡ true →
     has other.outputs object ≡ false
 undriven design rules m k node other object e f d h = elim (below_other k m d) [
   | inl low ↦ elim (decided (has other.outputs object)) [
@@ -83,11 +88,13 @@ undriven design rules m k node other object e f d h = elim (below_other k m d) [
   | inr high ↦ rules.one_driver m k node other e f high object h
 ]
 
-paths-alike : (design : FlatDesign) → KeepsRules design → (m : ℕ) (node : FlatNode) (source object other : ℕ) → slice_get design.nodes m ≡ Some node → has node.outputs object ≡ true → has node.outputs other ≡ true →
+paths-alike : (design : FlatDesign) → KeepsRules design → (m : ℕ) (node : FlatNode) (source object other : ℕ) → slice_get design.nodes m ≡ Some node → has node.outputs object ≡ true →
+    has node.outputs other ≡ true →
     nat_eq source object ≡ false → nat_eq source other ≡ false → paths design source object ≡ paths design source other
 paths-alike design rules m node source object other e h h' d d' =
     paths-step design rules.ranked source object
-    ∙ (λ i. one_if ((d ∙ sym d') i) + sums-same (paths_through (paths design source) object) (paths_through (paths design source) other) design.nodes (λ k nd f. ap (λ b. chosen b (path_weight nd.kind * sum_by (paths design source) (without_repeats [] nd.inputs))) (writes k nd f)) i)
+    ∙ (λ i. one_if ((d ∙ sym d') i) + sums-same (paths_through (paths design source) object) (paths_through (paths design source) other) design.nodes
+    (λ k nd f. ap (λ b. chosen b (path_weight nd.kind * sum_by (paths design source) (without_repeats [] nd.inputs))) (writes k nd f)) i)
     ∙ sym (paths-step design rules.ranked source other)
   where
     writes : (k : ℕ) (nd : FlatNode) → slice_get design.nodes k ≡ Some nd → has nd.outputs object ≡ has nd.outputs other
@@ -98,7 +105,8 @@ paths-alike design rules m node source object other e h h' d d' =
       | inr apart ↦ undriven design rules m k node nd object e f (other_number k m apart) h ∙ sym (undriven design rules m k node nd other e f (other_number k m apart) h')
     ]
 
-reached-alike : (design : FlatDesign) → KeepsRules design → (m : ℕ) (node : FlatNode) (object other : ℕ) (changes : List ℕ) → slice_get design.nodes m ≡ Some node → has node.outputs object ≡ true → has node.outputs other ≡ true →
+reached-alike : (design : FlatDesign) → KeepsRules design → (m : ℕ) (node : FlatNode) (object other : ℕ) (changes : List ℕ) → slice_get design.nodes m ≡ Some node → has node.outputs object ≡ true →
+    has node.outputs other ≡ true →
     ((c : ℕ) → In c changes → has (net_pieces design) c ≡ false) → reached design changes object ≡ reached design changes other
 reached-alike design rules m node object other [] e h h' vars = refl
 reached-alike design rules m node object other (c ∷ changes) e h h' vars =
@@ -170,11 +178,14 @@ sum-two f (z ∷ xs) x y d h i =
 
 -- The update
 
-values-after : (machine : Machine) (s : State) (m : ℕ) (node : FlatNode) → KeepsRules machine.design → Follows machine Everywhere s → slice_get machine.design.nodes m ≡ Some node → (node_at s m).marked ≡ false →
-    (pending : Option (List LogicValue)) → (node_at s m).pending ≡ pending → is_some pending ≡ true → map (value_at (nets_updated machine m (Some node) pending s).values) node.outputs ≡ node_outputs machine m node s.values
+values-after : (machine : Machine) (s : State) (m : ℕ) (node : FlatNode) → KeepsRules machine.design → Follows machine Everywhere s → slice_get machine.design.nodes m ≡ Some node →
+    (node_at s m).marked ≡ false →
+    (pending : Option (List LogicValue)) → (node_at s m).pending ≡ pending → is_some pending ≡ true →
+    map (value_at (nets_updated machine m (Some node) pending s).values) node.outputs ≡ node_outputs machine m node s.values
 values-after machine s m node rules f e free None p h = cc
 values-after machine s m node rules f e free (Some values) p h =
-    values-put machine node.outputs values (with_node m (λ old. record old { pending = None }) s) (distinct [] node.outputs (node_rules rules m node e).outputs_once).0 (f.pending_widths m node values e p)
+    values-put machine node.outputs values (with_node m (λ old. record old { pending = None }) s) (distinct [] node.outputs (node_rules rules m node e).outputs_once).0
+    (f.pending_widths m node values e p)
     (λ x i. f.nets_there x (outputs_are_nets rules m node e x i))
     ∙ f.pending m node values tt e free p
 
@@ -201,13 +212,16 @@ module _ (machine : Machine) (state : State) (first events : List Event) (n m : 
       let a : k.0 x + work_left (node_at (happened machine state (first_of n events)) m) ≤ sum_by k.0 (without_repeats [] node.inputs) = k.1.nodes m node found x h in
       let b : sum_by k.0 (without_repeats [] node.inputs) ≤ sum_by (reached machine.design (run_changes machine state (first_of n events))) (without_repeats [] node.inputs) =
       sum-below-in k.0 (reached machine.design (run_changes machine state (first_of n events))) (without_repeats [] node.inputs)
-      (λ y i. count-below machine (happened machine state (first_of n events)) (run_changes machine state (first_of n events)) k.0 main.rules k.1 (length machine.design.nodes) (length machine.design.nodes) (omega arith) y (all_below machine.design.nodes y)) in
-      let d : sum_by (reached machine.design (run_changes machine state (first_of n events))) (without_repeats [] node.inputs) ≤ reached machine.design (run_changes machine state (first_of n events)) x =
+      (λ y i. count-below machine (happened machine state (first_of n events)) (run_changes machine state (first_of n events)) k.0 main.rules k.1 (length machine.design.nodes)
+      (length machine.design.nodes) (omega arith) y (all_below machine.design.nodes y)) in
+      let d : sum_by (reached machine.design (run_changes machine state (first_of n events))) (without_repeats [] node.inputs) ≤ reached machine.design
+      (run_changes machine state (first_of n events)) x =
       reached-inputs machine.design main.rules (run_changes machine state (first_of n events)) x m node found h in
       let l : reached machine.design (run_changes machine state (first_of n events)) x ≤ reached machine.design (run_changes machine state first) x = below x in
       let o : reached machine.design (run_changes machine state first) x ≤ 1 = few_each x h in
       let e : k.0 x ≡ 0 + change_count machine state (first_of n events) x = k.2 x in
-      let w : work_left (node_at (state_at machine state events n) m) ≡ work_left (node_at (happened machine state (first_of n events)) m) = ap (λ s. work_left (node_at s m)) (at_first machine state events n) in
+      let w : work_left (node_at (state_at machine state events n) m) ≡ work_left (node_at (happened machine state (first_of n events)) m) =
+      ap (λ s. work_left (node_at s m)) (at_first machine state events n) in
       omega (arith, a, b, d, l, o, e, w)
 
   one-work : one_if (is_some (node_at (state_at machine state events n) m).pending) ≡ 1
@@ -260,8 +274,10 @@ module _ (machine : Machine) (state : State) (first events : List Event) (n m : 
           (unchanged_in (state_at machine state events n) (state_at machine state events (suc n)) object
           (values-in (state_at machine state events (suc n)).values state.values node.outputs
           (given
-          ∙ (rest_on_inputs machine main.rules).rests m node (state_at machine state events n).values state.values found (follows_at machine state events n run).fit (fit-from machine state.values main.begins.widths)
-          (λ x i. sym (same_value-true (value_at state.values x) (value_at (state_at machine state events n).values x) (not-false (same_value (value_at state.values x) (value_at (state_at machine state events n).values x)) (none x i))))
+          ∙ (rest_on_inputs machine main.rules).rests m node (state_at machine state events n).values state.values found (follows_at machine state events n run).fit
+          (fit-from machine state.values main.begins.widths)
+          (λ x i. sym (same_value-true (value_at state.values x) (value_at (state_at machine state events n).values x)
+          (not-false (same_value (value_at state.values x) (value_at (state_at machine state events n).values x)) (none x i))))
           ∙ sym (main.begins.settled m node found)) object out
           ∙ sym (before object out)))
 
@@ -282,12 +298,14 @@ module _ (machine : Machine) (state : State) (first events : List Event) (n m : 
       go zero z =
           true-false (same_value (value_at state.values input.0) (value_at (state_at machine state events n).values input.0))
           (ap (same_value (value_at state.values input.0)) ((quiet_at machine state events n run).values input.0 z) ∙ same_value-self (value_at state.values input.0)) input.2
-      go (suc k) z = let b : reached machine.design (run_changes machine state (first_of n events)) input.0 ≤ reached machine.design (run_changes machine state first) input.0 = below input.0 in omega (arith, b, z)
+      go (suc k) z = let b : reached machine.design (run_changes machine state (first_of n events)) input.0 ≤ reached machine.design (run_changes machine state first) input.0 = below input.0 in
+          omega (arith, b, z)
 
   -- alone
   pub others_quiet : (y : ℕ) → has node.inputs y ≡ true → input.0 ≢ y → reached machine.design (run_changes machine state first) y ≡ 0
   others_quiet y h d =
-      let a : reached machine.design (run_changes machine state first) input.0 + reached machine.design (run_changes machine state first) y ≤ sum_by (reached machine.design (run_changes machine state first)) (without_repeats [] node.inputs) =
+      let a : reached machine.design (run_changes machine state first) input.0 + reached machine.design (run_changes machine state first) y ≤ sum_by
+      (reached machine.design (run_changes machine state first)) (without_repeats [] node.inputs) =
       sum-two (reached machine.design (run_changes machine state first)) (without_repeats [] node.inputs) input.0 y d (in-distinct input.0 input.1) (in-distinct y h) in
       let b : sum_by (reached machine.design (run_changes machine state first)) (without_repeats [] node.inputs) ≤ 1 = inputs-few in
       let c : 1 ≤ reached machine.design (run_changes machine state first) input.0 = input_reached in

@@ -66,7 +66,10 @@ part_through machine state events matched p place = record {
 }
 
 abbrev pub lane_through : Machine → State → List Event → (ℕ → Option ℕ) → ℕ → ℕ → LanePart
-lane_through machine state events matched p place = record { lane = (process_at (state_at machine state events place) p).lane; cause = through matched (cause_before machine state events place (LaneStep p)) }
+lane_through machine state events matched p place = record {
+  lane = (process_at (state_at machine state events place) p).lane;
+  cause = through matched (cause_before machine state events place (LaneStep p));
+}
 
 -- causes of two events: neither has one, or one stands for the other
 abbrev pub CauseSame : (ℕ → Option ℕ) → Option ℕ → Option ℕ → Type 0
@@ -131,7 +134,8 @@ first_of-past [] (suc k) e = refl
 first_of-past (x ∷ xs) zero e = cc
 first_of-past (x ∷ xs) (suc k) e = ap (λ ys. x ∷ ys) (first_of-past xs k e)
 
-pub cause_past : (machine : Machine) (state : State) (events : List Event) (k : ℕ) (later : Event) → slice_get events k ≡ None → cause_before machine state events (suc k) later ≡ cause_before machine state events k later
+pub cause_past : (machine : Machine) (state : State) (events : List Event) (k : ℕ) (later : Event) → slice_get events k ≡ None →
+    cause_before machine state events (suc k) later ≡ cause_before machine state events k later
 cause_past machine state events k later e = ap (λ es. cause_of machine (new_notes machine [] state es) later) (first_of-past events k e)
 
 -- the cause so far is the last event that may cause
@@ -185,38 +189,47 @@ process_stays machine state first p r k f = λ i. record { activity = both.0 i; 
     cause None e = cause_past machine state first k (Step p) e
     cause (Some event) e = cause_untouched machine state first k event (Step p) e (told event e)
 
-pub value_stays : (machine : Machine) (state : State) (first : List Event) (object : ℕ) → Stays (changes_there machine state first object) (λ k. value_at (state_at machine state first k).values object)
+pub value_stays : (machine : Machine) (state : State) (first : List Event) (object : ℕ) → Stays (changes_there machine state first object)
+    (λ k. value_at (state_at machine state first k).values object)
 value_stays machine state first object k f = same_there machine state first object k f
 
 -- Touches by place
 
 pub there-how : (machine : Machine) (state : State) (first : List Event) (p k : ℕ) → IsRun machine state first → process_there machine state first p k ≡ true →
     (event : Event) × (slice_get first k ≡ Some event)
-    × ((event ≡ Step p) ⊎ ((Step p ≢ event) × (some_entry (changed_entry (state_at machine state first k) (state_at machine state first (suc k))) (waiting_entries (activity_at (state_at machine state first k) p)) ≡ true)))
+    × ((event ≡ Step p) ⊎ ((Step p ≢ event) × (some_entry (changed_entry (state_at machine state first k) (state_at machine state first (suc k)))
+    (waiting_entries (activity_at (state_at machine state first k) p)) ≡ true)))
 there-how machine state first p k r t = go (slice_get first k) refl t
   where
     go : (found : Option Event) → slice_get first k ≡ found → on_event (touches_process machine p (state_at machine state first k)) found ≡ true →
         (event : Event) × (slice_get first k ≡ Some event)
-        × ((event ≡ Step p) ⊎ ((Step p ≢ event) × (some_entry (changed_entry (state_at machine state first k) (state_at machine state first (suc k))) (waiting_entries (activity_at (state_at machine state first k) p)) ≡ true)))
+        × ((event ≡ Step p) ⊎ ((Step p ≢ event) × (some_entry (changed_entry (state_at machine state first k) (state_at machine state first (suc k)))
+        (waiting_entries (activity_at (state_at machine state first k) p)) ≡ true)))
     go None e h = cc
     go (Some event) e h = (
       event,
       e,
       elim (touches-how machine p (state_at machine state first k) event r.rules (follows_at machine state first k r) h) [
         | inl own ↦ inl own
-        | inr wakes ↦ inr (wakes.0, ap (λ t. some_entry (changed_entry (state_at machine state first k) t) (waiting_entries (activity_at (state_at machine state first k) p))) (at_next machine state first k event e) ∙ wakes.1)
+        | inr wakes ↦ inr (
+          wakes.0,
+          ap (λ t. some_entry (changed_entry (state_at machine state first k) t) (waiting_entries (activity_at (state_at machine state first k) p)))
+              (at_next machine state first k event e) ∙ wakes.1,
+        )
       ],
     )
 
 pub wakes_there : (machine : Machine) (state : State) (first : List Event) (p k : ℕ) (event : Event) → IsRun machine state first → slice_get first k ≡ Some event → Step p ≢ event →
-    some_entry (changed_entry (state_at machine state first k) (state_at machine state first (suc k))) (waiting_entries (activity_at (state_at machine state first k) p)) ≡ true → process_there machine state first p k ≡ true
+    some_entry (changed_entry (state_at machine state first k) (state_at machine state first (suc k))) (waiting_entries (activity_at (state_at machine state first k) p)) ≡ true →
+    process_there machine state first p k ≡ true
 wakes_there machine state first p k event r e d s =
     ap (on_event (touches_process machine p (state_at machine state first k))) e
     ∙ wakes-touches machine p (state_at machine state first k) event r.rules (follows_at machine state first k r) d
     (ap (λ t. some_entry (changed_entry (state_at machine state first k) t) (waiting_entries (activity_at (state_at machine state first k) p))) (sym (at_next machine state first k event e)) ∙ s)
 
 pub woken_at : (machine : Machine) (state : State) (events : List Event) (p k : ℕ) (event : Event) → IsRun machine state events → slice_get events k ≡ Some event → Step p ≢ event →
-    activity_at (state_at machine state events (suc k)) p ≡ woken_by (changed_entry (state_at machine state events k) (state_at machine state events (suc k))) (activity_at (state_at machine state events k) p)
+    activity_at (state_at machine state events (suc k)) p ≡ woken_by (changed_entry (state_at machine state events k) (state_at machine state events (suc k)))
+    (activity_at (state_at machine state events k) p)
 woken_at machine state events p k event r e d =
     ap (λ t. activity_at t p) (at_next machine state events k event e)
     ∙ woken_after machine (state_at machine state events k) event p r.rules (follows_at machine state events k r) d

@@ -7,18 +7,21 @@ use Rattle.vf_base.specs.Lists.{has, change_at, without_repeats}
 use Rattle.four_value.specs.Values.{LogicValue, same_value, with_part}
 use Rattle.v_design.specs.Designs.{FlatNode, FlatDesign, Machine}
 use Rattle.v_design.specs.Assignments.{ValueUpdate, value_at, node_outputs, object_width}
-use Rattle.v_design.specs.States.{State, ProcessState, NodeState, Event, Step, LaneStep, Evaluation, NetUpdate, possible, after, node_at, process_at, found_or, idle_node, marked_by, with_value, with_values, with_node, with_process, written_if, value_written, write_of, first_update, after_lane_step, after_step, step_of, evaluated, nets_updated}
+use Rattle.v_design.specs.States.{State, ProcessState, NodeState, Event, Step, LaneStep, Evaluation, NetUpdate, possible, after, node_at, process_at, found_or, idle_node, marked_by, with_value}
+use Rattle.v_design.specs.States.{with_values, with_node, with_process, written_if, value_written, write_of, first_update, after_lane_step, after_step, step_of, evaluated, nets_updated}
 use Rattle.v_design.specs.Runs.{all_possible}
 use Rattle.v_design.specs.Paths.{one_if, paths, net_pieces}
 use Rattle.v_design.specs.Accesses.{await_accesses}
 use Rattle.v_design.specs.WellFormed.{KeepsRules}
 use Rattle.v_design.specs.Laws.{BeginsPhase, change_if, changes_at}
 use Rattle.order_laws.proofs.Rules.{node_rules, outputs_are_nets}
-use Rattle.order_laws.proofs.PathLaws.{decided, true-false, or-either, or-second, has-self, in-repeats, repeats-in, IsBelow, input_below, all_below, paths-node, weighty, reached, reached-self, reached-append}
+use Rattle.order_laws.proofs.PathLaws.{decided, true-false, or-either, or-second, has-self, in-repeats, repeats-in, IsBelow, input_below, all_below, paths-node, weighty, reached, reached-self}
+use Rattle.order_laws.proofs.PathLaws.{reached-append}
 use Rattle.order_laws.proofs.WritersStay.{AreClear, NotNet, after-clear, write-clear-of, bodies_clear, writers_clear}
 use Rattle.order_laws.proofs.NetStates.{same_value-self, other_number, value-unchanged, value-other, values-other, zip-slice, node-untouched, node-values-untouched, node-other, all_idle}
 use Rattle.order_laws.proofs.QuietNets.{event_changes, run_changes, action-listed, lane-listed, and-first, append_assoc'}
-use Rattle.order_laws.proofs.SettledNets.{Fit, Follows, Everywhere, Distinct, distinct, put-width, pending-stays, node-here, first_or, rest_list, length-with_part, length-forced, follows-after, follows-begins, driver_of}
+use Rattle.order_laws.proofs.SettledNets.{Fit, Follows, Everywhere, Distinct, distinct, put-width, pending-stays, node-here, first_or, rest_list, length-with_part, length-forced, follows-after}
+use Rattle.order_laws.proofs.SettledNets.{follows-begins, driver_of}
 use Rattle.order_laws.proofs.NodeRests.{rest_on_inputs}
 
 -- Sums
@@ -75,7 +78,8 @@ reached-inputs design rules (c ∷ changes) object number node e h =
     let a : sum_by (reached design (c ∷ changes)) (without_repeats [] node.inputs) ≤ sum_by (λ i. paths design c i + reached design changes i) (without_repeats [] node.inputs) =
     sum-below-in (reached design (c ∷ changes)) (λ i. paths design c i + reached design changes i) (without_repeats [] node.inputs)
     (λ i k. (let s : reached design (c ∷ changes) i ≡ paths design c i + reached design changes i = sum_by-cons (λ source. paths design source i) c changes in omega (arith, s))) in
-    let b : sum_by (λ i. paths design c i + reached design changes i) (without_repeats [] node.inputs) ≡ sum_by (paths design c) (without_repeats [] node.inputs) + sum_by (reached design changes) (without_repeats [] node.inputs) =
+    let b : sum_by (λ i. paths design c i + reached design changes i) (without_repeats [] node.inputs) ≡ sum_by (paths design c) (without_repeats [] node.inputs) + sum_by (reached design changes)
+    (without_repeats [] node.inputs) =
     sum-plus (paths design c) (reached design changes) (without_repeats [] node.inputs) in
     let p : sum_by (paths design c) (without_repeats [] node.inputs) ≤ paths design c object =
     le_trans (weighty node.kind (sum_by (paths design c) (without_repeats [] node.inputs))) (paths-node design rules.ranked c object number node e h) in
@@ -159,7 +163,8 @@ marks machine (object ∷ objects) (value ∷ values) state number node e d f w 
 pub record Counts (machine : Machine) (state : State) (changes : List ℕ) (count : ℕ → ℕ) : Type 0 where
   pub nodes : (number : ℕ) (node : FlatNode) → slice_get machine.design.nodes number ≡ Some node → (object : ℕ) → has node.outputs object ≡ true →
       count object + work_left (node_at state number) ≤ sum_by count (without_repeats [] node.inputs)
-  pub others : (object : ℕ) → ((number : ℕ) (node : FlatNode) → slice_get machine.design.nodes number ≡ Some node → has node.outputs object ≡ false) → count object ≤ reached machine.design changes object
+  pub others : (object : ℕ) → ((number : ℕ) (node : FlatNode) → slice_get machine.design.nodes number ≡ Some node → has node.outputs object ≡ false) →
+      count object ≤ reached machine.design changes object
 
 abbrev pub next_count : State → State → (ℕ → ℕ) → ℕ → ℕ
 next_count state next count object = count object + one_if (changed_in state next object)
@@ -187,7 +192,8 @@ counts-reader machine objects values state count number node e d f w object out 
           (let more : sum_by count (without_repeats [] node.inputs) + 1 ≤ sum_by (next_count state next count) (without_repeats [] node.inputs) =
           sum-more count (next_count state next count) (without_repeats [] node.inputs) found.0 (count-grows state next count) (in-repeats [] node.inputs found.0 refl found.2)
           (count-one state next count found.0 found.3) in
-          let pending : one_if (is_some (node_at next number).pending) ≡ one_if (is_some (node_at state number).pending) = ap (λ o. one_if (is_some o)) (pending-values machine objects values state number node e) in
+          let pending : one_if (is_some (node_at next number).pending) ≡ one_if (is_some (node_at state number).pending) =
+          ap (λ o. one_if (is_some o)) (pending-values machine objects values state number node e) in
           let bit : one_if (node_at next number).marked ≤ 1 = at_most_one (node_at next number).marked in
           omega (arith, same, more, pending, bit, h))
       | inr as_before ↦
@@ -203,7 +209,8 @@ reached-more machine changes more object n h =
     omega (arith, s, h)
 
 -- what leaves all values and the nodes' work keeps the counts
-counts-still : (machine : Machine) (state next : State) (changes more : List ℕ) (count : ℕ → ℕ) → Counts machine state changes count → ((object : ℕ) → value_at next.values object ≡ value_at state.values object) →
+counts-still : (machine : Machine) (state next : State) (changes more : List ℕ) (count : ℕ → ℕ) → Counts machine state changes count →
+    ((object : ℕ) → value_at next.values object ≡ value_at state.values object) →
     ((number : ℕ) (node : FlatNode) → slice_get machine.design.nodes number ≡ Some node → work_left (node_at next number) ≤ work_left (node_at state number)) →
     Counts machine next (changes ++ more) (next_count state next count)
 counts-still machine state next changes more count c values work = record {
@@ -220,7 +227,8 @@ counts-still machine state next changes more count c values work = record {
       omega (arith, a, b));
 }
 
-counts-write : (machine : Machine) (object : ℕ) (new : LogicValue) (state : State) (changes more : List ℕ) (count : ℕ → ℕ) → KeepsRules machine.design → Counts machine state changes count → Fit machine state.values →
+counts-write : (machine : Machine) (object : ℕ) (new : LogicValue) (state : State) (changes more : List ℕ) (count : ℕ → ℕ) → KeepsRules machine.design → Counts machine state changes count →
+    Fit machine state.values →
     length new ≡ object_width machine object → NotNet machine object → (same_value (value_at state.values object) new ≡ false → has more object ≡ true) →
     Counts machine (with_value machine object new state) (changes ++ more) (next_count state (with_value machine object new state) count)
 counts-write machine object new state changes more count rules c f width net told = record {
@@ -228,7 +236,8 @@ counts-write machine object new state changes more count rules c f width net tol
       counts-reader machine (object ∷ []) (new ∷ []) state count number node e (refl, tt) f (ap (λ w. w ∷ []) width) x (apart number node e x h) (c.nodes number node e x h);
   others = λ x none. elim (decided (same_value (value_at state.values object) new)) [
     | inl same ↦
-        (let a : next_count state (with_value machine object new state) count x ≡ count x = count-same state (with_value machine object new state) count x (value-unchanged machine object new state same x) in
+        (let a : next_count state (with_value machine object new state) count x ≡ count x =
+        count-same state (with_value machine object new state) count x (value-unchanged machine object new state same x) in
         let b : count x ≤ reached machine.design (changes ++ more) x = reached-more machine changes more x (count x) (c.others x none) in
         omega (arith, a, b))
     | inr other ↦ elim (decided (nat_eq object x)) [
@@ -239,7 +248,8 @@ counts-write machine object new state changes more count rules c f width net tol
           let bit : one_if (changed_in state (with_value machine object new state) x) ≤ 1 = at_most_one (changed_in state (with_value machine object new state) x) in
           omega (arith, a, b, s, bit))
       | inr there ↦
-          (let a : next_count state (with_value machine object new state) count x ≡ count x = count-same state (with_value machine object new state) count x (value-other machine object new state x (other_number object x there)) in
+          (let a : next_count state (with_value machine object new state) count x ≡ count x =
+          count-same state (with_value machine object new state) count x (value-other machine object new state x (other_number object x there)) in
           let b : count x ≤ reached machine.design (changes ++ more) x = reached-more machine changes more x (count x) (c.others x none) in
           omega (arith, a, b))
     ]
@@ -248,11 +258,13 @@ counts-write machine object new state changes more count rules c f width net tol
   where
     apart : (number : ℕ) (node : FlatNode) → slice_get machine.design.nodes number ≡ Some node → (x : ℕ) → has node.outputs x ≡ true → has (object ∷ []) x ≡ false
     apart number node e x h = elim (decided (nat_eq object x)) [
-      | inl same ↦ true-false (has (net_pieces machine.design) object) (subst (λ y. has (net_pieces machine.design) y ≡ true) (sym (eqb-true object x same)) (outputs_are_nets rules number node e x h)) net
+      | inl same ↦ true-false (has (net_pieces machine.design) object) (subst (λ y. has (net_pieces machine.design) y ≡ true) (sym (eqb-true object x same))
+          (outputs_are_nets rules number node e x h)) net
       | inr other ↦ ap (λ b. b || false) other
     ]
 
-counts-written : (machine : Machine) (write : Option ValueUpdate) (state : State) (changes more : List ℕ) (count : ℕ → ℕ) → KeepsRules machine.design → Counts machine state changes count → Fit machine state.values →
+counts-written : (machine : Machine) (write : Option ValueUpdate) (state : State) (changes more : List ℕ) (count : ℕ → ℕ) → KeepsRules machine.design → Counts machine state changes count →
+    Fit machine state.values →
     ((u : ValueUpdate) → write ≡ Some u → NotNet machine u.object) →
     ((u : ValueUpdate) → write ≡ Some u → same_value (value_at state.values u.object) (value_written machine state u) ≡ false → has more u.object ≡ true) →
     Counts machine (written_if machine write state) (changes ++ more) (next_count state (written_if machine write state) count)
@@ -266,7 +278,8 @@ counts-process : (machine : Machine) (number : ℕ) (own : ProcessState → Proc
     Counts machine (with_process number own state) changes count
 counts-process machine number own state changes count c = record { nodes = c.nodes; others = c.others }
 
-counts-evaluated : (machine : Machine) (number : ℕ) (found : Option FlatNode) (state : State) (changes more : List ℕ) (count : ℕ → ℕ) → slice_get machine.design.nodes number ≡ found → Follows machine Everywhere state →
+counts-evaluated : (machine : Machine) (number : ℕ) (found : Option FlatNode) (state : State) (changes more : List ℕ) (count : ℕ → ℕ) → slice_get machine.design.nodes number ≡ found →
+    Follows machine Everywhere state →
     (node_at state number).marked ≡ true → Counts machine state changes count →
     Counts machine (evaluated machine number found state) (changes ++ more) (next_count state (evaluated machine number found state) count)
 counts-evaluated machine number None state changes more count found f marked c = counts-still machine state state changes more count c (λ object. refl) (λ n node e. omega arith)
@@ -306,9 +319,11 @@ counts-nets machine number (Some node) (Some values) state changes more count ru
         sum-below-in count (next_count state ended count) (without_repeats [] n.inputs) (λ x i. count-grows state ended count x) in
         omega (arith, a, b, d, bit, g)))
     | inr apart ↦
-        counts-reader machine node.outputs values cleared count other n e (distinct [] node.outputs ((node_rules rules number node found).outputs_once)).0 f.fit (f.pending_widths number node values found p) object
+        counts-reader machine node.outputs values cleared count other n e (distinct [] node.outputs ((node_rules rules number node found).outputs_once)).0 f.fit
+        (f.pending_widths number node values found p) object
         (not_mine other n e object h (other_number number other apart))
-        (let same : work_left (node_at cleared other) ≡ work_left (node_at state other) = ap work_left (node-other state other number (λ old. record old { pending = None }) (other_number number other apart)) in
+        (let same : work_left (node_at cleared other) ≡ work_left (node_at state other) = ap work_left
+        (node-other state other number (λ old. record old { pending = None }) (other_number number other apart)) in
         let b : count object + work_left (node_at state other) ≤ sum_by count (without_repeats [] n.inputs) = c.nodes other n e object h in
         omega (arith, same, b))
   ];
@@ -340,11 +355,13 @@ counts-nets machine number (Some node) (Some values) state changes more count ru
     ]
 
 -- each event keeps the counts
-pub counts-after : (machine : Machine) (state : State) (changes : List ℕ) (count : ℕ → ℕ) (event : Event) → KeepsRules machine.design → AreClear (NotNet machine) state → Follows machine Everywhere state →
+pub counts-after : (machine : Machine) (state : State) (changes : List ℕ) (count : ℕ → ℕ) (event : Event) → KeepsRules machine.design → AreClear (NotNet machine) state →
+    Follows machine Everywhere state →
     IsTrue (possible state event) → Counts machine state changes count →
     Counts machine (after machine state event) (changes ++ event_changes machine state event) (next_count state (after machine state event) count)
 counts-after machine state changes count (Step number) rules clear f p c =
-    counts-written machine (write_of (step_of machine state number).action) (with_process number (after_step state (step_of machine state number)) state) changes (event_changes machine state (Step number)) count rules
+    counts-written machine (write_of (step_of machine state number).action) (with_process number (after_step state (step_of machine state number)) state) changes
+    (event_changes machine state (Step number)) count rules
     (counts-process machine number (after_step state (step_of machine state number)) state changes count c) f.fit
     (λ u e. write-clear-of (NotNet machine) machine state (Step number) u (bodies_clear machine rules) clear e)
     (λ u e other. action-listed machine state number (step_of machine state number).line (step_of machine state number).action
@@ -363,7 +380,8 @@ counts-after machine state changes count (NetUpdate number) rules clear f p c =
 
 -- What a count says
 
-pub count-below : (machine : Machine) (state : State) (changes : List ℕ) (count : ℕ → ℕ) → KeepsRules machine.design → Counts machine state changes count → (level bound : ℕ) → level ≤ bound → (object : ℕ) →
+pub count-below : (machine : Machine) (state : State) (changes : List ℕ) (count : ℕ → ℕ) → KeepsRules machine.design → Counts machine state changes count → (level bound : ℕ) → level ≤ bound →
+    (object : ℕ) →
     IsBelow machine.design.nodes level object → count object ≤ reached machine.design changes object
 count-below machine state changes count rules c level zero l object below =
     c.others object (λ number node e. elim (decided (has node.outputs object)) [
@@ -376,8 +394,10 @@ count-below machine state changes count rules c level (suc bound) l object below
       let one : count object + work_left (node_at state d.0) ≤ sum_by count (without_repeats [] d.1.inputs) = c.nodes d.0 d.1 d.2 object d.3 in
       let two : sum_by count (without_repeats [] d.1.inputs) ≤ sum_by (reached machine.design changes) (without_repeats [] d.1.inputs) =
       sum-below-in count (reached machine.design changes) (without_repeats [] d.1.inputs)
-      (λ input i. count-below machine state changes count rules c d.0 bound (omega (arith, b, l)) input (input_below machine.design.nodes rules.ranked d.0 d.1 d.2 input (repeats-in [] d.1.inputs input i))) in
-      let three : sum_by (reached machine.design changes) (without_repeats [] d.1.inputs) ≤ reached machine.design changes object = reached-inputs machine.design rules changes object d.0 d.1 d.2 d.3 in
+      (λ input i. count-below machine state changes count rules c d.0 bound (omega (arith, b, l)) input
+      (input_below machine.design.nodes rules.ranked d.0 d.1 d.2 input (repeats-in [] d.1.inputs input i))) in
+      let three : sum_by (reached machine.design changes) (without_repeats [] d.1.inputs) ≤ reached machine.design changes object =
+      reached-inputs machine.design rules changes object d.0 d.1 d.2 d.3 in
       omega (arith, one, two, three))
   | inr none ↦ c.others object none
 ]
@@ -386,7 +406,8 @@ length-change_if : (b : Bool) (old new : LogicValue) (rest : List (LogicValue ×
 length-change_if true old new rest = omega arith
 length-change_if false old new rest = omega arith
 
-counts-run : (machine : Machine) (state : State) (changes : List ℕ) (count : ℕ → ℕ) (events : List Event) (object : ℕ) → KeepsRules machine.design → AreClear (NotNet machine) state → Follows machine Everywhere state →
+counts-run : (machine : Machine) (state : State) (changes : List ℕ) (count : ℕ → ℕ) (events : List Event) (object : ℕ) → KeepsRules machine.design → AreClear (NotNet machine) state →
+    Follows machine Everywhere state →
     IsTrue (all_possible machine state events) → Counts machine state changes count →
     count object + length (changes_at machine state events object) ≤ reached machine.design (changes ++ run_changes machine state events) object
 counts-run machine state changes count [] object rules clear f p c =
@@ -395,7 +416,8 @@ counts-run machine state changes count [] object rules clear f p c =
     (count-below machine state changes count rules c (length machine.design.nodes) (length machine.design.nodes) (omega arith) object (all_below machine.design.nodes object)) in
     omega (arith, a)
 counts-run machine state changes count (event ∷ events) object rules clear f p c =
-    let may : (possible state event ≡ true) × (all_possible machine (after machine state event) events ≡ true) = and-first (possible state event) (all_possible machine (after machine state event) events) p in
+    let may : (possible state event ≡ true) × (all_possible machine (after machine state event) events ≡ true) =
+    and-first (possible state event) (all_possible machine (after machine state event) events) p in
     let rest : next_count state (after machine state event) count object + length (changes_at machine (after machine state event) events object)
     ≤ reached machine.design ((changes ++ event_changes machine state event) ++ run_changes machine (after machine state event) events) object =
     counts-run machine (after machine state event) (changes ++ event_changes machine state event) (next_count state (after machine state event) count) events object rules
@@ -404,8 +426,10 @@ counts-run machine state changes count (event ∷ events) object rules clear f p
     let all : reached machine.design ((changes ++ event_changes machine state event) ++ run_changes machine (after machine state event) events) object
     ≡ reached machine.design (changes ++ (event_changes machine state event ++ run_changes machine (after machine state event) events)) object =
     ap (λ cs. reached machine.design cs object) (append_assoc' changes (event_changes machine state event) (run_changes machine (after machine state event) events)) in
-    let one : length (changes_at machine state (event ∷ events) object) ≡ one_if (changed_in state (after machine state event) object) + length (changes_at machine (after machine state event) events object) =
-    length-change_if (changed_in state (after machine state event) object) (value_at state.values object) (value_at (after machine state event).values object) (changes_at machine (after machine state event) events object) in
+    let one : length (changes_at machine state (event ∷ events) object) ≡ one_if (changed_in state (after machine state event) object) + length
+    (changes_at machine (after machine state event) events object) =
+    length-change_if (changed_in state (after machine state event) object) (value_at state.values object) (value_at (after machine state event).values object)
+    (changes_at machine (after machine state event) events object) in
     omega (arith, rest, all, one)
 
 -- in a run from a phase's beginning: a quiet net never changes, a clean one once at most

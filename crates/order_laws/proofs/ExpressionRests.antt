@@ -5,8 +5,11 @@ use Rattle.std.proofs.lemmas.Bool.{le-leb, lt-ltb}
 use Rattle.std.proofs.lemmas.List.{get_or_append_left, get_or-append-add}
 use Rattle.four_value.specs.Values.{LogicValue, resized, bit_at, natural_number, truth_of, chosen_value}
 use Rattle.four_value.specs.Operators.{unary_value, binary_value}
-use Rattle.v_design.specs.Trees.{Piece, Expression, Constant, Name, BitSelect, PartSelect, WordSelect, Unary, Binary, Conditional, Concatenation, Replication, Expressions, no_expressions, more_expressions}
-use Rattle.v_design.specs.Expressions.{sign_of, is_constant, are_constant, place_of_number, part_places, word_at, bit_at_place, whole_slices, some_place_within, slices_at, vector_value, object_value, repeated, value_of, parts_value, slice_piece, slice_pieces, no_values, bit_slices, index_number, memory_pieces, pieces_read, parts_read, piece_objects}
+use Rattle.v_design.specs.Trees.{Piece, Expression, Constant, Name, BitSelect, PartSelect, WordSelect, Unary, Binary, Conditional, Concatenation, Replication, Expressions, no_expressions}
+use Rattle.v_design.specs.Trees.{more_expressions}
+use Rattle.v_design.specs.Expressions.{sign_of, is_constant, are_constant, place_of_number, part_places, word_at, bit_at_place, whole_slices, some_place_within, slices_at, vector_value}
+use Rattle.v_design.specs.Expressions.{object_value, repeated, value_of, parts_value, slice_piece, slice_pieces, no_values, bit_slices, index_number, memory_pieces, pieces_read, parts_read}
+use Rattle.v_design.specs.Expressions.{piece_objects}
 use Rattle.v_design.specs.Assignments.{label_values}
 use Rattle.v_design.specs.Reads.{named_in, named_in_parts}
 use Rattle.four_value.specs.declared.logic.Bit.TheVariants.{X}
@@ -190,7 +193,8 @@ object-same : (v w : ℕ → LogicValue) (width : ℕ) (found : Option ℕ) → 
 object-same v w width None h = refl
 object-same v w width (Some object) h = h object refl
 
-bit-same : (v w : ℕ → LogicValue) (signed : Bool) (width high low : ℕ) (pieces : List Piece) (sign : Bool) (a b n : LogicValue) (constant : Bool) → a ≡ b → (constant ≡ true → a ≡ n) → PiecesFit v pieces → FitOrEmpty w pieces →
+bit-same : (v w : ℕ → LogicValue) (signed : Bool) (width high low : ℕ) (pieces : List Piece) (sign : Bool) (a b n : LogicValue) (constant : Bool) → a ≡ b → (constant ≡ true → a ≡ n) →
+    PiecesFit v pieces → FitOrEmpty w pieces →
     Agree v w (slice_pieces (bit_slices constant (record { high = high; low = low; pieces = pieces }) (natural_number sign n))) →
     resized signed width (bit_at_place (vector_value v pieces) (place_of_number high low (natural_number sign a)) ∷ [])
     ≡ resized signed width (bit_at_place (vector_value w pieces) (place_of_number high low (natural_number sign b)) ∷ [])
@@ -218,29 +222,36 @@ mutual
       ap (resized signed width) (places-same v w (part_places vector.high vector.low from to) (part_places vector.high vector.low from to) vector.pieces (λ place i. i) f g h)
   value-same v w (WordSelect width signed memory index) f g h =
       ap (λ n. resized signed width (object_value v memory.width (word_at memory (natural_number (sign_of index) n))))
-      (value-same v w index (fit-left v (named_in index) (memory_pieces memory) f) (either-left w (named_in index) (memory_pieces memory) g) (agree-left v w (pieces_read index) (memory_pieces memory) h))
+      (value-same v w index (fit-left v (named_in index) (memory_pieces memory) f) (either-left w (named_in index) (memory_pieces memory) g)
+      (agree-left v w (pieces_read index) (memory_pieces memory) h))
       ∙ ap (resized signed width)
       (object-same v w memory.width (word_at memory (index_number w index))
       (λ object e. word_at-clear (λ o. v o ≡ w o) memory (index_number w index) object
       (words-agree v w memory.width memory.words (agree-right v w (pieces_read index) (memory_pieces memory) h)) e))
   value-same v w (Unary width signed operator a) f g h = ap (λ x. resized signed width (unary_value operator x)) (value-same v w a f g h)
   value-same v w (Binary width signed operator a b) f g h =
-      let one : value_of v a ≡ value_of w a = value-same v w a (fit-left v (named_in a) (named_in b) f) (either-left w (named_in a) (named_in b) g) (agree-left v w (pieces_read a) (pieces_read b) h) in
-      let two : value_of v b ≡ value_of w b = value-same v w b (fit-right v (named_in a) (named_in b) f) (either-right w (named_in a) (named_in b) g) (agree-right v w (pieces_read a) (pieces_read b) h) in
+      let one : value_of v a ≡ value_of w a = value-same v w a (fit-left v (named_in a) (named_in b) f) (either-left w (named_in a) (named_in b) g)
+      (agree-left v w (pieces_read a) (pieces_read b) h) in
+      let two : value_of v b ≡ value_of w b = value-same v w b (fit-right v (named_in a) (named_in b) f) (either-right w (named_in a) (named_in b) g)
+      (agree-right v w (pieces_read a) (pieces_read b) h) in
       λ i. resized signed width (binary_value operator (sign_of a) (one i) (two i))
   value-same v w (Conditional width signed c a b) f g h =
       let zero' : value_of v c ≡ value_of w c =
-      value-same v w c (fit-left v (named_in c) (named_in a ++ named_in b) f) (either-left w (named_in c) (named_in a ++ named_in b) g) (agree-left v w (pieces_read c) (pieces_read a ++ pieces_read b) h) in
+      value-same v w c (fit-left v (named_in c) (named_in a ++ named_in b) f) (either-left w (named_in c) (named_in a ++ named_in b) g)
+      (agree-left v w (pieces_read c) (pieces_read a ++ pieces_read b) h) in
       let f' : PiecesFit v (named_in a ++ named_in b) = fit-right v (named_in c) (named_in a ++ named_in b) f in
       let g' : FitOrEmpty w (named_in a ++ named_in b) = either-right w (named_in c) (named_in a ++ named_in b) g in
       let h' : Agree v w (pieces_read a ++ pieces_read b) = agree-right v w (pieces_read c) (pieces_read a ++ pieces_read b) h in
-      let one : value_of v a ≡ value_of w a = value-same v w a (fit-left v (named_in a) (named_in b) f') (either-left w (named_in a) (named_in b) g') (agree-left v w (pieces_read a) (pieces_read b) h') in
-      let two : value_of v b ≡ value_of w b = value-same v w b (fit-right v (named_in a) (named_in b) f') (either-right w (named_in a) (named_in b) g') (agree-right v w (pieces_read a) (pieces_read b) h') in
+      let one : value_of v a ≡ value_of w a = value-same v w a (fit-left v (named_in a) (named_in b) f') (either-left w (named_in a) (named_in b) g')
+      (agree-left v w (pieces_read a) (pieces_read b) h') in
+      let two : value_of v b ≡ value_of w b = value-same v w b (fit-right v (named_in a) (named_in b) f') (either-right w (named_in a) (named_in b) g')
+      (agree-right v w (pieces_read a) (pieces_read b) h') in
       λ i. resized signed width (chosen_value (truth_of (zero' i)) (one i) (two i))
   value-same v w (Concatenation width signed parts) f g h = ap (resized signed width) (parts-same v w parts f g h)
   value-same v w (Replication width signed count parts) f g h = ap (λ x. resized signed width (repeated count x)) (parts-same v w parts f g h)
 
-  pub parts-same : (v w : ℕ → LogicValue) (parts : Expressions) → PiecesFit v (named_in_parts parts) → FitOrEmpty w (named_in_parts parts) → Agree v w (parts_read parts) → parts_value v parts ≡ parts_value w parts
+  pub parts-same : (v w : ℕ → LogicValue) (parts : Expressions) → PiecesFit v (named_in_parts parts) → FitOrEmpty w (named_in_parts parts) → Agree v w (parts_read parts) →
+      parts_value v parts ≡ parts_value w parts
   parts-same v w no_expressions f g h = refl
   parts-same v w (more_expressions part rest) f g h =
       let one : value_of v part ≡ value_of w part =
@@ -254,5 +265,6 @@ pub labels-same : (v w : ℕ → LogicValue) (labels : Expressions) → PiecesFi
     label_values v labels ≡ label_values w labels
 labels-same v w no_expressions f g h = refl
 labels-same v w (more_expressions first rest) f g h =
-    λ i. value-same v w first (fit-left v (named_in first) (named_in_parts rest) f) (inl (fit-left w (named_in first) (named_in_parts rest) g)) (agree-left v w (pieces_read first) (parts_read rest) h) i
+    λ i. value-same v w first (fit-left v (named_in first) (named_in_parts rest) f) (inl (fit-left w (named_in first) (named_in_parts rest) g))
+    (agree-left v w (pieces_read first) (parts_read rest) h) i
     ∷ labels-same v w rest (fit-right v (named_in first) (named_in_parts rest) f) (fit-right w (named_in first) (named_in_parts rest) g) (agree-right v w (pieces_read first) (parts_read rest) h) i

@@ -8,7 +8,8 @@ use Rattle.v_design.specs.Trees.{Entry}
 use Rattle.v_design.specs.Designs.{FlatDesign, FlatNode, Machine}
 use Rattle.v_design.specs.Assignments.{value_at}
 use Rattle.v_design.specs.Processes.{Activity, Ready, Waiting, Asleep, Postponed, Done, Action, TouchesNothing}
-use Rattle.v_design.specs.States.{State, ProcessState, Event, Step, LaneStep, Evaluation, NetUpdate, after, possible, found_or, is_quiescent, process_at, is_ready, some_entry, step_of, write_of, next_activity, appended}
+use Rattle.v_design.specs.States.{State, ProcessState, Event, Step, LaneStep, Evaluation, NetUpdate, after, possible, found_or, is_quiescent, process_at, is_ready, some_entry, step_of, write_of}
+use Rattle.v_design.specs.States.{next_activity, appended}
 use Rattle.v_design.specs.Runs.{happened}
 use Rattle.v_design.specs.Paths.{paths, net_pieces, class_of_paths, is_wild_class, is_wild}
 use Rattle.v_design.specs.Accesses.{Writing, Awaiting, Holding, Settling, ObjectAccess, waiting_entries, waiting_line, action_accesses, await_accesses, held_by}
@@ -29,8 +30,10 @@ use Rattle.order_laws.proofs.QuietNets.{event_changes, run_changes}
 use Rattle.order_laws.proofs.CountedChanges.{changed_in}
 use Rattle.order_laws.proofs.CleanNets.{same-changes, phase_changes-run}
 use Rattle.order_laws.proofs.WaitsBegin.{activity-waits}
-use Rattle.order_laws.proofs.RunStates.{state_at, at_start, at_next, possible_at, bare, noted, accesses_before, accesses_at-place, cause_before, cause_at-place, IsCause, cause_found, none_past, past_none}
-use Rattle.order_laws.proofs.Woken.{changed_entry, unchanged_entry, none-passes, woken_by, woken_by-waits, woken_after, own_waits, own_step, woken_if_process, touches_process, touches-how, untouched_process, step_or_not}
+use Rattle.order_laws.proofs.RunStates.{state_at, at_start, at_next, possible_at, bare, noted, accesses_before, accesses_at-place, cause_before, cause_at-place, IsCause, cause_found, none_past}
+use Rattle.order_laws.proofs.RunStates.{past_none}
+use Rattle.order_laws.proofs.Woken.{changed_entry, unchanged_entry, none-passes, woken_by, woken_by-waits, woken_after, own_waits, own_step, woken_if_process, touches_process, touches-how}
+use Rattle.order_laws.proofs.Woken.{untouched_process, step_or_not}
 use Rattle.order_laws.proofs.Ordered.{counted_at, events_clash, held_clash, counts_in, counts-other, counts-tame, settles_in, in-filter}
 use Rattle.order_laws.proofs.Touches.{unchanged_in, written-other, change_access, in_processes}
 use Rattle.order_laws.proofs.Cells.{difference}
@@ -54,17 +57,21 @@ and-parts : (b c : Bool) → (b && c) ≡ true → (b ≡ true) × (c ≡ true)
 and-parts true c e = (refl, e)
 and-parts false c e = cc
 
-pub stands_in : (machine : Machine) (state : State) (first : List Event) (k : ℕ) (event : Event) (x : ObjectAccess) → slice_get first k ≡ Some event → In x (accesses_before machine state first k event) →
+pub stands_in : (machine : Machine) (state : State) (first : List Event) (k : ℕ) (event : Event) (x : ObjectAccess) → slice_get first k ≡ Some event →
+    In x (accesses_before machine state first k event) →
     In x (accesses_at (log_of machine state first) k)
 stands_in machine state first k event x e i = subst (λ xs. In x xs) (sym (accesses_at-place machine state first k event e)) i
 
 -- an access that isn't a write counts
-pub other_counted : (machine : Machine) (state : State) (first : List Event) (k : ℕ) (event : Event) (x : ObjectAccess) → slice_get first k ≡ Some event → In x (accesses_before machine state first k event) →
+pub other_counted : (machine : Machine) (state : State) (first : List Event) (k : ℕ) (event : Event) (x : ObjectAccess) → slice_get first k ≡ Some event →
+    In x (accesses_before machine state first k event) →
     is_write x.act ≡ false → In x (counted machine state first k)
 other_counted machine state first k event x e i h =
-    counts_in machine.design (log_of machine state first) k x (stands_in machine state first k event x e i) (counts-other machine.design (phase_changes machine.design (log_of machine state first)) x h)
+    counts_in machine.design (log_of machine state first) k x (stands_in machine state first k event x e i)
+    (counts-other machine.design (phase_changes machine.design (log_of machine state first)) x h)
 
-pub tame_counted : (machine : Machine) (state : State) (first : List Event) (k : ℕ) (event : Event) (x : ObjectAccess) → slice_get first k ≡ Some event → In x (accesses_before machine state first k event) →
+pub tame_counted : (machine : Machine) (state : State) (first : List Event) (k : ℕ) (event : Event) (x : ObjectAccess) → slice_get first k ≡ Some event →
+    In x (accesses_before machine state first k event) →
     wild_in machine state first x.object ≡ false → In x (counted machine state first k)
 tame_counted machine state first k event x e i h =
     counts_in machine.design (log_of machine state first) k x (stands_in machine state first k event x e i) (counts-tame machine.design (phase_changes machine.design (log_of machine state first)) x h)
@@ -120,13 +127,15 @@ settles_there machine state first k event object e wild reach =
     let both : (has (net_pieces machine.design) object ≡ true) × (is_wild machine.design (phase_changes machine.design (log_of machine state first)) object ≡ true) =
     and-parts (has (net_pieces machine.design) object) (is_wild machine.design (phase_changes machine.design (log_of machine state first)) object) wild in (
       record { act = Settling; object = object; process = x.0.process; line = x.0.line },
-      settles_in machine.design (log_of machine state first) k x.0 some.0 object (stands_in machine state first k event x.0 e x.1) x.2 both.0 both.1 (let p : 1 ≤ paths machine.design some.0 object = some.2 in omega (arith, p)),
+      settles_in machine.design (log_of machine state first) k x.0 some.0 object (stands_in machine state first k event x.0 e x.1) x.2 both.0 both.1
+          (let p : 1 ≤ paths machine.design some.0 object = some.2 in omega (arith, p)),
       refl,
       refl,
     )
 
 -- a wild net is reached twice at least
-pub wild_reached : (machine : Machine) (state : State) (first : List Event) (object : ℕ) → wild_in machine state first object ≡ true → 2 ≤ reached machine.design (run_changes machine state first) object
+pub wild_reached : (machine : Machine) (state : State) (first : List Event) (object : ℕ) → wild_in machine state first object ≡ true →
+    2 ≤ reached machine.design (run_changes machine state first) object
 wild_reached machine state first object wild =
     subst (λ cs. 2 ≤ reached machine.design cs object) (phase_changes-run machine state first)
     (two (reached machine.design (phase_changes machine.design (log_of machine state first)) object)
@@ -169,10 +178,15 @@ orders_itself log w k none h = elim (chain log w (length log.events) (Some k) h)
 abbrev pub Closed : LoggedPhase → List ℕ → Type 0
 Closed log done = (n c : ℕ) → has done n ≡ true → cause_at log n ≡ Some c → has done c ≡ true
 
-pub in_chain : (log : LoggedPhase) (done : List ℕ) → Closed log done → (w depth : ℕ) (start : Option ℕ) → ((c : ℕ) → start ≡ Some c → has done c ≡ true) → has (causes_from depth log start) w ≡ true → has done w ≡ true
+pub in_chain : (log : LoggedPhase) (done : List ℕ) → Closed log done → (w depth : ℕ) (start : Option ℕ) → ((c : ℕ) → start ≡ Some c → has done c ≡ true) →
+    has (causes_from depth log start) w ≡ true → has done w ≡ true
 in_chain log done closed w zero None s h = cc
 in_chain log done closed w (suc depth) None s h = cc
-in_chain log done closed w zero (Some c) s h = elim (or-either (nat_eq c w) false h) [ inl e ↦ subst (λ n. has done n ≡ true) (eqb-true c w e) (s c refl) | inr nothing ↦ true-false false nothing refl ]
+in_chain log done closed w zero (Some c) s h = elim (or-either (nat_eq c w) false h) [
+  | inl e ↦ subst (λ n. has done n ≡ true) (eqb-true c w e)
+      (s c refl)
+  | inr nothing ↦ true-false false nothing refl
+]
 in_chain log done closed w (suc depth) (Some c) s h = elim (or-either (nat_eq c w) (has (causes_from depth log (cause_at log c)) w) h) [
   | inl e ↦ subst (λ n. has done n ≡ true) (eqb-true c w e) (s c refl)
   | inr there ↦ in_chain log done closed w depth (cause_at log c) (λ d e. closed c d (s c refl) e) there
@@ -212,7 +226,8 @@ ordered_with machine state first done i k o d (inr later) = (
 )
 
 -- and so is what clashes with it
-pub clash_with : (machine : Machine) (state : State) (first : List Event) (done : List ℕ) (i k : ℕ) (x y : ObjectAccess) → IsFree machine state first → IsOpen (log_of machine state first) done i → k ≢ i →
+pub clash_with : (machine : Machine) (state : State) (first : List Event) (done : List ℕ) (i k : ℕ) (x y : ObjectAccess) → IsFree machine state first → IsOpen (log_of machine state first) done i →
+    k ≢ i →
     In x (counted machine state first k) → In y (counted machine state first i) → x.object ≡ y.object → acts_clash x.object x.act y.act ≡ true → InOrderWith done i k
 clash_with machine state first done i k x y r o d a b same clash =
     ordered_with machine state first done i k o d
@@ -224,7 +239,8 @@ clash_with machine state first done i k x y r o d a b same clash =
 -- No process waits on a wild net
 
 pub awaits-no-changes : (design : FlatDesign) (p l : ℕ) (entries : List Entry) →
-    joined (map (λ (access : ObjectAccess). change_of design access.act access.object) (map (λ (entry : Entry). let a : ObjectAccess = record { act = Awaiting entry; object = entry.object; process = p; line = l } in a) entries)) ≡ []
+    joined (map (λ (access : ObjectAccess). change_of design access.act access.object) (map
+    (λ (entry : Entry). let a : ObjectAccess = record { act = Awaiting entry; object = entry.object; process = p; line = l } in a) entries)) ≡ []
 awaits-no-changes design p l [] = refl
 awaits-no-changes design p l (entry ∷ entries) = awaits-no-changes design p l entries
 
@@ -237,10 +253,12 @@ begins_wait machine state p entry i = elim (activity-waits machine state p (proc
 
 wait-no-changes : (machine : Machine) (state : State) (p : ℕ) (entry : Entry) → In entry (awaits_by machine state (Step p)) → event_changes machine state (Step p) ≡ []
 wait-no-changes machine state p entry i =
-    ap (λ action. changes_of machine.design (action_accesses machine p (step_of machine state p).line action state ++ await_accesses p (step_of machine state p).line (step_of machine state p).next)) (begins_wait machine state p entry i)
+    ap (λ action. changes_of machine.design (action_accesses machine p (step_of machine state p).line action state ++ await_accesses p (step_of machine state p).line (step_of machine state p).next))
+    (begins_wait machine state p entry i)
     ∙ awaits-no-changes machine.design p (step_of machine state p).line (waiting_entries (step_of machine state p).next)
 
-wait-values : (machine : Machine) (state : State) (p : ℕ) (entry : Entry) → In entry (awaits_by machine state (Step p)) → (x : ℕ) → value_at (after machine state (Step p)).values x ≡ value_at state.values x
+wait-values : (machine : Machine) (state : State) (p : ℕ) (entry : Entry) → In entry (awaits_by machine state (Step p)) → (x : ℕ) →
+    value_at (after machine state (Step p)).values x ≡ value_at state.values x
 wait-values machine state p entry i x =
     written-other machine state p (own_of machine state (Step p)) (write_of (step_of machine state p).action) x (λ u e. none_some u (sym (ap write_of (begins_wait machine state p entry i)) ∙ e))
   where
@@ -266,7 +284,11 @@ after-wait machine state p entry r i =
   where
     left : Action → Activity
     left action = (woken_if_process machine state (write_of action)
-        (record { activity = next_activity state.values action (step_of machine state p).next; later = (process_at state p).later ++ appended state.time action; lane = (process_at state p).lane })).activity
+        (record {
+          activity = next_activity state.values action (step_of machine state p).next;
+          later = (process_at state p).later ++ appended state.time action;
+          lane = (process_at state p).lane;
+        })).activity
 
 -- while no event touches a process its activity stays
 pub activity-stays : (machine : Machine) (state : State) (first : List Event) (p k : ℕ) → IsRun machine state first →
@@ -310,7 +332,8 @@ wait_causes_nothing machine state first w p entry r e i n event g c = by event g
 
     net : (found : Option FlatNode) → changes_input machine found (bare (state_at machine state first w) (Step p)) ≡ false
     net None = refl
-    net (Some node) = none-changed (state_at machine state first w) (after machine (state_at machine state first w) (Step p)) node.inputs (wait-values machine (state_at machine state first w) p entry i)
+    net (Some node) = none-changed (state_at machine state first w) (after machine (state_at machine state first w) (Step p)) node.inputs
+        (wait-values machine (state_at machine state first w) p entry i)
 
     number_of : Event → ℕ
     number_of (Step n) = n
@@ -334,13 +357,16 @@ wait_causes_nothing machine state first w p entry r e i n event g c = by event g
     by (Step q) g c = elim (touches-how machine q (state_at machine state first w) (Step p) r.run.rules (follows_at machine state first w r.run) (may (Step q) c)) [
       | inl same ↦ own q (ap number_of same) g c
       | inr wakes ↦
-          true-false (some_entry (changed_entry (state_at machine state first w) (after machine (state_at machine state first w) (Step p))) (waiting_entries (activity_at (state_at machine state first w) q))) wakes.1
+          true-false (some_entry (changed_entry (state_at machine state first w) (after machine (state_at machine state first w) (Step p)))
+          (waiting_entries (activity_at (state_at machine state first w) q))) wakes.1
           (none-passes (changed_entry (state_at machine state first w) (after machine (state_at machine state first w) (Step p))) (waiting_entries (activity_at (state_at machine state first w) q))
           (λ x. unchanged_entry (state_at machine state first w) (after machine (state_at machine state first w) (Step p)) x (unchanged x.object)))
     ]
     by (LaneStep q) g c = true-false false (may (LaneStep q) c) refl
-    by (Evaluation m) g c = true-false (changes_input machine (slice_get machine.design.nodes m) (bare (state_at machine state first w) (Step p))) (may (Evaluation m) c) (net (slice_get machine.design.nodes m))
-    by (NetUpdate m) g c = true-false (changes_input machine (slice_get machine.design.nodes m) (bare (state_at machine state first w) (Step p))) (may (NetUpdate m) c) (net (slice_get machine.design.nodes m))
+    by (Evaluation m) g c = true-false (changes_input machine (slice_get machine.design.nodes m) (bare (state_at machine state first w) (Step p))) (may (Evaluation m) c)
+        (net (slice_get machine.design.nodes m))
+    by (NetUpdate m) g c = true-false (changes_input machine (slice_get machine.design.nodes m) (bare (state_at machine state first w) (Step p))) (may (NetUpdate m) c)
+        (net (slice_get machine.design.nodes m))
 
 cause-there : (machine : Machine) (state : State) (first : List Event) (n w : ℕ) → cause_at (log_of machine state first) n ≡ Some w → (event : Event) × (slice_get first n ≡ Some event)
 cause-there machine state first n w e = go (slice_get first n) refl
@@ -353,7 +379,8 @@ cause-there machine state first n w e = go (slice_get first n) refl
         cause_at-new machine state first n
         ∙ ap (found_or None) (none_past (map (λ (note : NotedEvent). note.cause) (new_notes machine [] state first)) n
         (let a : length first ≤ n = past_none first n f in
-        let b : length (map (λ (note : NotedEvent). note.cause) (new_notes machine [] state first)) ≡ length (new_notes machine [] state first) = length-map (λ (note : NotedEvent). note.cause) (new_notes machine [] state first) in
+        let b : length (map (λ (note : NotedEvent). note.cause) (new_notes machine [] state first)) ≡ length (new_notes machine [] state first) =
+        length-map (λ (note : NotedEvent). note.cause) (new_notes machine [] state first) in
         let c : length (new_notes machine [] state first) ≡ length first = length-new_notes machine [] state first in
         omega (arith, a, b, c)))
 
@@ -365,7 +392,8 @@ cause-there machine state first n w e = go (slice_get first n) refl
 no_wild_await : (machine : Machine) (state : State) (first : List Event) (w p : ℕ) (entry : Entry) → IsFree machine state first → slice_get first w ≡ Some (Step p) →
     In entry (awaits_by machine (state_at machine state first w) (Step p)) → wild_in machine state first entry.object ≡ true → ⊥
 no_wild_await machine state first w p entry r e i wild =
-    let b = reached_by machine state first entry.object (let z : 2 ≤ reached machine.design (run_changes machine state first) entry.object = wild_reached machine state first entry.object wild in omega (arith, z)) in
+    let b = reached_by machine state first entry.object (let z : 2 ≤ reached machine.design (run_changes machine state first) entry.object = wild_reached machine state first entry.object wild in
+    omega (arith, z)) in
     let y = settles_there machine state first b.0 b.1 entry.object b.2 wild b.3 in
     let x = await_stands machine (state_at machine state first w) (noted machine state first w (Step p)).process (noted machine state first w (Step p)).line (Step p) entry i in
     let await : ObjectAccess = record { act = Awaiting entry; object = entry.object; process = p; line = x.0 } in
@@ -393,9 +421,11 @@ no_wild_await machine state first w p entry r e i wild =
 no_wild_hold : (machine : Machine) (state : State) (first : List Event) (p : ℕ) (entry : Entry) → IsFree machine state first → In entry (waiting_entries (activity_at state p)) →
     wild_in machine state first entry.object ≡ true → ⊥
 no_wild_hold machine state first p entry r i wild =
-    let b = reached_by machine state first entry.object (let z : 2 ≤ reached machine.design (run_changes machine state first) entry.object = wild_reached machine state first entry.object wild in omega (arith, z)) in
+    let b = reached_by machine state first entry.object (let z : 2 ≤ reached machine.design (run_changes machine state first) entry.object = wild_reached machine state first entry.object wild in
+    omega (arith, z)) in
     let y = settles_there machine state first b.0 b.1 entry.object b.2 wild b.3 in
-    let x = In-joined (held_by machine.design) (λ k. let a : ObjectAccess = record { act = Holding entry; object = entry.object; process = k; line = waiting_line (activity_at state p) } in a) 0 state.processes (process_at state p)
+    let x = In-joined (held_by machine.design) (λ k. let a : ObjectAccess = record { act = Holding entry; object = entry.object; process = k; line = waiting_line (activity_at state p) } in a) 0
+    state.processes (process_at state p)
     (in_processes state.processes p entry i)
     (λ k. In-map (λ (e : Entry). let a : ObjectAccess = record { act = Holding e; object = e.object; process = k; line = waiting_line (activity_at state p) } in a) entry
     (filter (λ (e : Entry). has (net_pieces machine.design) e.object) (waiting_entries (activity_at state p)))
@@ -404,7 +434,8 @@ no_wild_hold machine state first p entry r i wild =
     held_clash machine.design (log_of machine state first) r.free b.0 _ y.0 x.1 y.1 (sym y.2) (ap (acts_clash entry.object (Holding entry)) y.3)
 
 -- so at no place does a process wait on one
-pub waits_tame : (machine : Machine) (state : State) (first : List Event) (k p : ℕ) (entry : Entry) → IsFree machine state first → In entry (waiting_entries (activity_at (state_at machine state first k) p)) →
+pub waits_tame : (machine : Machine) (state : State) (first : List Event) (k p : ℕ) (entry : Entry) → IsFree machine state first →
+    In entry (waiting_entries (activity_at (state_at machine state first k) p)) →
     wild_in machine state first entry.object ≡ false
 waits_tame machine state first k p entry r i = elim (decided (wild_in machine state first entry.object)) [
   | inl wild ↦ absurd (never k i wild)
@@ -421,11 +452,14 @@ waits_tame machine state first k p entry r i = elim (decided (wild_in machine st
           (own_waits machine (state_at machine state first k) p entry (possible_at machine state first k (Step p) r.run.possible g)
           (subst (λ t. In entry (waiting_entries (activity_at t p))) (at_next machine state first k (Step p) g) j)) wild)
       | inr other ↦
-          (let w : activity_at (state_at machine state first (suc k)) p ≡ woken_by (changed_entry (state_at machine state first k) (after machine (state_at machine state first k) event)) (activity_at (state_at machine state first k) p) =
+          (let w : activity_at (state_at machine state first (suc k)) p ≡ woken_by (changed_entry (state_at machine state first k) (after machine (state_at machine state first k) event))
+          (activity_at (state_at machine state first k) p) =
           ap (λ t. activity_at t p) (at_next machine state first k event f) ∙ woken_after machine (state_at machine state first k) event p r.run.rules (follows_at machine state first k r.run) other in
-          let j' : In entry (waiting_entries (woken_by (changed_entry (state_at machine state first k) (after machine (state_at machine state first k) event)) (activity_at (state_at machine state first k) p))) =
+          let j' : In entry (waiting_entries (woken_by (changed_entry (state_at machine state first k) (after machine (state_at machine state first k) event))
+          (activity_at (state_at machine state first k) p))) =
           subst (λ act. In entry (waiting_entries act)) w j in
-          before (subst (λ act. In entry (waiting_entries act)) (woken_by-waits (changed_entry (state_at machine state first k) (after machine (state_at machine state first k) event)) (activity_at (state_at machine state first k) p) entry j') j'))
+          before (subst (λ act. In entry (waiting_entries act)) (woken_by-waits (changed_entry (state_at machine state first k) (after machine (state_at machine state first k) event))
+          (activity_at (state_at machine state first k) p) entry j') j'))
     ]
 
     never : (k : ℕ) → In entry (waiting_entries (activity_at (state_at machine state first k) p)) → wild_in machine state first entry.object ≡ true → ⊥

@@ -36,7 +36,8 @@ shifted test x xs n k e r =
     subst (λ m. LastAt test (x ∷ xs) m) (let z : suc n ≡ k = omega (arith, e) in z)
     (r.0, r.1, r.2, λ l y b g. later-shifted test x xs n l y b g r.3)
 
-later-here : {A : Type 0} (test : A → Bool) (x : A) (xs : List A) → ((l : ℕ) (y : A) → slice_get xs l ≡ Some y → test y ≡ false) → (l : ℕ) (y : A) → 0 < l → slice_get (x ∷ xs) l ≡ Some y → test y ≡ false
+later-here : {A : Type 0} (test : A → Bool) (x : A) (xs : List A) → ((l : ℕ) (y : A) → slice_get xs l ≡ Some y → test y ≡ false) → (l : ℕ) (y : A) → 0 < l → slice_get (x ∷ xs) l ≡ Some y →
+    test y ≡ false
 later-here test x xs h zero y b g = absurd (omega (arith, b))
 later-here test x xs h (suc l) y b g = h l y g
 

@@ -21,7 +21,8 @@ use Rattle.order_laws.proofs.Cells.{Cell, le_or, below_or_same, Stays, IsNext, I
 use Rattle.order_laws.proofs.Runs.{IsRun, follows_at, changes_there, same_there}
 use Rattle.order_laws.proofs.FreeRuns.{IsFree, wild_in, IsOpen}
 use Rattle.order_laws.proofs.DoneChanges.{done_reach, done_more, run_more}
-use Rattle.order_laws.proofs.Comparison.{on_event, process_there, lane_there, ProcessPart, process_part, lane_part, through, part_through, lane_through, CauseSame, Paired, Maps, step_there, steps_to, History, Compared, cause_touched, cause_untouched, there-how, wakes_there, woken_at}
+use Rattle.order_laws.proofs.Comparison.{on_event, process_there, lane_there, ProcessPart, process_part, lane_part, through, part_through, lane_through, CauseSame, Paired, Maps, step_there}
+use Rattle.order_laws.proofs.Comparison.{steps_to, History, Compared, cause_touched, cause_untouched, there-how, wakes_there, woken_at}
 use Rattle.order_laws.proofs.WaitsAlike.{SameTests, waits_alike, tests-same}
 
 -- One event more that stands for another
@@ -55,13 +56,15 @@ none_some : {A B : Type 0} (x : A) → None ≡ Some x → B
 none_some x e = cc
 
 -- causes are before the place
-through-ext : (machine : Machine) (state : State) (events : List Event) (matched : ℕ → Option ℕ) (n : ℕ) (x : Option ℕ) (later : Event) (found : Option ℕ) → cause_before machine state events n later ≡ found →
+through-ext : (machine : Machine) (state : State) (events : List Event) (matched : ℕ → Option ℕ) (n : ℕ) (x : Option ℕ) (later : Event) (found : Option ℕ) →
+    cause_before machine state events n later ≡ found →
     through (extended matched n x) found ≡ through matched found
 through-ext machine state events matched n x later None e = refl
 through-ext machine state events matched n x later (Some j) e = ext_below matched n x j (cause_found machine state events n later j e).earlier
 
 pub kept-cause : (machine : Machine) (state : State) (events : List Event) (matched : ℕ → Option ℕ) (n : ℕ) (x : Option ℕ) (event later : Event) → slice_get events n ≡ Some event →
-    may_cause machine later (bare (state_at machine state events n) event) ≡ false → through (extended matched n x) (cause_before machine state events (suc n) later) ≡ through matched (cause_before machine state events n later)
+    may_cause machine later (bare (state_at machine state events n) event) ≡ false → through (extended matched n x) (cause_before machine state events (suc n) later) ≡ through matched
+    (cause_before machine state events n later)
 kept-cause machine state events matched n x event later e m =
     ap (through (extended matched n x)) (cause_untouched machine state events n event later e m) ∙ through-ext machine state events matched n x later (cause_before machine state events n later) refl
 
@@ -87,14 +90,17 @@ places-more event start (x ∷ events) zero other e = λ i. place_if (same_event
     plus : start ≡ start + 0
     plus = omega arith
 places-more event start (x ∷ events) (suc k) other e =
-    ap (place_if (same_event event x) start) (places-more event (start + 1) events k other e ∙ ap (λ m. places_of event (start + 1) (first_of k events) ++ place_if (same_event event other) m []) (let z : start + 1 + k ≡ start + suc k = omega arith in z))
+    ap (place_if (same_event event x) start) (places-more event (start + 1) events k other e
+    ∙ ap (λ m. places_of event (start + 1) (first_of k events) ++ place_if (same_event event other) m []) (let z : start + 1 + k ≡ start + suc k = omega arith in z))
     ∙ place_if-append (same_event event x) start (places_of event (start + 1) (first_of k events)) (place_if (same_event event other) (start + suc k) [])
 
-pub steps-more : (events : List Event) (event : Event) (k : ℕ) (other : Event) → slice_get events k ≡ Some other → same_event event other ≡ true → steps_to events event (suc k) ≡ steps_to events event k ++ k ∷ []
+pub steps-more : (events : List Event) (event : Event) (k : ℕ) (other : Event) → slice_get events k ≡ Some other → same_event event other ≡ true →
+    steps_to events event (suc k) ≡ steps_to events event k ++ k ∷ []
 steps-more events event k other e s =
     places-more event 0 events k other e ∙ ap (λ b. steps_to events event k ++ place_if b (0 + k) []) s ∙ ap (λ m. steps_to events event k ++ m ∷ []) (let z : 0 + k ≡ k = omega arith in z)
 
-pub steps-same : (events : List Event) (event : Event) (k : ℕ) (other : Event) → slice_get events k ≡ Some other → same_event event other ≡ false → steps_to events event (suc k) ≡ steps_to events event k
+pub steps-same : (events : List Event) (event : Event) (k : ℕ) (other : Event) → slice_get events k ≡ Some other → same_event event other ≡ false →
+    steps_to events event (suc k) ≡ steps_to events event k
 steps-same events event k other e s = places-more event 0 events k other e ∙ ap (λ b. steps_to events event k ++ place_if b (0 + k) []) s ∙ append-nothing (steps_to events event k)
 
 first_of-past : {A : Type 0} (xs : List A) (k : ℕ) → slice_get xs k ≡ None → first_of (suc k) xs ≡ first_of k xs
@@ -176,7 +182,8 @@ ChangesAlike machine state first events n i object place =
     × (value_at (state_at machine state events (suc n)).values object ≡ value_at (state_at machine state first (suc i)).values object)
     × IsNext (changes_there machine state first object) (λ k. value_at (state_at machine state first k).values object) place (value_at (state_at machine state events n).values object) i)
 
-pub record Meets (machine : Machine) (state : State) (first events : List Event) (n : ℕ) (matched : ℕ → Option ℕ) (done : List ℕ) (c : Compared machine state first events n matched done) (i : ℕ) (event : Event) : Type 0 where
+pub record Meets (machine : Machine) (state : State) (first events : List Event) (n : ℕ) (matched : ℕ → Option ℕ) (done : List ℕ) (c : Compared machine state first events n matched done) (i : ℕ)
+    (event : Event) : Type 0 where
   pub stands : slice_get events n ≡ Some event
   pub first_stands : slice_get first i ≡ Some event
   pub opens : IsOpen (log_of machine state first) done i
@@ -234,10 +241,12 @@ module _ (machine : Machine) (state : State) (first events : List Event) (n : �
       Cell (changes_there machine state first object) (λ k. value_at (state_at machine state first k).values object) (i ∷ done) (value_at (state_at machine state events (suc n)).values object)
   new-value object tame = elim (m.values object tame) [
     | inl none ↦
-        kept (changes_there machine state first object) (λ k. value_at (state_at machine state first k).values object) done (value_at (state_at machine state events n).values object) _ i (c.values object tame) none.1
+        kept (changes_there machine state first object) (λ k. value_at (state_at machine state first k).values object) done (value_at (state_at machine state events n).values object) _ i
+        (c.values object tame) none.1
         (same_there machine state events object n none.0)
     | inr both ↦
-        moved_on (changes_there machine state first object) (λ k. value_at (state_at machine state first k).values object) done (value_at (state_at machine state events n).values object) _ i (c.values object tame) both.3 both.2
+        moved_on (changes_there machine state first object) (λ k. value_at (state_at machine state first k).values object) done (value_at (state_at machine state events n).values object) _ i
+        (c.values object tame) both.3 both.2
   ]
 
   later-here : (p : ℕ) → Step p ≢ event → (process_at (state_at machine state events (suc n)) p).later ≡ (process_at (state_at machine state events n) p).later
@@ -249,7 +258,8 @@ module _ (machine : Machine) (state : State) (first events : List Event) (n : �
   touched-here : (p : ℕ) → process_there machine state events p n ≡ true → may_cause machine (Step p) (bare (state_at machine state events n) event) ≡ true
   touched-here p t = sym (ap (on_event (touches_process machine p (state_at machine state events n))) m.stands) ∙ t
 
-  untouched-here : (p : ℕ) → Step p ≢ event → some_entry (changed_entry (state_at machine state events n) (state_at machine state events (suc n))) (waiting_entries (activity_at (state_at machine state events n) p)) ≡ false →
+  untouched-here : (p : ℕ) → Step p ≢ event → some_entry (changed_entry (state_at machine state events n) (state_at machine state events (suc n)))
+      (waiting_entries (activity_at (state_at machine state events n) p)) ≡ false →
       may_cause machine (Step p) (bare (state_at machine state events n) event) ≡ false
   untouched-here p d s = elim (decided (touches_process machine p (state_at machine state events n) event)) [
     | inr f ↦ f
@@ -257,7 +267,8 @@ module _ (machine : Machine) (state : State) (first events : List Event) (n : �
       | inl own ↦ absurd (d (sym own))
       | inr wakes ↦
           true-false (some_entry (changed_entry (state_at machine state events n) (state_at machine state events (suc n))) (waiting_entries (activity_at (state_at machine state events n) p)))
-          (ap (λ u. some_entry (changed_entry (state_at machine state events n) u) (waiting_entries (activity_at (state_at machine state events n) p))) (at_next machine state events n event m.stands) ∙ wakes.1) s
+          (ap (λ u. some_entry (changed_entry (state_at machine state events n) u) (waiting_entries (activity_at (state_at machine state events n) p)))
+          (at_next machine state events n event m.stands) ∙ wakes.1) s
     ]
   ]
 
@@ -287,7 +298,8 @@ module _ (machine : Machine) (state : State) (first events : List Event) (n : �
     ]
   ]
     where
-      moved : (d : Step p ≢ event) → IsNext (process_there machine state first p) (process_part machine state first p) (c.processes p).place (part_through machine state events matched p n) i → process_there machine state first p i ≡ true →
+      moved : (d : Step p ≢ event) → IsNext (process_there machine state first p) (process_part machine state first p) (c.processes p).place (part_through machine state events matched p n) i →
+          process_there machine state first p i ≡ true →
           Cell (process_there machine state first p) (process_part machine state first p) (i ∷ done) (part_through machine state events (extended matched n (Some i)) p (suc n))
       moved d next t =
           let act : activity_at (state_at machine state events n) p ≡ activity_at (state_at machine state first i) p = ap (λ (x : ProcessPart). x.activity) next.now in
@@ -374,17 +386,20 @@ module _ (machine : Machine) (state : State) (first events : List Event) (n : �
 
       ordered : (ev : Event) → is_process_event ev ≡ true → other ≡ ev → event ≡ ev → InOrder (step_there first other) done i
       ordered (Step p) hp is e =
-          sub_order (process_there machine state first p) (step_there first other) (process_part machine state first p) done (part_through machine state events matched p n) i (c.processes p) (m.own p e).0 m.opens.open_still
+          sub_order (process_there machine state first p) (step_there first other) (process_part machine state first p) done (part_through machine state events matched p n) i (c.processes p)
+          (m.own p e).0 m.opens.open_still
           (λ k t. ap (on_event (touches_process machine p (state_at machine state first k))) (told k t ∙ ap Some is) ∙ step_touches machine p (state_at machine state first k))
       ordered (LaneStep p) hp is e =
-          sub_order (lane_there first p) (step_there first other) (lane_part machine state first p) done (lane_through machine state events matched p n) i (c.lanes p) (m.own_lane p e).0 m.opens.open_still
+          sub_order (lane_there first p) (step_there first other) (lane_part machine state first p) done (lane_through machine state events matched p n) i (c.lanes p)
+          (m.own_lane p e).0 m.opens.open_still
           (λ k t. ap (on_event (is_lane_of p)) (told k t ∙ ap Some is) ∙ eq-eqb p p refl)
       ordered (Evaluation k) hp is e = cc
       ordered (NetUpdate k) hp is e = cc
 
       next : same_event other event ≡ true → IsNext (step_there first other) (steps_to first other) (c.histories other h).cell.place (c.histories other h).steps i
       next same =
-          (in_order (step_there first other) (steps_to first other) done (c.histories other h).steps i (steps_stay first other) (c.histories other h).cell (ordered other h refl (same_step other event same))).1
+          (in_order (step_there first other) (steps_to first other) done (c.histories other h).steps i (steps_stay first other) (c.histories other h).cell
+          (ordered other h refl (same_step other event same))).1
           (ap (on_event (same_event other)) m.first_stands ∙ same)
 
   -- so it goes on

@@ -47,18 +47,21 @@ net_changer machine state events k m node object event r e found out t = by even
     no_write : {B : Type 0} (ev : Event) (u : ValueUpdate) → write_by machine (state_at machine state events k) ev ≡ Some u → u.object ≡ object → B
     no_write ev u w same =
         true-false (has (net_pieces machine.design) object) net
-        (subst (λ x. has (net_pieces machine.design) x ≡ false) same (write-clear-of (NotNet machine) machine (state_at machine state events k) ev u (bodies_clear machine r.rules) (clear_at machine state events k r) w))
+        (subst (λ x. has (net_pieces machine.design) x ≡ false) same (write-clear-of (NotNet machine) machine (state_at machine state events k) ev u (bodies_clear machine r.rules)
+        (clear_at machine state events k r) w))
 
     by : (ev : Event) → slice_get events k ≡ Some ev → changed_in (state_at machine state events k) (after machine (state_at machine state events k) ev) object ≡ true → ev ≡ NetUpdate m
     by (Step p) g h =
-        let c = changed-write machine (state_at machine state events k) p (own_of machine (state_at machine state events k) (Step p)) (write_of (step_of machine (state_at machine state events k) p).action) object h in
+        let c = changed-write machine (state_at machine state events k) p (own_of machine (state_at machine state events k) (Step p))
+        (write_of (step_of machine (state_at machine state events k) p).action) object h in
         no_write (Step p) c.0 c.1 c.2
     by (LaneStep p) g h =
         let c = changed-write machine (state_at machine state events k) p after_lane_step (first_update (process_at (state_at machine state events k) p).lane) object h in
         no_write (LaneStep p) c.0 c.1 c.2
     by (Evaluation l) g h =
         true-false (changed_in (state_at machine state events k) (after machine (state_at machine state events k) (Evaluation l)) object) h
-        (unchanged_in (state_at machine state events k) (after machine (state_at machine state events k) (Evaluation l)) object (ap (λ vs. value_at vs object) (evaluation-value machine l (state_at machine state events k))))
+        (unchanged_in (state_at machine state events k) (after machine (state_at machine state events k) (Evaluation l)) object
+        (ap (λ vs. value_at vs object) (evaluation-value machine l (state_at machine state events k))))
     by (NetUpdate l) g h =
         let d = changed_output machine l (state_at machine state events k) object h in
         elim (decided (nat_eq l m)) [
@@ -67,7 +70,8 @@ net_changer machine state events k m node object event r e found out t = by even
         ]
 
 -- The changes of a run's beginning reach no more than all
-pub prefix_reach : (machine : Machine) (state : State) (events : List Event) (n object : ℕ) → reached machine.design (run_changes machine state (first_of n events)) object ≤ reached machine.design (run_changes machine state events) object
+pub prefix_reach : (machine : Machine) (state : State) (events : List Event) (n object : ℕ) →
+    reached machine.design (run_changes machine state (first_of n events)) object ≤ reached machine.design (run_changes machine state events) object
 prefix_reach machine state events zero object = omega arith
 prefix_reach machine state [] (suc n) object = omega arith
 prefix_reach machine state (event ∷ events) (suc n) object =
@@ -77,7 +81,8 @@ prefix_reach machine state (event ∷ events) (suc n) object =
     let b : reached machine.design (event_changes machine state event ++ run_changes machine (after machine state event) events) object
     ≡ reached machine.design (event_changes machine state event) object + reached machine.design (run_changes machine (after machine state event) events) object =
     reached-append machine.design (event_changes machine state event) (run_changes machine (after machine state event) events) object in
-    let c : reached machine.design (run_changes machine (after machine state event) (first_of n events)) object ≤ reached machine.design (run_changes machine (after machine state event) events) object =
+    let c : reached machine.design (run_changes machine (after machine state event) (first_of n events)) object ≤ reached machine.design
+    (run_changes machine (after machine state event) events) object =
     prefix_reach machine (after machine state event) events n object in
     omega (arith, a, b, c)
 
@@ -96,7 +101,8 @@ changes_one-some before next (y ∷ objects) h = elim (or-either (changed_in bef
   | inr there ↦ (let s = changes_one-some before next objects there in (s.0, or-second (nat_eq y s.0) (has objects s.0) s.1, s.2))
 ]
 
-net_cause : (machine : Machine) (state : State) (events : List Event) (n m j x : ℕ) (node : FlatNode) → slice_get machine.design.nodes m ≡ Some node → has node.inputs x ≡ true → j < n → changes_there machine state events x j ≡ true →
+net_cause : (machine : Machine) (state : State) (events : List Event) (n m j x : ℕ) (node : FlatNode) → slice_get machine.design.nodes m ≡ Some node → has node.inputs x ≡ true → j < n →
+    changes_there machine state events x j ≡ true →
     ((l y : ℕ) → j < l → l < n → has node.inputs y ≡ true → changes_there machine state events y l ≡ true → ⊥) → cause_before machine state events n (NetUpdate m) ≡ Some j
 net_cause machine state events n m j x node found input low t unique =
     let w = changes-where machine state events x j t in
@@ -125,11 +131,14 @@ first-first (suc j) (suc n) [] h = refl
 first-first (suc j) (suc n) (x ∷ xs) h = ap (λ ys. x ∷ ys) (first-first j n xs (omega (arith, h)))
 
 -- the writer of an update is that of its cause
-net_writer : (machine : Machine) (state : State) (events : List Event) (n m j : ℕ) (event : Event) → slice_get events j ≡ Some event → j < n → cause_before machine state events n (NetUpdate m) ≡ Some j →
-    ((noted machine state events n (NetUpdate m)).process ≡ (noted machine state events j event).process) × ((noted machine state events n (NetUpdate m)).line ≡ (noted machine state events j event).line)
+net_writer : (machine : Machine) (state : State) (events : List Event) (n m j : ℕ) (event : Event) → slice_get events j ≡ Some event → j < n →
+    cause_before machine state events n (NetUpdate m) ≡ Some j →
+    ((noted machine state events n (NetUpdate m)).process ≡ (noted machine state events j event).process)
+    × ((noted machine state events n (NetUpdate m)).line ≡ (noted machine state events j event).line)
 net_writer machine state events n m j event e low c = (
   ap (λ o. writer_process (NetUpdate m) (noted_at (notes_before machine state events n) o)) c ∙ ap (writer_process (NetUpdate m)) stands,
-  ap (λ o. writer_line machine (state_at machine state events n) (NetUpdate m) (noted_at (notes_before machine state events n) o)) c ∙ ap (writer_line machine (state_at machine state events n) (NetUpdate m)) stands,
+  ap (λ o. writer_line machine (state_at machine state events n) (NetUpdate m) (noted_at (notes_before machine state events n) o)) c
+      ∙ ap (writer_line machine (state_at machine state events n) (NetUpdate m)) stands,
 )
   where
     stands : slice_get (notes_before machine state events n) j ≡ Some (noted machine state events j event)
@@ -148,14 +157,16 @@ filter-map-same test (x ∷ xs) f g h = go (test x) refl (filter-map-same test x
     go true e rest = λ i. h x e i ∷ rest i
     go false e rest = rest
 
-numbered-two : {A B : Type 0} (f g : ℕ → A → B) (k : ℕ) (d : A) (xs ys : List A) → length xs ≡ length ys → ((j : ℕ) → f (k + j) (found_or d (slice_get xs j)) ≡ g (k + j) (found_or d (slice_get ys j))) →
+numbered-two : {A B : Type 0} (f g : ℕ → A → B) (k : ℕ) (d : A) (xs ys : List A) → length xs ≡ length ys →
+    ((j : ℕ) → f (k + j) (found_or d (slice_get xs j)) ≡ g (k + j) (found_or d (slice_get ys j))) →
     map_numbered f k xs ≡ map_numbered g k ys
 numbered-two f g k d [] [] e h = refl
 numbered-two f g k d [] (y ∷ ys) e h = absurd (omega (arith, e))
 numbered-two f g k d (x ∷ xs) [] e h = absurd (omega (arith, e))
 numbered-two f g k d (x ∷ xs) (y ∷ ys) e h =
     λ i. (ap (λ m. f m x) (let z : k ≡ k + 0 = omega arith in z) ∙ h 0 ∙ ap (λ m. g m y) (let z : k + 0 ≡ k = omega arith in z)) i
-    ∷ numbered-two f g (k + 1) d xs ys (omega (arith, e)) (λ j. ap (λ m. f m (found_or d (slice_get xs j))) (let z : k + 1 + j ≡ k + suc j = omega arith in z) ∙ h (suc j) ∙ ap (λ m. g m (found_or d (slice_get ys j))) (let z : k + suc j ≡ k + 1 + j = omega arith in z)) i
+    ∷ numbered-two f g (k + 1) d xs ys (omega (arith, e)) (λ j. ap (λ m. f m (found_or d (slice_get xs j))) (let z : k + 1 + j ≡ k + suc j = omega arith in z) ∙ h (suc j)
+    ∙ ap (λ m. g m (found_or d (slice_get ys j))) (let z : k + suc j ≡ k + 1 + j = omega arith in z)) i
 
 abbrev one_write : ℕ → ℕ → LogicValue → LogicValue → ℕ → List ObjectAccess
 one_write process line old new object = elim (same_value old new) [ true ↦ [] | false ↦ record { act = Writing old new; object = object; process = process; line = line } ∷ [] ]
@@ -219,7 +230,8 @@ module _ (machine : Machine) (state : State) (first events : List Event) (n : �
       w.1 ∙ ap Some (net_changer machine state first there.0 m node object w.0 r.run w.1 found out there.2)
 
   f-near : (x : ℕ) → reached machine.design (run_changes machine state first) x ≤ 1 →
-      (value_at (state_at machine state first there.0).values x ≡ value_at state.values x) ⊎ (value_at (happened machine state first).values x ≡ value_at (state_at machine state first there.0).values x)
+      (value_at (state_at machine state first there.0).values x ≡ value_at state.values x)
+      ⊎ (value_at (happened machine state first).values x ≡ value_at (state_at machine state first there.0).values x)
   f-near x h = first_or_last machine state first x there.0 (once x h)
 
   f-before : (x : ℕ) → has node.outputs x ≡ true → value_at (state_at machine state first there.0).values x ≡ value_at state.values x
@@ -259,8 +271,10 @@ module _ (machine : Machine) (state : State) (first events : List Event) (n : �
   alone x k h j t u = elim (decided (nat_eq k j)) [
     | inl same ↦ eqb-true k j same
     | inr apart ↦ elim (below_other k j (other_number k j apart)) [
-      | inl low ↦ (let two : 2 ≤ change_count machine state first x = changes_twice machine state first x k j low u t in let one : change_count machine state first x ≤ 1 = once x h in absurd (omega (arith, two, one)))
-      | inr high ↦ (let two : 2 ≤ change_count machine state first x = changes_twice machine state first x j k high t u in let one : change_count machine state first x ≤ 1 = once x h in absurd (omega (arith, two, one)))
+      | inl low ↦ (let two : 2 ≤ change_count machine state first x = changes_twice machine state first x k j low u t in let one : change_count machine state first x ≤ 1 = once x h in
+          absurd (omega (arith, two, one)))
+      | inr high ↦ (let two : 2 ≤ change_count machine state first x = changes_twice machine state first x j k high t u in let one : change_count machine state first x ≤ 1 = once x h in
+          absurd (omega (arith, two, one)))
     ]
   ]
 
@@ -271,7 +285,8 @@ module _ (machine : Machine) (state : State) (first events : List Event) (n : �
         (let cell = c.values object tame in
         let low : there.0 < cell.place = cell.before there.0 there.2 h in
         let stays : value_at (state_at machine state first cell.place).values object ≡ value_at (state_at machine state first (suc there.0)).values object =
-        stays_between (changes_there machine state first object) (λ k. value_at (state_at machine state first k).values object) (value_stays machine state first object) (suc there.0) cell.place (omega (arith, low))
+        stays_between (changes_there machine state first object) (λ k. value_at (state_at machine state first k).values object) (value_stays machine state first object) (suc there.0) cell.place
+        (omega (arith, low))
         (λ k a b. elim (decided (changes_there machine state first object k)) [
           | inl t ↦ (let z : k ≡ there.0 = alone object k few there.0 there.2 t in absurd (omega (arith, z, a)))
           | inr f ↦ f
@@ -337,7 +352,8 @@ module _ (machine : Machine) (state : State) (first events : List Event) (n : �
   here-cause = changed_before machine state events input.0 n input.2
 
   there-cause : (j : ℕ) × (j < there.0) × (changes_there machine state first input.0 j ≡ true)
-  there-cause = changed_before machine state first input.0 there.0 (subst (λ x. same_value (value_at state.values x) (value_at (state_at machine state first there.0).values x) ≡ false) (sym one-input) f-input.2)
+  there-cause = changed_before machine state first input.0 there.0 (subst (λ x. same_value (value_at state.values x) (value_at (state_at machine state first there.0).values x) ≡ false)
+      (sym one-input) f-input.2)
 
   f-cause : cause_before machine state first there.0 (NetUpdate m) ≡ Some there-cause.0
   f-cause = net_cause machine state first there.0 m there-cause.0 input.0 node found input.1 there-cause.1 there-cause.2 unique
@@ -345,7 +361,8 @@ module _ (machine : Machine) (state : State) (first events : List Event) (n : �
       unique : (l y : ℕ) → there-cause.0 < l → l < there.0 → has node.inputs y ≡ true → changes_there machine state first y l ≡ true → ⊥
       unique l y a b h t = elim (decided (nat_eq input.0 y)) [
         | inl same ↦
-            (let z : l ≡ there-cause.0 = alone input.0 l input-few there-cause.0 there-cause.2 (subst (λ x. changes_there machine state first x l ≡ true) (sym (eqb-true input.0 y same)) t) in omega (arith, z, a))
+            (let z : l ≡ there-cause.0 = alone input.0 l input-few there-cause.0 there-cause.2 (subst (λ x. changes_there machine state first x l ≡ true) (sym (eqb-true input.0 y same)) t) in
+            omega (arith, z, a))
         | inr apart ↦
             (let one : 1 ≤ change_count machine state first y = changes_once_there machine state first y l t in
             let k : change_count machine state first y ≤ reached machine.design (run_changes machine state first) y = changes_bounded machine state first y r.run.rules r.run.begins r.run.possible in
@@ -355,7 +372,8 @@ module _ (machine : Machine) (state : State) (first events : List Event) (n : �
 
   in-first : (y l : ℕ) → l < n → changes_there machine state events y l ≡ true → changes_there machine state (first_of n events) y l ≡ true
   in-first y l low t =
-      (λ k. changed_in (first-state machine state events n l (let z : l ≤ n = omega (arith, low) in z) k) (first-state machine state events n (suc l) (let z : suc l ≤ n = omega (arith, low) in z) k) y) ∙ t
+      (λ k. changed_in (first-state machine state events n l (let z : l ≤ n = omega (arith, low) in z) k)
+      (first-state machine state events n (suc l) (let z : suc l ≤ n = omega (arith, low) in z) k) y) ∙ t
 
   first-bound : (y : ℕ) → change_count machine state (first_of n events) y ≤ reached machine.design (run_changes machine state first) y
   first-bound y =
@@ -395,10 +413,12 @@ module _ (machine : Machine) (state : State) (first events : List Event) (n : �
   pair : Paired machine state first events matched here-cause.0 there-cause.0
   pair = c.pairs here-cause.0 there-cause.0 causes-match
 
-  e-writer : ((noted machine state events n (NetUpdate m)).process ≡ (noted machine state events here-cause.0 pair.event).process) × ((noted machine state events n (NetUpdate m)).line ≡ (noted machine state events here-cause.0 pair.event).line)
+  e-writer : ((noted machine state events n (NetUpdate m)).process ≡ (noted machine state events here-cause.0 pair.event).process)
+      × ((noted machine state events n (NetUpdate m)).line ≡ (noted machine state events here-cause.0 pair.event).line)
   e-writer = net_writer machine state events n m here-cause.0 pair.event pair.stands here-cause.1 e-cause
 
-  f-writer : ((noted machine state first there.0 (NetUpdate m)).process ≡ (noted machine state first there-cause.0 pair.event).process) × ((noted machine state first there.0 (NetUpdate m)).line ≡ (noted machine state first there-cause.0 pair.event).line)
+  f-writer : ((noted machine state first there.0 (NetUpdate m)).process ≡ (noted machine state first there-cause.0 pair.event).process)
+      × ((noted machine state first there.0 (NetUpdate m)).line ≡ (noted machine state first there-cause.0 pair.event).line)
   f-writer = net_writer machine state first there.0 m there-cause.0 pair.event pair.first_stands there-cause.1 f-cause
 
   process : (noted machine state events n (NetUpdate m)).process ≡ (noted machine state first there.0 (NetUpdate m)).process
@@ -411,22 +431,26 @@ module _ (machine : Machine) (state : State) (first events : List Event) (n : �
   opens = record {
     closed = closed_done machine state first events n matched done c;
     cause_done = λ k e.
-        subst (λ x. has done x ≡ true) (ap (found_or k) (sym f-cause ∙ sym (cause_at-place machine state first there.0 (NetUpdate m) first_stands) ∙ e)) (c.listed here-cause.0 there-cause.0 causes-match);
+        subst (λ x. has done x ≡ true) (ap (found_or k) (sym f-cause ∙ sym (cause_at-place machine state first there.0 (NetUpdate m) first_stands) ∙ e))
+        (c.listed here-cause.0 there-cause.0 causes-match);
     open_still = open_there;
   }
 
   no_step : {B : Type 0} (q : ℕ) → Step q ≡ NetUpdate m → B
   no_step q e = cc
 
-  e-test : (entry : Entry) → some_change_matches (state_at machine state events n) (state_at machine state events (suc n)) node.outputs entry ≡ changed_entry (state_at machine state events n) (state_at machine state events (suc n)) entry
+  e-test : (entry : Entry) → some_change_matches (state_at machine state events n) (state_at machine state events (suc n)) node.outputs entry ≡ changed_entry (state_at machine state events n)
+      (state_at machine state events (suc n)) entry
   e-test entry =
-      subst (λ s. some_change_matches (state_at machine state events n) s node.outputs entry ≡ changed_entry (state_at machine state events n) s entry) (sym (at_next machine state events n (NetUpdate m) stands))
+      subst (λ s. some_change_matches (state_at machine state events n) s node.outputs entry ≡ changed_entry (state_at machine state events n) s entry)
+      (sym (at_next machine state events n (NetUpdate m) stands))
       (net-test machine m (state_at machine state events n) node found entry)
 
   f-test : (entry : Entry) → some_change_matches (state_at machine state first there.0) (state_at machine state first (suc there.0)) node.outputs entry
       ≡ changed_entry (state_at machine state first there.0) (state_at machine state first (suc there.0)) entry
   f-test entry =
-      subst (λ s. some_change_matches (state_at machine state first there.0) s node.outputs entry ≡ changed_entry (state_at machine state first there.0) s entry) (sym (at_next machine state first there.0 (NetUpdate m) first_stands))
+      subst (λ s. some_change_matches (state_at machine state first there.0) s node.outputs entry ≡ changed_entry (state_at machine state first there.0) s entry)
+      (sym (at_next machine state first there.0 (NetUpdate m) first_stands))
       (net-test machine m (state_at machine state first there.0) node found entry)
 
   ends-alike : (q : ℕ) → net_ended_by (state_at machine state events n) (state_at machine state events (suc n)) node.outputs q (process_at (state_at machine state events n) q)
@@ -437,30 +461,39 @@ module _ (machine : Machine) (state : State) (first events : List Event) (n : �
         | inl woken ↦ (λ k. ended_entries (λ entry. tests entry k) q (ap (λ (x : ProcessPart). x.activity) woken.0.now k))
         | inr quiet ↦
             no-entries (changed_entry (state_at machine state events n) (state_at machine state events (suc n))) q (activity_at (state_at machine state events n) q) quiet.0
-            ∙ sym (no-entries (changed_entry (state_at machine state first there.0) (state_at machine state first (suc there.0))) q (activity_at (state_at machine state first there.0) q) (quiet-there quiet.1))
+            ∙ sym (no-entries (changed_entry (state_at machine state first there.0) (state_at machine state first (suc there.0))) q (activity_at (state_at machine state first there.0) q)
+            (quiet-there quiet.1))
       ])
       ∙ (λ k. ended_entries (λ entry. sym (f-test entry) k) q (activity_at (state_at machine state first there.0) q))
     where
-      quiet-there : process_there machine state first q there.0 ≡ false → some_entry (changed_entry (state_at machine state first there.0) (state_at machine state first (suc there.0))) (waiting_entries (activity_at (state_at machine state first there.0) q)) ≡ false
-      quiet-there f = elim (decided (some_entry (changed_entry (state_at machine state first there.0) (state_at machine state first (suc there.0))) (waiting_entries (activity_at (state_at machine state first there.0) q)))) [
-        | inl s ↦ true-false (process_there machine state first q there.0) (wakes_there machine state first q there.0 (NetUpdate m) r.run first_stands (λ e. no_step q e) s) f
-        | inr g ↦ g
-      ]
+      quiet-there : process_there machine state first q there.0 ≡ false → some_entry (changed_entry (state_at machine state first there.0) (state_at machine state first (suc there.0)))
+          (waiting_entries (activity_at (state_at machine state first there.0) q)) ≡ false
+      quiet-there f = elim (decided (some_entry (changed_entry (state_at machine state first there.0) (state_at machine state first (suc there.0)))
+          (waiting_entries (activity_at (state_at machine state first there.0) q)))) [
+            | inl s ↦ true-false (process_there machine state first q there.0) (wakes_there machine state first q there.0 (NetUpdate m) r.run first_stands (λ e. no_step q e) s) f
+            | inr g ↦ g
+          ]
 
   same-accesses : accesses_before machine state events n (NetUpdate m) ≡ accesses_before machine state first there.0 (NetUpdate m)
   same-accesses =
       (λ k. net_accesses machine.design (process k) (line k) (found k) (state_at machine state events n) (sym (at_next machine state events n (NetUpdate m) stands) k))
       ∙ (λ k. joined (filter-map-same (has node.outputs) (net_pieces machine.design)
-      (net_write (noted machine state first there.0 (NetUpdate m)).process (noted machine state first there.0 (NetUpdate m)).line (state_at machine state events n) (state_at machine state events (suc n)))
-      (net_write (noted machine state first there.0 (NetUpdate m)).process (noted machine state first there.0 (NetUpdate m)).line (state_at machine state first there.0) (state_at machine state first (suc there.0)))
+      (net_write (noted machine state first there.0 (NetUpdate m)).process (noted machine state first there.0 (NetUpdate m)).line (state_at machine state events n)
+      (state_at machine state events (suc n)))
+      (net_write (noted machine state first there.0 (NetUpdate m)).process (noted machine state first there.0 (NetUpdate m)).line (state_at machine state first there.0)
+      (state_at machine state first (suc there.0)))
       (λ x h j. one_write (noted machine state first there.0 (NetUpdate m)).process (noted machine state first there.0 (NetUpdate m)).line (same-before x h j) (same-after x h j) x) k)
-      ++ joined (numbered-two (net_ended_by (state_at machine state events n) (state_at machine state events (suc n)) node.outputs) (net_ended_by (state_at machine state first there.0) (state_at machine state first (suc there.0)) node.outputs)
+      ++ joined (numbered-two (net_ended_by (state_at machine state events n) (state_at machine state events (suc n)) node.outputs)
+      (net_ended_by (state_at machine state first there.0) (state_at machine state first (suc there.0)) node.outputs)
       0 idle_process (state_at machine state events n).processes (state_at machine state first there.0).processes
       ((state_of_at machine state events n run).processes ∙ sym (state_of_at machine state first there.0 r.run).processes)
-      (λ j. ap (λ x. net_ended_by (state_at machine state events n) (state_at machine state events (suc n)) node.outputs x (process_at (state_at machine state events n) j)) (let z : 0 + j ≡ j = omega arith in z)
+      (λ j. ap (λ x. net_ended_by (state_at machine state events n) (state_at machine state events (suc n)) node.outputs x (process_at (state_at machine state events n) j))
+      (let z : 0 + j ≡ j = omega arith in z)
       ∙ ends-alike j
-      ∙ ap (λ x. net_ended_by (state_at machine state first there.0) (state_at machine state first (suc there.0)) node.outputs x (process_at (state_at machine state first there.0) j)) (let z : j ≡ 0 + j = omega arith in z)) k))
-      ∙ (λ k. net_accesses machine.design (noted machine state first there.0 (NetUpdate m)).process (noted machine state first there.0 (NetUpdate m)).line (sym found k) (state_at machine state first there.0)
+      ∙ ap (λ x. net_ended_by (state_at machine state first there.0) (state_at machine state first (suc there.0)) node.outputs x (process_at (state_at machine state first there.0) j))
+      (let z : j ≡ 0 + j = omega arith in z)) k))
+      ∙ (λ k. net_accesses machine.design (noted machine state first there.0 (NetUpdate m)).process (noted machine state first there.0 (NetUpdate m)).line (sym found k)
+      (state_at machine state first there.0)
       (at_next machine state first there.0 (NetUpdate m) first_stands k))
 
   pub update_meets : Meets machine state first events n matched done c place (NetUpdate m)

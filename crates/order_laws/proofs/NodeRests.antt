@@ -6,13 +6,18 @@ use Rattle.std.proofs.lemmas.Bool.{eqb-true}
 use Rattle.vf_base.specs.Lists.{AllHold, has, change_at, zip_with, map_numbered}
 use Rattle.four_value.specs.Values.{LogicValue, natural_number, is_true, part_of, with_part, bit_at}
 use Rattle.four_value.specs.Bits.{bit_of}
-use Rattle.v_design.specs.Trees.{Piece, Expression, Target, WholeTarget, BitTarget, PartTarget, WordTarget, Statement, Null, Block, If, Case, For, While, Repeat, Forever, Delay, EventControl, Wait, Blocking, Nonblocking, Finish, Statements, no_statements, more_statements, CaseItems, no_items, more_items}
+use Rattle.v_design.specs.Trees.{Piece, Expression, Target, WholeTarget, BitTarget, PartTarget, WordTarget, Statement, Null, Block, If, Case, For, While, Repeat, Forever, Delay, EventControl, Wait}
+use Rattle.v_design.specs.Trees.{Blocking, Nonblocking, Finish, Statements, no_statements, more_statements, CaseItems, no_items, more_items}
 use Rattle.v_design.specs.Expressions.{sign_of, width_of, value_of, objects_of, parts_objects, pieces_read, parts_read, memory_pieces}
-use Rattle.v_design.specs.Designs.{FlatObject, FlatNodeKind, AssignNode, GateNode, BlockNode, Machine, StuckAt, FaultSite, VariableBit, OutputBit, GateTerminal, forced_if, forced_at_output, forced_output, forced_terminal}
-use Rattle.v_design.specs.Assignments.{ValueUpdate, value_at, updated, target_width, target_update, target_updates, targets_width, index_value, assigned, some_label_matches, label_values, either_values, run_statement, run_statements, run_items, gate_bit, node_value, object_width}
+use Rattle.v_design.specs.Designs.{FlatObject, FlatNodeKind, AssignNode, GateNode, BlockNode, Machine, StuckAt, FaultSite, VariableBit, OutputBit, GateTerminal, forced_if, forced_at_output}
+use Rattle.v_design.specs.Designs.{forced_output, forced_terminal}
+use Rattle.v_design.specs.Assignments.{ValueUpdate, value_at, updated, target_width, target_update, target_updates, targets_width, index_value, assigned, some_label_matches, label_values}
+use Rattle.v_design.specs.Assignments.{either_values, run_statement, run_statements, run_items, gate_bit, node_value, object_width}
 use Rattle.v_design.specs.WellFormed.{KeepsRules, IsSizedNode, width_is, has_width, have_widths}
-use Rattle.v_design.specs.Reads.{node_reads, read_objects, all_read, labels_read, items_read, indexes_objects, named_in, named_in_parts, named_in_target, named_in_targets, named_by, named_by_all, named_by_items, named_by_node}
-use Rattle.v_design.specs.CombinationalForm.{reads_assigned, whole_targets, part_targets_after, assigned_if, assigned_on_both, then_assigned, assigned_by, all_assigned_by, items_assigned_by, all_among, WritesOutputs}
+use Rattle.v_design.specs.Reads.{node_reads, read_objects, all_read, labels_read, items_read, indexes_objects, named_in, named_in_parts, named_in_target, named_in_targets, named_by, named_by_all}
+use Rattle.v_design.specs.Reads.{named_by_items, named_by_node}
+use Rattle.v_design.specs.CombinationalForm.{reads_assigned, whole_targets, part_targets_after, assigned_if, assigned_on_both, then_assigned, assigned_by, all_assigned_by, items_assigned_by}
+use Rattle.v_design.specs.CombinationalForm.{all_among, WritesOutputs}
 use Rattle.four_value.specs.declared.logic.Bit.{Bit}
 use Rattle.four_value.specs.declared.operator.CaseKind.{CaseKind}
 use Rattle.order_laws.proofs.Rules.{node_rules}
@@ -111,7 +116,8 @@ same-fewer machine Q R a b h s = record { agrees = λ x r. s.agrees x (h x r); o
 
 -- an object that is written whole agrees afterwards
 same-whole : (machine : Machine) (Q : ℕ → Type 0) (a b : List LogicValue) (line object : ℕ) (value : LogicValue) → length value ≡ object_width machine object → Same machine Q a b →
-    Same machine (λ x. Q x ⊎ (nat_eq object x ≡ true)) (updated a (Some (record { object = object; low = 0; value = value; line = line }))) (updated b (Some (record { object = object; low = 0; value = value; line = line })))
+    Same machine (λ x. Q x ⊎ (nat_eq object x ≡ true)) (updated a (Some (record { object = object; low = 0; value = value; line = line })))
+    (updated b (Some (record { object = object; low = 0; value = value; line = line })))
 same-whole machine Q a b line object value e s =
     let update : ValueUpdate = record { object = object; low = 0; value = value; line = line } in
     record {
@@ -126,8 +132,10 @@ same-whole machine Q a b line object value e s =
       other_fits = fit-updated machine b (Some update) s.other_fits;
     }
 
-same-targets : (machine : Machine) (Q : ℕ → Type 0) (line : ℕ) (c : List LogicValue) (targets : List Target) (value : LogicValue) (a b : List LogicValue) → NamedFit machine (named_in_targets targets) → Same machine Q a b →
-    Same machine (λ x. Q x ⊎ (has (whole_targets targets) x ≡ true)) (fold updated a (target_updates line targets (map (index_value c) targets) value)) (fold updated b (target_updates line targets (map (index_value c) targets) value))
+same-targets : (machine : Machine) (Q : ℕ → Type 0) (line : ℕ) (c : List LogicValue) (targets : List Target) (value : LogicValue) (a b : List LogicValue) →
+    NamedFit machine (named_in_targets targets) → Same machine Q a b →
+    Same machine (λ x. Q x ⊎ (has (whole_targets targets) x ≡ true)) (fold updated a (target_updates line targets (map (index_value c) targets) value))
+    (fold updated b (target_updates line targets (map (index_value c) targets) value))
 same-targets machine Q line c [] value a b f s = same-fewer machine Q _ a b (λ x q. elim q [ inl old ↦ old | inr none ↦ true-false false none refl ]) s
 same-targets machine Q line c (WholeTarget variable ∷ targets) value a b f s =
     same-fewer machine (λ x. (Q x ⊎ (nat_eq variable.object x ≡ true)) ⊎ (has (whole_targets targets) x ≡ true)) _ _ _
@@ -142,7 +150,8 @@ same-targets machine Q line c (BitTarget variable index ∷ targets) value a b f
     (same-updated machine Q a b (target_update line (BitTarget variable index) (index_value c (BitTarget variable index)) (part_of value (targets_width targets) 1)) s)
 same-targets machine Q line c (PartTarget variable from to ∷ targets) value a b f s =
     same-targets machine Q line c targets value _ _ (named-right machine (named_in_target (PartTarget variable from to)) (named_in_targets targets) f)
-    (same-updated machine Q a b (target_update line (PartTarget variable from to) (index_value c (PartTarget variable from to)) (part_of value (targets_width targets) (target_width (PartTarget variable from to)))) s)
+    (same-updated machine Q a b (target_update line (PartTarget variable from to) (index_value c (PartTarget variable from to))
+    (part_of value (targets_width targets) (target_width (PartTarget variable from to)))) s)
 same-targets machine Q line c (WordTarget memory index ∷ targets) value a b f s =
     same-targets machine Q line c targets value _ _ (named-right machine (named_in_target (WordTarget memory index)) (named_in_targets targets) f)
     (same-updated machine Q a b (target_update line (WordTarget memory index) (index_value c (WordTarget memory index)) (part_of value (targets_width targets) memory.width)) s)
@@ -164,11 +173,13 @@ read-step outputs assigned x h = go (has outputs x) (has assigned x) h
     go true c e = inr e
     go false c e = inl refl
 
-reads-agree : (machine : Machine) (Input : ℕ → Type 0) (outputs assigned objects : List ℕ) (a b : List LogicValue) → reads_assigned outputs assigned objects ≡ true → ReadsInputs Input outputs objects →
+reads-agree : (machine : Machine) (Input : ℕ → Type 0) (outputs assigned objects : List ℕ) (a b : List LogicValue) → reads_assigned outputs assigned objects ≡ true →
+    ReadsInputs Input outputs objects →
     Same machine (Reached Input assigned) a b → Clear (λ x. value_at a x ≡ value_at b x) objects
 reads-agree machine Input outputs assigned [] a b e h s = tt
 reads-agree machine Input outputs assigned (x ∷ objects) a b e h s =
-    let both : ((not (has outputs x) || has assigned x) ≡ true) × (reads_assigned outputs assigned objects ≡ true) = and-both (not (has outputs x) || has assigned x) (reads_assigned outputs assigned objects) e in (
+    let both : ((not (has outputs x) || has assigned x) ≡ true) × (reads_assigned outputs assigned objects ≡ true) =
+    and-both (not (has outputs x) || has assigned x) (reads_assigned outputs assigned objects) e in (
       s.agrees x (elim (read-step outputs assigned x both.0) [ inl out ↦ inl (h.0 out) | inr there ↦ inr there ]),
       reads-agree machine Input outputs assigned objects a b both.1 h.1 s,
     )
@@ -176,7 +187,8 @@ reads-agree machine Input outputs assigned (x ∷ objects) a b e h s =
 reads-left : (outputs assigned xs ys : List ℕ) → reads_assigned outputs assigned (xs ++ ys) ≡ true → reads_assigned outputs assigned xs ≡ true
 reads-left outputs assigned [] ys e = refl
 reads-left outputs assigned (x ∷ xs) ys e =
-    let both : ((not (has outputs x) || has assigned x) ≡ true) × (reads_assigned outputs assigned (xs ++ ys) ≡ true) = and-both (not (has outputs x) || has assigned x) (reads_assigned outputs assigned (xs ++ ys)) e in
+    let both : ((not (has outputs x) || has assigned x) ≡ true) × (reads_assigned outputs assigned (xs ++ ys) ≡ true) =
+    and-both (not (has outputs x) || has assigned x) (reads_assigned outputs assigned (xs ++ ys)) e in
     ap (λ b. b && reads_assigned outputs assigned xs) both.0 ∙ reads-left outputs assigned xs ys both.1
 
 reads-right : (outputs assigned xs ys : List ℕ) → reads_assigned outputs assigned (xs ++ ys) ≡ true → reads_assigned outputs assigned ys ≡ true
@@ -233,11 +245,13 @@ has-filter test (y ∷ xs) x h t = go (test y) refl (or-either (nat_eq y x) (has
     go false e (inl same) deeper = true-false (test x) t (ap test (sym (eqb-true y x same)) ∙ e)
     go false e (inr there) deeper = deeper there
 
-same-left : (machine : Machine) (Input : ℕ → Type 0) (first second : List ℕ) (a b : List LogicValue) → Same machine (Reached Input first) a b → Same machine (Reached Input (filter (has second) first)) a b
+same-left : (machine : Machine) (Input : ℕ → Type 0) (first second : List ℕ) (a b : List LogicValue) → Same machine (Reached Input first) a b →
+    Same machine (Reached Input (filter (has second) first)) a b
 same-left machine Input first second a b s =
     same-fewer machine (Reached Input first) (Reached Input (filter (has second) first)) a b (λ x q. elim q [ inl i ↦ inl i | inr h ↦ inr (filter-has (has second) first x h).0 ]) s
 
-same-right : (machine : Machine) (Input : ℕ → Type 0) (first second : List ℕ) (a b : List LogicValue) → Same machine (Reached Input second) a b → Same machine (Reached Input (filter (has second) first)) a b
+same-right : (machine : Machine) (Input : ℕ → Type 0) (first second : List ℕ) (a b : List LogicValue) → Same machine (Reached Input second) a b →
+    Same machine (Reached Input (filter (has second) first)) a b
 same-right machine Input first second a b s =
     same-fewer machine (Reached Input second) (Reached Input (filter (has second) first)) a b (λ x q. elim q [ inl i ↦ inl i | inr h ↦ inr (filter-has (has second) first x h).1 ]) s
 
@@ -251,7 +265,8 @@ same-either machine Input first second given c d a a' b b' e g s t =
     go true = same-left machine Input first second a b s
     go false = same-right machine Input first second a' b' t
 
-indexes-same : (machine : Machine) (targets : List Target) (a b : List LogicValue) → NamedFit machine (named_in_targets targets) → Fit machine a → Fit machine b → Clear (λ x. value_at a x ≡ value_at b x) (indexes_objects targets) →
+indexes-same : (machine : Machine) (targets : List Target) (a b : List LogicValue) → NamedFit machine (named_in_targets targets) → Fit machine a → Fit machine b →
+    Clear (λ x. value_at a x ≡ value_at b x) (indexes_objects targets) →
     map (index_value a) targets ≡ map (index_value b) targets
 indexes-same machine [] a b n f g h = refl
 indexes-same machine (WholeTarget variable ∷ targets) a b n f g h = ap (λ is. None ∷ is) (indexes-same machine targets a b n.1 f g h)
@@ -259,7 +274,8 @@ indexes-same machine (BitTarget variable index ∷ targets) a b n f g h =
     let mine : NamedFit machine (named_in index) = named-left machine (named_in index) (named_in_targets targets) n.1 in
     λ i. natural_number (sign_of index) (value-same (value_at a) (value_at b) index (pieces-fit machine a (named_in index) f mine) (inl (pieces-fit machine b (named_in index) g mine))
     (agree_objects (value_at a) (value_at b) (pieces_read index) (clear-left (λ x. value_at a x ≡ value_at b x) (objects_of index) (indexes_objects targets) h)) i)
-    ∷ indexes-same machine targets a b (named-right machine (named_in index) (named_in_targets targets) n.1) f g (clear-right (λ x. value_at a x ≡ value_at b x) (objects_of index) (indexes_objects targets) h) i
+    ∷ indexes-same machine targets a b (named-right machine (named_in index) (named_in_targets targets) n.1) f g
+    (clear-right (λ x. value_at a x ≡ value_at b x) (objects_of index) (indexes_objects targets) h) i
 indexes-same machine (PartTarget variable from to ∷ targets) a b n f g h = ap (λ is. None ∷ is) (indexes-same machine targets a b n.1 f g h)
 indexes-same machine (WordTarget memory index ∷ targets) a b n f g h =
     let here : NamedFit machine (memory_pieces memory ++ named_in index) = named-left machine (memory_pieces memory ++ named_in index) (named_in_targets targets) n in
@@ -282,7 +298,8 @@ assignment-same : (machine : Machine) (line : ℕ) (Input : ℕ → Type 0) (out
     Same machine (Reached Input already) a b → Same machine (Reached Input given) (assigned line a targets value) (assigned line b targets value)
 assignment-same machine line Input outputs already given targets value a b e r n h s =
     subst (λ gs. Same machine (Reached Input gs) (assigned line a targets value) (assigned line b targets value)) e
-    (same-fewer machine (λ x. Reached Input already x ⊎ (has (whole_targets targets) x ≡ true)) (Reached Input (whole_targets targets ++ already)) (assigned line a targets value) (assigned line b targets value)
+    (same-fewer machine (λ x. Reached Input already x ⊎ (has (whole_targets targets) x ≡ true)) (Reached Input (whole_targets targets ++ already)) (assigned line a targets value)
+    (assigned line b targets value)
     (λ x q. elim q [ inl i ↦ inl (inl i) | inr k ↦ elim (has-append (whole_targets targets) already x k) [ inl new ↦ inr new | inr old ↦ inl (inr old) ] ])
     (subst (λ updates. Same machine (λ x. Reached Input already x ⊎ (has (whole_targets targets) x ≡ true)) (assigned line a targets value) (fold updated b updates)) updates
     (same-targets machine (Reached Input already) line a targets (value_of (value_at a) value) a b (named-left machine (named_in_targets targets) (named_in value) n) s)))
@@ -293,7 +310,8 @@ assignment-same machine line Input outputs already given targets value a b e r n
     updates : target_updates line targets (map (index_value a) targets) (value_of (value_at a) value)
         ≡ target_updates line targets (map (index_value b) targets) (value_of (value_at b) value)
     updates = λ i. target_updates line targets
-        (indexes-same machine targets a b (named-left machine (named_in_targets targets) (named_in value) n) s.one_fits s.other_fits (clear-right (λ x. value_at a x ≡ value_at b x) (objects_of value) (indexes_objects targets) agree) i)
+        (indexes-same machine targets a b (named-left machine (named_in_targets targets) (named_in value) n) s.one_fits s.other_fits
+        (clear-right (λ x. value_at a x ≡ value_at b x) (objects_of value) (indexes_objects targets) agree) i)
         (value-same (value_at a) (value_at b) value (pieces-fit machine a (named_in value) s.one_fits (named-right machine (named_in_targets targets) (named_in value) n))
         (inl (pieces-fit machine b (named_in value) s.other_fits (named-right machine (named_in_targets targets) (named_in value) n)))
         (agree_objects (value_at a) (value_at b) (pieces_read value) (clear-left (λ x. value_at a x ≡ value_at b x) (objects_of value) (indexes_objects targets) agree)) i)
@@ -307,7 +325,8 @@ condition-same machine Input outputs already rest pieces condition a b r n h s =
     (agree_objects (value_at a) (value_at b) (pieces_read condition)
     (reads-agree machine Input outputs already (objects_of condition) a b r (clear-left (λ x. has outputs x ≡ false → Input x) (objects_of condition) rest h) s))
 
-same_given : (machine : Machine) (Input : ℕ → Type 0) (already given : List ℕ) (a b : List LogicValue) → Some already ≡ Some given → Same machine (Reached Input already) a b → Same machine (Reached Input given) a b
+same_given : (machine : Machine) (Input : ℕ → Type 0) (already given : List ℕ) (a b : List LogicValue) → Some already ≡ Some given → Same machine (Reached Input already) a b →
+    Same machine (Reached Input given) a b
 same_given machine Input already given a b e s = subst (λ gs. Same machine (Reached Input gs) a b) (ap list_or e) s
   where
     list_or : Option (List ℕ) → List ℕ
@@ -323,7 +342,8 @@ halfway next (Some middle) given e = (middle, refl, e)
 
 mutual
   -- a statement of combinational form leaves the same in what it assigns, whatever its targets held before
-  pub run-same : (machine : Machine) (Input : ℕ → Type 0) (outputs : List ℕ) (statement : Statement) (already given : List ℕ) (a b : List LogicValue) → assigned_by outputs already statement ≡ Some given →
+  pub run-same : (machine : Machine) (Input : ℕ → Type 0) (outputs : List ℕ) (statement : Statement) (already given : List ℕ) (a b : List LogicValue) →
+      assigned_by outputs already statement ≡ Some given →
       NamedFit machine (named_by statement) → ReadsInputs Input outputs (read_objects statement) → Same machine (Reached Input already) a b →
       Same machine (Reached Input given) (run_statement statement a) (run_statement statement b)
   run-same machine Input outputs Null already given a b e n h s = same_given machine Input already given a b e s
@@ -331,25 +351,31 @@ mutual
   run-same machine Input outputs (If place condition first second) already given a b e n h s =
       let parts : (reads_assigned outputs already (objects_of condition) ≡ true) × (assigned_on_both (assigned_by outputs already first) (assigned_by outputs already second) ≡ Some given) =
       then-parts (reads_assigned outputs already (objects_of condition)) (assigned_on_both (assigned_by outputs already first) (assigned_by outputs already second)) given e in
-      let both : BothParts (assigned_by outputs already first) (assigned_by outputs already second) given = both-parts (assigned_by outputs already first) (assigned_by outputs already second) given parts.1 in
+      let both : BothParts (assigned_by outputs already first) (assigned_by outputs already second) given =
+      both-parts (assigned_by outputs already first) (assigned_by outputs already second) given parts.1 in
       let n' : NamedFit machine (named_by first ++ named_by second) = named-right machine (named_in condition) (named_by first ++ named_by second) n in
-      let h' : ReadsInputs Input outputs (read_objects first ++ read_objects second) = clear-right (λ x. has outputs x ≡ false → Input x) (objects_of condition) (read_objects first ++ read_objects second) h in
+      let h' : ReadsInputs Input outputs (read_objects first ++ read_objects second) = clear-right (λ x. has outputs x ≡ false → Input x) (objects_of condition)
+      (read_objects first ++ read_objects second) h in
       same-either machine Input both.0 both.1 given (is_true (value_of (value_at a) condition)) (is_true (value_of (value_at b) condition)) _ _ _ _
       (ap is_true (condition-same machine Input outputs already (read_objects first ++ read_objects second) (named_by first ++ named_by second) condition a b parts.0 n h s)) both.4
-      (run-same machine Input outputs first already both.0 a b both.2 (named-left machine (named_by first) (named_by second) n') (clear-left (λ x. has outputs x ≡ false → Input x) (read_objects first) (read_objects second) h') s)
-      (run-same machine Input outputs second already both.1 a b both.3 (named-right machine (named_by first) (named_by second) n') (clear-right (λ x. has outputs x ≡ false → Input x) (read_objects first) (read_objects second) h') s)
+      (run-same machine Input outputs first already both.0 a b both.2 (named-left machine (named_by first) (named_by second) n')
+      (clear-left (λ x. has outputs x ≡ false → Input x) (read_objects first) (read_objects second) h') s)
+      (run-same machine Input outputs second already both.1 a b both.3 (named-right machine (named_by first) (named_by second) n')
+      (clear-right (λ x. has outputs x ≡ false → Input x) (read_objects first) (read_objects second) h') s)
   run-same machine Input outputs (Case place kind value items default) already given a b e n h s =
       let parts : (reads_assigned outputs already (objects_of value ++ labels_read items) ≡ true) × (items_assigned_by outputs already items (assigned_by outputs already default) ≡ Some given) =
       then-parts (reads_assigned outputs already (objects_of value ++ labels_read items)) (items_assigned_by outputs already items (assigned_by outputs already default)) given e in
       let n' : NamedFit machine (named_by_items items ++ named_by default) = named-right machine (named_in value) (named_by_items items ++ named_by default) n in
-      let h' : ReadsInputs Input outputs (items_read items ++ read_objects default) = clear-right (λ x. has outputs x ≡ false → Input x) (objects_of value) (items_read items ++ read_objects default) h in
+      let h' : ReadsInputs Input outputs (items_read items ++ read_objects default) = clear-right (λ x. has outputs x ≡ false → Input x) (objects_of value)
+      (items_read items ++ read_objects default) h in
       subst (λ v. Same machine (Reached Input given) (run_items kind (value_of (value_at a) value) items a (run_statement default a)) (run_items kind v items b (run_statement default b)))
       (condition-same machine Input outputs already (items_read items ++ read_objects default) (named_by_items items ++ named_by default) value a b
       (reads-left outputs already (objects_of value) (labels_read items) parts.0) n h s)
       (items-same machine Input outputs kind (value_of (value_at a) value) items already (assigned_by outputs already default) given a b (run_statement default a) (run_statement default b) parts.1
       (reads-right outputs already (objects_of value) (labels_read items) parts.0) (named-left machine (named_by_items items) (named_by default) n')
       (clear-left (λ x. has outputs x ≡ false → Input x) (items_read items) (read_objects default) h') s
-      (λ left f. run-same machine Input outputs default already left a b f (named-right machine (named_by_items items) (named_by default) n') (clear-right (λ x. has outputs x ≡ false → Input x) (items_read items) (read_objects default) h') s))
+      (λ left f. run-same machine Input outputs default already left a b f (named-right machine (named_by_items items) (named_by default) n')
+      (clear-right (λ x. has outputs x ≡ false → Input x) (items_read items) (read_objects default) h') s))
   run-same machine Input outputs (For place first_targets first condition next_targets next body) already given a b e n h s = cc
   run-same machine Input outputs (While place condition body) already given a b e n h s = cc
   run-same machine Input outputs (Repeat place count body) already given a b e n h s = cc
@@ -358,7 +384,8 @@ mutual
   run-same machine Input outputs (EventControl place entries body) already given a b e n h s = cc
   run-same machine Input outputs (Wait place condition body) already given a b e n h s = cc
   run-same machine Input outputs (Blocking place targets delay value) already given a b e n h s =
-      let parts : ((is_none delay && reads_assigned outputs already (objects_of value ++ indexes_objects targets) && part_targets_after already targets) ≡ true) × (whole_targets targets ++ already ≡ given) =
+      let parts : ((is_none delay && reads_assigned outputs already (objects_of value ++ indexes_objects targets) && part_targets_after already targets) ≡ true)
+      × (whole_targets targets ++ already ≡ given) =
       if-parts (is_none delay && reads_assigned outputs already (objects_of value ++ indexes_objects targets) && part_targets_after already targets) (whole_targets targets ++ already) given e in
       let reads : reads_assigned outputs already (objects_of value ++ indexes_objects targets) ≡ true =
       (and-both (is_none delay) (reads_assigned outputs already (objects_of value ++ indexes_objects targets))
@@ -370,46 +397,57 @@ mutual
   run-same machine Input outputs (Nonblocking place targets delay value) already given a b e n h s = cc
   run-same machine Input outputs (Finish place) already given a b e n h s = cc
 
-  pub all-same : (machine : Machine) (Input : ℕ → Type 0) (outputs : List ℕ) (statements : Statements) (already given : List ℕ) (a b : List LogicValue) → all_assigned_by outputs already statements ≡ Some given →
+  pub all-same : (machine : Machine) (Input : ℕ → Type 0) (outputs : List ℕ) (statements : Statements) (already given : List ℕ) (a b : List LogicValue) →
+      all_assigned_by outputs already statements ≡ Some given →
       NamedFit machine (named_by_all statements) → ReadsInputs Input outputs (all_read statements) → Same machine (Reached Input already) a b →
       Same machine (Reached Input given) (run_statements statements a) (run_statements statements b)
   all-same machine Input outputs no_statements already given a b e n h s = same_given machine Input already given a b e s
   all-same machine Input outputs (more_statements first rest) already given a b e n h s =
-      let half : Halfway (λ now. all_assigned_by outputs now rest) (assigned_by outputs already first) given = halfway (λ now. all_assigned_by outputs now rest) (assigned_by outputs already first) given e in
+      let half : Halfway (λ now. all_assigned_by outputs now rest) (assigned_by outputs already first) given =
+      halfway (λ now. all_assigned_by outputs now rest) (assigned_by outputs already first) given e in
       all-same machine Input outputs rest half.0 given (run_statement first a) (run_statement first b) half.2 (named-right machine (named_by first) (named_by_all rest) n)
       (clear-right (λ x. has outputs x ≡ false → Input x) (read_objects first) (all_read rest) h)
-      (run-same machine Input outputs first already half.0 a b half.1 (named-left machine (named_by first) (named_by_all rest) n) (clear-left (λ x. has outputs x ≡ false → Input x) (read_objects first) (all_read rest) h) s)
+      (run-same machine Input outputs first already half.0 a b half.1 (named-left machine (named_by first) (named_by_all rest) n)
+      (clear-left (λ x. has outputs x ≡ false → Input x) (read_objects first) (all_read rest) h) s)
 
-  pub items-same : (machine : Machine) (Input : ℕ → Type 0) (outputs : List ℕ) (kind : CaseKind) (value : LogicValue) (items : CaseItems) (already : List ℕ) (otherwise : Option (List ℕ)) (given : List ℕ) (a b a' b' : List LogicValue) →
+  pub items-same : (machine : Machine) (Input : ℕ → Type 0) (outputs : List ℕ) (kind : CaseKind) (value : LogicValue) (items : CaseItems) (already : List ℕ) (otherwise : Option (List ℕ))
+      (given : List ℕ) (a b a' b' : List LogicValue) →
       items_assigned_by outputs already items otherwise ≡ Some given → reads_assigned outputs already (labels_read items) ≡ true → NamedFit machine (named_by_items items) →
       ReadsInputs Input outputs (items_read items) → Same machine (Reached Input already) a b →
       ((left : List ℕ) → otherwise ≡ Some left → Same machine (Reached Input left) a' b') →
       Same machine (Reached Input given) (run_items kind value items a a') (run_items kind value items b b')
   items-same machine Input outputs kind value no_items already otherwise given a b a' b' e r n h s t = t given e
   items-same machine Input outputs kind value (more_items labels statement rest) already otherwise given a b a' b' e r n h s t =
-      let both : BothParts (assigned_by outputs already statement) (items_assigned_by outputs already rest otherwise) given = both-parts (assigned_by outputs already statement) (items_assigned_by outputs already rest otherwise) given e in
+      let both : BothParts (assigned_by outputs already statement) (items_assigned_by outputs already rest otherwise) given =
+      both-parts (assigned_by outputs already statement) (items_assigned_by outputs already rest otherwise) given e in
       let labels_fit : NamedFit machine (named_in_parts labels) = named-left machine (named_in_parts labels) (named_by statement ++ named_by_items rest) n in
       let n' : NamedFit machine (named_by statement ++ named_by_items rest) = named-right machine (named_in_parts labels) (named_by statement ++ named_by_items rest) n in
-      let h' : ReadsInputs Input outputs (read_objects statement ++ items_read rest) = clear-right (λ x. has outputs x ≡ false → Input x) (parts_objects labels) (read_objects statement ++ items_read rest) h in
+      let h' : ReadsInputs Input outputs (read_objects statement ++ items_read rest) = clear-right (λ x. has outputs x ≡ false → Input x) (parts_objects labels)
+      (read_objects statement ++ items_read rest) h in
       same-either machine Input both.0 both.1 given (some_label_matches kind value (label_values (value_at a) labels)) (some_label_matches kind value (label_values (value_at b) labels)) _ _ _ _
       (ap (some_label_matches kind value)
       (labels-same (value_at a) (value_at b) labels (pieces-fit machine a (named_in_parts labels) s.one_fits labels_fit) (pieces-fit machine b (named_in_parts labels) s.other_fits labels_fit)
       (agree_objects (value_at a) (value_at b) (parts_read labels)
-      (reads-agree machine Input outputs already (parts_objects labels) a b (reads-left outputs already (parts_objects labels) (labels_read rest) r) (clear-left (λ x. has outputs x ≡ false → Input x) (parts_objects labels) (read_objects statement ++ items_read rest) h) s))))
+      (reads-agree machine Input outputs already (parts_objects labels) a b (reads-left outputs already (parts_objects labels) (labels_read rest) r)
+      (clear-left (λ x. has outputs x ≡ false → Input x) (parts_objects labels) (read_objects statement ++ items_read rest) h) s))))
       both.4
-      (run-same machine Input outputs statement already both.0 a b both.2 (named-left machine (named_by statement) (named_by_items rest) n') (clear-left (λ x. has outputs x ≡ false → Input x) (read_objects statement) (items_read rest) h') s)
-      (items-same machine Input outputs kind value rest already otherwise both.1 a b a' b' both.3 (reads-right outputs already (parts_objects labels) (labels_read rest) r) (named-right machine (named_by statement) (named_by_items rest) n')
+      (run-same machine Input outputs statement already both.0 a b both.2 (named-left machine (named_by statement) (named_by_items rest) n')
+      (clear-left (λ x. has outputs x ≡ false → Input x) (read_objects statement) (items_read rest) h') s)
+      (items-same machine Input outputs kind value rest already otherwise both.1 a b a' b' both.3 (reads-right outputs already (parts_objects labels) (labels_read rest) r)
+      (named-right machine (named_by statement) (named_by_items rest) n')
       (clear-right (λ x. has outputs x ≡ false → Input x) (read_objects statement) (items_read rest) h') s t)
 
 -- Nodes
 
-outputs-agree : (assigned outputs : List ℕ) (a b : List LogicValue) → list_all (has assigned) outputs ≡ true → ((x : ℕ) → has assigned x ≡ true → value_at a x ≡ value_at b x) → map (value_at a) outputs ≡ map (value_at b) outputs
+outputs-agree : (assigned outputs : List ℕ) (a b : List LogicValue) → list_all (has assigned) outputs ≡ true → ((x : ℕ) → has assigned x ≡ true → value_at a x ≡ value_at b x) →
+    map (value_at a) outputs ≡ map (value_at b) outputs
 outputs-agree assigned [] a b e h = refl
 outputs-agree assigned (x ∷ outputs) a b e h =
     let both : (has assigned x ≡ true) × (list_all (has assigned) outputs ≡ true) = and-both (has assigned x) (list_all (has assigned) outputs) e in
     λ i. h x both.0 i ∷ outputs-agree assigned outputs a b both.1 h i
 
-block-same : (machine : Machine) (Input : ℕ → Type 0) (outputs : List ℕ) (statement : Statement) (found : Option (List ℕ)) (a b : List LogicValue) → assigned_by outputs [] statement ≡ found → all_among outputs found ≡ true →
+block-same : (machine : Machine) (Input : ℕ → Type 0) (outputs : List ℕ) (statement : Statement) (found : Option (List ℕ)) (a b : List LogicValue) → assigned_by outputs [] statement ≡ found →
+    all_among outputs found ≡ true →
     NamedFit machine (named_by statement) → ReadsInputs Input outputs (read_objects statement) → Same machine (Reached Input []) a b →
     (map (value_at (run_statement statement a)) outputs ≡ map (value_at (run_statement statement b)) outputs) × Fit machine (run_statement statement a)
 block-same machine Input outputs statement None a b e all n h s = cc
@@ -422,8 +460,10 @@ block-reads : (outputs inputs : List ℕ) (reads : List ℕ) → ((x : ℕ) → 
 block-reads outputs inputs reads same =
     in-clear (λ x. has outputs x ≡ false → has inputs x ≡ true) reads (λ x i out. same x ∙ has-filter (λ object. not (has outputs object)) reads x i (ap not out))
 
-value-rests : (machine : Machine) (number : ℕ) (kind : FlatNodeKind) (inputs outputs : List ℕ) (a b : List LogicValue) → ((x : ℕ) → has inputs x ≡ has (node_reads kind outputs) x) → WritesOutputs kind outputs →
-    NamedFit machine (named_by_node kind) → Fit machine a → Fit machine b → ((x : ℕ) → has inputs x ≡ true → value_at a x ≡ value_at b x) → node_value machine number kind outputs a ≡ node_value machine number kind outputs b
+value-rests : (machine : Machine) (number : ℕ) (kind : FlatNodeKind) (inputs outputs : List ℕ) (a b : List LogicValue) → ((x : ℕ) → has inputs x ≡ has (node_reads kind outputs) x) →
+    WritesOutputs kind outputs →
+    NamedFit machine (named_by_node kind) → Fit machine a → Fit machine b → ((x : ℕ) → has inputs x ≡ true → value_at a x ≡ value_at b x) →
+    node_value machine number kind outputs a ≡ node_value machine number kind outputs b
 value-rests machine number (AssignNode value places) inputs outputs a b reads writes n f g h =
     ap (λ (bits : LogicValue). zip_with (λ object place. part_of bits place (object_width machine object)) outputs places)
     (value-same (value_at a) (value_at b) value (pieces-fit machine a (named_in value) f n) (inl (pieces-fit machine b (named_in value) g n))
@@ -464,7 +504,8 @@ length-forced : (fault : Option StuckAt) (number object : ℕ) (value : LogicVal
 length-forced None number object value = refl
 length-forced (Some fault) number object value = length-forced_at fault.site fault.value number object value
 
-forced-widths : (machine : Machine) (number : ℕ) (outputs : List ℕ) (values : List LogicValue) → Widths machine outputs values → Widths machine outputs (zip_with (forced_output machine.fault number) outputs values)
+forced-widths : (machine : Machine) (number : ℕ) (outputs : List ℕ) (values : List LogicValue) → Widths machine outputs values →
+    Widths machine outputs (zip_with (forced_output machine.fault number) outputs values)
 forced-widths machine number [] [] w = refl
 forced-widths machine number [] (value ∷ values) w = refl
 forced-widths machine number (object ∷ outputs) [] w = w
@@ -486,8 +527,10 @@ gate-widths machine number [] bit e n = refl
 gate-widths machine number (object ∷ []) bit e n = forced-widths machine number (object ∷ []) ((bit ∷ []) ∷ []) (ap (λ w. w ∷ []) (sym n.0))
 gate-widths machine number (object ∷ (other ∷ outputs)) bit e n = absurd (omega (arith, e))
 
-value-widths : (machine : Machine) (number : ℕ) (kind : FlatNodeKind) (inputs outputs : List ℕ) (a : List LogicValue) → ((x : ℕ) → has inputs x ≡ has (node_reads kind outputs) x) → WritesOutputs kind outputs →
-    NamedFit machine (named_by_node kind) → IsSizedNode machine.design kind outputs → Fit machine a → Widths machine outputs (zip_with (forced_output machine.fault number) outputs (node_value machine number kind outputs a))
+value-widths : (machine : Machine) (number : ℕ) (kind : FlatNodeKind) (inputs outputs : List ℕ) (a : List LogicValue) → ((x : ℕ) → has inputs x ≡ has (node_reads kind outputs) x) →
+    WritesOutputs kind outputs →
+    NamedFit machine (named_by_node kind) → IsSizedNode machine.design kind outputs → Fit machine a →
+    Widths machine outputs (zip_with (forced_output machine.fault number) outputs (node_value machine number kind outputs a))
 value-widths machine number (AssignNode value places) inputs outputs a reads writes n g f =
     forced-widths machine number outputs (node_value machine number (AssignNode value places) outputs a) (parts-widths machine outputs places (value_of (value_at a) value) (width_of value) g.1)
 value-widths machine number (GateNode kind terminals) inputs outputs a reads writes n g f =

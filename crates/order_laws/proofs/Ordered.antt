@@ -7,7 +7,8 @@ use Rattle.v_design.specs.Designs.{FlatDesign}
 use Rattle.v_design.specs.Paths.{paths, net_pieces, is_wild}
 use Rattle.v_design.specs.States.{found_or}
 use Rattle.v_design.specs.Accesses.{Settling, ObjectAccess}
-use Rattle.v_design.specs.Logs.{LoggedEvent, LoggedPhase, PhaseAccess, change_of, phase_changes, is_write, counts, settles_of, counted_accesses, event_accesses, log_accesses, orders, acts_clash, orders_others, access_orders, conflict, least_pair}
+use Rattle.v_design.specs.Logs.{LoggedEvent, LoggedPhase, PhaseAccess, change_of, phase_changes, is_write, counts, settles_of, counted_accesses, event_accesses, log_accesses, orders, acts_clash}
+use Rattle.v_design.specs.Logs.{orders_others, access_orders, conflict, least_pair}
 use Rattle.order_laws.proofs.Conflicts.{In, In-left, In-right, In-map}
 use Rattle.order_laws.proofs.SwappedLogs.{accesses_at}
 use Rattle.order_laws.proofs.FreeLogs.{Before-or, none-free, clash-symmetric}
@@ -71,7 +72,8 @@ pub held_clash : (design : FlatDesign) (log : LoggedPhase) → least_pair design
     x.object ≡ y.object → acts_clash x.object x.act y.act ≡ true → ⊥
 held_clash design log none n x y i j same clash = elim
     (free_pair design log none (carried x) (tagged n y) (λ e. differ (ap (λ (u : PhaseAccess). u.event) e))
-    (In-left (carried x) (map carried log.held) (joined (map_numbered (event_accesses design (phase_changes design log)) 0 log.events)) (In-map carried x log.held i)) (in_log design log n y j) same clash) [
+    (In-left (carried x) (map carried log.held) (joined (map_numbered (event_accesses design (phase_changes design log)) 0 log.events)) (In-map carried x log.held i))
+    (in_log design log n y j) same clash) [
       | inl o ↦ true_is_false (sym o ∙ falls (orders_others x.act))
       | inr o ↦ true_is_false (sym o ∙ falls (orders_others y.act))
     ]

@@ -70,7 +70,8 @@ module _ (machine : Machine) (state : State) (first events : List Event) (n : �
       | inr there ↦ c.silent j ev (elim (below_or_same j n b) [ inl low ↦ low | inr same ↦ absurd (there.0 same) ]) there.1 f
     ];
     values = λ object tame.
-        unseen (changes_there machine state first object) (λ k. value_at (state_at machine state first k).values object) done (value_at (state_at machine state events n).values object) _ (c.values object tame)
+        unseen (changes_there machine state first object) (λ k. value_at (state_at machine state first k).values object) done (value_at (state_at machine state events n).values object) _
+        (c.values object tame)
         (same_there machine state events object n (s.changes object tame));
     processes = λ p.
         let u = untouched_process machine p (state_at machine state events n) event run.rules (follows_at machine state events n run) (s.processes p) in
@@ -88,7 +89,8 @@ module _ (machine : Machine) (state : State) (first events : List Event) (n : �
         });
     reach = λ object.
         let a : reached machine.design (run_changes machine state (first_of (suc n) events)) object
-        ≡ reached machine.design (run_changes machine state (first_of n events)) object + reached machine.design (event_changes machine (state_at machine state events n) event) object = run_more machine state events n event object e in
+        ≡ reached machine.design (run_changes machine state (first_of n events)) object + reached machine.design (event_changes machine (state_at machine state events n) event) object =
+        run_more machine state events n event object e in
         let b : reached machine.design (run_changes machine state (first_of n events)) object ≡ done_reach machine state done first object = c.reach object in
         let z : reached machine.design (event_changes machine (state_at machine state events n) event) object ≡ 0 = s.reaches object in
         omega (arith, a, b, z);

@@ -213,7 +213,8 @@ pub paths-node : (design : FlatDesign) → AreBelow design.nodes → (from objec
     has node.outputs object ≡ true → path_weight node.kind * sum_by (paths design from) (without_repeats [] node.inputs) ≤ paths design from object
 paths-node design ranked from object number node e h =
     let s : paths design from object ≡ one_if (nat_eq from object) + sum_by (paths_through (paths design from) object) design.nodes = paths-step design ranked from object in
-    let t : paths_through (paths design from) object node ≤ sum_by (paths_through (paths design from) object) design.nodes = sum-at (paths_through (paths design from) object) design.nodes number node e in
+    let t : paths_through (paths design from) object node ≤ sum_by (paths_through (paths design from) object) design.nodes =
+    sum-at (paths_through (paths design from) object) design.nodes number node e in
     let w : paths_through (paths design from) object node ≡ path_weight node.kind * sum_by (paths design from) (without_repeats [] node.inputs) = through-writes (paths design from) object node h in
     omega (arith, s, t, w)
 
@@ -225,7 +226,8 @@ weighty (BlockNode statement) n = omega arith
 pub paths-input : (design : FlatDesign) → AreBelow design.nodes → (from object number : ℕ) (node : FlatNode) → slice_get design.nodes number ≡ Some node →
     has node.outputs object ≡ true → (input : ℕ) → has node.inputs input ≡ true → paths design from input ≤ paths design from object
 paths-input design ranked from object number node e h input i =
-    let a : paths design from input ≤ sum_by (paths design from) (without_repeats [] node.inputs) = sum-in (paths design from) (without_repeats [] node.inputs) input (in-repeats [] node.inputs input refl i) in
+    let a : paths design from input ≤ sum_by (paths design from) (without_repeats [] node.inputs) =
+    sum-in (paths design from) (without_repeats [] node.inputs) input (in-repeats [] node.inputs input refl i) in
     let b : path_weight node.kind * sum_by (paths design from) (without_repeats [] node.inputs) ≤ paths design from object = paths-node design ranked from object number node e h in
     le_trans a (le_trans (weighty node.kind (sum_by (paths design from) (without_repeats [] node.inputs))) b)
 

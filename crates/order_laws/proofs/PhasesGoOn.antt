@@ -5,7 +5,9 @@ use Rattle.vf_base.specs.Lists.{change_at, zip_with}
 use Rattle.four_value.specs.Values.{LogicValue, same_value}
 use Rattle.v_design.specs.Designs.{FlatObject, FlatNode, Machine}
 use Rattle.v_design.specs.Assignments.{ValueUpdate, value_at, AreSettled}
-use Rattle.v_design.specs.States.{State, ProcessState, NodeState, Event, Step, LaneStep, Evaluation, NetUpdate, TurnKind, PostponedTurn, UpdatesTurn, TimeTurn, turned, after, node_at, process_at, some_in, has_event, has_work, marked_by, woken_process, with_value, with_values, with_node, with_process, written_if, value_written, write_of, first_update, after_lane_step, after_step, step_of, evaluated, nets_updated}
+use Rattle.v_design.specs.States.{State, ProcessState, NodeState, Event, Step, LaneStep, Evaluation, NetUpdate, TurnKind, PostponedTurn, UpdatesTurn, TimeTurn, turned, after, node_at, process_at}
+use Rattle.v_design.specs.States.{some_in, has_event, has_work, marked_by, woken_process, with_value, with_values, with_node, with_process, written_if, value_written, write_of, first_update}
+use Rattle.v_design.specs.States.{after_lane_step, after_step, step_of, evaluated, nets_updated}
 use Rattle.v_design.specs.Runs.{happened, IsPhase}
 use Rattle.v_design.specs.WellFormed.{KeepsRules}
 use Rattle.v_design.specs.Laws.{IsStateOf, BeginsPhase}
@@ -58,7 +60,8 @@ state-evaluated : (machine : Machine) (number : ℕ) (found : Option FlatNode) (
 state-evaluated machine number None state f = f
 state-evaluated machine number (Some node) state f = state-node machine number _ state f
 
-state-nets : (machine : Machine) (number : ℕ) (found : Option FlatNode) (pending : Option (List LogicValue)) (state : State) → IsStateOf machine state → IsStateOf machine (nets_updated machine number found pending state)
+state-nets : (machine : Machine) (number : ℕ) (found : Option FlatNode) (pending : Option (List LogicValue)) (state : State) → IsStateOf machine state →
+    IsStateOf machine (nets_updated machine number found pending state)
 state-nets machine number None pending state f = f
 state-nets machine number (Some node) None state f = f
 state-nets machine number (Some node) (Some values) state f = state-values machine node.outputs values _ (state-node machine number _ state f)
@@ -104,7 +107,8 @@ pub next_phase_begins : (machine : Machine) (state : State) (events : List Event
     BeginsPhase machine (turned turn (happened machine state events))
 next_phase_begins machine state events turn rules begins phase =
     let end : State = happened machine state events in
-    let follows : Follows machine Everywhere end = follows-run machine state events rules (rest_on_inputs machine rules) (writers_clear machine state begins.writers) (follows-begins machine state begins) in
+    let follows : Follows machine Everywhere end = follows-run machine state events rules (rest_on_inputs machine rules) (writers_clear machine state begins.writers)
+    (follows-begins machine state begins) in
     let fits : IsStateOf machine end = state-run machine state events begins.fits in
     record {
       fits = state-turned machine turn end fits;

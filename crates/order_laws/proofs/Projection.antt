@@ -39,7 +39,8 @@ counted_by design reach accesses =
     filter (λ (access : ObjectAccess). not (is_write access.act && (has (net_pieces design) access.object && is_wild_class (class_of_paths (reach access.object))))) accesses
     ++ joined (map (settling_of design reach) accesses)
 
-pub counted-same : (design : FlatDesign) (one other : List ℕ) (accesses : List ObjectAccess) → ((net : ℕ) → reached design one net ≡ reached design other net) → counted_accesses design one accesses ≡ counted_accesses design other accesses
+pub counted-same : (design : FlatDesign) (one other : List ℕ) (accesses : List ObjectAccess) → ((net : ℕ) → reached design one net ≡ reached design other net) →
+    counted_accesses design one accesses ≡ counted_accesses design other accesses
 counted-same design one other accesses h = λ i. counted_by design (λ net. h net i) accesses
 
 -- Steps by their places
@@ -70,7 +71,8 @@ counted_there : Machine → List ℕ → Option NotedEvent → List ObjectAccess
 unfolding mapped_or
 counted_there machine changes found = mapped_or [] (λ (n : NotedEvent). counted_accesses machine.design changes (accesses_of machine n.process n.line n.before n.event)) found
 
-counted_some : (machine : Machine) (changes : List ℕ) (found : Option NotedEvent) (n : NotedEvent) → found ≡ Some n → counted_there machine changes found ≡ counted_accesses machine.design changes (accesses_of machine n.process n.line n.before n.event)
+counted_some : (machine : Machine) (changes : List ℕ) (found : Option NotedEvent) (n : NotedEvent) → found ≡ Some n →
+    counted_there machine changes found ≡ counted_accesses machine.design changes (accesses_of machine n.process n.line n.before n.event)
 unfolding counted_there mapped_or
 counted_some machine changes found n e = ap (mapped_or [] (λ (n : NotedEvent). counted_accesses machine.design changes (accesses_of machine n.process n.line n.before n.event))) e
 
@@ -78,13 +80,15 @@ steps-by-place : (machine : Machine) (state : State) (events : List Event) (even
     steps_accesses machine state events event
     ≡ map (λ k. counted_there machine (phase_changes machine.design (log_of machine state events)) (slice_get (new_notes machine [] state events) k)) (places_of event 0 events)
 steps-by-place machine state events event =
-    ap (λ ns. map (λ (n : NotedEvent). counted_accesses machine.design (phase_changes machine.design (log_of machine state events)) (accesses_of machine n.process n.line n.before n.event)) (filter (λ (n : NotedEvent). same_event event n.event) ns))
+    ap (λ ns. map (λ (n : NotedEvent). counted_accesses machine.design (phase_changes machine.design (log_of machine state events)) (accesses_of machine n.process n.line n.before n.event))
+    (filter (λ (n : NotedEvent). same_event event n.event) ns))
     (noted_events-new machine state events)
     ∙ places-notes event 0 (new_notes machine [] state events)
     (λ (n : NotedEvent). counted_accesses machine.design (phase_changes machine.design (log_of machine state events)) (accesses_of machine n.process n.line n.before n.event))
     (λ k. counted_there machine (phase_changes machine.design (log_of machine state events)) (slice_get (new_notes machine [] state events) k))
     (λ k x e. counted_some machine (phase_changes machine.design (log_of machine state events)) _ x (ap (slice_get (new_notes machine [] state events)) (let z : 0 + k ≡ k = omega arith in z) ∙ e))
-    ∙ ap (λ es. map (λ k. counted_there machine (phase_changes machine.design (log_of machine state events)) (slice_get (new_notes machine [] state events) k)) (places_of event 0 es)) (events-of-notes machine [] state events)
+    ∙ ap (λ es. map (λ k. counted_there machine (phase_changes machine.design (log_of machine state events)) (slice_get (new_notes machine [] state events) k)) (places_of event 0 es))
+    (events-of-notes machine [] state events)
 
 maps-same : {B : Type 0} (matched : ℕ → Option ℕ) (f g : ℕ → B) (js is : List ℕ) → Maps matched js is → ((j i : ℕ) → matched j ≡ Some i → f j ≡ g i) → map f js ≡ map g is
 maps-same matched f g [] [] m h = refl
@@ -131,7 +135,8 @@ module _ (machine : Machine) (state : State) (first events : List Event) (beside
   pub end_same : happened machine state events ≡ happened machine state first
   end_same = same_end machine state first events whole.0 whole.1 free run beside.legal.ends whole.2
 
-  pub reaches_same : (net : ℕ) → reached machine.design (phase_changes machine.design (log_of machine state events)) net ≡ reached machine.design (phase_changes machine.design (log_of machine state first)) net
+  pub reaches_same : (net : ℕ) → reached machine.design (phase_changes machine.design (log_of machine state events)) net ≡ reached machine.design
+      (phase_changes machine.design (log_of machine state first)) net
   reaches_same net =
       ap (λ cs. reached machine.design cs net) (phase_changes-run machine state events)
       ∙ reach_same machine state first events whole.0 whole.1 free run beside.legal.ends whole.2 net
@@ -145,7 +150,8 @@ module _ (machine : Machine) (state : State) (first events : List Event) (beside
       (x.cell.same
       ∙ last-part (step_there first event) (steps_to first event) (length first) x.cell.place (steps_stay first event)
       (λ k le. ap (places_of event 0) (first_of-past-all first k le ∙ sym (first_of-all first)))
-      (past-place machine state first events whole.0 whole.1 free run beside.legal.ends whole.2 (step_there first event) (steps_to first event) x.steps x.cell (λ k t. told k (slice_get first k) refl t))
+      (past-place machine state first events whole.0 whole.1 free run beside.legal.ends whole.2 (step_there first event) (steps_to first event) x.steps x.cell
+      (λ k t. told k (slice_get first k) refl t))
       ∙ ap (places_of event 0) (first_of-all first))
       (subst (λ es. Maps whole.0 (places_of event 0 es) x.steps) (first_of-all events) x.maps)
     where
@@ -160,7 +166,8 @@ module _ (machine : Machine) (state : State) (first events : List Event) (beside
   accesses-alike j i e =
       let p = whole.2.pairs j i e in
       counted_some machine (phase_changes machine.design (log_of machine state events)) _ (noted machine state events j p.event) (note_stands machine state events j p.event p.stands)
-      ∙ counted-same machine.design (phase_changes machine.design (log_of machine state events)) (phase_changes machine.design (log_of machine state first)) (accesses_before machine state events j p.event) reaches_same
+      ∙ counted-same machine.design (phase_changes machine.design (log_of machine state events)) (phase_changes machine.design (log_of machine state first))
+      (accesses_before machine state events j p.event) reaches_same
       ∙ ap (counted_accesses machine.design (phase_changes machine.design (log_of machine state first))) p.accesses
       ∙ sym (counted_some machine (phase_changes machine.design (log_of machine state first)) _ (noted machine state first i p.event) (note_stands machine state first i p.event p.first_stands))
 
@@ -198,14 +205,16 @@ module _ (machine : Machine) (state : State) (first events : List Event) (beside
       let x = causes-here l k m in
       (λ y. number-same l k j i m e y || none x.0 y)
     where
-      none : CauseSame whole.0 (cause_at (log_of machine state events) l) (cause_at (log_of machine state first) k) → false ≡ has (causes_from g (log_of machine state first) (cause_at (log_of machine state first) k)) i
+      none : CauseSame whole.0 (cause_at (log_of machine state events) l) (cause_at (log_of machine state first) k) →
+          false ≡ has (causes_from g (log_of machine state first) (cause_at (log_of machine state first) k)) i
       none (inl n) = sym (ap (λ o. has (causes_from g (log_of machine state first) o) i) n.1 ∙ nothing_caused g (log_of machine state first) i)
       none (inr s) = let z : s.0 < l = (causes-here l k m).1 s.0 s.2 in absurd (omega (arith, z, a))
   chains j i e (suc f) zero l k m a b =
       let x = causes-here l k m in
       (λ y. number-same l k j i m e y || none x.0 y)
     where
-      none : CauseSame whole.0 (cause_at (log_of machine state events) l) (cause_at (log_of machine state first) k) → has (causes_from f (log_of machine state events) (cause_at (log_of machine state events) l)) j ≡ false
+      none : CauseSame whole.0 (cause_at (log_of machine state events) l) (cause_at (log_of machine state first) k) →
+          has (causes_from f (log_of machine state events) (cause_at (log_of machine state events) l)) j ≡ false
       none (inl n) = ap (λ o. has (causes_from f (log_of machine state events) o) j) n.0 ∙ nothing_caused f (log_of machine state events) j
       none (inr s) = let z : s.1 < k = (causes-here l k m).2 s.1 s.3 in absurd (omega (arith, z, b))
   chains j i e (suc f) (suc g) l k m a b =
@@ -220,7 +229,8 @@ module _ (machine : Machine) (state : State) (first events : List Event) (beside
       rest (inr s) deeper =
           let y : s.0 < l = (causes-here l k m).1 s.0 s.2 in
           let z : s.1 < k = (causes-here l k m).2 s.1 s.3 in
-          ap (λ o. has (causes_from f (log_of machine state events) o) j) s.2 ∙ deeper s.0 s.1 s.4 (omega (arith, y, a)) (omega (arith, z, b)) ∙ sym (ap (λ o. has (causes_from g (log_of machine state first) o) i) s.3)
+          ap (λ o. has (causes_from f (log_of machine state events) o) j) s.2 ∙ deeper s.0 s.1 s.4 (omega (arith, y, a)) (omega (arith, z, b))
+          ∙ sym (ap (λ o. has (causes_from g (log_of machine state first) o) i) s.3)
 
   log-length : (es : List Event) → length (log_of machine state es).events ≡ length es
   log-length es = length-map (logged machine) (noted_events machine state es) ∙ ap (λ ns. length ns) (noted_events-new machine state es) ∙ length-new_notes machine [] state es
@@ -234,7 +244,8 @@ module _ (machine : Machine) (state : State) (first events : List Event) (beside
       let y : length (log_of machine state first).events ≡ length first = log-length first in
       chains j i e (length (log_of machine state events).events) (length (log_of machine state first).events) l k f (omega (arith, a, x)) (omega (arith, b, y))
 
-  there-alike : (one one' other other' : Option ℕ) → BothThere whole.0 one one' → BothThere whole.0 other other' → orders_if_there (log_of machine state events) one other ≡ orders_if_there (log_of machine state first) one' other'
+  there-alike : (one one' other other' : Option ℕ) → BothThere whole.0 one one' → BothThere whole.0 other other' →
+      orders_if_there (log_of machine state events) one other ≡ orders_if_there (log_of machine state first) one' other'
   there-alike one one' other other' (inl n) y = (λ i. orders_if_there (log_of machine state events) (n.0 i) other) ∙ sym (λ i. orders_if_there (log_of machine state first) (n.1 i) other')
   there-alike one one' other other' (inr s) (inl n) = (λ i. orders_if_there (log_of machine state events) (s.2 i) (n.0 i)) ∙ sym (λ i. orders_if_there (log_of machine state first) (s.3 i) (n.1 i))
   there-alike one one' other other' (inr s) (inr t) =
@@ -245,7 +256,8 @@ module _ (machine : Machine) (state : State) (first events : List Event) (beside
     accesses = λ event h.
         steps-by-place machine state events event
         ∙ maps-same whole.0 (λ k. counted_there machine (phase_changes machine.design (log_of machine state events)) (slice_get (new_notes machine [] state events) k))
-        (λ k. counted_there machine (phase_changes machine.design (log_of machine state first)) (slice_get (new_notes machine [] state first) k)) (places_of event 0 events) (places_of event 0 first) (places_alike event h) accesses-alike
+        (λ k. counted_there machine (phase_changes machine.design (log_of machine state first)) (slice_get (new_notes machine [] state first) k)) (places_of event 0 events) (places_of event 0 first)
+        (places_alike event h) accesses-alike
         ∙ sym (steps-by-place machine state first event);
     same_orders = λ one other m n h k.
         there-alike (slice_get (places_of one 0 events) m) (slice_get (places_of one 0 first) m) (slice_get (places_of other 0 events) n) (slice_get (places_of other 0 first) n)
@@ -265,7 +277,8 @@ one_of-clean (suc (suc n)) e = cc
 
 pub clean_nets_change_once : CleanNetsChangeOnce
 clean_nets_change_once machine state first events net beside e =
-    let one : reached machine.design (phase_changes machine.design (log_of machine state first)) net ≡ 1 = one_of-clean (reached machine.design (phase_changes machine.design (log_of machine state first)) net) e in
+    let one : reached machine.design (phase_changes machine.design (log_of machine state first)) net ≡ 1 =
+    one_of-clean (reached machine.design (phase_changes machine.design (log_of machine state first)) net) e in
     let f : reached machine.design (run_changes machine state first) net ≡ 1 = ap (λ cs. reached machine.design cs net) (sym (phase_changes-run machine state first)) ∙ one in
     let g : reached machine.design (run_changes machine state events) net ≡ 1 =
     ap (λ cs. reached machine.design cs net) (sym (phase_changes-run machine state events)) ∙ reaches_same machine state first events beside net ∙ one in

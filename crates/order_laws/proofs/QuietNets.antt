@@ -7,7 +7,8 @@ use Rattle.four_value.specs.Values.{LogicValue, same_value}
 use Rattle.v_design.specs.Designs.{FlatNode, FlatDesign, Machine}
 use Rattle.v_design.specs.Assignments.{ValueUpdate, value_at, node_outputs}
 use Rattle.v_design.specs.Processes.{Action, ReadsObject, WritesObject, AppendsUpdate, TouchesNothing}
-use Rattle.v_design.specs.States.{State, ProcessState, Event, Step, LaneStep, Evaluation, NetUpdate, possible, after, node_at, process_at, found_or, has_work, some_in, with_value, with_node, with_process, written_if, value_written, write_of, first_update, after_lane_step, after_step, step_of, evaluated, nets_updated}
+use Rattle.v_design.specs.States.{State, ProcessState, Event, Step, LaneStep, Evaluation, NetUpdate, possible, after, node_at, process_at, found_or, has_work, some_in, with_value, with_node}
+use Rattle.v_design.specs.States.{with_process, written_if, value_written, write_of, first_update, after_lane_step, after_step, step_of, evaluated, nets_updated}
 use Rattle.v_design.specs.Runs.{happened, all_possible}
 use Rattle.v_design.specs.Paths.{net_pieces}
 use Rattle.v_design.specs.Accesses.{ObjectAccess, Writing, accesses_of, action_accesses, await_accesses, lane_accesses}
@@ -40,7 +41,8 @@ both_none : (n m k : ℕ) → k ≡ n + m → k ≡ 0 → (n ≡ 0) × (m ≡ 0)
 both_none n m k s z = (omega (arith, s, z), omega (arith, s, z))
 
 pub reached-none : (design : FlatDesign) (changes more : List ℕ) (object : ℕ) → reached design (changes ++ more) object ≡ 0 → (reached design changes object ≡ 0) × (reached design more object ≡ 0)
-reached-none design changes more object z = both_none (reached design changes object) (reached design more object) (reached design (changes ++ more) object) (reached-append design changes more object) z
+reached-none design changes more object z = both_none (reached design changes object) (reached design more object) (reached design (changes ++ more) object)
+    (reached-append design changes more object) z
 
 one-none : {A : Type 0} (n : ℕ) → 1 ≤ n → n ≡ 0 → A
 one-none n a b = absurd (omega (arith, a, b))
@@ -148,7 +150,8 @@ quiet-nets machine begin state changes number (Some node) (Some values) rules f 
   values = λ object r. elim (decided (has node.outputs object)) [
     | inl i ↦
         true-false (has_work (node_at state number)) h
-        (q.nodes number node f (λ input k. no-more (reached machine.design changes input) (reached machine.design changes object) (reached-input machine.design rules.ranked changes object number node f i input k) r))
+        (q.nodes number node f (λ input k. no-more (reached machine.design changes input) (reached machine.design changes object)
+        (reached-input machine.design rules.ranked changes object number node f i input k) r))
     | inr i ↦ values-other machine node.outputs values (with_node number (λ old. record old { pending = None }) state) object i ∙ q.values object r
   ];
   nodes = λ other reader e r.
@@ -169,7 +172,8 @@ quiet-nets machine begin state changes number (Some node) (Some values) rules f 
     unread other reader e r x i = elim (decided (has reader.inputs x)) [
       | inl k ↦
           true-false (has_work (node_at state number)) h
-          (q.nodes number node f (λ input j. no-more (reached machine.design changes input) (reached machine.design changes x) (reached-input machine.design rules.ranked changes x number node f i input j) (r x k)))
+          (q.nodes number node f (λ input j. no-more (reached machine.design changes input) (reached machine.design changes x)
+          (reached-input machine.design rules.ranked changes x number node f i input j) (r x k)))
       | inr k ↦ k
     ]
 
@@ -218,7 +222,8 @@ pub quiet-run : (machine : Machine) (begin state : State) (changes : List ℕ) (
     IsTrue (all_possible machine state events) → StaysQuiet machine begin state changes → StaysQuiet machine begin (happened machine state events) (changes ++ run_changes machine state events)
 quiet-run machine begin state changes [] rules clear p q = quiet-more machine begin state changes [] q
 quiet-run machine begin state changes (event ∷ events) rules clear p q =
-    let may : (possible state event ≡ true) × (all_possible machine (after machine state event) events ≡ true) = and-first (possible state event) (all_possible machine (after machine state event) events) p in
+    let may : (possible state event ≡ true) × (all_possible machine (after machine state event) events ≡ true) =
+    and-first (possible state event) (all_possible machine (after machine state event) events) p in
     subst (λ cs. StaysQuiet machine begin (happened machine (after machine state event) events) cs)
     (append_assoc' changes (event_changes machine state event) (run_changes machine (after machine state event) events))
     (quiet-run machine begin (after machine state event) (changes ++ event_changes machine state event) events rules
@@ -230,7 +235,8 @@ unchanged-from : (machine : Machine) (begin state : State) (changes : List ℕ) 
     changes_at machine state events object ≡ []
 unchanged-from machine begin state changes [] object rules clear p q r = refl
 unchanged-from machine begin state changes (event ∷ events) object rules clear p q r =
-    let may : (possible state event ≡ true) × (all_possible machine (after machine state event) events ≡ true) = and-first (possible state event) (all_possible machine (after machine state event) events) p in
+    let may : (possible state event ≡ true) × (all_possible machine (after machine state event) events ≡ true) =
+    and-first (possible state event) (all_possible machine (after machine state event) events) p in
     let next : StaysQuiet machine begin (after machine state event) (changes ++ event_changes machine state event) = quiet-after machine begin state changes event rules clear may.0 q in
     let all : reached machine.design ((changes ++ event_changes machine state event) ++ run_changes machine (after machine state event) events) object ≡ 0 =
     ap (λ cs. reached machine.design cs object) (append_assoc' changes (event_changes machine state event) (run_changes machine (after machine state event) events)) ∙ r in

@@ -32,7 +32,8 @@ pub contents_sized : {design : FlatDesign} → KeepsRules design → (number : �
 contents_sized {design} rules number object e = (held_at IsSizedObject design.objects rules.objects number object e).0
 
 -- a node writes net pieces alone
-pub outputs_are_nets : {design : FlatDesign} → KeepsRules design → (number : ℕ) (node : FlatNode) → slice_get design.nodes number ≡ Some node → (object : ℕ) → has node.outputs object ≡ true → has (net_pieces design) object ≡ true
+pub outputs_are_nets : {design : FlatDesign} → KeepsRules design → (number : ℕ) (node : FlatNode) → slice_get design.nodes number ≡ Some node → (object : ℕ) → has node.outputs object ≡ true →
+    has (net_pieces design) object ≡ true
 outputs_are_nets {design} rules number node e object h = held_in (λ x. has (net_pieces design) x ≡ true) node.outputs (node_rules rules number node e).outputs_nets object h
 
 -- a process writes none

@@ -90,7 +90,8 @@ pub first-possible : (machine : Machine) (state : State) (events : List Event) (
 first-possible machine state events zero h = refl
 first-possible machine state [] (suc place) h = refl
 first-possible machine state (event ∷ events) (suc place) h =
-    let both : (possible state event ≡ true) × (all_possible machine (after machine state event) events ≡ true) = and-first (possible state event) (all_possible machine (after machine state event) events) h in
+    let both : (possible state event ≡ true) × (all_possible machine (after machine state event) events ≡ true) =
+    and-first (possible state event) (all_possible machine (after machine state event) events) h in
     λ i. both.0 i && first-possible machine (after machine state event) events place both.1 i
 
 pub possible_at : (machine : Machine) (state : State) (events : List Event) (place : ℕ) (event : Event) → all_possible machine state events ≡ true → slice_get events place ≡ Some event →
@@ -137,7 +138,8 @@ changes_input-bare : (machine : Machine) (found : Option FlatNode) (earlier : Li
 changes_input-bare machine None earlier before event = refl
 changes_input-bare machine (Some node) earlier before event = refl
 
-pub may_cause-bare : (machine : Machine) (later : Event) (earlier : List NotedEvent) (before : State) (event : Event) → may_cause machine later (note_of machine earlier before event) ≡ may_cause machine later (bare before event)
+pub may_cause-bare : (machine : Machine) (later : Event) (earlier : List NotedEvent) (before : State) (event : Event) →
+    may_cause machine later (note_of machine earlier before event) ≡ may_cause machine later (bare before event)
 may_cause-bare machine (Step p) earlier before event = refl
 may_cause-bare machine (LaneStep p) earlier before event = refl
 may_cause-bare machine (Evaluation n) earlier before event = changes_input-bare machine (slice_get machine.design.nodes n) earlier before event

@@ -4,7 +4,8 @@ use Rattle.std.specs.Prelude.{Option, Some, None, slice_get}
 use Rattle.four_value.specs.Values.{LogicValue, same_value}
 use Rattle.v_design.specs.Designs.{FlatNode, Machine}
 use Rattle.v_design.specs.Assignments.{ValueUpdate, value_at}
-use Rattle.v_design.specs.States.{State, Event, Step, LaneStep, Evaluation, NetUpdate, after, written_if, write_of, step_of, with_process, first_update, process_at, with_value, with_values, evaluated, nets_updated}
+use Rattle.v_design.specs.States.{State, Event, Step, LaneStep, Evaluation, NetUpdate, after, written_if, write_of, step_of, with_process, first_update, process_at, with_value, with_values}
+use Rattle.v_design.specs.States.{evaluated, nets_updated}
 use Rattle.v_design.specs.Runs.{happened, all_possible}
 use Rattle.v_design.specs.Paths.{one_if}
 use Rattle.v_design.specs.WellFormed.{KeepsRules}
@@ -112,14 +113,17 @@ length-change_if false old new rest = omega arith
 pub count-step : (machine : Machine) (state : State) (event : Event) (events : List Event) (object : ℕ) →
     change_count machine state (event ∷ events) object ≡ one_if (changed_in state (after machine state event) object) + change_count machine (after machine state event) events object
 count-step machine state event events object =
-    length-change_if (changed_in state (after machine state event) object) (value_at state.values object) (value_at (after machine state event).values object) (changes_at machine (after machine state event) events object)
+    length-change_if (changed_in state (after machine state event) object) (value_at state.values object) (value_at (after machine state event).values object)
+    (changes_at machine (after machine state event) events object)
 
 -- where an object never changes it has its first value
-pub unchanged-value : (machine : Machine) (state : State) (events : List Event) (object place : ℕ) → change_count machine state events object ≡ 0 → value_at (state_at machine state events place).values object ≡ value_at state.values object
+pub unchanged-value : (machine : Machine) (state : State) (events : List Event) (object place : ℕ) → change_count machine state events object ≡ 0 →
+    value_at (state_at machine state events place).values object ≡ value_at state.values object
 unchanged-value machine state [] object place e = refl
 unchanged-value machine state (event ∷ events) object zero e = refl
 unchanged-value machine state (event ∷ events) object (suc place) e =
-    let s : change_count machine state (event ∷ events) object ≡ one_if (changed_in state (after machine state event) object) + change_count machine (after machine state event) events object = count-step machine state event events object in
+    let s : change_count machine state (event ∷ events) object ≡ one_if (changed_in state (after machine state event) object) + change_count machine (after machine state event) events object =
+    count-step machine state event events object in
     unchanged-value machine (after machine state event) events object place (omega (arith, e, s))
     ∙ go (changed_in state (after machine state event) object) refl (let z : one_if (changed_in state (after machine state event) object) ≡ 0 = omega (arith, e, s) in z)
   where
@@ -136,7 +140,8 @@ unchanged-value machine state (event ∷ events) object (suc place) e =
 
 -- one that changes once at most has at each place its first value or its last
 pub first_or_last : (machine : Machine) (state : State) (events : List Event) (object place : ℕ) → change_count machine state events object ≤ 1 →
-    (value_at (state_at machine state events place).values object ≡ value_at state.values object) ⊎ (value_at (happened machine state events).values object ≡ value_at (state_at machine state events place).values object)
+    (value_at (state_at machine state events place).values object ≡ value_at state.values object)
+    ⊎ (value_at (happened machine state events).values object ≡ value_at (state_at machine state events place).values object)
 first_or_last machine state [] object place h = inl refl
 first_or_last machine state (event ∷ events) object zero h = inl refl
 first_or_last machine state (event ∷ events) object (suc place) h =
@@ -170,12 +175,14 @@ first_or_last machine state (event ∷ events) object (suc place) h =
     go false e rest =
         let b : one_if (changed_in state (after machine state event) object) ≡ 0 = ap one_if e in
         elim (rest (omega (arith, s, h, b))) [
-          | inl first ↦ inl (first ∙ sym (same_value-true (value_at state.values object) (value_at (after machine state event).values object) (not-false (same_value (value_at state.values object) (value_at (after machine state event).values object)) e)))
+          | inl first ↦ inl (first ∙ sym (same_value-true (value_at state.values object) (value_at (after machine state event).values object)
+              (not-false (same_value (value_at state.values object) (value_at (after machine state event).values object)) e)))
           | inr last ↦ inr last
         ]
 
 -- an object that differs from its first value has changed at an earlier place
-pub changed_before : (machine : Machine) (state : State) (events : List Event) (object place : ℕ) → same_value (value_at state.values object) (value_at (state_at machine state events place).values object) ≡ false →
+pub changed_before : (machine : Machine) (state : State) (events : List Event) (object place : ℕ) →
+    same_value (value_at state.values object) (value_at (state_at machine state events place).values object) ≡ false →
     (k : ℕ) × (k < place) × (changes_there machine state events object k ≡ true)
 changed_before machine state events object zero d =
     true-false (same_value (value_at state.values object) (value_at (state_at machine state events 0).values object))
@@ -191,26 +198,31 @@ changed_before machine state events object (suc place) d = elim (decided (change
 pub changes_once_there : (machine : Machine) (state : State) (events : List Event) (object k : ℕ) → changes_there machine state events object k ≡ true → 1 ≤ change_count machine state events object
 changes_once_there machine state [] object k t = true-false (changed_in state state object) t (unchanged_in state state object refl)
 changes_once_there machine state (event ∷ events) object zero t =
-    let s : change_count machine state (event ∷ events) object ≡ one_if (changed_in state (after machine state event) object) + change_count machine (after machine state event) events object = count-step machine state event events object in
+    let s : change_count machine state (event ∷ events) object ≡ one_if (changed_in state (after machine state event) object) + change_count machine (after machine state event) events object =
+    count-step machine state event events object in
     let b : one_if (changed_in state (after machine state event) object) ≡ 1 = ap one_if (ap (λ u. changed_in state u object) (sym (at_start machine (after machine state event) events)) ∙ t) in
     omega (arith, s, b)
 changes_once_there machine state (event ∷ events) object (suc k) t =
-    let s : change_count machine state (event ∷ events) object ≡ one_if (changed_in state (after machine state event) object) + change_count machine (after machine state event) events object = count-step machine state event events object in
+    let s : change_count machine state (event ∷ events) object ≡ one_if (changed_in state (after machine state event) object) + change_count machine (after machine state event) events object =
+    count-step machine state event events object in
     let b : 1 ≤ change_count machine (after machine state event) events object = changes_once_there machine (after machine state event) events object k t in
     omega (arith, s, b)
 
-pub changes_twice : (machine : Machine) (state : State) (events : List Event) (object j k : ℕ) → j < k → changes_there machine state events object j ≡ true → changes_there machine state events object k ≡ true →
+pub changes_twice : (machine : Machine) (state : State) (events : List Event) (object j k : ℕ) → j < k → changes_there machine state events object j ≡ true →
+    changes_there machine state events object k ≡ true →
     2 ≤ change_count machine state events object
 changes_twice machine state [] object j k h t u = true-false (changed_in state state object) t (unchanged_in state state object refl)
 changes_twice machine state (event ∷ events) object zero zero h t u = absurd (omega (arith, h))
 changes_twice machine state (event ∷ events) object (suc j) zero h t u = absurd (omega (arith, h))
 changes_twice machine state (event ∷ events) object zero (suc k) h t u =
-    let s : change_count machine state (event ∷ events) object ≡ one_if (changed_in state (after machine state event) object) + change_count machine (after machine state event) events object = count-step machine state event events object in
+    let s : change_count machine state (event ∷ events) object ≡ one_if (changed_in state (after machine state event) object) + change_count machine (after machine state event) events object =
+    count-step machine state event events object in
     let b : one_if (changed_in state (after machine state event) object) ≡ 1 = ap one_if (ap (λ v. changed_in state v object) (sym (at_start machine (after machine state event) events)) ∙ t) in
     let c : 1 ≤ change_count machine (after machine state event) events object = changes_once_there machine (after machine state event) events object k u in
     omega (arith, s, b, c)
 changes_twice machine state (event ∷ events) object (suc j) (suc k) h t u =
-    let s : change_count machine state (event ∷ events) object ≡ one_if (changed_in state (after machine state event) object) + change_count machine (after machine state event) events object = count-step machine state event events object in
+    let s : change_count machine state (event ∷ events) object ≡ one_if (changed_in state (after machine state event) object) + change_count machine (after machine state event) events object =
+    count-step machine state event events object in
     let b : 2 ≤ change_count machine (after machine state event) events object = changes_twice machine (after machine state event) events object j k (omega (arith, h)) t u in
     omega (arith, s, b)
 
@@ -225,7 +237,8 @@ ReachedBy machine state events object =
 
 reached-step : (machine : Machine) (state : State) (event : Event) (events : List Event) (object : ℕ) → 1 ≤ reached machine.design (run_changes machine state (event ∷ events)) object →
     (n : ℕ) → reached machine.design (event_changes machine state event) object ≡ n →
-    (1 ≤ reached machine.design (run_changes machine (after machine state event) events) object → ReachedBy machine (after machine state event) events object) → ReachedBy machine state (event ∷ events) object
+    (1 ≤ reached machine.design (run_changes machine (after machine state event) events) object → ReachedBy machine (after machine state event) events object) →
+    ReachedBy machine state (event ∷ events) object
 reached-step machine state event events object h zero z rest =
     let s : reached machine.design (event_changes machine state event ++ run_changes machine (after machine state event) events) object
     ≡ reached machine.design (event_changes machine state event) object + reached machine.design (run_changes machine (after machine state event) events) object =

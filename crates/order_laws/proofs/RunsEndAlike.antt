@@ -25,10 +25,12 @@ pub happened-more : (machine : Machine) (state : State) (events : List Event) (e
 happened-more machine state [] event = refl
 happened-more machine state (first ∷ events) event = happened-more machine (after machine state first) events event
 
-pub possible-more : (machine : Machine) (state : State) (events : List Event) (event : Event) → all_possible machine state events ≡ true → possible (happened machine state events) event ≡ true → all_possible machine state (events ++ event ∷ []) ≡ true
+pub possible-more : (machine : Machine) (state : State) (events : List Event) (event : Event) → all_possible machine state events ≡ true → possible (happened machine state events) event ≡ true →
+    all_possible machine state (events ++ event ∷ []) ≡ true
 possible-more machine state [] event a p = λ i. p i && true
 possible-more machine state (first ∷ events) event a p =
-    let both : (possible state first ≡ true) × (all_possible machine (after machine state first) events ≡ true) = and-both (possible state first) (all_possible machine (after machine state first) events) a in
+    let both : (possible state first ≡ true) × (all_possible machine (after machine state first) events ≡ true) =
+    and-both (possible state first) (all_possible machine (after machine state first) events) a in
     λ i. both.0 i && possible-more machine (after machine state first) events event both.1 p i
 
 -- Moves that may be made
@@ -42,7 +44,8 @@ only-some true x y e = (refl, some_eq x y e)
 only-some false x y e = cc
 
 -- a turn that may be taken
-pub turn-some : (time : ℕ) (state : State) (turn : Option TurnKind) (next : State) → turn_within time state turn ≡ Some next → (kind : TurnKind) × (turn ≡ Some kind) × (is_quiescent state ≡ true) × (turned kind state ≡ next)
+pub turn-some : (time : ℕ) (state : State) (turn : Option TurnKind) (next : State) → turn_within time state turn ≡ Some next →
+    (kind : TurnKind) × (turn ≡ Some kind) × (is_quiescent state ≡ true) × (turned kind state ≡ next)
 turn-some time state None next e = cc
 turn-some time state (Some kind) next e =
     let o = only-some (is_quiescent state && stays_within time kind) (turned kind state) next e in
@@ -55,7 +58,8 @@ Onward machine time end final = ((next : State) × (rest : List Move) × (turn_w
 abbrev Split : Machine → ℕ → State → State → Type 0
 Split machine time begins final = (events : List Event) × IsPhase machine begins events × Onward machine time (happened machine begins events) final
 
-split : (machine : Machine) (time : ℕ) (begins : State) (events : List Event) (state : State) (moves : List Move) (final : State) → state ≡ happened machine begins events → all_possible machine begins events ≡ true →
+split : (machine : Machine) (time : ℕ) (begins : State) (events : List Event) (state : State) (moves : List Move) (final : State) → state ≡ happened machine begins events →
+    all_possible machine begins events ≡ true →
     Leads machine time state moves final → ends_by time final ≡ true → Split machine time begins final
 split machine time begins events state [] final at p leads ends =
     let here : final ≡ happened machine begins events = sym (some_eq state final leads) ∙ at in (
@@ -91,7 +95,8 @@ NoConflicts machine phases = AllHold (λ (phase : Phase). HasNoConflict machine 
 
 -- phase by phase
 alike : (machine : Machine) (time : ℕ) (final other_final : State) → KeepsRules machine.design → ends_by time final ≡ true → ends_by time other_final ≡ true →
-    (moves : List Move) (turn : Option TurnKind) (begins : State) (events : List Event) (state : State) → state ≡ happened machine begins events → BeginsPhase machine begins → all_possible machine begins events ≡ true →
+    (moves : List Move) (turn : Option TurnKind) (begins : State) (events : List Event) (state : State) → state ≡ happened machine begins events → BeginsPhase machine begins →
+    all_possible machine begins events ≡ true →
     Leads machine time state moves final → NoConflicts machine (cut machine turn begins events state moves) → (other : List Move) → Leads machine time begins other other_final → other_final ≡ final
 alike machine time final other_final rules ends ends' [] turn begins events state at b p leads free other leads' =
     let here : final ≡ happened machine begins events = sym (some_eq state final leads) ∙ at in

@@ -52,7 +52,8 @@ or-right : (a b : Bool) → (a || b) ≡ false → b ≡ false
 or-right true b e = cc
 or-right false b e = e
 
-net-change : (machine : Machine) (state next : State) (x : ObjectAccess) (object c : ℕ) → has (net_pieces machine.design) object ≡ true → In x (net_write 0 0 state next object) → In c (change_of machine.design x.act x.object) → ⊥
+net-change : (machine : Machine) (state next : State) (x : ObjectAccess) (object c : ℕ) → has (net_pieces machine.design) object ≡ true → In x (net_write 0 0 state next object) →
+    In c (change_of machine.design x.act x.object) → ⊥
 net-change machine state next x object c net i j = go (same_value (value_at state.values object) (value_at next.values object)) i
   where
     old : LogicValue
@@ -70,7 +71,8 @@ net-change machine state next x object c net i j = go (same_value (value_at stat
         (subst (λ (a : ObjectAccess). In c (change_of machine.design a.act a.object)) e j)
     go false (inr k) = k
 
-ended-change : (machine : Machine) (b : Bool) (test : Entry → Bool) (p l c : ℕ) (entries : List Entry) (x : ObjectAccess) → In x (ended_of b test p l entries) → In c (change_of machine.design x.act x.object) → ⊥
+ended-change : (machine : Machine) (b : Bool) (test : Entry → Bool) (p l c : ℕ) (entries : List Entry) (x : ObjectAccess) → In x (ended_of b test p l entries) →
+    In c (change_of machine.design x.act x.object) → ⊥
 ended-change machine false test p l c entries x i j = i
 ended-change machine true test p l c entries x i j =
     let m = In-map-back (λ (entry : Entry). let a : ObjectAccess = record { act = Ending entry; object = entry.object; process = p; line = l } in a) x (without_first test entries) i in
@@ -80,13 +82,15 @@ net-changes : (machine : Machine) (state next : State) (found : Option FlatNode)
 net-changes machine state next None c i = i
 net-changes machine state next (Some node) c i =
     let x = in_joined_back (λ (access : ObjectAccess). change_of machine.design access.act access.object) (net_accesses machine.design 0 0 (Some node) state next) c i in
-    elim (In-append x.0 (joined (map (net_write 0 0 state next) (filter (has node.outputs) (net_pieces machine.design)))) (joined (map_numbered (net_ended_by state next node.outputs) 0 state.processes)) x.1) [
+    elim (In-append x.0 (joined (map (net_write 0 0 state next) (filter (has node.outputs) (net_pieces machine.design))))
+    (joined (map_numbered (net_ended_by state next node.outputs) 0 state.processes)) x.1) [
       | inl w ↦
           (let o = in_joined_back (net_write 0 0 state next) (filter (has node.outputs) (net_pieces machine.design)) x.0 w in
           net-change machine state next x.0 o.0 c (has-in o.0 (net_pieces machine.design) (filter-back (has node.outputs) (net_pieces machine.design) o.0 o.1)) o.2 x.2)
       | inr e ↦
           (let k = In-joined-back (net_ended_by state next node.outputs) x.0 0 state.processes e in
-          ended-change machine (some_entry (some_change_matches state next node.outputs) (waiting_entries k.1.activity)) (some_change_matches state next node.outputs) k.0 (waiting_line k.1.activity) c (waiting_entries k.1.activity) x.0 k.2 x.2)
+          ended-change machine (some_entry (some_change_matches state next node.outputs) (waiting_entries k.1.activity)) (some_change_matches state next node.outputs) k.0
+          (waiting_line k.1.activity) c (waiting_entries k.1.activity) x.0 k.2 x.2)
     ]
 
 pub node_changes : (machine : Machine) (state : State) (event : Event) (object : ℕ) → is_process_event event ≡ false → reached machine.design (event_changes machine state event) object ≡ 0
@@ -100,7 +104,8 @@ node_changes machine state (NetUpdate m) object h =
 -- One event
 
 module _ (machine : Machine) (state : State) (first events : List Event) (r : IsFree machine state first) (run : IsRun machine state events) where
-  silent_event : (n : ℕ) (matched : ℕ → Option ℕ) (done : List ℕ) (event : Event) → Compared machine state first events n matched done → slice_get events n ≡ Some event → is_process_event event ≡ false →
+  silent_event : (n : ℕ) (matched : ℕ → Option ℕ) (done : List ℕ) (event : Event) → Compared machine state first events n matched done → slice_get events n ≡ Some event →
+      is_process_event event ≡ false →
       ((object : ℕ) → wild_in machine state first object ≡ false → changes_there machine state events object n ≡ false) → Silent machine state first events n event
   silent_event n matched done event c e h still = record {
     of_node = h;
@@ -110,7 +115,8 @@ module _ (machine : Machine) (state : State) (first events : List Event) (r : Is
       | inl t ↦ elim (touches-how machine p (state_at machine state events n) event run.rules (follows_at machine state events n run) t) [
         | inl own ↦ true-false (is_process_event event) (ap is_process_event own) h
         | inr wakes ↦
-            (let m = some_entry-true (changed_entry (state_at machine state events n) (after machine (state_at machine state events n) event)) (waiting_entries (activity_at (state_at machine state events n) p)) wakes.1 in
+            (let m = some_entry-true (changed_entry (state_at machine state events n) (after machine (state_at machine state events n) event))
+            (waiting_entries (activity_at (state_at machine state events n) p)) wakes.1 in
             let there : In m.0 (waiting_entries (activity_at (state_at machine state first (c.processes p).place) p)) =
             subst (λ act. In m.0 (waiting_entries act)) (ap (λ (x : ProcessPart). x.activity) (c.processes p).same) m.1 in
             true-false (changes_there machine state events m.0.object n)
@@ -123,7 +129,8 @@ module _ (machine : Machine) (state : State) (first events : List Event) (r : Is
   }
 
   passes : (n : ℕ) (matched : ℕ → Option ℕ) (done : List ℕ) (event : Event) → Compared machine state first events n matched done → slice_get events n ≡ Some event → is_process_event event ≡ false →
-      ((object : ℕ) → wild_in machine state first object ≡ false → changes_there machine state events object n ≡ false) → (matched' : ℕ → Option ℕ) × (done' : List ℕ) × Compared machine state first events (suc n) matched' done'
+      ((object : ℕ) → wild_in machine state first object ≡ false → changes_there machine state events object n ≡ false) →
+      (matched' : ℕ → Option ℕ) × (done' : List ℕ) × Compared machine state first events (suc n) matched' done'
   passes n matched done event c e h still =
       (extended matched n None, done, passed machine state first events n matched done event run c e (silent_event n matched done event c e h still))
 
@@ -135,7 +142,8 @@ module _ (machine : Machine) (state : State) (first events : List Event) (r : Is
   and-tame true d e f = cc
   and-tame false d e f = e
 
-  updates : (n : ℕ) (matched : ℕ → Option ℕ) (done : List ℕ) (m : ℕ) → Compared machine state first events n matched done → slice_get events n ≡ Some (NetUpdate m) → (found : Option FlatNode) → slice_get machine.design.nodes m ≡ found →
+  updates : (n : ℕ) (matched : ℕ → Option ℕ) (done : List ℕ) (m : ℕ) → Compared machine state first events n matched done → slice_get events n ≡ Some (NetUpdate m) → (found : Option FlatNode) →
+      slice_get machine.design.nodes m ≡ found →
       (matched' : ℕ → Option ℕ) × (done' : List ℕ) × Compared machine state first events (suc n) matched' done'
   updates n matched done m c e None f =
       passes n matched done (NetUpdate m) c e refl
@@ -168,10 +176,18 @@ module _ (machine : Machine) (state : State) (first events : List Event) (r : Is
 
   one_more : (n : ℕ) (matched : ℕ → Option ℕ) (done : List ℕ) (event : Event) → Compared machine state first events n matched done → slice_get events n ≡ Some event →
       (matched' : ℕ → Option ℕ) × (done' : List ℕ) × Compared machine state first events (suc n) matched' done'
-  one_more n matched done (Step p) c e =
-      (_, _, met machine state first events n matched done (found machine state first events n matched done p r run c e).0 (Step p) r run c (step_meets machine state first events n matched done p r run c e))
-  one_more n matched done (LaneStep p) c e =
-      (_, _, met machine state first events n matched done (lane-found machine state first events n matched done p r run c e).0 (LaneStep p) r run c (lane_meets machine state first events n matched done p r run c e))
+  one_more n matched done (Step p) c e = (
+    _,
+    _,
+    met machine state first events n matched done (found machine state first events n matched done p r run c e).0 (Step p) r run c
+        (step_meets machine state first events n matched done p r run c e),
+  )
+  one_more n matched done (LaneStep p) c e = (
+    _,
+    _,
+    met machine state first events n matched done (lane-found machine state first events n matched done p r run c e).0 (LaneStep p) r run c
+        (lane_meets machine state first events n matched done p r run c e),
+  )
   one_more n matched done (Evaluation m) c e =
       passes n matched done (Evaluation m) c e refl
       (λ object tame. unchanged_in (state_at machine state events n) (state_at machine state events (suc n)) object

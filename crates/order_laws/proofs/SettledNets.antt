@@ -7,7 +7,9 @@ use Rattle.four_value.specs.Values.{LogicValue, same_value, with_part}
 use Rattle.four_value.specs.Bits.{bit_of}
 use Rattle.v_design.specs.Designs.{FlatObject, FlatNode, FlatDesign, Machine, StuckAt, FaultSite, VariableBit, OutputBit, GateTerminal, forced_if, forced_at_variable, forced_variable}
 use Rattle.v_design.specs.Assignments.{ValueUpdate, value_at, node_outputs, object_width, AreSettled}
-use Rattle.v_design.specs.States.{State, ProcessState, NodeState, Event, Step, LaneStep, Evaluation, NetUpdate, after, node_at, process_at, found_or, idle_node, has_work, some_in, has_event, marked_by, with_value, with_values, with_node, with_process, written_if, value_written, write_of, first_update, after_lane_step, after_step, step_of, evaluated, nets_updated}
+use Rattle.v_design.specs.States.{State, ProcessState, NodeState, Event, Step, LaneStep, Evaluation, NetUpdate, after, node_at, process_at, found_or, idle_node, has_work, some_in, has_event}
+use Rattle.v_design.specs.States.{marked_by, with_value, with_values, with_node, with_process, written_if, value_written, write_of, first_update, after_lane_step, after_step, step_of, evaluated}
+use Rattle.v_design.specs.States.{nets_updated}
 use Rattle.v_design.specs.Runs.{happened, IsPhase}
 use Rattle.v_design.specs.Paths.{is_net, numbers_of, net_pieces}
 use Rattle.v_design.specs.WellFormed.{KeepsRules}
@@ -239,7 +241,8 @@ follows-values machine Holds (object ∷ objects) (value ∷ values) state rest 
 abbrev pub Everywhere : ℕ → Type 0
 Everywhere number = Unit {0}
 
-pub node-here : (state : State) (number : ℕ) (change : NodeState → NodeState) → is_some (slice_get state.nodes number) ≡ true → node_at (with_node number change state) number ≡ change (node_at state number)
+pub node-here : (state : State) (number : ℕ) (change : NodeState → NodeState) → is_some (slice_get state.nodes number) ≡ true →
+    node_at (with_node number change state) number ≡ change (node_at state number)
 node-here state number change t = ap (found_or idle_node) (change-here state.nodes number change) ∙ found-mapped change idle_node idle_node (slice_get state.nodes number) t
 
 some_is : {A : Type 0} (x y : A) → Some x ≡ Some y → x ≡ y
@@ -340,7 +343,8 @@ follows-update machine number node values state rules rest found given f = recor
       | inr h ↦ h
     ]
 
-    node_ended : node_at (with_values machine node.outputs values (with_node number (λ old. record old { pending = None }) state)) number ≡ record { marked = (node_at state number).marked; pending = None }
+    node_ended : node_at (with_values machine node.outputs values (with_node number (λ old. record old { pending = None }) state)) number ≡
+        record { marked = (node_at state number).marked; pending = None }
     node_ended =
         node-values-untouched machine node.outputs values (with_node number (λ old. record old { pending = None }) state) number node found
         (λ x h. rules.ranked number number node node found found (omega arith) x h)
@@ -378,7 +382,8 @@ follows-update machine number node values state rules rest found given f = recor
 
     others : Follows machine (λ other. other ≢ number) (with_values machine node.outputs values (with_node number (λ old. record old { pending = None }) state))
     others =
-        follows-values machine (λ other. other ≢ number) node.outputs values (with_node number (λ old. record old { pending = None }) state) rest first_step (f.pending_widths number node values found given)
+        follows-values machine (λ other. other ≢ number) node.outputs values (with_node number (λ old. record old { pending = None }) state) rest first_step
+        (f.pending_widths number node values found given)
         (λ other n holds e x h. elim (below-or other number holds) [
           | inl low ↦ elim (decided (has n.outputs x)) [
             | inl i ↦ true-false (has node.outputs x) h (rules.one_driver other number n node e found low x i)
@@ -435,7 +440,8 @@ follows-evaluated machine number None state rest e f = f
 follows-evaluated machine number (Some node) state rest e f = follows-evaluation machine number node state rest e f
 
 follows-nets : (machine : Machine) (number : ℕ) (found : Option FlatNode) (pending : Option (List LogicValue)) (state : State) → KeepsRules machine.design → RestOnInputs machine →
-    slice_get machine.design.nodes number ≡ found → (node_at state number).pending ≡ pending → Follows machine Everywhere state → Follows machine Everywhere (nets_updated machine number found pending state)
+    slice_get machine.design.nodes number ≡ found → (node_at state number).pending ≡ pending → Follows machine Everywhere state →
+    Follows machine Everywhere (nets_updated machine number found pending state)
 follows-nets machine number None pending state rules rest e p f = f
 follows-nets machine number (Some node) None state rules rest e p f = f
 follows-nets machine number (Some node) (Some values) state rules rest e p f = follows-update machine number node values state rules rest e p f
@@ -500,7 +506,8 @@ no-work true pending h = cc
 no-work false None h = (refl, refl)
 no-work false (Some values) h = cc
 
-pub fit-from : (machine : Machine) (values : List LogicValue) → map (λ (value : LogicValue). length value) values ≡ map (λ (object : FlatObject). object.width) machine.design.objects → Fit machine values
+pub fit-from : (machine : Machine) (values : List LogicValue) → map (λ (value : LogicValue). length value) values ≡ map (λ (object : FlatObject). object.width) machine.design.objects →
+    Fit machine values
 fit-from machine values e object =
     sym (get_or-map (λ (value : LogicValue). length value) values object []) ∙ ap (λ ns. get_or ns object 0) e
 
@@ -576,7 +583,8 @@ values-in one other (y ∷ objects) e x h = elim (or-either (nat_eq y x) (has ob
   | inr there ↦ values-in one other objects (ap rest_list e) x there
 ]
 
-settled-below : (machine : Machine) (one other : List LogicValue) → KeepsRules machine.design → RestOnInputs machine → Fit machine one → Fit machine other → AreSettled machine one → AreSettled machine other →
+settled-below : (machine : Machine) (one other : List LogicValue) → KeepsRules machine.design → RestOnInputs machine → Fit machine one → Fit machine other → AreSettled machine one →
+    AreSettled machine other →
     ((object : ℕ) → ((number : ℕ) (node : FlatNode) → slice_get machine.design.nodes number ≡ Some node → has node.outputs object ≡ false) → value_at one object ≡ value_at other object) →
     (level bound : ℕ) → level ≤ bound → (object : ℕ) → IsBelow machine.design.nodes level object → value_at one object ≡ value_at other object
 settled-below machine one other rules rest fit fit' settled settled' alike level zero l object below =
@@ -596,7 +604,8 @@ settled-below machine one other rules rest fit fit' settled settled' alike level
 ]
 
 -- so settled values that agree there agree everywhere
-pub settled_determined : (machine : Machine) (one other : List LogicValue) → KeepsRules machine.design → RestOnInputs machine → Fit machine one → Fit machine other → AreSettled machine one → AreSettled machine other →
+pub settled_determined : (machine : Machine) (one other : List LogicValue) → KeepsRules machine.design → RestOnInputs machine → Fit machine one → Fit machine other → AreSettled machine one →
+    AreSettled machine other →
     ((object : ℕ) → ((number : ℕ) (node : FlatNode) → slice_get machine.design.nodes number ≡ Some node → has node.outputs object ≡ false) → value_at one object ≡ value_at other object) →
     (object : ℕ) → value_at one object ≡ value_at other object
 settled_determined machine one other rules rest fit fit' settled settled' alike object =

@@ -7,8 +7,11 @@ use Rattle.four_value.specs.Values.{LogicValue}
 use Rattle.v_design.specs.Designs.{FlatNode, Machine}
 use Rattle.v_design.specs.Assignments.{ValueUpdate, node_outputs}
 use Rattle.v_design.specs.Processes.{Activity, Ready, Waiting, Asleep, Postponed, Done}
-use Rattle.v_design.specs.States.{State, ProcessState, NodeState, LaterUpdate, Event, Step, LaneStep, Evaluation, NetUpdate, TurnKind, PostponedTurn, UpdatesTurn, TimeTurn, is_process_event, after, found_or, idle_node, node_at, is_ready, is_any, is_quiescent, is_postponed, resumed, is_due, has_event, has_work, some_in, turn_by, with_node, with_values, evaluated, nets_updated, turn_of, turned}
-use Rattle.v_design.specs.Runs.{Move, Happens, Turns, happened, named_event, or_event, least_work, work_of, first_event, turn_in_slot, event_or_turn, made, turned_by, all_made, is_counted, counted_steps, less_one_if, slot_moves, most_steps, most_moves}
+use Rattle.v_design.specs.States.{State, ProcessState, NodeState, LaterUpdate, Event, Step, LaneStep, Evaluation, NetUpdate, TurnKind, PostponedTurn, UpdatesTurn, TimeTurn, is_process_event, after}
+use Rattle.v_design.specs.States.{found_or, idle_node, node_at, is_ready, is_any, is_quiescent, is_postponed, resumed, is_due, has_event, has_work, some_in, turn_by, with_node, with_values}
+use Rattle.v_design.specs.States.{evaluated, nets_updated, turn_of, turned}
+use Rattle.v_design.specs.Runs.{Move, Happens, Turns, happened, named_event, or_event, least_work, work_of, first_event, turn_in_slot, event_or_turn, made, turned_by, all_made, is_counted}
+use Rattle.v_design.specs.Runs.{counted_steps, less_one_if, slot_moves, most_steps, most_moves}
 use Rattle.v_design.specs.WellFormed.{KeepsRules}
 use Rattle.v_design.specs.Laws.{IsStateOf, SlotsEnd}
 use Rattle.order_laws.specs.Settling.{node_events, SettlingEnds}
@@ -73,7 +76,8 @@ work-unmarked [] k h i l = absurd (omega (arith, l))
 work-unmarked (x ∷ xs) zero h i l =
     go (is_some x.pending) (ap (λ a. pick_work a (is_some x.pending) (length xs) (work xs)) i) (work-most xs)
   where
-    go : (b : Bool) → pick_work x.marked b (length xs) (work xs) ≡ pick_work false b (length xs) (work xs) → work xs ≤ 2 * length xs → pick_work x.marked b (length xs) (work xs) + 2 * 0 + 1 ≤ 2 * suc (length xs)
+    go : (b : Bool) → pick_work x.marked b (length xs) (work xs) ≡ pick_work false b (length xs) (work xs) → work xs ≤ 2 * length xs →
+        pick_work x.marked b (length xs) (work xs) + 2 * 0 + 1 ≤ 2 * suc (length xs)
     go true e m = omega (arith, e)
     go false e m = omega (arith, e, m)
 work-unmarked (x ∷ xs) (suc k) h i l =
@@ -164,7 +168,8 @@ idle-none start (x ∷ xs) h =
     (λ i. least_work start (p.0 i) (p.1 i) (work_of (start + 1) xs)) ∙ idle-none (start + 1) xs a.1
 
 -- a node's event leaves less work
-node_less : (machine : Machine) (state : State) (event : Event) → KeepsRules machine.design → IsStateOf machine state → work_of 0 state.nodes ≡ Some event → work (after machine state event).nodes < work state.nodes
+node_less : (machine : Machine) (state : State) (event : Event) → KeepsRules machine.design → IsStateOf machine state → work_of 0 state.nodes ≡ Some event →
+    work (after machine state event).nodes < work state.nodes
 unfolding IdleBefore at
 node_less machine state event rules fits e = go (least 0 state.nodes event e)
   where
@@ -181,7 +186,8 @@ node_less machine state event rules fits e = go (least 0 state.nodes event e)
     evaluation k low idle most =
         let nd = node k low in
         let at_k : (node_at (after machine state (Evaluation k)) k).marked ≡ false =
-        ap (λ f. (node_at (evaluated machine k f state) k).marked) nd.1 ∙ ap (λ (x : NodeState). x.marked) (node-here state k (λ old. record { marked = false; pending = Some (node_outputs machine k nd.0 state.values) }) (there k low)) in
+        ap (λ f. (node_at (evaluated machine k f state) k).marked) nd.1 ∙ ap (λ (x : NodeState). x.marked)
+        (node-here state k (λ old. record { marked = false; pending = Some (node_outputs machine k nd.0 state.values) }) (there k low)) in
         let l : length (after machine state (Evaluation k)).nodes ≡ length state.nodes = long (Evaluation k) in
         let w : work (after machine state (Evaluation k)).nodes + 2 * k + 1 ≤ 2 * length (after machine state (Evaluation k)).nodes =
         work-unmarked (after machine state (Evaluation k)).nodes k
@@ -192,9 +198,11 @@ node_less machine state event rules fits e = go (least 0 state.nodes event e)
 
     untouched : (k j : ℕ) (nd reader : FlatNode) (values : List LogicValue) → slice_get machine.design.nodes k ≡ Some nd → slice_get machine.design.nodes j ≡ Some reader → j ≤ k →
         node_at (with_values machine nd.outputs values (with_node k (λ old. record old { pending = None }) state)) j ≡ node_at (with_node k (λ old. record old { pending = None }) state) j
-    untouched k j nd reader values f g le = node-values-untouched machine nd.outputs values (with_node k (λ old. record old { pending = None }) state) j reader g (λ x h. rules.ranked j k reader nd g f le x h)
+    untouched k j nd reader values f g le = node-values-untouched machine nd.outputs values (with_node k (λ old. record old { pending = None }) state) j reader g
+        (λ x h. rules.ranked j k reader nd g f le x h)
 
-    updated : (k : ℕ) → k < length state.nodes → IdleBefore state.nodes k → (node_at state k).marked ≡ false → (pending : Option (List LogicValue)) → (node_at state k).pending ≡ pending → is_some pending ≡ true →
+    updated : (k : ℕ) → k < length state.nodes → IdleBefore state.nodes k → (node_at state k).marked ≡ false → (pending : Option (List LogicValue)) → (node_at state k).pending ≡ pending →
+        is_some pending ≡ true →
         2 * length state.nodes ≤ work state.nodes + 2 * k + 1 → work (nets_updated machine k (slice_get machine.design.nodes k) pending state).nodes < work state.nodes
     updated k low idle free None p some most = cc
     updated k low idle free (Some values) p some most =
@@ -210,7 +218,8 @@ node_less machine state event rules fits e = go (least 0 state.nodes event e)
         ≤ 2 * length (with_values machine nd.0.outputs values (with_node k (λ old. record old { pending = None }) state)).nodes =
         work-idle (with_values machine nd.0.outputs values (with_node k (λ old. record old { pending = None }) state)).nodes k
         (λ j b. let rd = node j (omega (arith, b, low)) in
-        ap has_work (untouched k j nd.0 rd.0 values nd.1 rd.1 (omega (arith, b)) ∙ node-other state j k (λ old. record old { pending = None }) (λ z. let y : k ≡ j = z in omega (arith, y, b))) ∙ idle j b)
+        ap has_work (untouched k j nd.0 rd.0 values nd.1 rd.1 (omega (arith, b)) ∙ node-other state j k (λ old. record old { pending = None }) (λ z. let y : k ≡ j = z in omega (arith, y, b)))
+        ∙ idle j b)
         here (omega (arith, low, l)) in
         subst (λ s. work s.nodes < work state.nodes) (sym same) (omega (arith, w, l, most))
 
@@ -269,15 +278,19 @@ named-process event h (Some n) x e = subst (λ y. is_process_event y ≡ true) (
 node_or_process : (state : State) (event : Event) → first_event state ≡ Some event → (work_of 0 state.nodes ≡ Some event) ⊎ (is_process_event event ≡ true)
 node_or_process state event e = go (work_of 0 state.nodes) e
   where
-    lanes : (lane step : Option Event) → ((x : Event) → lane ≡ Some x → is_process_event x ≡ true) → ((x : Event) → step ≡ Some x → is_process_event x ≡ true) → or_event lane step ≡ Some event → is_process_event event ≡ true
+    lanes : (lane step : Option Event) → ((x : Event) → lane ≡ Some x → is_process_event x ≡ true) → ((x : Event) → step ≡ Some x → is_process_event x ≡ true) → or_event lane step ≡ Some event →
+        is_process_event event ≡ true
     lanes None step h k f = k event f
     lanes (Some x) step h k f = h event f
 
     go : (found : Option Event) →
-        or_event found (or_event (named_event LaneStep (first_place (λ (p : ProcessState). is_any p.lane) state.processes)) (named_event Step (first_place (λ (p : ProcessState). is_ready p.activity) state.processes))) ≡ Some event →
+        or_event found (or_event (named_event LaneStep (first_place (λ (p : ProcessState). is_any p.lane) state.processes))
+        (named_event Step (first_place (λ (p : ProcessState). is_ready p.activity) state.processes))) ≡ Some event →
         (found ≡ Some event) ⊎ (is_process_event event ≡ true)
-    go None f = inr (lanes (named_event LaneStep (first_place (λ (p : ProcessState). is_any p.lane) state.processes)) (named_event Step (first_place (λ (p : ProcessState). is_ready p.activity) state.processes))
-        (λ x g. named-process LaneStep (λ n. refl) (first_place (λ (p : ProcessState). is_any p.lane) state.processes) x g) (λ x g. named-process Step (λ n. refl) (first_place (λ (p : ProcessState). is_ready p.activity) state.processes) x g) f)
+    go None f = inr (lanes (named_event LaneStep (first_place (λ (p : ProcessState). is_any p.lane) state.processes))
+        (named_event Step (first_place (λ (p : ProcessState). is_ready p.activity) state.processes))
+        (λ x g. named-process LaneStep (λ n. refl) (first_place (λ (p : ProcessState). is_any p.lane) state.processes) x g)
+        (λ x g. named-process Step (λ n. refl) (first_place (λ (p : ProcessState). is_ready p.activity) state.processes) x g) f)
     go (Some x) f = inl f
 
 -- Turns
@@ -305,7 +318,8 @@ resumed-ready (Asleep time tasks) e = cc
 resumed-ready (Postponed tasks) e = refl
 resumed-ready Done e = cc
 
-some-resumed : (xs : List ProcessState) → some_in (λ (p : ProcessState). is_postponed p.activity) xs ≡ true → some_in has_event (map (λ (p : ProcessState). record p { activity = resumed p.activity }) xs) ≡ true
+some-resumed : (xs : List ProcessState) → some_in (λ (p : ProcessState). is_postponed p.activity) xs ≡ true →
+    some_in has_event (map (λ (p : ProcessState). record p { activity = resumed p.activity }) xs) ≡ true
 some-resumed [] h = cc
 some-resumed (x ∷ xs) h = go (is_postponed x.activity) refl h (some-resumed xs)
   where
@@ -353,7 +367,8 @@ after-turn state quiet turn busy = go (first_event (turned turn state)) refl
     idle = ap (some_in has_work) (nodes-turned turn state) ∙ (not-both (some_in has_event state.processes) (some_in has_work state.nodes) quiet).1
 
     go : (found : Option Event) → first_event (turned turn state) ≡ found → (event : Event) × (first_event (turned turn state) ≡ Some event) × (is_process_event event ≡ true)
-    go None e = true-false (some_in has_event (turned turn state).processes) busy (not-both (some_in has_event (turned turn state).processes) (some_in has_work (turned turn state).nodes) (none_possible (turned turn state) e)).0
+    go None e = true-false (some_in has_event (turned turn state).processes) busy (not-both (some_in has_event (turned turn state).processes) (some_in has_work (turned turn state).nodes)
+        (none_possible (turned turn state) e)).0
     go (Some event) e = elim (node_or_process (turned turn state) event e) [
       | inl work ↦ none_some event (sym (idle-none 0 (turned turn state).nodes idle) ∙ work)
       | inr h ↦ (event, e, h)
@@ -380,7 +395,8 @@ one-move : (machine : Machine) (state : State) (k : ℕ) (move : Move) (moves : 
 one-move machine state k move moves (inl e) = inl e
 one-move machine state k move moves (inr h) = let c : counted_steps (move ∷ moves) ≡ cond (is_counted move) 1 0 + counted_steps moves = counted-cons move moves in inr (omega (arith, c, h))
 
-one-step : (machine : Machine) (state : State) (k : ℕ) (event : Event) (moves : List Move) → is_process_event event ≡ true → Ended machine (after machine state event) k moves → Ended machine state (suc k) (Happens event ∷ moves)
+one-step : (machine : Machine) (state : State) (k : ℕ) (event : Event) (moves : List Move) → is_process_event event ≡ true → Ended machine (after machine state event) k moves →
+    Ended machine state (suc k) (Happens event ∷ moves)
 one-step machine state k event moves p (inl e) = inl e
 one-step machine state k event moves p (inr h) =
     let c : counted_steps (Happens event ∷ moves) ≡ cond (is_counted (Happens event)) 1 0 + counted_steps moves = counted-cons (Happens event) moves in
@@ -411,18 +427,21 @@ room machine = 2 * length machine.design.nodes + 2
 
 -- after a step
 step-on : (machine : Machine) (state : State) (event : Event) (fuel k : ℕ) → is_process_event event ≡ true → first_event state ≡ Some event →
-    ((j : ℕ) → k ≡ suc j → Ended machine (after machine state event) (suc j) (slot_moves fuel (suc j) machine (after machine state event))) → Ended machine state (suc k) (slot_moves (suc fuel) (suc k) machine state)
+    ((j : ℕ) → k ≡ suc j → Ended machine (after machine state event) (suc j) (slot_moves fuel (suc j) machine (after machine state event))) →
+    Ended machine state (suc k) (slot_moves (suc fuel) (suc k) machine state)
 step-on machine state event fuel k p e rest =
     subst (λ moves. Ended machine state (suc k) moves)
     (sym (ap (on_move fuel (suc k) machine state) (ap (λ f. event_or_turn f (turn_of state)) e)
     ∙ ap (λ b. Happens event ∷ slot_moves fuel (less_one_if b (suc k)) machine (after machine state event)) (counts-step event p)))
     (one-step machine state k event (slot_moves fuel k machine (after machine state event)) p (go k rest))
   where
-    go : (k : ℕ) → ((j : ℕ) → k ≡ suc j → Ended machine (after machine state event) (suc j) (slot_moves fuel (suc j) machine (after machine state event))) → Ended machine (after machine state event) k (slot_moves fuel k machine (after machine state event))
+    go : (k : ℕ) → ((j : ℕ) → k ≡ suc j → Ended machine (after machine state event) (suc j) (slot_moves fuel (suc j) machine (after machine state event))) →
+        Ended machine (after machine state event) k (slot_moves fuel k machine (after machine state event))
     go zero rest = inr (omega arith)
     go (suc j) rest = rest j refl
 
-slot_ends : (machine : Machine) (fuel k : ℕ) (state : State) → KeepsRules machine.design → IsStateOf machine state → work state.nodes + 2 + k * room machine ≤ fuel → Ended machine state (suc k) (slot_moves fuel (suc k) machine state)
+slot_ends : (machine : Machine) (fuel k : ℕ) (state : State) → KeepsRules machine.design → IsStateOf machine state → work state.nodes + 2 + k * room machine ≤ fuel →
+    Ended machine state (suc k) (slot_moves fuel (suc k) machine state)
 slot_ends machine zero k state rules fits h = absurd (omega (arith, h))
 slot_ends machine (suc zero) k state rules fits h = absurd (omega (arith, h))
 slot_ends machine (suc (suc fuel)) k state rules fits h =
@@ -432,7 +451,8 @@ slot_ends machine (suc (suc fuel)) k state rules fits h =
     full s g = let w : work s.nodes ≤ 2 * length s.nodes = work-most s.nodes in let l : length s.nodes ≡ length machine.design.nodes = g.nodes in omega (arith, w, l)
 
     turn : (kind : TurnKind) → turn_of state ≡ Some kind → turn_in_slot (Some kind) ≡ Some Turns → first_event state ≡ None → some_in has_event (turned kind state).processes ≡ true →
-        ((j : ℕ) (s : State) → IsStateOf machine s → work s.nodes + 2 + j * room machine ≤ fuel → Ended machine s (suc j) (slot_moves fuel (suc j) machine s)) → Ended machine state (suc k) (slot_moves (suc (suc fuel)) (suc k) machine state)
+        ((j : ℕ) (s : State) → IsStateOf machine s → work s.nodes + 2 + j * room machine ≤ fuel → Ended machine s (suc j) (slot_moves fuel (suc j) machine s)) →
+        Ended machine state (suc k) (slot_moves (suc (suc fuel)) (suc k) machine state)
     turn kind t in_slot e busy later =
         let next = after-turn state (none_possible state e) kind busy in
         let made-it : made machine state Turns ≡ turned kind state = ap (λ o. turned_by o state) t in
@@ -458,7 +478,8 @@ slot_ends machine (suc (suc fuel)) k state rules fits h =
     go : (found : Option Event) → first_event state ≡ found →
         ((s : State) → IsStateOf machine s → work s.nodes + 2 + k * room machine ≤ suc fuel → Ended machine s (suc k) (slot_moves (suc fuel) (suc k) machine s)) →
         ((j : ℕ) (s : State) → IsStateOf machine s → work s.nodes + 2 + j * room machine ≤ suc fuel → Ended machine s (suc j) (slot_moves (suc fuel) (suc j) machine s)) →
-        ((j : ℕ) (s : State) → IsStateOf machine s → work s.nodes + 2 + j * room machine ≤ fuel → Ended machine s (suc j) (slot_moves fuel (suc j) machine s)) → Ended machine state (suc k) (slot_moves (suc (suc fuel)) (suc k) machine state)
+        ((j : ℕ) (s : State) → IsStateOf machine s → work s.nodes + 2 + j * room machine ≤ fuel → Ended machine s (suc j) (slot_moves fuel (suc j) machine s)) →
+        Ended machine state (suc k) (slot_moves (suc (suc fuel)) (suc k) machine state)
     go None e same less later = turns (turn_of state) refl
       where
         turns : (kind : Option TurnKind) → turn_of state ≡ kind → Ended machine state (suc k) (slot_moves (suc (suc fuel)) (suc k) machine state)
@@ -506,7 +527,8 @@ has-some-work state event e = go (least 0 state.nodes event e)
       | inr q ↦ (let m : 2 * length state.nodes ≤ work state.nodes + 2 * r.number + 1 = q.3 in omega (arith, t, m))
     ]
 
-worked_off : (machine : Machine) (more : ℕ) (state : State) → KeepsRules machine.design → IsStateOf machine state → work state.nodes ≤ more → work_of 0 (happened machine state (node_events more machine state)).nodes ≡ None
+worked_off : (machine : Machine) (more : ℕ) (state : State) → KeepsRules machine.design → IsStateOf machine state → work state.nodes ≤ more →
+    work_of 0 (happened machine state (node_events more machine state)).nodes ≡ None
 worked_off machine zero state rules fits h = go (work_of 0 state.nodes) refl
   where
     go : (found : Option Event) → work_of 0 state.nodes ≡ found → work_of 0 state.nodes ≡ None
@@ -515,7 +537,8 @@ worked_off machine zero state rules fits h = go (work_of 0 state.nodes) refl
 worked_off machine (suc more) state rules fits h = go (work_of 0 state.nodes) refl (λ event l. worked_off machine more (after machine state event) rules (state-after machine state event fits) l)
   where
     go : (found : Option Event) → work_of 0 state.nodes ≡ found →
-        ((event : Event) → work (after machine state event).nodes ≤ more → work_of 0 (happened machine (after machine state event) (node_events more machine (after machine state event))).nodes ≡ None) →
+        ((event : Event) → work (after machine state event).nodes ≤ more → work_of 0 (happened machine (after machine state event) (node_events more machine (after machine state event))).nodes ≡
+        None) →
         work_of 0 (happened machine state (elim found [ None ↦ [] | Some event ↦ event ∷ node_events more machine (after machine state event) ])).nodes ≡ None
     go None e rest = e
     go (Some event) e rest = rest event (let d : work (after machine state event).nodes < work state.nodes = node_less machine state event rules fits e in omega (arith, d, h))

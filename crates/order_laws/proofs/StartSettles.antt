@@ -49,7 +49,8 @@ outputs-put machine (object ∷ objects) (value ∷ outputs) values d w t =
     ∷ outputs-put machine objects outputs (change_at values object (λ old. value)) d.1 (ap rest_list w)
     (λ x h. there-change_at values object x (λ old. value) ∙ t x (or-second (nat_eq object x) (has objects x) h)) i
 
-pub map-elsewhere : (objects : List ℕ) (outputs values : List LogicValue) (xs : List ℕ) → ((x : ℕ) → has xs x ≡ true → has objects x ≡ false) → map (value_at (with_outputs objects outputs values)) xs ≡ map (value_at values) xs
+pub map-elsewhere : (objects : List ℕ) (outputs values : List LogicValue) (xs : List ℕ) → ((x : ℕ) → has xs x ≡ true → has objects x ≡ false) →
+    map (value_at (with_outputs objects outputs values)) xs ≡ map (value_at values) xs
 map-elsewhere objects outputs values [] h = refl
 map-elsewhere objects outputs values (x ∷ xs) h =
     λ i. outputs-elsewhere objects outputs values x (h x (has-self x xs)) i ∷ map-elsewhere objects outputs values xs (λ y k. h y (or-second (nat_eq x y) (has xs y) k)) i
@@ -72,7 +73,8 @@ below-or-same zero (suc m) h = inl (omega arith)
 below-or-same (suc n) zero h = absurd (omega (arith, h))
 below-or-same (suc n) (suc m) h = elim (below-or-same n m (omega (arith, h))) [ inl a ↦ inl (omega (arith, a)) | inr e ↦ inr (ap suc e) ]
 
-one-settled : (machine : Machine) (number : ℕ) (node : FlatNode) (values : List LogicValue) → KeepsRules machine.design → slice_get machine.design.nodes number ≡ Some node → Settling machine number values →
+one-settled : (machine : Machine) (number : ℕ) (node : FlatNode) (values : List LogicValue) → KeepsRules machine.design → slice_get machine.design.nodes number ≡ Some node →
+    Settling machine number values →
     Settling machine (number + 1) (with_outputs node.outputs (node_outputs machine number node values) values)
 one-settled machine number node values rules e s = record {
   fit = outputs-fit machine node.outputs (node_outputs machine number node values) values ((rest_on_inputs machine rules).widths number node values e s.fit) s.fit;
@@ -85,10 +87,12 @@ one-settled machine number node values rules e s = record {
         (λ input i. sym (outputs-elsewhere node.outputs (node_outputs machine number node values) values input (unread other n f (omega (arith, low)) input i)))
     | inr same ↦
         (let same_node : node ≡ n = ap (found_or node) (sym e ∙ ap (slice_get machine.design.nodes) (sym same) ∙ f) in
-        subst (λ (m : FlatNode). map (value_at (with_outputs node.outputs (node_outputs machine number node values) values)) m.outputs ≡ node_outputs machine other m (with_outputs node.outputs (node_outputs machine number node values) values)) same_node
+        subst (λ (m : FlatNode). map (value_at (with_outputs node.outputs (node_outputs machine number node values) values)) m.outputs ≡ node_outputs machine other m
+        (with_outputs node.outputs (node_outputs machine number node values) values)) same_node
         (outputs-put machine node.outputs (node_outputs machine number node values) values (distinct [] node.outputs ((node_rules rules number node e).outputs_once)).0
         ((rest_on_inputs machine rules).widths number node values e s.fit)
-        (λ x h. there-below values x (let a : x < length machine.design.objects = net-below machine.design x (outputs_are_nets rules number node e x h) in let l : length values ≡ length machine.design.objects = s.long in omega (arith, a, l)))
+        (λ x h. there-below values x (let a : x < length machine.design.objects = net-below machine.design x (outputs_are_nets rules number node e x h) in
+        let l : length values ≡ length machine.design.objects = s.long in omega (arith, a, l)))
         ∙ (rest_on_inputs machine rules).rests number node values _ e s.fit new_fit
         (λ input i. sym (outputs-elsewhere node.outputs (node_outputs machine number node values) values input (unread number node e (omega arith) input i)))
         ∙ ap (λ k. node_outputs machine k node (with_outputs node.outputs (node_outputs machine number node values) values)) (sym same)))
@@ -125,13 +129,15 @@ all-settled machine number (node ∷ nodes) values rules at s =
 
 -- The first contents
 
-contents-fit : (fault : Option StuckAt) (n : ℕ) (objects : List FlatObject) → ((number : ℕ) (object : FlatObject) → slice_get objects number ≡ Some object → length object.first ≡ object.width) → (x : ℕ) →
+contents-fit : (fault : Option StuckAt) (n : ℕ) (objects : List FlatObject) → ((number : ℕ) (object : FlatObject) → slice_get objects number ≡ Some object → length object.first ≡ object.width) →
+    (x : ℕ) →
     length (value_at (map_numbered (λ number object. forced_variable fault number object.first) n objects) x) ≡ get_or (map (λ (o : FlatObject). o.width) objects) x 0
 contents-fit fault n [] h x = refl
 contents-fit fault n (object ∷ objects) h zero = length-forced fault n object.first ∙ h 0 object refl
 contents-fit fault n (object ∷ objects) h (suc x) = contents-fit fault (n + 1) objects (λ k. h (suc k)) x
 
-contents-length : (fault : Option StuckAt) (n : ℕ) (objects : List FlatObject) → length (map_numbered (λ number (object : FlatObject). forced_variable fault number object.first) n objects) ≡ length objects
+contents-length : (fault : Option StuckAt) (n : ℕ) (objects : List FlatObject) → length (map_numbered (λ number (object : FlatObject). forced_variable fault number object.first) n objects) ≡ length
+    objects
 contents-length fault n [] = refl
 contents-length fault n (object ∷ objects) = ap suc (contents-length fault (n + 1) objects)
 

@@ -8,7 +8,8 @@ use Rattle.v_design.specs.Trees.{Entry}
 use Rattle.v_design.specs.Designs.{Machine, forced_variable}
 use Rattle.v_design.specs.Assignments.{ValueUpdate, value_at}
 use Rattle.v_design.specs.Processes.{Activity, Action, ReadsObject, WritesObject, AppendsUpdate, TouchesNothing}
-use Rattle.v_design.specs.States.{State, ProcessState, Event, Step, LaneStep, Evaluation, NetUpdate, found_or, idle_process, process_at, is_ready, is_any, is_quiescent, has_event, has_work, some_in, some_entry, entry_matches, value_written, written_if, with_process, write_of, first_update, woken}
+use Rattle.v_design.specs.States.{State, ProcessState, Event, Step, LaneStep, Evaluation, NetUpdate, found_or, idle_process, process_at, is_ready, is_any, is_quiescent, has_event, has_work, some_in}
+use Rattle.v_design.specs.States.{some_entry, entry_matches, value_written, written_if, with_process, write_of, first_update, woken}
 use Rattle.v_design.specs.Runs.{happened}
 use Rattle.v_design.specs.Paths.{is_wild}
 use Rattle.v_design.specs.Accesses.{Writing, ObjectAccess, waiting_entries, waiting_line, ended_of, ended_by, ended_accesses, update_accesses, action_accesses, lane_accesses}
@@ -26,7 +27,8 @@ use Rattle.order_laws.proofs.Touches.{unchanged_in, written-here, written-other}
 use Rattle.order_laws.proofs.Cells.{Cell, le_or, below_or_same, Stays, NoneBetween, InOrder, in_order}
 use Rattle.order_laws.proofs.Runs.{IsRun, clear_at, state_of_at, changes_there, past_same}
 use Rattle.order_laws.proofs.FreeRuns.{IsFree, wild_in, tame_counted, Closed, IsOpen, ready_waits_not}
-use Rattle.order_laws.proofs.Comparison.{on_event, process_there, lane_there, ProcessPart, LanePart, lane_part, CauseSame, Paired, Compared, cause_past, cause_untouched, process_stays, value_stays, there-how, wakes_there}
+use Rattle.order_laws.proofs.Comparison.{on_event, process_there, lane_there, ProcessPart, LanePart, lane_part, CauseSame, Paired, Compared, cause_past, cause_untouched, process_stays, value_stays}
+use Rattle.order_laws.proofs.Comparison.{there-how, wakes_there}
 use Rattle.order_laws.proofs.WaitsAlike.{SameTests, waits_alike, value_in_order, tests-same}
 use Rattle.order_laws.proofs.Meets.{ChangesAlike}
 
@@ -50,7 +52,8 @@ ended_process s p h =
 abbrev pub NextAt : (ℕ → Bool) → List Event → Event → ℕ → Type 0
 NextAt touches first event k = (i : ℕ) × (k ≤ i) × (slice_get first i ≡ Some event) × NoneBetween touches k i
 
-pub find_step : (machine : Machine) (state : State) (first : List Event) (p : ℕ) → IsFree machine state first → (fuel k : ℕ) → length first ≤ k + fuel → is_ready (activity_at (state_at machine state first k) p) ≡ true →
+pub find_step : (machine : Machine) (state : State) (first : List Event) (p : ℕ) → IsFree machine state first → (fuel k : ℕ) → length first ≤ k + fuel →
+    is_ready (activity_at (state_at machine state first k) p) ≡ true →
     NextAt (process_there machine state first p) first (Step p) k
 find_step machine state first p r zero k h ready =
     true-false (is_ready (activity_at (state_at machine state first k) p)) ready
@@ -74,7 +77,8 @@ find_step machine state first p r (suc fuel) k h ready = go (slice_get first k) 
       | inr f ↦ f
     ]
 
-    go : (found : Option Event) → slice_get first k ≡ found → (is_ready (activity_at (state_at machine state first (suc k)) p) ≡ true → NextAt (process_there machine state first p) first (Step p) (suc k)) →
+    go : (found : Option Event) → slice_get first k ≡ found → (is_ready (activity_at (state_at machine state first (suc k)) p) ≡ true →
+        NextAt (process_there machine state first p) first (Step p) (suc k)) →
         NextAt (process_there machine state first p) first (Step p) k
     go None e rest =
         true-false (is_ready (activity_at (state_at machine state first k) p)) ready
@@ -107,7 +111,8 @@ lane_stays machine state first p k f = go (slice_get first k) refl
           cause = cause_untouched machine state first k event (LaneStep p) e g i;
         }
 
-pub find_lane : (machine : Machine) (state : State) (first : List Event) (p : ℕ) → IsFree machine state first → (fuel k : ℕ) → length first ≤ k + fuel → is_any (process_at (state_at machine state first k) p).lane ≡ true →
+pub find_lane : (machine : Machine) (state : State) (first : List Event) (p : ℕ) → IsFree machine state first → (fuel k : ℕ) → length first ≤ k + fuel →
+    is_any (process_at (state_at machine state first k) p).lane ≡ true →
     NextAt (lane_there first p) first (LaneStep p) k
 find_lane machine state first p r zero k h ready =
     true-false (is_any (process_at (state_at machine state first k) p).lane) ready
@@ -124,7 +129,8 @@ find_lane machine state first p r (suc fuel) k h ready = go (decided (lane_there
     here None e t = cc
     here (Some event) e t = e ∙ ap Some (is_it event t)
 
-    go : (lane_there first p k ≡ true) ⊎ (lane_there first p k ≡ false) → (is_any (process_at (state_at machine state first (suc k)) p).lane ≡ true → NextAt (lane_there first p) first (LaneStep p) (suc k)) →
+    go : (lane_there first p k ≡ true) ⊎ (lane_there first p k ≡ false) → (is_any (process_at (state_at machine state first (suc k)) p).lane ≡ true →
+        NextAt (lane_there first p) first (LaneStep p) (suc k)) →
         NextAt (lane_there first p) first (LaneStep p) k
     go (inl t) rest = (k, omega arith, here (slice_get first k) refl t, λ l a b. absurd (omega (arith, a, b)))
     go (inr f) rest =
@@ -143,7 +149,8 @@ find_lane machine state first p r (suc fuel) k h ready = go (decided (lane_there
 some_eq : {A : Type 0} (x y : A) → Some x ≡ Some y → x ≡ y
 some_eq x y e = ap (found_or x) e
 
-pub closed_done : (machine : Machine) (state : State) (first events : List Event) (n : ℕ) (matched : ℕ → Option ℕ) (done : List ℕ) → Compared machine state first events n matched done → Closed (log_of machine state first) done
+pub closed_done : (machine : Machine) (state : State) (first events : List Event) (n : ℕ) (matched : ℕ → Option ℕ) (done : List ℕ) → Compared machine state first events n matched done →
+    Closed (log_of machine state first) done
 closed_done machine state first events n matched done c k l h e =
     let f = c.found k h in
     go f.0 (c.pairs f.0 k f.1) (c.pairs f.0 k f.1).cause
@@ -151,15 +158,18 @@ closed_done machine state first events n matched done c k l h e =
     none_is : {B : Type 0} → None ≡ Some l → B
     none_is x = cc
 
-    go : (j : ℕ) → (p : Paired machine state first events matched j k) → CauseSame matched (cause_before machine state events j p.event) (cause_before machine state first k p.event) → has done l ≡ true
+    go : (j : ℕ) → (p : Paired machine state first events matched j k) → CauseSame matched (cause_before machine state events j p.event) (cause_before machine state first k p.event) →
+        has done l ≡ true
     go j p (inl none) = none_is (sym none.1 ∙ sym (cause_at-place machine state first k p.event p.first_stands) ∙ e)
     go j p (inr s) =
         subst (λ x. has done x ≡ true) (some_eq s.1 l (sym s.3 ∙ sym (cause_at-place machine state first k p.event p.first_stands) ∙ e)) (c.listed s.0 s.1 s.4)
 
 -- an event that comes next to be touched is open
-pub opens_next : {X : Type 0} (machine : Machine) (state : State) (first events : List Event) (n : ℕ) (matched : ℕ → Option ℕ) (done : List ℕ) (touches : ℕ → Bool) (content : ℕ → X) (x : X) (i : ℕ) (event : Event) →
+pub opens_next : {X : Type 0} (machine : Machine) (state : State) (first events : List Event) (n : ℕ) (matched : ℕ → Option ℕ) (done : List ℕ) (touches : ℕ → Bool) (content : ℕ → X) (x : X) (i : ℕ)
+    (event : Event) →
     Compared machine state first events n matched done → (cell : Cell touches content done x) → cell.place ≤ i → NoneBetween touches cell.place i → touches i ≡ true → slice_get first i ≡ Some event →
-    ((k : ℕ) (other : Event) → slice_get first k ≡ Some other → may_cause machine event (bare (state_at machine state first k) other) ≡ true → touches k ≡ true) → IsOpen (log_of machine state first) done i
+    ((k : ℕ) (other : Event) → slice_get first k ≡ Some other → may_cause machine event (bare (state_at machine state first k) other) ≡ true → touches k ≡ true) →
+    IsOpen (log_of machine state first) done i
 opens_next machine state first events n matched done touches content x i event c cell le none t e caused = record {
   closed = closed_done machine state first events n matched done c;
   cause_done = λ l h.
@@ -203,27 +213,32 @@ pub woken_if-lane : (machine : Machine) (s : State) (w : Option ValueUpdate) (x 
 woken_if-lane machine s None x = refl
 woken_if-lane machine s (Some u) x = refl
 
-pub woken_if-same : (machine : Machine) (s t : State) (w : Option ValueUpdate) (act act' : Activity) → ((u : ValueUpdate) → w ≡ Some u → value_at s.values u.object ≡ value_at t.values u.object) → act ≡ act' →
+pub woken_if-same : (machine : Machine) (s t : State) (w : Option ValueUpdate) (act act' : Activity) → ((u : ValueUpdate) → w ≡ Some u → value_at s.values u.object ≡ value_at t.values u.object) →
+    act ≡ act' →
     woken_if machine s w act ≡ woken_if machine t w act'
 woken_if-same machine s t None act act' h e = e
 woken_if-same machine s t (Some u) act act' h e = λ i. woken u.object (h u refl i) (written_same machine s t u (h u refl) i) (e i)
 
 -- Accesses of the same
 
-numbered-same : {A B : Type 0} (f : ℕ → A → B) (k : ℕ) (d : A) (xs ys : List A) → length xs ≡ length ys → ((j : ℕ) → f (k + j) (found_or d (slice_get xs j)) ≡ f (k + j) (found_or d (slice_get ys j))) →
+numbered-same : {A B : Type 0} (f : ℕ → A → B) (k : ℕ) (d : A) (xs ys : List A) → length xs ≡ length ys →
+    ((j : ℕ) → f (k + j) (found_or d (slice_get xs j)) ≡ f (k + j) (found_or d (slice_get ys j))) →
     map_numbered f k xs ≡ map_numbered f k ys
 numbered-same f k d [] [] e h = refl
 numbered-same f k d [] (y ∷ ys) e h = absurd (omega (arith, e))
 numbered-same f k d (x ∷ xs) [] e h = absurd (omega (arith, e))
 numbered-same f k d (x ∷ xs) (y ∷ ys) e h =
     λ i. (ap (λ m. f m x) (let z : k ≡ k + 0 = omega arith in z) ∙ h 0 ∙ ap (λ m. f m y) (let z : k + 0 ≡ k = omega arith in z)) i
-    ∷ numbered-same f (k + 1) d xs ys (omega (arith, e)) (λ j. ap (λ m. f m (found_or d (slice_get xs j))) (let z : k + 1 + j ≡ k + suc j = omega arith in z) ∙ h (suc j) ∙ ap (λ m. f m (found_or d (slice_get ys j))) (let z : k + suc j ≡ k + 1 + j = omega arith in z)) i
+    ∷ numbered-same f (k + 1) d xs ys (omega (arith, e)) (λ j. ap (λ m. f m (found_or d (slice_get xs j))) (let z : k + 1 + j ≡ k + suc j = omega arith in z) ∙ h (suc j)
+    ∙ ap (λ m. f m (found_or d (slice_get ys j))) (let z : k + suc j ≡ k + 1 + j = omega arith in z)) i
 
-pub ended_same : (object : ℕ) (old new : LogicValue) (s t : State) → length s.processes ≡ length t.processes → ((q : ℕ) → ended_by object old new q (process_at s q) ≡ ended_by object old new q (process_at t q)) →
+pub ended_same : (object : ℕ) (old new : LogicValue) (s t : State) → length s.processes ≡ length t.processes →
+    ((q : ℕ) → ended_by object old new q (process_at s q) ≡ ended_by object old new q (process_at t q)) →
     ended_accesses object old new s ≡ ended_accesses object old new t
 ended_same object old new s t e h =
     ap joined (numbered-same (ended_by object old new) 0 idle_process s.processes t.processes e
-    (λ j. ap (λ m. ended_by object old new m (process_at s j)) (let z : 0 + j ≡ j = omega arith in z) ∙ h j ∙ ap (λ m. ended_by object old new m (process_at t j)) (let z : j ≡ 0 + j = omega arith in z)))
+    (λ j. ap (λ m. ended_by object old new m (process_at s j)) (let z : 0 + j ≡ j = omega arith in z) ∙ h j
+    ∙ ap (λ m. ended_by object old new m (process_at t j)) (let z : j ≡ 0 + j = omega arith in z)))
 
 update-same : (machine : Machine) (p l : ℕ) (u : ValueUpdate) (s t : State) → value_at s.values u.object ≡ value_at t.values u.object →
     ended_accesses u.object (value_at t.values u.object) (value_written machine t u) s ≡ ended_accesses u.object (value_at t.values u.object) (value_written machine t u) t →
@@ -250,7 +265,8 @@ lane-same machine p [] s t h = refl
 lane-same machine p (u ∷ rest) s t h = update-same machine p u.line u s t (h u refl).0 (h u refl).1
 
 -- An event that writes the same, at its place in each run
-module _ (machine : Machine) (state : State) (first events : List Event) (n : ℕ) (matched : ℕ → Option ℕ) (done : List ℕ) (i : ℕ) (event : Event) (p : ℕ) (own own' : ProcessState → ProcessState) (w : Option ValueUpdate)
+module _ (machine : Machine) (state : State) (first events : List Event) (n : ℕ) (matched : ℕ → Option ℕ) (done : List ℕ) (i : ℕ) (event : Event) (p : ℕ) (own own' : ProcessState → ProcessState)
+    (w : Option ValueUpdate)
     (r : IsFree machine state first) (run : IsRun machine state events) (c : Compared machine state first events n matched done) (o : IsOpen (log_of machine state first) done i)
     (stands : slice_get events n ≡ Some event) (first_stands : slice_get first i ≡ Some event)
     (here : state_at machine state events (suc n) ≡ written_if machine w (with_process p own (state_at machine state events n)))
@@ -279,12 +295,15 @@ module _ (machine : Machine) (state : State) (first events : List Event) (n : �
       ∙ tests-written machine (state_at machine state events n) (state_at machine state first i) p own own' w old-same entry
       ∙ ap (λ s. changed_entry (state_at machine state first i) s entry) (sym there)
 
-  object-other : (object : ℕ) → ((u : ValueUpdate) → w ≡ Some u → nat_eq u.object object ≡ false) → (changes_there machine state events object n ≡ false) × (changes_there machine state first object i ≡ false)
+  object-other : (object : ℕ) → ((u : ValueUpdate) → w ≡ Some u → nat_eq u.object object ≡ false) →
+      (changes_there machine state events object n ≡ false) × (changes_there machine state first object i ≡ false)
   object-other object h = (
     ap (λ s. changed_in (state_at machine state events n) s object) here
-        ∙ unchanged_in (state_at machine state events n) (written_if machine w (with_process p own (state_at machine state events n))) object (written-other machine (state_at machine state events n) p own w object h),
+        ∙ unchanged_in (state_at machine state events n) (written_if machine w (with_process p own (state_at machine state events n))) object
+        (written-other machine (state_at machine state events n) p own w object h),
     ap (λ s. changed_in (state_at machine state first i) s object) there
-        ∙ unchanged_in (state_at machine state first i) (written_if machine w (with_process p own' (state_at machine state first i))) object (written-other machine (state_at machine state first i) p own' w object h),
+        ∙ unchanged_in (state_at machine state first i) (written_if machine w (with_process p own' (state_at machine state first i))) object
+        (written-other machine (state_at machine state first i) p own' w object h),
   )
 
   new-same : (u : ValueUpdate) → w ≡ Some u → value_at (state_at machine state events (suc n)).values u.object ≡ value_at (state_at machine state first (suc i)).values u.object
@@ -332,35 +351,43 @@ module _ (machine : Machine) (state : State) (first events : List Event) (n : �
       ended_accesses u.object (value_at (state_at machine state first i).values u.object) (value_written machine (state_at machine state first i) u) (state_at machine state events n)
       ≡ ended_accesses u.object (value_at (state_at machine state first i).values u.object) (value_written machine (state_at machine state first i) u) (state_at machine state first i)
   ended-alike mine u e =
-      ended_same u.object (value_at (state_at machine state first i).values u.object) (value_written machine (state_at machine state first i) u) (state_at machine state events n) (state_at machine state first i)
+      ended_same u.object (value_at (state_at machine state first i).values u.object) (value_written machine (state_at machine state first i) u) (state_at machine state events n)
+      (state_at machine state first i)
       ((state_of_at machine state events n run).processes ∙ sym (state_of_at machine state first i r.run).processes) each
     where
       test : Entry → Bool
       test = entry_matches u.object (value_at (state_at machine state first i).values u.object) (value_written machine (state_at machine state first i) u)
 
       ended : ℕ → Activity → List ObjectAccess
-      ended q act = ended_of (some_entry (entry_matches u.object (value_at (state_at machine state first i).values u.object) (value_written machine (state_at machine state first i) u)) (waiting_entries act))
+      ended q act = ended_of (some_entry (entry_matches u.object (value_at (state_at machine state first i).values u.object) (value_written machine (state_at machine state first i) u))
+          (waiting_entries act))
           (entry_matches u.object (value_at (state_at machine state first i).values u.object) (value_written machine (state_at machine state first i) u)) q (waiting_line act) (waiting_entries act)
 
-      none : (q : ℕ) (act : Activity) → some_entry (entry_matches u.object (value_at (state_at machine state first i).values u.object) (value_written machine (state_at machine state first i) u)) (waiting_entries act) ≡ false →
+      none : (q : ℕ) (act : Activity) → some_entry (entry_matches u.object (value_at (state_at machine state first i).values u.object) (value_written machine (state_at machine state first i) u))
+          (waiting_entries act) ≡ false →
           ended_of (some_entry (entry_matches u.object (value_at (state_at machine state first i).values u.object) (value_written machine (state_at machine state first i) u)) (waiting_entries act))
-          (entry_matches u.object (value_at (state_at machine state first i).values u.object) (value_written machine (state_at machine state first i) u)) q (waiting_line act) (waiting_entries act) ≡ []
-      none q act f = ap (λ b. ended_of b (entry_matches u.object (value_at (state_at machine state first i).values u.object) (value_written machine (state_at machine state first i) u)) q (waiting_line act) (waiting_entries act)) f
+          (entry_matches u.object (value_at (state_at machine state first i).values u.object) (value_written machine (state_at machine state first i) u)) q (waiting_line act)
+          (waiting_entries act) ≡ []
+      none q act f = ap (λ b. ended_of b (entry_matches u.object (value_at (state_at machine state first i).values u.object) (value_written machine (state_at machine state first i) u)) q
+          (waiting_line act) (waiting_entries act)) f
 
       same-test : (entry : Entry) → entry_matches u.object (value_at (state_at machine state first i).values u.object) (value_written machine (state_at machine state first i) u) entry
           ≡ changed_entry (state_at machine state first i) (state_at machine state first (suc i)) entry
       same-test entry =
-          entry-written machine u.object (value_written machine (state_at machine state first i) u) (with_process p own' (state_at machine state first i)) (length-written machine (state_at machine state first i) u) entry
+          entry-written machine u.object (value_written machine (state_at machine state first i) u) (with_process p own' (state_at machine state first i))
+          (length-written machine (state_at machine state first i) u) entry
           ∙ ap (λ s. changed_entry (state_at machine state first i) s entry) (sym (there ∙ ap (λ x. written_if machine x (with_process p own' (state_at machine state first i))) e))
 
       quiet-there : (q : ℕ) → Step q ≢ event → process_there machine state first q i ≡ false →
           some_entry (changed_entry (state_at machine state first i) (state_at machine state first (suc i))) (waiting_entries (activity_at (state_at machine state first i) q)) ≡ false
-      quiet-there q d f = elim (decided (some_entry (changed_entry (state_at machine state first i) (state_at machine state first (suc i))) (waiting_entries (activity_at (state_at machine state first i) q)))) [
-        | inl s ↦ true-false (process_there machine state first q i) (wakes_there machine state first q i event r.run first_stands d s) f
-        | inr g ↦ g
-      ]
+      quiet-there q d f = elim (decided (some_entry (changed_entry (state_at machine state first i) (state_at machine state first (suc i)))
+          (waiting_entries (activity_at (state_at machine state first i) q)))) [
+            | inl s ↦ true-false (process_there machine state first q i) (wakes_there machine state first q i event r.run first_stands d s) f
+            | inr g ↦ g
+          ]
 
-      each : (q : ℕ) → ended_by u.object (value_at (state_at machine state first i).values u.object) (value_written machine (state_at machine state first i) u) q (process_at (state_at machine state events n) q)
+      each : (q : ℕ) → ended_by u.object (value_at (state_at machine state first i).values u.object) (value_written machine (state_at machine state first i) u) q
+          (process_at (state_at machine state events n) q)
           ≡ ended_by u.object (value_at (state_at machine state first i).values u.object) (value_written machine (state_at machine state first i) u) q (process_at (state_at machine state first i) q)
       each q = elim (step_or_not q event) [
         | inl same ↦ ap (ended q) (mine q (sym same))
@@ -371,6 +398,7 @@ module _ (machine : Machine) (state : State) (first events : List Event) (n : �
               (tests-same test (changed_entry (state_at machine state events n) (state_at machine state events (suc n))) (waiting_entries (activity_at (state_at machine state events n) q))
               (λ entry. same-test entry ∙ sym (tests entry)) ∙ quiet.0)
               ∙ sym (none q (activity_at (state_at machine state first i) q)
-              (tests-same test (changed_entry (state_at machine state first i) (state_at machine state first (suc i))) (waiting_entries (activity_at (state_at machine state first i) q)) same-test ∙ quiet-there q d quiet.1))
+              (tests-same test (changed_entry (state_at machine state first i) (state_at machine state first (suc i))) (waiting_entries (activity_at (state_at machine state first i) q)) same-test
+              ∙ quiet-there q d quiet.1))
         ]
       ]

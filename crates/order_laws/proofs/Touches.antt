@@ -7,9 +7,11 @@ use Rattle.four_value.specs.Values.{LogicValue, same_value, edge_matches, part_o
 use Rattle.v_design.specs.Trees.{Entry}
 use Rattle.v_design.specs.Designs.{FlatNode, Machine}
 use Rattle.v_design.specs.Assignments.{ValueUpdate, value_at}
-use Rattle.v_design.specs.States.{State, ProcessState, Event, Step, LaneStep, Evaluation, NetUpdate, after, found_or, idle_process, process_at, node_at, entry_matches, some_entry, with_node, with_process, written_if, value_written, write_of, step_of, after_lane_step, first_update, evaluated, nets_updated}
+use Rattle.v_design.specs.States.{State, ProcessState, Event, Step, LaneStep, Evaluation, NetUpdate, after, found_or, idle_process, process_at, node_at, entry_matches, some_entry, with_node}
+use Rattle.v_design.specs.States.{with_process, written_if, value_written, write_of, step_of, after_lane_step, first_update, evaluated, nets_updated}
 use Rattle.v_design.specs.Paths.{net_pieces}
-use Rattle.v_design.specs.Accesses.{Writing, Ending, ObjectAccess, waiting_entries, waiting_line, without_first, ended_of, ended_by, accesses_of, net_write, net_accesses, net_ended_by, some_change_matches}
+use Rattle.v_design.specs.Accesses.{Writing, Ending, ObjectAccess, waiting_entries, waiting_line, without_first, ended_of, ended_by, accesses_of, net_write, net_accesses, net_ended_by}
+use Rattle.v_design.specs.Accesses.{some_change_matches}
 use Rattle.v_design.specs.WellFormed.{KeepsRules}
 use Rattle.order_laws.proofs.Rules.{outputs_are_nets}
 use Rattle.order_laws.proofs.Conflicts.{In, In-left, In-right, In-map}
@@ -39,7 +41,8 @@ pub written-here : (machine : Machine) (state : State) (q : ℕ) (own : ProcessS
     value_at (written_if machine (Some u) (with_process q own state)).values u.object ≡ value_written machine state u
 written-here machine state q own u = put-new state.values u.object (value_written machine state u) (length-written machine state u)
 
-pub written-other : (machine : Machine) (state : State) (q : ℕ) (own : ProcessState → ProcessState) (write : Option ValueUpdate) (object : ℕ) → ((u : ValueUpdate) → write ≡ Some u → nat_eq u.object object ≡ false) →
+pub written-other : (machine : Machine) (state : State) (q : ℕ) (own : ProcessState → ProcessState) (write : Option ValueUpdate) (object : ℕ) →
+    ((u : ValueUpdate) → write ≡ Some u → nat_eq u.object object ≡ false) →
     value_at (written_if machine write (with_process q own state)).values object ≡ value_at state.values object
 written-other machine state q own None object h = refl
 written-other machine state q own (Some u) object h = value-other machine u.object (value_written machine state u) (with_process q own state) object (other_number u.object object (h u refl))
@@ -62,10 +65,12 @@ changed-write machine state q own (Some u) object t = elim (decided (nat_eq u.ob
   )
   | inr other ↦
       true-false (changed_in state (written_if machine (Some u) (with_process q own state)) object) t
-      (unchanged_in state (written_if machine (Some u) (with_process q own state)) object (value-other machine u.object (value_written machine state u) (with_process q own state) object (other_number u.object object other)))
+      (unchanged_in state (written_if machine (Some u) (with_process q own state)) object (value-other machine u.object (value_written machine state u) (with_process q own state) object
+      (other_number u.object object other)))
 ]
 
-net-other : (machine : Machine) (number : ℕ) (found : Option FlatNode) (pending : Option (List LogicValue)) (state : State) (object : ℕ) → ((node : FlatNode) → found ≡ Some node → has node.outputs object ≡ false) →
+net-other : (machine : Machine) (number : ℕ) (found : Option FlatNode) (pending : Option (List LogicValue)) (state : State) (object : ℕ) →
+    ((node : FlatNode) → found ≡ Some node → has node.outputs object ≡ false) →
     value_at (nets_updated machine number found pending state).values object ≡ value_at state.values object
 net-other machine number None pending state object h = refl
 net-other machine number (Some node) None state object h = refl
@@ -107,7 +112,8 @@ abbrev pub ChangeAccess : State → State → ℕ → List ObjectAccess → Type
 ChangeAccess state next object accesses =
     (x : ObjectAccess) × In x accesses × (x.object ≡ object) × (x.act ≡ Writing (value_at state.values object) (value_at next.values object))
 
-process-change : (machine : Machine) (state next : State) (event : Event) (w l object : ℕ) → WriteOf machine state event next object → ChangeAccess state next object (accesses_of machine w l state event)
+process-change : (machine : Machine) (state next : State) (event : Event) (w l object : ℕ) → WriteOf machine state event next object →
+    ChangeAccess state next object (accesses_of machine w l state event)
 process-change machine state next event w l object c =
     let s = write_stands machine state w l event c.0 c.1 in (
       record { act = Writing (value_at state.values c.0.object) (value_written machine state c.0); object = c.0.object; process = _; line = s.0 },
@@ -171,7 +177,8 @@ WakeAccess state next entry accesses =
 some-same : (one other : Entry → Bool) (entries : List Entry) → ((entry : Entry) → one entry ≡ other entry) → some_entry one entries ≡ some_entry other entries
 some-same one other entries h = λ i. some_entry (λ entry. h entry i) entries
 
-process-wakes : (machine : Machine) (state : State) (event : Event) (q : ℕ) (own : ProcessState → ProcessState) (write : Option ValueUpdate) (w l p : ℕ) (entry : Entry) → write_by machine state event ≡ write →
+process-wakes : (machine : Machine) (state : State) (event : Event) (q : ℕ) (own : ProcessState → ProcessState) (write : Option ValueUpdate) (w l p : ℕ) (entry : Entry) →
+    write_by machine state event ≡ write →
     In entry (waiting_entries (activity_at state p)) → some_entry (changed_entry state (written_if machine write (with_process q own state))) (waiting_entries (activity_at state p)) ≡ true →
     changed_entry state (written_if machine write (with_process q own state)) entry ≡ false →
     (x : ObjectAccess) × In x (accesses_of machine w l state event) × (x.object ≡ entry.object) × (x.act ≡ Ending entry)
@@ -181,7 +188,8 @@ process-wakes machine state event q own (Some u) w l p entry e i s f =
     let test : Entry → Bool = entry_matches u.object (value_at state.values u.object) (value_written machine state u) in
     let same : (x : Entry) → test x ≡ changed_entry state (written_if machine (Some u) (with_process q own state)) x =
     entry-written machine u.object (value_written machine state u) (with_process q own state) (length-written machine state u) in
-    let r = In-joined (ended_by u.object (value_at state.values u.object) (value_written machine state u)) (λ k. ending_access k (waiting_line (activity_at state p)) entry) 0 state.processes (process_at state p)
+    let r = In-joined (ended_by u.object (value_at state.values u.object) (value_written machine state u)) (λ k. ending_access k (waiting_line (activity_at state p)) entry) 0 state.processes
+    (process_at state p)
     (in_processes state.processes p entry i)
     (λ k. ends-entry test (waiting_entries (activity_at state p)) entry k (waiting_line (activity_at state p))
     (some-same test (changed_entry state (written_if machine (Some u) (with_process q own state))) (waiting_entries (activity_at state p)) same ∙ s) i (same entry ∙ f)) in
@@ -192,7 +200,8 @@ pub net-test : (machine : Machine) (number : ℕ) (state : State) (node : FlatNo
     some_change_matches state (after machine state (NetUpdate number)) node.outputs entry ≡ changed_entry state (after machine state (NetUpdate number)) entry
 net-test machine number state node e entry = elim (decided (has node.outputs entry.object)) [
   | inl h ↦
-      (λ i. h i && (eq-eqb entry.object entry.object refl i && edge_matches entry.edge (part_of (value_at state.values entry.object) entry.low entry.width) (part_of (value_at (after machine state (NetUpdate number)).values entry.object) entry.low entry.width)))
+      (λ i. h i && (eq-eqb entry.object entry.object refl i && edge_matches entry.edge (part_of (value_at state.values entry.object) entry.low entry.width)
+      (part_of (value_at (after machine state (NetUpdate number)).values entry.object) entry.low entry.width)))
   | inr h ↦
       ap (λ b. b && entry_matches entry.object (value_at state.values entry.object) (value_at (after machine state (NetUpdate number)).values entry.object) entry) h
       ∙ sym (unchanged_entry state (after machine state (NetUpdate number)) entry
@@ -206,13 +215,16 @@ net-wakes : (machine : Machine) (number : ℕ) (state : State) (w l p : ℕ) (en
 net-wakes machine number state w l p entry node e i s f =
     let next : State = after machine state (NetUpdate number) in
     let test : Entry → Bool = some_change_matches state (after machine state (NetUpdate number)) node.outputs in
-    let r = In-joined (net_ended_by state (after machine state (NetUpdate number)) node.outputs) (λ k. ending_access k (waiting_line (activity_at state p)) entry) 0 state.processes (process_at state p)
+    let r = In-joined (net_ended_by state (after machine state (NetUpdate number)) node.outputs) (λ k. ending_access k (waiting_line (activity_at state p)) entry) 0 state.processes
+    (process_at state p)
     (in_processes state.processes p entry i)
     (λ k. ends-entry test (waiting_entries (activity_at state p)) entry k (waiting_line (activity_at state p))
-    (some-same test (changed_entry state (after machine state (NetUpdate number))) (waiting_entries (activity_at state p)) (net-test machine number state node e) ∙ s) i (net-test machine number state node e entry ∙ f)) in (
+    (some-same test (changed_entry state (after machine state (NetUpdate number))) (waiting_entries (activity_at state p)) (net-test machine number state node e) ∙ s) i
+    (net-test machine number state node e entry ∙ f)) in (
       ending_access r.0 (waiting_line (activity_at state p)) entry,
       subst (λ found. In (ending_access r.0 (waiting_line (activity_at state p)) entry) (net_accesses machine.design w l found state (after machine state (NetUpdate number)))) (sym e)
-          (In-right (ending_access r.0 (waiting_line (activity_at state p)) entry) (joined (map (net_write w l state (after machine state (NetUpdate number))) (filter (has node.outputs) (net_pieces machine.design))))
+          (In-right (ending_access r.0 (waiting_line (activity_at state p)) entry) (joined
+          (map (net_write w l state (after machine state (NetUpdate number))) (filter (has node.outputs) (net_pieces machine.design))))
           (joined (map_numbered (net_ended_by state (after machine state (NetUpdate number)) node.outputs) 0 state.processes)) r.1),
       refl,
       refl,
@@ -220,13 +232,15 @@ net-wakes machine number state w l p entry node e i s f =
 
 -- an entry of a wait that an event ends: its object has changed, or an access ends it
 pub wake_access : (machine : Machine) (state : State) (event : Event) (w l p : ℕ) (entry : Entry) → In entry (waiting_entries (activity_at state p)) →
-    some_entry (changed_entry state (after machine state event)) (waiting_entries (activity_at state p)) ≡ true → WakeAccess state (after machine state event) entry (accesses_of machine w l state event)
+    some_entry (changed_entry state (after machine state event)) (waiting_entries (activity_at state p)) ≡ true →
+    WakeAccess state (after machine state event) entry (accesses_of machine w l state event)
 wake_access machine state event w l p entry i s = elim (decided (changed_entry state (after machine state event) entry)) [
   | inl t ↦ inl (entry_changed state (after machine state event) entry t)
   | inr f ↦ inr (ends event s f)
 ]
   where
-    ends : (event : Event) → some_entry (changed_entry state (after machine state event)) (waiting_entries (activity_at state p)) ≡ true → changed_entry state (after machine state event) entry ≡ false →
+    ends : (event : Event) → some_entry (changed_entry state (after machine state event)) (waiting_entries (activity_at state p)) ≡ true →
+        changed_entry state (after machine state event) entry ≡ false →
         (x : ObjectAccess) × In x (accesses_of machine w l state event) × (x.object ≡ entry.object) × (x.act ≡ Ending entry)
     ends (Step q) s f = process-wakes machine state (Step q) q (own_of machine state (Step q)) (write_of (step_of machine state q).action) w l p entry refl i s f
     ends (LaneStep q) s f = process-wakes machine state (LaneStep q) q after_lane_step (first_update (process_at state q).lane) w l p entry refl i s f

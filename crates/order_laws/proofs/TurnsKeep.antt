@@ -74,7 +74,8 @@ turned-clear P (TimeTurn time) state h =
 
 -- At the start
 
-start-clear : (P : ℕ → Type 0) (processes : List FlatProcess) → ((number : ℕ) (process : FlatProcess) → slice_get processes number ≡ Some process → Clear P (written_objects process.body)) → (number : ℕ) →
+start-clear : (P : ℕ → Type 0) (processes : List FlatProcess) → ((number : ℕ) (process : FlatProcess) → slice_get processes number ≡ Some process → Clear P (written_objects process.body)) →
+    (number : ℕ) →
     IsClear P (found_or idle_process (slice_get (map (λ (process : FlatProcess). record { activity = Ready (opened process.body []) []; later = []; lane = [] }) processes) number))
 start-clear P [] h number = (tt, (tt, tt))
 start-clear P (process ∷ processes) h zero = (opened-clear P process.body [] (h 0 process refl) tt, (tt, tt))
@@ -85,4 +86,5 @@ pub start_writers : (machine : Machine) → KeepsRules machine.design → WriteV
 start_writers machine rules =
     clear_writers machine (start machine)
     (start-clear (NotNet machine) machine.design.processes
-    (λ number process e. subst (λ (o : Option FlatProcess). Clear (NotNet machine) (written_objects (found_or (record { always = false; body = Null; place = record { line = 0; column = 0 } }) o).body)) e (bodies_clear machine rules number)))
+    (λ number process e. subst (λ (o : Option FlatProcess). Clear (NotNet machine) (written_objects
+    (found_or (record { always = false; body = Null; place = record { line = 0; column = 0 } }) o).body)) e (bodies_clear machine rules number)))

@@ -35,11 +35,13 @@ pub changes-where : (machine : Machine) (state : State) (first : List Event) (ob
 changes-where machine state first object k t = go (slice_get first k) refl
   where
     go : (found : Option Event) → slice_get first k ≡ found → (event : Event) × (slice_get first k ≡ Some event)
-    go None e = true-false (changes_there machine state first object k) t (unchanged_in (state_at machine state first k) (state_at machine state first (suc k)) object (ap (λ s. value_at s.values object) (past_same machine state first k e)))
+    go None e = true-false (changes_there machine state first object k) t (unchanged_in (state_at machine state first k) (state_at machine state first (suc k)) object
+        (ap (λ s. value_at s.values object) (past_same machine state first k e)))
     go (Some event) e = (event, e)
 
 -- an access of an event that clashes with each write of a tame object
-pub value_in_order : (machine : Machine) (state : State) (first : List Event) (done : List ℕ) (i object : ℕ) (y : ObjectAccess) → IsFree machine state first → IsOpen (log_of machine state first) done i →
+pub value_in_order : (machine : Machine) (state : State) (first : List Event) (done : List ℕ) (i object : ℕ) (y : ObjectAccess) → IsFree machine state first →
+    IsOpen (log_of machine state first) done i →
     wild_in machine state first object ≡ false → In y (counted machine state first i) → y.object ≡ object → ((old new : LogicValue) → acts_clash object (Writing old new) y.act ≡ true) →
     InOrder (changes_there machine state first object) done i
 value_in_order machine state first done i object y r o tame a same clash = record {
@@ -75,7 +77,8 @@ reads_wild machine state first done i object y r o wild a same reading k event d
     both false c e = cc
 
 -- so it finds the net's first value, in each of the runs
-pub wild_first : (machine : Machine) (state : State) (first events : List Event) (n : ℕ) (matched : ℕ → Option ℕ) (done : List ℕ) (i object : ℕ) (event : Event) (y : ObjectAccess) → IsFree machine state first → IsRun machine state events →
+pub wild_first : (machine : Machine) (state : State) (first events : List Event) (n : ℕ) (matched : ℕ → Option ℕ) (done : List ℕ) (i object : ℕ) (event : Event) (y : ObjectAccess) →
+    IsFree machine state first → IsRun machine state events →
     Compared machine state first events n matched done → IsOpen (log_of machine state first) done i → wild_in machine state first object ≡ true → slice_get first i ≡ Some event →
     event_changes machine (state_at machine state first i) event ≡ [] → In y (counted machine state first i) → y.object ≡ object → y.act ≡ Reading →
     value_at (state_at machine state events n).values object ≡ value_at (state_at machine state first i).values object
@@ -149,7 +152,8 @@ module _ (machine : Machine) (state : State) (first : List Event) (done : List �
       In entry (waiting_entries (activity_at (state_at machine state first (suc k)) q)) → ⊥
   not_ready entry k d some f d' s w =
       ready_waits_not (activity_at (state_at machine state first (suc k)) q) entry
-      (ap is_ready (woken_at machine state first q k some r.run f d') ∙ (woken_by-ready (changed_entry (state_at machine state first k) (state_at machine state first (suc k))) (activity_at (state_at machine state first k) q) s).1) w
+      (ap is_ready (woken_at machine state first q k some r.run f d') ∙ (woken_by-ready (changed_entry (state_at machine state first k) (state_at machine state first (suc k)))
+      (activity_at (state_at machine state first k) q) s).1) w
 
   -- while a process waits on the entry no event up to this one touches it
   untouched_until : (entry : Entry) → wild_in machine state first entry.object ≡ false → changed_entry (state_at machine state first i) (state_at machine state first (suc i)) entry ≡ true →
@@ -162,7 +166,8 @@ module _ (machine : Machine) (state : State) (first : List Event) (done : List �
           (ready_waits_not (activity_at (state_at machine state first k) q) entry (possible_at machine state first k (Step q) r.run.possible (h.1 ∙ ap Some own)) w)
       | inr wakes ↦
           (let acc = wake_access machine (state_at machine state first k) h.0 (noted machine state first k h.0).process (noted machine state first k h.0).line q entry w
-          (ap (λ s. some_entry (changed_entry (state_at machine state first k) s) (waiting_entries (activity_at (state_at machine state first k) q))) (sym (at_next machine state first k h.0 h.1)) ∙ wakes.1) in
+          (ap (λ s. some_entry (changed_entry (state_at machine state first k) s) (waiting_entries (activity_at (state_at machine state first k) q))) (sym (at_next machine state first k h.0 h.1))
+          ∙ wakes.1) in
           absurd (undone touched (elim acc [
             | inl changed ↦
                 (let x = change_counted machine state first k h.0 entry.object r.run.rules h.1 tame
@@ -228,7 +233,8 @@ module _ (machine : Machine) (state : State) (first events : List Event) (n : �
       same : activity_at (state_at machine state events n) q ≡ activity_at (state_at machine state first cell.place) q
       same = ap (λ (x : ProcessPart). x.activity) cell.same
 
-      m : (entry : Entry) × In entry (waiting_entries (activity_at (state_at machine state events n) q)) × (changed_entry (state_at machine state events n) (state_at machine state events (suc n)) entry ≡ true)
+      m : (entry : Entry) × In entry (waiting_entries (activity_at (state_at machine state events n) q))
+          × (changed_entry (state_at machine state events n) (state_at machine state events (suc n)) entry ≡ true)
       m = some_entry-true (changed_entry (state_at machine state events n) (state_at machine state events (suc n))) (waiting_entries (activity_at (state_at machine state events n) q)) s
 
       w : In m.0 (waiting_entries (activity_at (state_at machine state first cell.place) q))
@@ -244,12 +250,15 @@ module _ (machine : Machine) (state : State) (first events : List Event) (n : �
       there : activity_at (state_at machine state first i) q ≡ activity_at (state_at machine state first cell.place) q → process_there machine state first q i ≡ true
       there a =
           wakes_there machine state first q i event r.run e d
-          (ap (λ act. some_entry (changed_entry (state_at machine state first i) (state_at machine state first (suc i))) (waiting_entries act)) (a ∙ sym (ap (λ (x : ProcessPart). x.activity) cell.same))
-          ∙ sym (tests-same (changed_entry (state_at machine state events n) (state_at machine state events (suc n))) (changed_entry (state_at machine state first i) (state_at machine state first (suc i)))
+          (ap (λ act. some_entry (changed_entry (state_at machine state first i) (state_at machine state first (suc i))) (waiting_entries act))
+          (a ∙ sym (ap (λ (x : ProcessPart). x.activity) cell.same))
+          ∙ sym (tests-same (changed_entry (state_at machine state events n) (state_at machine state events (suc n)))
+          (changed_entry (state_at machine state first i) (state_at machine state first (suc i)))
           (waiting_entries (activity_at (state_at machine state events n) q)) tests) ∙ s)
 
       up : (dd : ℕ) → cell.place + dd ≤ i →
-          (activity_at (state_at machine state first (cell.place + dd)) q ≡ activity_at (state_at machine state first cell.place) q) × NoneBetween (process_there machine state first q) cell.place (cell.place + dd)
+          (activity_at (state_at machine state first (cell.place + dd)) q ≡ activity_at (state_at machine state first cell.place) q)
+          × NoneBetween (process_there machine state first q) cell.place (cell.place + dd)
       up zero h = (ap (λ k. activity_at (state_at machine state first k) q) (let z : cell.place + 0 ≡ cell.place = omega arith in z), λ k a b. absurd (omega (arith, a, b)))
       up (suc dd) h =
           let rest = up dd (omega (arith, h)) in
@@ -291,7 +300,8 @@ module _ (machine : Machine) (state : State) (first events : List Event) (n : �
   woken-there touched = go (le_or cell.place i)
     where
       h : (ev : Event) × (slice_get first i ≡ Some ev)
-          × ((ev ≡ Step q) ⊎ ((Step q ≢ ev) × (some_entry (changed_entry (state_at machine state first i) (state_at machine state first (suc i))) (waiting_entries (activity_at (state_at machine state first i) q)) ≡ true)))
+          × ((ev ≡ Step q) ⊎ ((Step q ≢ ev) × (some_entry (changed_entry (state_at machine state first i) (state_at machine state first (suc i)))
+          (waiting_entries (activity_at (state_at machine state first i) q)) ≡ true)))
       h = there-how machine state first q i r.run touched
 
       s : some_entry (changed_entry (state_at machine state first i) (state_at machine state first (suc i))) (waiting_entries (activity_at (state_at machine state first i) q)) ≡ true
@@ -300,7 +310,8 @@ module _ (machine : Machine) (state : State) (first events : List Event) (n : �
         | inr wakes ↦ wakes.1
       ]
 
-      m : (entry : Entry) × In entry (waiting_entries (activity_at (state_at machine state first i) q)) × (changed_entry (state_at machine state first i) (state_at machine state first (suc i)) entry ≡ true)
+      m : (entry : Entry) × In entry (waiting_entries (activity_at (state_at machine state first i) q))
+          × (changed_entry (state_at machine state first i) (state_at machine state first (suc i)) entry ≡ true)
       m = some_entry-true (changed_entry (state_at machine state first i) (state_at machine state first (suc i))) (waiting_entries (activity_at (state_at machine state first i) q)) s
 
       tame : wild_in machine state first m.0.object ≡ false
@@ -332,10 +343,11 @@ module _ (machine : Machine) (state : State) (first events : List Event) (n : �
       go (inr gt) = true-false (has done i) (cell.known i touched gt) o.open_still
 
   pub waits_alike : WaitsAlike machine state first events n matched i q cell.place
-  waits_alike = elim (decided (some_entry (changed_entry (state_at machine state events n) (state_at machine state events (suc n))) (waiting_entries (activity_at (state_at machine state events n) q)))) [
-    | inl s ↦ woken-here s
-    | inr f ↦ elim (decided (process_there machine state first q i)) [
-      | inl touched ↦ woken-there touched
-      | inr g ↦ inr (f, g)
-    ]
-  ]
+  waits_alike = elim (decided (some_entry (changed_entry (state_at machine state events n) (state_at machine state events (suc n)))
+      (waiting_entries (activity_at (state_at machine state events n) q)))) [
+        | inl s ↦ woken-here s
+        | inr f ↦ elim (decided (process_there machine state first q i)) [
+          | inl touched ↦ woken-there touched
+          | inr g ↦ inr (f, g)
+        ]
+      ]

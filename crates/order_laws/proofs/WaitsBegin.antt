@@ -7,7 +7,8 @@ use Rattle.v_design.specs.Trees.{Expression, Entry, Statement, Null, Block, If, 
 use Rattle.v_design.specs.Expressions.{Progress, Needs, Has, read_expression}
 use Rattle.v_design.specs.Designs.{FlatProcess, Machine}
 use Rattle.v_design.specs.Assignments.{ValueUpdate, read_assignment}
-use Rattle.v_design.specs.Processes.{Task, Run, Turns, Writes, Appends, Activity, Ready, Waiting, Asleep, Postponed, Done, TouchesNothing, ProcessStep, reads_or, write_step, append_step, assignment_step, read_case, turns_step, loop_of, wait_step, statement_step, end_step, process_step}
+use Rattle.v_design.specs.Processes.{Task, Run, Turns, Writes, Appends, Activity, Ready, Waiting, Asleep, Postponed, Done, TouchesNothing, ProcessStep, reads_or, write_step, append_step}
+use Rattle.v_design.specs.Processes.{assignment_step, read_case, turns_step, loop_of, wait_step, statement_step, end_step, process_step}
 use Rattle.v_design.specs.States.{State, Step, activity_step, step_of, process_at, source_at, write_of}
 use Rattle.v_design.specs.Accesses.{waiting_entries}
 use Rattle.order_laws.proofs.Unaffected.{write_by, awaits_by}
@@ -16,7 +17,8 @@ use Rattle.order_laws.proofs.Unaffected.{write_by, awaits_by}
 abbrev pub WaitsOrTouches : ProcessStep → Type 0
 WaitsOrTouches step = (waiting_entries step.next ≡ []) ⊎ (step.action ≡ TouchesNothing)
 
-reads-wait : {A : Type 0} (line : ℕ) (tasks : List Task) (operands : List LogicValue) (p : Progress A) (act : A → ProcessStep) → ((a : A) → WaitsOrTouches (act a)) → WaitsOrTouches (reads_or line tasks operands p act)
+reads-wait : {A : Type 0} (line : ℕ) (tasks : List Task) (operands : List LogicValue) (p : Progress A) (act : A → ProcessStep) → ((a : A) → WaitsOrTouches (act a)) →
+    WaitsOrTouches (reads_or line tasks operands p act)
 reads-wait line tasks operands (Needs object) act h = inl refl
 reads-wait line tasks operands (Has answer left) act h = h answer
 
@@ -82,7 +84,8 @@ activity-waits machine state number (Postponed tasks) = inr refl
 activity-waits machine state number Done = inr refl
 
 -- so a step that begins a wait writes nothing, and changes no value
-pub waiting-writes-nothing : (machine : Machine) (state : State) (number : ℕ) (entry : Entry) (entries : List Entry) → awaits_by machine state (Step number) ≡ entry ∷ entries → write_by machine state (Step number) ≡ None
+pub waiting-writes-nothing : (machine : Machine) (state : State) (number : ℕ) (entry : Entry) (entries : List Entry) → awaits_by machine state (Step number) ≡ entry ∷ entries →
+    write_by machine state (Step number) ≡ None
 waiting-writes-nothing machine state number entry entries e = go (activity-waits machine state number (process_at state number).activity)
   where
     not_empty : [] ≡ entry ∷ entries → write_by machine state (Step number) ≡ None

@@ -9,7 +9,9 @@ use Rattle.v_design.specs.Trees.{Entry}
 use Rattle.v_design.specs.Designs.{FlatNode, Machine}
 use Rattle.v_design.specs.Assignments.{ValueUpdate, value_at, object_width}
 use Rattle.v_design.specs.Processes.{Activity, Ready, Waiting, Asleep, Postponed, Done}
-use Rattle.v_design.specs.States.{State, ProcessState, Event, Step, LaneStep, Evaluation, NetUpdate, after, possible, found_or, idle_process, process_at, node_at, is_ready, is_any, entry_matches, some_entry, ready_if, woken, woken_process, with_value, with_values, with_process, with_node, written_if, value_written, write_of, step_of, after_step, after_lane_step, first_update, evaluated, nets_updated, next_activity}
+use Rattle.v_design.specs.States.{State, ProcessState, Event, Step, LaneStep, Evaluation, NetUpdate, after, possible, found_or, idle_process, process_at, node_at, is_ready, is_any, entry_matches}
+use Rattle.v_design.specs.States.{some_entry, ready_if, woken, woken_process, with_value, with_values, with_process, with_node, written_if, value_written, write_of, step_of, after_step}
+use Rattle.v_design.specs.States.{after_lane_step, first_update, evaluated, nets_updated, next_activity}
 use Rattle.v_design.specs.Accesses.{waiting_entries, is_waiting}
 use Rattle.v_design.specs.WellFormed.{KeepsRules}
 use Rattle.v_design.specs.PhaseLogs.{may_cause, ends_wait, is_step_of}
@@ -181,7 +183,8 @@ wakes-written machine state q own (Some u) act =
 
 -- Processes by number
 
-mapped-process : (xs : List ProcessState) (p : ℕ) (f : ProcessState → ProcessState) → f idle_process ≡ idle_process → found_or idle_process (slice_get (map f xs) p) ≡ f (found_or idle_process (slice_get xs p))
+mapped-process : (xs : List ProcessState) (p : ℕ) (f : ProcessState → ProcessState) → f idle_process ≡ idle_process →
+    found_or idle_process (slice_get (map f xs) p) ≡ f (found_or idle_process (slice_get xs p))
 mapped-process [] p f e = sym e
 mapped-process (x ∷ xs) zero f e = refl
 mapped-process (x ∷ xs) (suc p) f e = mapped-process xs p f e
@@ -195,12 +198,15 @@ values-woken : (machine : Machine) (objects : List ℕ) (values : List LogicValu
     map (λ (v : LogicValue). length v) values ≡ map (object_width machine) objects →
     activity_at (with_values machine objects values state) p ≡ woken_by (changed_entry state (with_values machine objects values state)) (activity_at state p)
 values-woken machine [] values state p d f w =
-    sym (woken_by-none (changed_entry state state) (activity_at state p) (none-passes (changed_entry state state) (waiting_entries (activity_at state p)) (λ entry. unchanged_entry state state entry refl)))
+    sym (woken_by-none (changed_entry state state) (activity_at state p) (none-passes (changed_entry state state) (waiting_entries (activity_at state p))
+    (λ entry. unchanged_entry state state entry refl)))
 values-woken machine (object ∷ objects) [] state p d f w =
-    sym (woken_by-none (changed_entry state state) (activity_at state p) (none-passes (changed_entry state state) (waiting_entries (activity_at state p)) (λ entry. unchanged_entry state state entry refl)))
+    sym (woken_by-none (changed_entry state state) (activity_at state p) (none-passes (changed_entry state state) (waiting_entries (activity_at state p))
+    (λ entry. unchanged_entry state state entry refl)))
 values-woken machine (object ∷ objects) (value ∷ values) state p d f w =
     values-woken machine objects values middle p d.1 (λ x. put-width state.values object value long x ∙ f x) (ap rest_list w)
-    ∙ ap (woken_by (changed_entry middle end)) (ap (λ (x : ProcessState). x.activity) (process-with_value machine object value state p) ∙ woken-is object (value_at state.values object) value (activity_at state p))
+    ∙ ap (woken_by (changed_entry middle end)) (ap (λ (x : ProcessState). x.activity) (process-with_value machine object value state p)
+    ∙ woken-is object (value_at state.values object) value (activity_at state p))
     ∙ woken_by-twice (changed_entry state end) (entry_matches object (value_at state.values object) value) (changed_entry middle end) (activity_at state p) both
   where
     long : length value ≡ length (value_at state.values object)
@@ -217,32 +223,40 @@ values-woken machine (object ∷ objects) (value ∷ values) state p d f w =
     or-none false c e = sym e
 
     both : (entry : Entry) → changed_entry state (with_values machine objects values (with_value machine object value state)) entry
-        ≡ (entry_matches object (value_at state.values object) value entry || changed_entry (with_value machine object value state) (with_values machine objects values (with_value machine object value state)) entry)
+        ≡ (entry_matches object (value_at state.values object) value entry || changed_entry (with_value machine object value state)
+        (with_values machine objects values (with_value machine object value state)) entry)
     both entry = elim (decided (nat_eq object entry.object)) [
       | inl same ↦
           (let last : value_at (with_values machine objects values (with_value machine object value state)).values entry.object ≡ value_at (with_value machine object value state).values entry.object =
           values-other machine objects values (with_value machine object value state) entry.object (subst (λ x. has objects x ≡ false) (eqb-true object entry.object same) d.0) in
           ap (λ v. edge_matches entry.edge (part_of (value_at state.values entry.object) entry.low entry.width) (part_of v entry.low entry.width)) last
           ∙ sym (entry-written machine object value state long entry)
-          ∙ or-none (entry_matches object (value_at state.values object) value entry) _ (unchanged_entry (with_value machine object value state) (with_values machine objects values (with_value machine object value state)) entry last))
+          ∙ or-none (entry_matches object (value_at state.values object) value entry) _ (unchanged_entry (with_value machine object value state)
+          (with_values machine objects values (with_value machine object value state)) entry last))
       | inr other ↦
-          (let here : value_at (with_value machine object value state).values entry.object ≡ value_at state.values entry.object = value-other machine object value state entry.object (other_number object entry.object other) in
-          ap (λ v. edge_matches entry.edge (part_of v entry.low entry.width) (part_of (value_at (with_values machine objects values (with_value machine object value state)).values entry.object) entry.low entry.width)) (sym here)
+          (let here : value_at (with_value machine object value state).values entry.object ≡ value_at state.values entry.object =
+          value-other machine object value state entry.object (other_number object entry.object other) in
+          ap (λ v. edge_matches entry.edge (part_of v entry.low entry.width) (part_of (value_at (with_values machine objects values (with_value machine object value state)).values entry.object)
+          entry.low entry.width)) (sym here)
           ∙ ap (λ b. b || changed_entry (with_value machine object value state) (with_values machine objects values (with_value machine object value state)) entry)
           (sym (entry-written machine object value state long entry ∙ unchanged_entry state (with_value machine object value state) entry here)))
     ]
 
 -- An event wakes by the values before and after it
 
-still : (state next : State) (p : ℕ) → ((x : ℕ) → value_at next.values x ≡ value_at state.values x) → activity_at next p ≡ activity_at state p → activity_at next p ≡ woken_by (changed_entry state next) (activity_at state p)
+still : (state next : State) (p : ℕ) → ((x : ℕ) → value_at next.values x ≡ value_at state.values x) → activity_at next p ≡ activity_at state p →
+    activity_at next p ≡ woken_by (changed_entry state next) (activity_at state p)
 still state next p values same =
-    same ∙ sym (woken_by-none (changed_entry state next) (activity_at state p) (none-passes (changed_entry state next) (waiting_entries (activity_at state p)) (λ entry. unchanged_entry state next entry (values entry.object))))
+    same ∙ sym (woken_by-none (changed_entry state next) (activity_at state p) (none-passes (changed_entry state next) (waiting_entries (activity_at state p))
+    (λ entry. unchanged_entry state next entry (values entry.object))))
 
-evaluated-woken : (machine : Machine) (number : ℕ) (found : Option FlatNode) (state : State) (p : ℕ) → activity_at (evaluated machine number found state) p ≡ woken_by (changed_entry state (evaluated machine number found state)) (activity_at state p)
+evaluated-woken : (machine : Machine) (number : ℕ) (found : Option FlatNode) (state : State) (p : ℕ) →
+    activity_at (evaluated machine number found state) p ≡ woken_by (changed_entry state (evaluated machine number found state)) (activity_at state p)
 evaluated-woken machine number None state p = still state state p (λ x. refl) refl
 evaluated-woken machine number (Some node) state p = still state (evaluated machine number (Some node) state) p (λ x. refl) refl
 
-nets-woken : (machine : Machine) (number : ℕ) (found : Option FlatNode) (pending : Option (List LogicValue)) (state : State) (p : ℕ) → KeepsRules machine.design → slice_get machine.design.nodes number ≡ found →
+nets-woken : (machine : Machine) (number : ℕ) (found : Option FlatNode) (pending : Option (List LogicValue)) (state : State) (p : ℕ) → KeepsRules machine.design →
+    slice_get machine.design.nodes number ≡ found →
     (node_at state number).pending ≡ pending → Follows machine Everywhere state →
     activity_at (nets_updated machine number found pending state) p ≡ woken_by (changed_entry state (nets_updated machine number found pending state)) (activity_at state p)
 nets-woken machine number None pending state p rules e g f = still state state p (λ x. refl) refl
@@ -267,20 +281,24 @@ part-values : {B : Type 0} (part : ProcessState → B) → ((object : ℕ) (old 
 part-values part h machine [] values state p = refl
 part-values part h machine (object ∷ objects) [] state p = refl
 part-values part h machine (object ∷ objects) (value ∷ values) state p =
-    part-values part h machine objects values (with_value machine object value state) p ∙ ap part (process-with_value machine object value state p) ∙ h object (value_at state.values object) value (process_at state p)
+    part-values part h machine objects values (with_value machine object value state) p ∙ ap part (process-with_value machine object value state p)
+    ∙ h object (value_at state.values object) value (process_at state p)
 
 part-written : {B : Type 0} (part : ProcessState → B) → ((object : ℕ) (old new : LogicValue) (x : ProcessState) → part (woken_process object old new x) ≡ part x) →
     (machine : Machine) (write : Option ValueUpdate) (state : State) (p : ℕ) → part (process_at (written_if machine write state) p) ≡ part (process_at state p)
 part-written part h machine None state p = refl
-part-written part h machine (Some u) state p = ap part (process-with_value machine u.object (value_written machine state u) state p) ∙ h u.object (value_at state.values u.object) (value_written machine state u) (process_at state p)
+part-written part h machine (Some u) state p = ap part (process-with_value machine u.object (value_written machine state u) state p)
+    ∙ h u.object (value_at state.values u.object) (value_written machine state u) (process_at state p)
 
 part-nets : {B : Type 0} (part : ProcessState → B) → ((object : ℕ) (old new : LogicValue) (x : ProcessState) → part (woken_process object old new x) ≡ part x) →
-    (machine : Machine) (number : ℕ) (found : Option FlatNode) (pending : Option (List LogicValue)) (state : State) (p : ℕ) → part (process_at (nets_updated machine number found pending state) p) ≡ part (process_at state p)
+    (machine : Machine) (number : ℕ) (found : Option FlatNode) (pending : Option (List LogicValue)) (state : State) (p : ℕ) →
+    part (process_at (nets_updated machine number found pending state) p) ≡ part (process_at state p)
 part-nets part h machine number None pending state p = refl
 part-nets part h machine number (Some node) None state p = refl
 part-nets part h machine number (Some node) (Some values) state p = part-values part h machine node.outputs values (with_node number (λ old. record old { pending = None }) state) p
 
-part-evaluated : {B : Type 0} (part : ProcessState → B) (machine : Machine) (number : ℕ) (found : Option FlatNode) (state : State) (p : ℕ) → part (process_at (evaluated machine number found state) p) ≡ part (process_at state p)
+part-evaluated : {B : Type 0} (part : ProcessState → B) (machine : Machine) (number : ℕ) (found : Option FlatNode) (state : State) (p : ℕ) →
+    part (process_at (evaluated machine number found state) p) ≡ part (process_at state p)
 part-evaluated part machine number None state p = refl
 part-evaluated part machine number (Some node) state p = refl
 
@@ -311,7 +329,8 @@ abbrev pub woken_if_process : Machine → State → Option ValueUpdate → Proce
 woken_if_process machine state None x = x
 woken_if_process machine state (Some u) x = woken_process u.object (value_at state.values u.object) (value_written machine state u) x
 
-pub process-written : (machine : Machine) (write : Option ValueUpdate) (state : State) (p : ℕ) → process_at (written_if machine write state) p ≡ woken_if_process machine state write (process_at state p)
+pub process-written : (machine : Machine) (write : Option ValueUpdate) (state : State) (p : ℕ) →
+    process_at (written_if machine write state) p ≡ woken_if_process machine state write (process_at state p)
 process-written machine None state p = refl
 process-written machine (Some u) state p = process-with_value machine u.object (value_written machine state u) state p
 
@@ -346,7 +365,8 @@ own_lane machine state p r =
     ∙ go (first_update (process_at state p).lane) (lane-there state.processes p after_lane_step r)
   where
     go : (write : Option ValueUpdate) → process_at (with_process p after_lane_step state) p ≡ after_lane_step (process_at state p) →
-        woken_if_process machine (with_process p after_lane_step state) write (process_at (with_process p after_lane_step state) p) ≡ woken_if_process machine state write (after_lane_step (process_at state p))
+        woken_if_process machine (with_process p after_lane_step state) write (process_at (with_process p after_lane_step state) p) ≡ woken_if_process machine state write
+        (after_lane_step (process_at state p))
     go None e = e
     go (Some u) e = ap (woken_process u.object (value_at state.values u.object) (value_written machine state u)) e
 
@@ -408,10 +428,12 @@ touches-how machine p state event rules f t = elim (step_or_not p event) [
     not_step (Evaluation n) d h = cc
     not_step (NetUpdate n) d h = cc
 
-    wakes : Step p ≢ event → (is_step_of p event ≡ true) ⊎ (ends_wait machine p (bare state event) ≡ true) → some_entry (changed_entry state (after machine state event)) (waiting_entries (activity_at state p)) ≡ true
+    wakes : Step p ≢ event → (is_step_of p event ≡ true) ⊎ (ends_wait machine p (bare state event) ≡ true) →
+        some_entry (changed_entry state (after machine state event)) (waiting_entries (activity_at state p)) ≡ true
     wakes d (inl h) = absurd (not_step event d h)
     wakes d (inr h) =
-        let both : (is_waiting (activity_at state p) ≡ true) × (is_ready (activity_at (after machine state event) p) ≡ true) = and-both (is_waiting (activity_at state p)) (is_ready (activity_at (after machine state event) p)) h in
+        let both : (is_waiting (activity_at state p) ≡ true) × (is_ready (activity_at (after machine state event) p) ≡ true) =
+        and-both (is_waiting (activity_at state p)) (is_ready (activity_at (after machine state event) p)) h in
         ready-woken_by (changed_entry state (after machine state event)) (activity_at state p) both.0 (ap is_ready (sym (woken_after machine state event p rules f d)) ∙ both.1)
 
 -- and what wakes it touches it
@@ -427,7 +449,8 @@ pub untouched_process : (machine : Machine) (p : ℕ) (state : State) (event : E
 untouched_process machine p state event rules f t =
     let d : Step p ≢ event = λ e. true-false (touches_process machine p state event) (subst (λ ev. touches_process machine p state ev ≡ true) e (step_touches machine p state)) t in (
       d,
-      woken_after machine state event p rules f d ∙ woken_by-none (changed_entry state (after machine state event)) (activity_at state p) (quiet d (some_entry (changed_entry state (after machine state event)) (waiting_entries (activity_at state p))) refl),
+      woken_after machine state event p rules f d ∙ woken_by-none (changed_entry state (after machine state event)) (activity_at state p)
+          (quiet d (some_entry (changed_entry state (after machine state event)) (waiting_entries (activity_at state p))) refl),
       later_after machine state event p d,
     )
   where

@@ -26,7 +26,8 @@ none-differs one other (object ∷ objects) e x h =
     let parts : (not (same_value (value_at one object) (value_at other object)) ≡ false) × (list_any (λ o. not (same_value (value_at one o) (value_at other o))) objects ≡ false) =
     or-neither (not (same_value (value_at one object) (value_at other object))) (list_any (λ o. not (same_value (value_at one o) (value_at other o))) objects) e in
     elim (or-either (nat_eq object x) (has objects x) h) [
-      | inl same ↦ subst (λ y. value_at one y ≡ value_at other y) (eqb-true object x same) (same_value-true (value_at one object) (value_at other object) (not-false (same_value (value_at one object) (value_at other object)) parts.0))
+      | inl same ↦ subst (λ y. value_at one y ≡ value_at other y) (eqb-true object x same)
+          (same_value-true (value_at one object) (value_at other object) (not-false (same_value (value_at one object) (value_at other object)) parts.0))
       | inr there ↦ none-differs one other objects parts.1 x there
     ]
   where
@@ -79,7 +80,8 @@ goes-on machine marked values number node rules widths e settled other n f m =
     fit = fit-from machine values widths
 
     new_fit : Fit machine (with_outputs node.outputs (node_outputs machine number node values) values)
-    new_fit = outputs-fit machine node.outputs (node_outputs machine number node values) values ((rest_on_inputs machine rules).widths number node values e (fit-from machine values widths)) (fit-from machine values widths)
+    new_fit = outputs-fit machine node.outputs (node_outputs machine number node values) values ((rest_on_inputs machine rules).widths number node values e (fit-from machine values widths))
+        (fit-from machine values widths)
 
     there : (x : ℕ) → has node.outputs x ≡ true → is_some (slice_get values x) ≡ true
     there x h = there-below values x

@@ -5,12 +5,18 @@ use Rattle.std.proofs.lemmas.Bool.{eqb-true}
 use Rattle.vf_base.specs.Lists.{has, change_at}
 use Rattle.four_value.specs.Values.{LogicValue, natural_number, part_of}
 use Rattle.vf_base.specs.Base.{SourcePlace}
-use Rattle.v_design.specs.Trees.{Expression, Memory, Target, WholeTarget, BitTarget, PartTarget, WordTarget, Statement, Null, Block, If, Case, For, While, Repeat, Forever, Delay, EventControl, Wait, Blocking, Nonblocking, Finish, Statements, no_statements, more_statements, CaseItems, no_items, more_items}
+use Rattle.v_design.specs.Trees.{Expression, Memory, Target, WholeTarget, BitTarget, PartTarget, WordTarget, Statement, Null, Block, If, Case, For, While, Repeat, Forever, Delay, EventControl, Wait}
+use Rattle.v_design.specs.Trees.{Blocking, Nonblocking, Finish, Statements, no_statements, more_statements, CaseItems, no_items, more_items}
 use Rattle.v_design.specs.Expressions.{Progress, Needs, Has, then_with, sign_of, place_of_number, part_places, word_at, read_expression, read_each}
 use Rattle.v_design.specs.Designs.{FlatProcess, FlatNode, Machine}
-use Rattle.v_design.specs.Assignments.{ValueUpdate, value_at, part_update, bit_update, word_update, target_width, target_update, target_updates, targets_width, read_indexes, read_assignment, some_label_matches}
-use Rattle.v_design.specs.Processes.{Task, Run, Turns, Writes, Appends, Activity, Ready, Waiting, Asleep, Postponed, Done, Action, ReadsObject, WritesObject, AppendsUpdate, TouchesNothing, ProcessStep, opened, opened_all, goes_on, after_delay, reads_or, writes_left, write_step, append_step, assignment_step, either_statement, read_items, read_case, turns_of, turns_step, loop_of, wait_step, statement_step, end_step, process_step}
-use Rattle.v_design.specs.States.{State, ProcessState, LaterUpdate, Event, Step, LaneStep, Evaluation, NetUpdate, found_or, idle_process, process_at, source_at, next_activity, appended, write_of, activity_step, step_of, after_step, first_update, rest_of, after_lane_step, after, entry_matches, some_entry, ready_if, woken, woken_process, with_value, with_values, written_if, value_written, with_process, evaluated, nets_updated}
+use Rattle.v_design.specs.Assignments.{ValueUpdate, value_at, part_update, bit_update, word_update, target_width, target_update, target_updates, targets_width, read_indexes, read_assignment}
+use Rattle.v_design.specs.Assignments.{some_label_matches}
+use Rattle.v_design.specs.Processes.{Task, Run, Turns, Writes, Appends, Activity, Ready, Waiting, Asleep, Postponed, Done, Action, ReadsObject, WritesObject, AppendsUpdate, TouchesNothing}
+use Rattle.v_design.specs.Processes.{ProcessStep, opened, opened_all, goes_on, after_delay, reads_or, writes_left, write_step, append_step, assignment_step, either_statement, read_items, read_case}
+use Rattle.v_design.specs.Processes.{turns_of, turns_step, loop_of, wait_step, statement_step, end_step, process_step}
+use Rattle.v_design.specs.States.{State, ProcessState, LaterUpdate, Event, Step, LaneStep, Evaluation, NetUpdate, found_or, idle_process, process_at, source_at, next_activity, appended, write_of}
+use Rattle.v_design.specs.States.{activity_step, step_of, after_step, first_update, rest_of, after_lane_step, after, entry_matches, some_entry, ready_if, woken, woken_process, with_value}
+use Rattle.v_design.specs.States.{with_values, written_if, value_written, with_process, evaluated, nets_updated}
 use Rattle.v_design.specs.WellFormed.{KeepsRules}
 use Rattle.v_design.specs.Reads.{target_objects, targets_objects, written_objects, all_written, items_written}
 use Rattle.v_design.specs.Writers.{updates_objects, task_objects, tasks_objects, activity_objects, later_objects, lane_objects, process_objects, WriteVariables}
@@ -74,17 +80,20 @@ pub word_at-clear : (P : ℕ → Type 0) (memory : Memory) (number : Option ℕ)
 word_at-clear P memory None w h e = cc
 word_at-clear P memory (Some address) w h e = if-slice P memory.words (nat_le (min memory.first memory.last) address) (address - min memory.first memory.last) w h e
 
-target-clear : (P : ℕ → Type 0) (line : ℕ) (target : Target) (index : Option ℕ) (value : LogicValue) → Clear P (target_objects target) → Clear P (updates_objects (target_update line target index value ∷ []))
+target-clear : (P : ℕ → Type 0) (line : ℕ) (target : Target) (index : Option ℕ) (value : LogicValue) → Clear P (target_objects target) →
+    Clear P (updates_objects (target_update line target index value ∷ []))
 target-clear P line (WholeTarget variable) index value h = (h.0, tt)
 target-clear P line (BitTarget variable index') index value h = bit-clear P line variable.object (place_of_number variable.high variable.low index) value h.0
 target-clear P line (PartTarget variable from to) index value h = part-clear P line variable.object (part_places variable.high variable.low from to) value h.0
 target-clear P line (WordTarget memory index') index value h = word-clear P line memory.words (word_at memory index) value (λ w e. word_at-clear P memory index w h e)
 
-one-more : (P : ℕ → Type 0) (update : Option ValueUpdate) (updates : List (Option ValueUpdate)) → Clear P (updates_objects (update ∷ [])) → Clear P (updates_objects updates) → Clear P (updates_objects (update ∷ updates))
+one-more : (P : ℕ → Type 0) (update : Option ValueUpdate) (updates : List (Option ValueUpdate)) → Clear P (updates_objects (update ∷ [])) → Clear P (updates_objects updates) →
+    Clear P (updates_objects (update ∷ updates))
 one-more P None updates h i = i
 one-more P (Some update) updates h i = (h.0, i)
 
-pub updates-clear : (P : ℕ → Type 0) (line : ℕ) (targets : List Target) (indexes : List (Option ℕ)) (value : LogicValue) → Clear P (targets_objects targets) → Clear P (updates_objects (target_updates line targets indexes value))
+pub updates-clear : (P : ℕ → Type 0) (line : ℕ) (targets : List Target) (indexes : List (Option ℕ)) (value : LogicValue) → Clear P (targets_objects targets) →
+    Clear P (updates_objects (target_updates line targets indexes value))
 updates-clear P line [] indexes value h = tt
 updates-clear P line (target ∷ targets) [] value h = tt
 updates-clear P line (target ∷ targets) (index ∷ indexes) value h =
@@ -105,7 +114,8 @@ then-gives Q (Has answer left) next h = h answer left
 abbrev Updates : (ℕ → Type 0) → List (Option ValueUpdate) → Type 0
 Updates P updates = Clear P (updates_objects updates)
 
-assignment-gives : (P : ℕ → Type 0) (line : ℕ) (targets : List Target) (value : Expression) (operands : List LogicValue) → Clear P (targets_objects targets) → Gives (Updates P) (read_assignment line targets value operands)
+assignment-gives : (P : ℕ → Type 0) (line : ℕ) (targets : List Target) (value : Expression) (operands : List LogicValue) → Clear P (targets_objects targets) →
+    Gives (Updates P) (read_assignment line targets value operands)
 assignment-gives P line targets value operands h =
     then-gives (Updates P) (read_expression value operands) _
     (λ bits rest. then-gives (Updates P) (read_indexes targets rest) _ (λ indexes left. updates-clear P line targets indexes bits h))
@@ -192,7 +202,8 @@ write-clear P place (Some update ∷ []) tasks h i = (h.0, i)
 write-clear P place (None ∷ (next ∷ updates)) tasks h i = (tt, one-task P (Writes place (next ∷ updates)) tasks h i)
 write-clear P place (Some update ∷ (next ∷ updates)) tasks h i = (h.0, one-task P (Writes place (next ∷ updates)) tasks h.1 i)
 
-append-clear : (P : ℕ → Type 0) (place : SourcePlace) (delay : ℕ) (updates : List (Option ValueUpdate)) (tasks : List Task) → Updates P updates → Tasks P tasks → StepClear P (append_step place delay updates tasks)
+append-clear : (P : ℕ → Type 0) (place : SourcePlace) (delay : ℕ) (updates : List (Option ValueUpdate)) (tasks : List Task) → Updates P updates → Tasks P tasks →
+    StepClear P (append_step place delay updates tasks)
 append-clear P place delay [] tasks h i = (tt, i)
 append-clear P place delay (None ∷ []) tasks h i = (tt, i)
 append-clear P place delay (Some update ∷ []) tasks h i = (h.0, i)
@@ -207,11 +218,13 @@ left-clear : (P : ℕ → Type 0) (place : SourcePlace) (updates : List (Option 
 left-clear P place [] tasks h i = i
 left-clear P place (update ∷ updates) tasks h i = one-task P (Writes place (update ∷ updates)) tasks h i
 
-assigns-clear : (P : ℕ → Type 0) (place : SourcePlace) (now : ℕ) (delay : Option ℕ) (updates : List (Option ValueUpdate)) (tasks : List Task) → Updates P updates → Tasks P tasks → StepClear P (assignment_step place now delay updates tasks)
+assigns-clear : (P : ℕ → Type 0) (place : SourcePlace) (now : ℕ) (delay : Option ℕ) (updates : List (Option ValueUpdate)) (tasks : List Task) → Updates P updates → Tasks P tasks →
+    StepClear P (assignment_step place now delay updates tasks)
 assigns-clear P place now None updates tasks h i = write-clear P place updates tasks h i
 assigns-clear P place now (Some delay) updates tasks h i = delay-clear P place.line now delay (writes_left place updates tasks) (left-clear P place updates tasks h i)
 
-wait-clear : (P : ℕ → Type 0) (place : SourcePlace) (condition : Expression) (body : Statement) (tasks : List Task) (b : Bool) → Writer P body → Tasks P tasks → StepClear P (wait_step place condition body tasks b)
+wait-clear : (P : ℕ → Type 0) (place : SourcePlace) (condition : Expression) (body : Statement) (tasks : List Task) (b : Bool) → Writer P body → Tasks P tasks →
+    StepClear P (wait_step place condition body tasks b)
 wait-clear P place condition body tasks true h i = (tt, opened-clear P body tasks h i)
 wait-clear P place condition body tasks false h i = (tt, one-task P (Run (Wait place condition body)) tasks h i)
 
@@ -222,7 +235,11 @@ statement-clear P now operands (Block statements) tasks h i = (tt, opened_all-cl
 statement-clear P now operands (If place condition first second) tasks h i =
     reads-clear P (λ v. Unit {0}) place.line (Run (If place condition first second) ∷ tasks) operands (read_expression condition operands) _
     (one-task P (Run (If place condition first second)) tasks h i) (anything (read_expression condition operands))
-    (λ value u. (tt, opened-clear P (either_statement _ first second) tasks (either-clear P _ first second (clear-left P (written_objects first) (written_objects second) h) (clear-right P (written_objects first) (written_objects second) h)) i))
+    (λ value u. (
+      tt,
+      opened-clear P (either_statement _ first second) tasks (either-clear P _ first second (clear-left P (written_objects first) (written_objects second) h)
+          (clear-right P (written_objects first) (written_objects second) h)) i,
+    ))
 statement-clear P now operands (Case place kind value items default) tasks h i =
     reads-clear P (Writer P) place.line (Run (Case place kind value items default) ∷ tasks) operands (read_case kind value items default operands) _
     (one-task P (Run (Case place kind value items default)) tasks h i)

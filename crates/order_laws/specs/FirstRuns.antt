@@ -25,4 +25,5 @@ pub record FirstRunsGoOn : Type 0 where
   pub follow : (machine : Machine) (time : ℕ) → KeepsRules machine.design → Follow machine time (Some (start machine)) (first_run machine time)
   pub rise : (machine : Machine) (time : ℕ) → KeepsRules machine.design → Rise (first_run machine time)
   -- a race is at the time of its slot
-  pub race_time : (machine : Machine) (time : ℕ) (stop : Stop) (pair : ReportedPair) → KeepsRules machine.design → first_stop machine (first_run machine time) ≡ Some stop → stop.outcome ≡ Race pair → pair.time ≡ stop.time
+  pub race_time : (machine : Machine) (time : ℕ) (stop : Stop) (pair : ReportedPair) → KeepsRules machine.design → first_stop machine (first_run machine time) ≡ Some stop →
+      stop.outcome ≡ Race pair → pair.time ≡ stop.time

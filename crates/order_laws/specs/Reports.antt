@@ -33,7 +33,8 @@ stop_of (Looped time) = Some time
 -- before the time of a race or a loop no pair of legal runs has a hard detection
 abbrev pub NothingBefore : Type 0
 NothingBefore =
-    (design : FlatDesign) (plan : TestPlan) (fault : StuckAt) (line : FaultGrade) (stop time : ℕ) → KeepsRules design → IsPlan plan → grade design plan fault ≡ Some line → stop_of line ≡ Some stop → time < stop →
+    (design : FlatDesign) (plan : TestPlan) (fault : StuckAt) (line : FaultGrade) (stop time : ℕ) → KeepsRules design → IsPlan plan → grade design plan fault ≡ Some line → stop_of line ≡ Some stop →
+    time < stop →
     (good faulty : List Move) (good_end faulty_end : State) → IsLegal (good_machine design) time good good_end → IsLegal (faulty_machine design fault) time faulty faulty_end →
     first_strobe is_hard (run_samples (good_machine design) plan.watched good) (run_samples (faulty_machine design fault) plan.watched faulty) (strobes_until time plan) ≡ None
 

@@ -1,5 +1,6 @@
 -- The times of a sorted list, each once.
-use Rattle.std.proofs.Common.{◌≡◌, ◌≢◌, ℕ, suc, ◌+◌, ◌≤◌, ◌<◌, ◌↔◌, List, [], ◌∷◌, ◌++◌, length, take, get_or, slice_index, Contains, All, Option, Some, None, IfSome, arith, refl, sym, ◌∙◌, ap, subst, ◌⊎◌, inl, inr, ⊎_elim, length-append, length-take-le, IsTrue}
+use Rattle.std.proofs.Common.{◌≡◌, ◌≢◌, ℕ, suc, ◌+◌, ◌≤◌, ◌<◌, ◌↔◌, List, [], ◌∷◌, ◌++◌, length, take, get_or, slice_index, Contains, All, Option, Some, None, IfSome, arith, refl, sym, ◌∙◌, ap}
+use Rattle.std.proofs.Common.{subst, ◌⊎◌, inl, inr, ⊎_elim, length-append, length-take-le, IsTrue}
 use Rattle.std.specs.List.Sorted.{IsNonDecreasing}
 use Rattle.std.proofs.Math.ListN.{get_or-append}
 use Rattle.std.proofs.Math.Seq.{get_or-append_seam}
@@ -28,14 +29,17 @@ less-than (Some l) t x up past = omega arith
 here-or-before : (j n : ℕ) → j < n + 1 → (j < n) ⊎ (j ≡ n)
 here-or-before j n h = grind arith
 
-ordered-more : (kept : List ℕ) (t : ℕ) → ((i j : ℕ) → i < j → j < length kept → get_or kept i 0 < get_or kept j 0) → ((k : ℕ) → k < length kept → get_or kept k 0 < t) → (i j : ℕ) → i < j → j < length (kept ++ t ∷ []) → get_or (kept ++ t ∷ []) i 0 < get_or (kept ++ t ∷ []) j 0
+ordered-more : (kept : List ℕ) (t : ℕ) → ((i j : ℕ) → i < j → j < length kept → get_or kept i 0 < get_or kept j 0) → ((k : ℕ) → k < length kept → get_or kept k 0 < t) → (i j : ℕ) → i < j →
+    j < length (kept ++ t ∷ []) → get_or (kept ++ t ∷ []) i 0 < get_or (kept ++ t ∷ []) j 0
 ordered-more kept t ordered less i j lt inside =
     let size : length (kept ++ t ∷ []) ≡ length kept + 1 = length-append kept (t ∷ []) in
     let at : j < length kept + 1 = omega arith in
     let before : i < length kept = omega arith in
     let ei : get_or (kept ++ t ∷ []) i 0 ≡ get_or kept i 0 = get_or-append kept (t ∷ []) 0 i before in
-    ⊎_elim (λ (jl : j < length kept). let ej : get_or (kept ++ t ∷ []) j 0 ≡ get_or kept j 0 = get_or-append kept (t ∷ []) 0 j jl in let h : get_or kept i 0 < get_or kept j 0 = ordered i j lt jl in omega arith)
-    (λ (jr : j ≡ length kept). let ej : get_or (kept ++ t ∷ []) j 0 ≡ t = ap (λ n. get_or (kept ++ t ∷ []) n 0) jr ∙ get_or-append_seam kept t [] 0 in let h : get_or kept i 0 < t = less i before in omega arith) (here-or-before j (length kept) at)
+    ⊎_elim (λ (jl : j < length kept). let ej : get_or (kept ++ t ∷ []) j 0 ≡ get_or kept j 0 = get_or-append kept (t ∷ []) 0 j jl in let h : get_or kept i 0 < get_or kept j 0 = ordered i j lt jl in
+    omega arith)
+    (λ (jr : j ≡ length kept). let ej : get_or (kept ++ t ∷ []) j 0 ≡ t = ap (λ n. get_or (kept ++ t ∷ []) n 0) jr ∙ get_or-append_seam kept t [] 0 in let h : get_or kept i 0 < t = less i before in
+    omega arith) (here-or-before j (length kept) at)
 
 up_to-more : (kept : List ℕ) (t : ℕ) → ((k : ℕ) → k < length kept → get_or kept k 0 < t) → (k : ℕ) → k < length (kept ++ t ∷ []) → get_or (kept ++ t ∷ []) k 0 ≤ t
 up_to-more kept t less k inside =
@@ -48,22 +52,26 @@ taken-more : (sorted : List ℕ) (index t : ℕ) → index < length sorted → t
 taken-more sorted index t below at = take_more sorted index 0 below ∙ ap (λ x. take index sorted ++ x ∷ []) (sym at)
 
 -- a later time is kept
-pub Keeps-past : (sorted kept : List ℕ) (last : Option ℕ) (index t : ℕ) → index < length sorted → t ≡ get_or sorted index 0 → IsPast last t → Keeps (take index sorted) kept last → Keeps (take (index + 1) sorted) (kept ++ t ∷ []) (Some t)
+pub Keeps-past : (sorted kept : List ℕ) (last : Option ℕ) (index t : ℕ) → index < length sorted → t ≡ get_or sorted index 0 → IsPast last t → Keeps (take index sorted) kept last →
+    Keeps (take (index + 1) sorted) (kept ++ t ∷ []) (Some t)
 Keeps-past sorted kept last index t below at past h =
     let less : (k : ℕ) → k < length kept → get_or kept k 0 < t = λ k lt. less-than last t (get_or kept k 0) (h.up_to k lt) past in
     let P : List ℕ → Type 0 = λ (l : List ℕ). Keeps l (kept ++ t ∷ []) (Some t) in
     let here : P (take index sorted ++ t ∷ []) = record {
       ordered = ordered-more kept t h.ordered less;
       up_to = up_to-more kept t less;
-      there = λ time c. ⊎_elim (λ l. Contains-append_left (take index sorted) (t ∷ []) time (h.there time l)) (λ r. Contains-append_right (take index sorted) (t ∷ []) time r) (Contains-append_cases kept (t ∷ []) time c);
-      all = λ time c. ⊎_elim (λ l. Contains-append_left kept (t ∷ []) time (h.all time l)) (λ r. Contains-append_right kept (t ∷ []) time r) (Contains-append_cases (take index sorted) (t ∷ []) time c);
+      there = λ time c. ⊎_elim (λ l. Contains-append_left (take index sorted) (t ∷ []) time (h.there time l)) (λ r. Contains-append_right (take index sorted) (t ∷ []) time r)
+          (Contains-append_cases kept (t ∷ []) time c);
+      all = λ time c. ⊎_elim (λ l. Contains-append_left kept (t ∷ []) time (h.all time l)) (λ r. Contains-append_right kept (t ∷ []) time r)
+          (Contains-append_cases (take index sorted) (t ∷ []) time c);
       last_there = Contains-push (take index sorted) t;
       few = let h : length kept ≤ length (take index sorted) = h.few in simp length-append (omega arith);
     } in
     subst P (sym (taken-more sorted index t below at)) here
 
 -- a time that isn't past the last one is the last one
-is-last : (sorted : List ℕ) (last : Option ℕ) (index t : ℕ) → IsNonDecreasing sorted → index < length sorted → t ≡ get_or sorted index 0 → (IsPast last t → ⊥) → IfSome last (λ time. Contains (take index sorted) time) → Contains (take index sorted) t
+is-last : (sorted : List ℕ) (last : Option ℕ) (index t : ℕ) → IsNonDecreasing sorted → index < length sorted → t ≡ get_or sorted index 0 → (IsPast last t → ⊥) →
+    IfSome last (λ time. Contains (take index sorted) time) → Contains (take index sorted) t
 is-last sorted None index t rises below at never there = absurd (never tt)
 is-last sorted (Some l) index t rises below at never there =
     let size : length (take index sorted) ≡ index = length-take-le index sorted (omega arith) in
@@ -85,7 +93,8 @@ is-last sorted (Some l) index t rises below at never there =
         either a b = grind arith
 
 -- a time that isn't later is there already
-pub Keeps-same : (sorted kept : List ℕ) (last : Option ℕ) (index t : ℕ) → IsNonDecreasing sorted → index < length sorted → t ≡ get_or sorted index 0 → (IsPast last t → ⊥) → Keeps (take index sorted) kept last → Keeps (take (index + 1) sorted) kept last
+pub Keeps-same : (sorted kept : List ℕ) (last : Option ℕ) (index t : ℕ) → IsNonDecreasing sorted → index < length sorted → t ≡ get_or sorted index 0 → (IsPast last t → ⊥) →
+    Keeps (take index sorted) kept last → Keeps (take (index + 1) sorted) kept last
 Keeps-same sorted kept last index t rises below at never h =
     let there : Contains (take index sorted) t = is-last sorted last index t rises below at never h.last_there in
     let P : List ℕ → Type 0 = λ (l : List ℕ). Keeps l kept last in
@@ -93,7 +102,8 @@ Keeps-same sorted kept last index t rises below at never h =
       ordered = h.ordered;
       up_to = h.up_to;
       there = λ time c. Contains-append_left (take index sorted) (t ∷ []) time (h.there time c);
-      all = λ time c. ⊎_elim (λ l. h.all time l) (λ r. let e : time ≡ t = only t time r in let P : ℕ → Type 0 = λ x. Contains kept x in let here : P t = h.all t there in subst P (sym e) here) (Contains-append_cases (take index sorted) (t ∷ []) time c);
+      all = λ time c. ⊎_elim (λ l. h.all time l) (λ r. let e : time ≡ t = only t time r in let P : ℕ → Type 0 = λ x. Contains kept x in let here : P t = h.all t there in subst P (sym e) here)
+          (Contains-append_cases (take index sorted) (t ∷ []) time c);
       last_there = last-more last h.last_there;
       few = let h : length kept ≤ length (take index sorted) = h.few in simp length-append (omega arith);
     } in

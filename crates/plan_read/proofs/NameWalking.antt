@@ -28,7 +28,8 @@ module _ {A B C : Type 0} (view : A → B) (f : ℕ → B → Option C) (key_of 
       let keys : List (List ℕ) = map key_of (map view xs) in
       let sound = key-sound (map key_of (map view xs)) key walk.place.from place walk.place.found in
       let low : place < length xs = omega (arith, sound.1, length-map (map view xs) key_of, length-map xs view) in
-      let goes : first_answer f (place + 1) (map view (drop (place + 1) xs)) ≡ rest_from view (first_answer f) None xs next = rest-goes view key_of key (first_answer f) None (λ m. refl) skips xs place next sound.2 e in
+      let goes : first_answer f (place + 1) (map view (drop (place + 1) xs)) ≡ rest_from view (first_answer f) None xs next =
+      rest-goes view key_of key (first_answer f) None (λ m. refl) skips xs place next sound.2 e in
       record {
         place = record { from = place + 1; found = e ∙ ap (λ k. key_from (map key_of (map view xs)) k (place + 1)) (sym (one (get_or (map key_of (map view xs)) place []) sound.2)) };
         rest = walk.rest ∙ (rest-here view (first_answer f) None xs place x low is ∙ (ap (λ o. or_else o (first_answer f (place + 1) (map view (drop (place + 1) xs)))) none ∙ goes));
@@ -44,7 +45,8 @@ walk-place view f key_of key xs place walk =
     omega (arith, sound.1, length-map (map view xs) key_of, length-map xs view)
 
 -- the element at the place answers
-pub walk-here : {A B C : Type 0} (view : A → B) (f : ℕ → B → Option C) (key_of : B → List ℕ) (key : List ℕ) (xs : List A) (place : ℕ) (x : A) (y : C) → IsWalk view f key_of key xs (Some place) → x ≡ get_or xs place x →
+pub walk-here : {A B C : Type 0} (view : A → B) (f : ℕ → B → Option C) (key_of : B → List ℕ) (key : List ℕ) (xs : List A) (place : ℕ) (x : A) (y : C) → IsWalk view f key_of key xs (Some place) →
+    x ≡ get_or xs place x →
     f place (view x) ≡ Some y → Some y ≡ first_answer f 0 (map view xs)
 walk-here view f key_of key xs place x y walk is some =
     let low : place < length xs = walk-place view f key_of key xs place walk in

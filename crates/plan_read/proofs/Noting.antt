@@ -1,5 +1,6 @@
 -- Nodes that are noted as drivers.
-use Rattle.std.proofs.Common.{◌≡◌, ◌≢◌, ℕ, zero, suc, ◌+◌, ◌<◌, ◌≤◌, Bool, true, false, cond, ◌||◌, List, [], ◌∷◌, ◌++◌, length, get_or, set, take, drop, drop-cons, map, Option, Some, None, refl, ap, sym, subst, ◌∙◌, arith, get_or-set_other, get_or-set_same}
+use Rattle.std.proofs.Common.{◌≡◌, ◌≢◌, ℕ, zero, suc, ◌+◌, ◌<◌, ◌≤◌, Bool, true, false, cond, ◌||◌, List, [], ◌∷◌, ◌++◌, length, get_or, set, take, drop, drop-cons, map, Option, Some, None, refl}
+use Rattle.std.proofs.Common.{ap, sym, subst, ◌∙◌, arith, get_or-set_other, get_or-set_same}
 use Rattle.std.specs.Prelude.{nat_eq, option_map}
 use Rattle.std.proofs.lemmas.Bool.{eqb-true, ne_eqb, eq-eqb}
 use Rattle.std.proofs.lemmas.List.{take_more, map_push}
@@ -8,7 +9,8 @@ use Rattle.vf_base.specs.declared.ids.ObjectId.{ObjectId}
 use Rattle.vf_base.specs.Lists.{has, first_place, earlier_place}
 use Rattle.key_index.specs.Places.{later}
 
-pub noted-one : {N : Type 0} (drivers : List (Option N)) (place object : ℕ) (node : N) → place < length drivers → get_or (set drivers place (Some node)) object None ≡ cond (nat_eq place object) (Some node) (get_or drivers object None)
+pub noted-one : {N : Type 0} (drivers : List (Option N)) (place object : ℕ) (node : N) → place < length drivers →
+    get_or (set drivers place (Some node)) object None ≡ cond (nat_eq place object) (Some node) (get_or drivers object None)
 noted-one drivers place object node low =
     elim (nat_eq place object) as (λ b. nat_eq place object ≡ b → get_or (set drivers place (Some node)) object None ≡ cond b (Some node) (get_or drivers object None)) [
       | true ↦ λ e. ap (λ k. get_or (set drivers place (Some node)) k None) (sym (eqb-true place object e)) ∙ get_or-set_same drivers place (Some node) None low
@@ -18,7 +20,8 @@ noted-one drivers place object node low =
     apart : false ≡ true → ⊥
     apart h = cc
 
-pub noted-out : {N : Type 0} (drivers : List (Option N)) (place object : ℕ) (node : N) → length drivers ≤ place → object < length drivers → get_or drivers object None ≡ cond (nat_eq place object) (Some node) (get_or drivers object None)
+pub noted-out : {N : Type 0} (drivers : List (Option N)) (place object : ℕ) (node : N) → length drivers ≤ place → object < length drivers →
+    get_or drivers object None ≡ cond (nat_eq place object) (Some node) (get_or drivers object None)
 noted-out drivers place object node high low = sym (ap (λ b. cond b (Some node) (get_or drivers object None)) (ne_eqb place object (λ e. absurd (omega arith))))
 
 has-push : (xs : List ℕ) (n object : ℕ) → has (xs ++ n ∷ []) object ≡ (has xs object || nat_eq n object)
@@ -40,7 +43,8 @@ pub noted-more : {N : Type 0} (xs : List ObjectId) (i object : ℕ) (d : ObjectI
     had ≡ cond (has (map object_number (take i xs)) object) (Some node) old → new ≡ cond (nat_eq (object_number (get_or xs i d)) object) (Some node) had →
     new ≡ cond (has (map object_number (take (i + 1) xs)) object) (Some node) old
 noted-more xs i object d node old had new low before put =
-    let taken : map object_number (take (i + 1) xs) ≡ map object_number (take i xs) ++ object_number (get_or xs i d) ∷ [] = ap (map object_number) (take_more xs i d low) ∙ map_push object_number (take i xs) (get_or xs i d) in
+    let taken : map object_number (take (i + 1) xs) ≡ map object_number (take i xs) ++ object_number (get_or xs i d) ∷
+    [] = ap (map object_number) (take_more xs i d low) ∙ map_push object_number (take i xs) (get_or xs i d) in
     put ∙ (ap (cond (nat_eq (object_number (get_or xs i d)) object) (Some node)) before
     ∙ (both-ways (has (map object_number (take i xs)) object) (nat_eq (object_number (get_or xs i d)) object) (Some node) old
     ∙ ap (λ b. cond b (Some node) old) (sym (ap (λ l. has l object) taken ∙ has-push (map object_number (take i xs)) (object_number (get_or xs i d)) object))))

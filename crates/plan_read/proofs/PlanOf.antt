@@ -53,7 +53,8 @@ module _ (design : FlatDesign) where
       let one : Contains (sites_of design) site = contains-in site (sites_of design) (each site (here sites)) in
       (one, (one, all-both sites (λ s h. each s (there site sites h))))
 
-  fault-listed : (found : Option FaultSite) (value : Bool) → ((site : FaultSite) → found ≡ Some site → Contains (sites_of design) site) → AllHold (λ (fault : StuckAt). Contains (sites_of design) fault.site) (fault_at found value)
+  fault-listed : (found : Option FaultSite) (value : Bool) → ((site : FaultSite) → found ≡ Some site → Contains (sites_of design) site) →
+      AllHold (λ (fault : StuckAt). Contains (sites_of design) fault.site) (fault_at found value)
   fault-listed None value each = tt
   fault-listed (Some site) value each = (each site refl, tt)
 
@@ -82,9 +83,11 @@ module _ (design : FlatDesign) (rules : KeepsRules design) where
   one-there : (object : ℕ) (found : FlatObject) (answer : Option ℕ) → slice_get design.objects object ≡ Some found → ((bit : ℕ) → answer ≡ Some bit → bit < found.width) →
       AllHold (λ (w : WatchedBit). w.bit < width_in design w.object) (bit_if object answer)
   one-there object found None at each = tt
-  one-there object found (Some bit) at each = let low : bit < found.width = each bit refl in let is : width_in design object ≡ found.width = width-at design.objects object found at in (omega (arith, is), tt)
+  one-there object found (Some bit) at each = let low : bit < found.width = each bit refl in let is : width_in design object ≡ found.width = width-at design.objects object found at in
+      (omega (arith, is), tt)
 
-  kind-there : (kind : ObjectKind) (bits : List WatchedBit) → AllHold (λ (w : WatchedBit). w.bit < width_in design w.object) bits → AllHold (λ (w : WatchedBit). w.bit < width_in design w.object) (bits_by_kind kind bits)
+  kind-there : (kind : ObjectKind) (bits : List WatchedBit) → AllHold (λ (w : WatchedBit). w.bit < width_in design w.object) bits →
+      AllHold (λ (w : WatchedBit). w.bit < width_in design w.object) (bits_by_kind kind bits)
   kind-there Var bits all = all
   kind-there Word bits all = tt
   kind-there Net bits all = all
@@ -94,7 +97,8 @@ module _ (design : FlatDesign) (rules : KeepsRules design) where
   either-there true all one first second = first
   either-there false all one first second = second
 
-  object-there : (word : List ℕ) (number : ℕ) (object : FlatObject) → slice_get design.objects number ≡ Some object → AllHold (λ (w : WatchedBit). w.bit < width_in design w.object) (bits_in_object word number object)
+  object-there : (word : List ℕ) (number : ℕ) (object : FlatObject) → slice_get design.objects number ≡ Some object →
+      AllHold (λ (w : WatchedBit). w.bit < width_in design w.object) (bits_in_object word number object)
   object-there word number object at =
       let is : width_in design number ≡ object.width = width-at design.objects number object at in
       kind-there object.kind (all_or_one (bytes_eq object.name word) (object_bits number object.width) (bit_if number (bit_spelled object word)))
@@ -131,7 +135,8 @@ module _ (design : FlatDesign) (rules : KeepsRules design) where
   held-there [] place object bit e h = absurd (cc)
   held-there (piece ∷ pieces) place object bit e h =
       let p = and_parts (has_width design piece) (have_widths design pieces) e in
-      elim (nat_lt place piece.width) as (λ b. nat_lt place piece.width ≡ b → cond b (Some (piece.object, place)) (piece_bit pieces (place - piece.width)) ≡ Some (object, bit) → bit < width_in design object) [
+      elim (nat_lt place piece.width) as (λ b. nat_lt place piece.width ≡ b → cond b (Some (piece.object, place)) (piece_bit pieces (place - piece.width)) ≡ Some (object, bit) →
+      bit < width_in design object) [
         | true ↦ λ low s. let one : piece.object ≡ object = ap object-held s in let two : place ≡ bit = ap bit-held s in let lt : place < piece.width = ltb-true place piece.width low in
             subst (λ o. bit < width_in design o) one (let is : width_in design piece.object ≡ piece.width = width-of-piece piece p.0 in omega (arith, is))
         | false ↦ λ high s. held-there pieces (place - piece.width) object bit p.1 s
@@ -150,10 +155,12 @@ module _ (design : FlatDesign) (rules : KeepsRules design) where
       placed None = tt
       placed (Some place) = at-place (piece_bit name.vector.pieces place) place refl
 
-  names-there : (word : List ℕ) (names : List NameJoined) → AllHold (IsSizedName design) names → AllHold (λ (w : WatchedBit). w.bit < width_in design w.object) (joined (map (bits_in_joined word) names))
+  names-there : (word : List ℕ) (names : List NameJoined) → AllHold (IsSizedName design) names →
+      AllHold (λ (w : WatchedBit). w.bit < width_in design w.object) (joined (map (bits_in_joined word) names))
   names-there word [] sized = tt
   names-there word (name ∷ names) sized =
-      all-append (λ (w : WatchedBit). w.bit < width_in design w.object) (bits_in_joined word name) (joined (map (bits_in_joined word) names)) (name-there word name sized.0) (names-there word names sized.1)
+      all-append (λ (w : WatchedBit). w.bit < width_in design w.object) (bits_in_joined word name) (joined (map (bits_in_joined word) names)) (name-there word name sized.0)
+      (names-there word names sized.1)
 
   upwards-there : (word : List ℕ) → AllHold (λ (w : WatchedBit). w.bit < width_in design w.object) (bits_upwards design word)
   unfolding bits_upwards

@@ -1,5 +1,6 @@
 -- One line more is read.
-use Rattle.std.proofs.Common.{◌≡◌, ◌≢◌, ℕ, zero, suc, ◌+◌, ◌≤◌, ◌<◌, List, [], ◌∷◌, ◌++◌, map, length, take, get_or, Option, Some, None, IfSome, Result, Ok, Err, IfErr, Bool, true, false, ◌||◌, arith, refl, sym, ◌∙◌, ap, subst, ◌⊎◌, inl, inr, ⊎_elim, add-one, Bor, append_assoc, length-append, nat_lt, All}
+use Rattle.std.proofs.Common.{◌≡◌, ◌≢◌, ℕ, zero, suc, ◌+◌, ◌≤◌, ◌<◌, List, [], ◌∷◌, ◌++◌, map, length, take, get_or, Option, Some, None, IfSome, Result, Ok, Err, IfErr, Bool, true, false, ◌||◌}
+use Rattle.std.proofs.Common.{arith, refl, sym, ◌∙◌, ap, subst, ◌⊎◌, inl, inr, ⊎_elim, add-one, Bor, append_assoc, length-append, nat_lt, All}
 use Rattle.std.specs.List.{list_any, slice_get}
 use Rattle.std.proofs.lemmas.List.{append-nil}
 use Rattle.std.proofs.lemmas.Option.{slice_get-get_or}
@@ -22,8 +23,11 @@ use Rattle.plan_read.specs.Forms.{PlanLine, Empty, Ends, Watches, Strobes, Lists
 use Rattle.text_lines.specs.Text.{words_of}
 use Rattle.text_lines.specs.Plain.{plain_texts}
 use Rattle.plan_read.specs.Plain.{watched_bits}
-use Rattle.plan_read.specs.Spelled.{PlanReason, IsBad, IsUnknown, IsTooMany, bits_on, faults_on, fault_at, end_on, earlier_end, end_of, times_of, bits_of, listed_faults, is_bad, is_bad_first, is_bad_after, is_unknown, are_none, is_none, are_too_many, first_reason, reason_of, lines_say, NoneRefused, IsFirstRefused, latest_end, most_strobes, most_watched, most_faults}
-use Rattle.plan_read.specs.Steps.{FaultIs, bad_if, too_many_if, strobes_reason, watched_reason, site_reason, all_reason, reason_first, reason_after, reason_at, AreKept, AreInTime, IsAdded, IsWithin, IsRead, FaultOf}
+use Rattle.plan_read.specs.Spelled.{PlanReason, IsBad, IsUnknown, IsTooMany, bits_on, faults_on, fault_at, end_on, earlier_end, end_of, times_of, bits_of, listed_faults, is_bad, is_bad_first}
+use Rattle.plan_read.specs.Spelled.{is_bad_after, is_unknown, are_none, is_none, are_too_many, first_reason, reason_of, lines_say, NoneRefused, IsFirstRefused, latest_end, most_strobes}
+use Rattle.plan_read.specs.Spelled.{most_watched, most_faults}
+use Rattle.plan_read.specs.Steps.{FaultIs, bad_if, too_many_if, strobes_reason, watched_reason, site_reason, all_reason, reason_first, reason_after, reason_at, AreKept, AreInTime, IsAdded, IsWithin}
+use Rattle.plan_read.specs.Steps.{IsRead, FaultOf}
 
 -- Lists with one element more
 
@@ -43,7 +47,8 @@ end-more : (lines : List PlanLine) (line : PlanLine) → end_of (lines ++ line �
 end-more [] line = earlier-none (end_on line)
 end-more (x ∷ xs) line = ap (λ e. earlier_end (end_on x) e) (end-more xs line) ∙ earlier-assoc (end_on x) (end_of xs) (end_on line)
 
-at-last : {A : Type 0} (xs : List A) (x y : A) (place : ℕ) → slice_get (xs ++ x ∷ []) place ≡ Some y → ((slice_get xs place ≡ Some y) × (take place (xs ++ x ∷ []) ≡ take place xs)) ⊎ ((x ≡ y) × (take place (xs ++ x ∷ []) ≡ xs))
+at-last : {A : Type 0} (xs : List A) (x y : A) (place : ℕ) → slice_get (xs ++ x ∷ []) place ≡ Some y →
+    ((slice_get xs place ≡ Some y) × (take place (xs ++ x ∷ []) ≡ take place xs)) ⊎ ((x ≡ y) × (take place (xs ++ x ∷ []) ≡ xs))
 at-last [] x y zero h = let same : x ≡ y = cc in inr (same, refl)
 at-last [] x y (suc n) h = cc
 at-last (z ∷ xs) x y zero h = inl (h, refl)
@@ -54,7 +59,8 @@ none-more : (design : FlatDesign) (lines : List PlanLine) (line : PlanLine) → 
 none-more design lines line sound fine place other h =
     ⊎_elim
     (λ l. let P : List PlanLine → Type 0 = λ before. reason_of design before other ≡ None in let here : P (take place lines) = sound place other l.0 in subst P (sym l.1) here)
-    (λ r. let P : List PlanLine → Type 0 = λ before. reason_of design before other ≡ None in let Q : PlanLine → Type 0 = λ it. reason_of design lines it ≡ None in let here : P lines = subst Q r.0 fine in subst P (sym r.1) here)
+    (λ r. let P : List PlanLine → Type 0 = λ before. reason_of design before other ≡ None in let Q : PlanLine → Type 0 = λ it. reason_of design lines it ≡ None in
+    let here : P lines = subst Q r.0 fine in subst P (sym r.1) here)
     (at-last lines line other place h)
 
 -- Reasons
@@ -64,11 +70,14 @@ or-none true = refl
 or-none false = refl
 
 many-more : (design : FlatDesign) (lines : List PlanLine) (line : PlanLine) →
-    are_too_many design (lines ++ line ∷ []) ≡ (nat_lt 65536 (length (times_of lines) + length (times_on line)) || nat_lt 4096 (length (bits_of design lines) + length (bits_on design line)) || nat_lt 65536 (length (listed_faults design lines) + length (faults_on design line)))
+    are_too_many design (lines ++ line ∷ []) ≡ (nat_lt 65536 (length (times_of lines) + length (times_on line)) || nat_lt 4096 (length (bits_of design lines) + length (bits_on design line))
+    || nat_lt 65536 (length (listed_faults design lines) + length (faults_on design line)))
 many-more design lines line =
     let t : length (times_of (lines ++ line ∷ [])) ≡ length (times_of lines) + length (times_on line) = ap length (joined-more times_on lines line) ∙ length-append (times_of lines) (times_on line) in
-    let w : length (bits_of design (lines ++ line ∷ [])) ≡ length (bits_of design lines) + length (bits_on design line) = ap length (joined-more (bits_on design) lines line) ∙ length-append (bits_of design lines) (bits_on design line) in
-    let f : length (listed_faults design (lines ++ line ∷ [])) ≡ length (listed_faults design lines) + length (faults_on design line) = ap length (joined-more (faults_on design) lines line) ∙ length-append (listed_faults design lines) (faults_on design line) in
+    let w : length (bits_of design (lines ++ line ∷ [])) ≡ length (bits_of design lines) + length (bits_on design line) = ap length (joined-more (bits_on design) lines line)
+    ∙ length-append (bits_of design lines) (bits_on design line) in
+    let f : length (listed_faults design (lines ++ line ∷ [])) ≡ length (listed_faults design lines) + length (faults_on design line) = ap length (joined-more (faults_on design) lines line)
+    ∙ length-append (listed_faults design lines) (faults_on design line) in
     rw (t, w, f) refl
 
 -- the first two kinds have nothing more
@@ -87,7 +96,8 @@ only-bits T W F w t f = three-or _ _ _ false (nat_lt 4096 (W + w)) false (few-st
 only-faults : (T W F f : ℕ) → T ≤ 65536 → W ≤ 4096 → (nat_lt 65536 (T + 0) || nat_lt 4096 (W + 0) || nat_lt 65536 (F + f)) ≡ nat_lt 65536 (F + f)
 only-faults T W F f t w = three-or _ _ _ false false (nat_lt 65536 (F + f)) (few-still 65536 T t) (few-still 4096 W w) refl
 
-reason-times : (end before : ℕ) (times : List ℕ) (bad many : Bool) → list_any (nat_lt end) times ≡ bad → nat_lt 65536 (before + length times) ≡ many → first_reason bad false many ≡ strobes_reason end times before
+reason-times : (end before : ℕ) (times : List ℕ) (bad many : Bool) → list_any (nat_lt end) times ≡ bad → nat_lt 65536 (before + length times) ≡ many →
+    first_reason bad false many ≡ strobes_reason end times before
 reason-times end before times true many b m = rw b refl
 reason-times end before times false true b m = rw (b, m) refl
 reason-times end before times false false b m = rw (b, m) refl
@@ -109,7 +119,8 @@ many-at : (design : FlatDesign) (lines : List PlanLine) (line : PlanLine) (T W F
 many-at design lines line T W F is = many-more design lines line ∙ rw (is.times, is.bits, is.faults) refl
 
 -- no line that gives nothing is one too many
-none-many : (design : FlatDesign) (lines : List PlanLine) (line : PlanLine) (T W F : ℕ) → Counts design lines T W F → length (times_on line) ≡ 0 → length (bits_on design line) ≡ 0 → length (faults_on design line) ≡ 0 → are_too_many design (lines ++ line ∷ []) ≡ false
+none-many : (design : FlatDesign) (lines : List PlanLine) (line : PlanLine) (T W F : ℕ) → Counts design lines T W F → length (times_on line) ≡ 0 → length (bits_on design line) ≡ 0 →
+    length (faults_on design line) ≡ 0 → are_too_many design (lines ++ line ∷ []) ≡ false
 none-many design lines line T W F is t w f =
     many-at design lines line T W F is ∙ (rw (t, w, f) (only-times T W F 0 is.few_bits is.few_faults) ∙ few-still 65536 T is.few_times)
 
@@ -118,7 +129,8 @@ watched-by [] before many m = refl
 watched-by (bit ∷ bits) before true m = rw m refl
 watched-by (bit ∷ bits) before false m = rw m refl
 
-site-by : (site : Option FaultSite) (value : Bool) (before : ℕ) (many : Bool) → nat_lt 65536 (before + length (fault_at site value)) ≡ many → first_reason false (is_none site) many ≡ site_reason site before
+site-by : (site : Option FaultSite) (value : Bool) (before : ℕ) (many : Bool) → nat_lt 65536 (before + length (fault_at site value)) ≡ many →
+    first_reason false (is_none site) many ≡ site_reason site before
 site-by None value before many m = refl
 site-by (Some site) value before true m = rw m refl
 site-by (Some site) value before false m = rw m refl
@@ -134,7 +146,8 @@ bad-end false many m = rw m refl
 -- why a line is refused before an end was given
 reason-is-first : (design : FlatDesign) (lines : List PlanLine) (line : PlanLine) (T W F : ℕ) → Counts design lines T W F → end_of lines ≡ None → reason_of design lines line ≡ reason_first line
 reason-is-first design lines Empty T W F is first = rw (first, none-many design lines Empty T W F is refl refl refl) refl
-reason-is-first design lines (Ends time) T W F is first = rw first (bad-end (nat_lt latest_end time) (are_too_many design (lines ++ Ends time ∷ [])) (none-many design lines (Ends time) T W F is refl refl refl))
+reason-is-first design lines (Ends time) T W F is first = rw first (bad-end (nat_lt latest_end time) (are_too_many design (lines ++ Ends time ∷ []))
+    (none-many design lines (Ends time) T W F is refl refl refl))
 reason-is-first design lines (Watches name) T W F is first = rw first refl
 reason-is-first design lines (Strobes from step to) T W F is first = rw first refl
 reason-is-first design lines (Lists name value) T W F is first = rw first refl
@@ -143,14 +156,16 @@ reason-is-first design lines Formless T W F is first = rw first refl
 
 -- why a line is refused after it
 reason-is-after : (design : FlatDesign) (lines : List PlanLine) (draft : Draft) (end : ℕ) (line : PlanLine) →
-    Counts design lines (length draft.strobes.items) (length (watched_bits draft.watched.items)) (length (stuck draft.faults.items)) → end_of lines ≡ Some end → reason_of design lines line ≡ reason_after design draft end line
+    Counts design lines (length draft.strobes.items) (length (watched_bits draft.watched.items)) (length (stuck draft.faults.items)) → end_of lines ≡ Some end →
+    reason_of design lines line ≡ reason_after design draft end line
 reason-is-after design lines draft end Empty is later = rw (later, none-many design lines Empty _ _ _ is refl refl refl) refl
 reason-is-after design lines draft end (Ends time) is later = rw later refl
 reason-is-after design lines draft end (Watches name) is later =
     rw later (watched-by (bits_spelled design name) (length (watched_bits draft.watched.items)) (are_too_many design (lines ++ Watches name ∷ []))
     (sym (many-at design lines (Watches name) _ _ _ is ∙ only-bits _ _ _ (length (bits_spelled design name)) is.few_times is.few_faults)))
 reason-is-after design lines draft end (Strobes from step to) is later =
-    rw later (reason-times end (length draft.strobes.items) (times_on (Strobes from step to)) (list_any (nat_lt end) (times_on (Strobes from step to))) (are_too_many design (lines ++ Strobes from step to ∷ [])) refl
+    rw later (reason-times end (length draft.strobes.items) (times_on (Strobes from step to)) (list_any (nat_lt end) (times_on (Strobes from step to)))
+    (are_too_many design (lines ++ Strobes from step to ∷ [])) refl
     (sym (many-at design lines (Strobes from step to) _ _ _ is ∙ only-times _ _ _ (length (times_on (Strobes from step to))) is.few_bits is.few_faults)))
 reason-is-after design lines draft end (Lists name value) is later =
     rw later (site-by (site_spelled design name) value (length (stuck draft.faults.items)) (are_too_many design (lines ++ Lists name value ∷ []))
@@ -160,7 +175,8 @@ reason-is-after design lines draft end ListsAll is later =
     (sym (many-at design lines ListsAll _ _ _ is ∙ only-faults _ _ _ (length (faults_of design)) is.few_times is.few_bits)))
 reason-is-after design lines draft end Formless is later = rw later refl
 
-counts-of : (design : FlatDesign) (lines : List PlanLine) (draft : Draft) → IsRead design lines draft → Counts design lines (length draft.strobes.items) (length (watched_bits draft.watched.items)) (length (stuck draft.faults.items))
+counts-of : (design : FlatDesign) (lines : List PlanLine) (draft : Draft) → IsRead design lines draft →
+    Counts design lines (length draft.strobes.items) (length (watched_bits draft.watched.items)) (length (stuck draft.faults.items))
 counts-of design lines draft is = record {
   times = ap length (sym is.strobes);
   bits = ap length (sym is.watched);
@@ -170,7 +186,8 @@ counts-of design lines draft is = record {
   few_faults = is.within.faults;
 }
 
-reason-at : (design : FlatDesign) (lines : List PlanLine) (draft : Draft) (line : PlanLine) (end : Option ℕ) → draft.end ≡ end → IsRead design lines draft → reason_of design lines line ≡ reason_at design draft end line
+reason-at : (design : FlatDesign) (lines : List PlanLine) (draft : Draft) (line : PlanLine) (end : Option ℕ) → draft.end ≡ end → IsRead design lines draft →
+    reason_of design lines line ≡ reason_at design draft end line
 reason-at design lines draft line None e is = reason-is-first design lines line _ _ _ (counts-of design lines draft is) (sym is.end ∙ e)
 reason-at design lines draft line (Some end) e is = reason-is-after design lines draft end line (counts-of design lines draft is) (sym is.end ∙ e)
 
@@ -234,14 +251,17 @@ none-of-three false false true h = cc
 none-of-three false false false h = (refl, refl, refl)
 
 -- a line that isn't refused is read
-pub read-more : (design : FlatDesign) (lines : List PlanLine) (line : PlanLine) (old new : Draft) → IsRead design lines old → reason_at design old old.end line ≡ None → IsAdded design line old new → IsRead design (lines ++ line ∷ []) new
+pub read-more : (design : FlatDesign) (lines : List PlanLine) (line : PlanLine) (old new : Draft) → IsRead design lines old → reason_at design old old.end line ≡ None → IsAdded design line old new →
+    IsRead design (lines ++ line ∷ []) new
 read-more design lines line old new is fine added =
     let none : reason_of design lines line ≡ None = reason-is design lines old line is ∙ fine in
     let good = no-reason (is_bad (end_of lines) line) (is_unknown design line) (are_too_many design (lines ++ line ∷ [])) none in
     let few = none-of-three _ _ _ good.1 in
     let strobes : new.strobes.items ≡ times_of (lines ++ line ∷ []) = added.strobes ∙ (ap (λ l. l ++ times_on line) is.strobes ∙ sym (joined-more times_on lines line)) in
-    let watched : watched_bits new.watched.items ≡ bits_of design (lines ++ line ∷ []) = added.watched ∙ (ap (λ l. l ++ bits_on design line) is.watched ∙ sym (joined-more (bits_on design) lines line)) in
-    let faults : stuck new.faults.items ≡ listed_faults design (lines ++ line ∷ []) = added.faults ∙ (ap (λ l. l ++ faults_on design line) is.faults ∙ sym (joined-more (faults_on design) lines line)) in
+    let watched : watched_bits new.watched.items ≡ bits_of design (lines ++ line ∷ []) = added.watched
+    ∙ (ap (λ l. l ++ bits_on design line) is.watched ∙ sym (joined-more (bits_on design) lines line)) in
+    let faults : stuck new.faults.items ≡ listed_faults design (lines ++ line ∷ []) = added.faults
+    ∙ (ap (λ l. l ++ faults_on design line) is.faults ∙ sym (joined-more (faults_on design) lines line)) in
     record {
       sound = none-more design lines line is.sound none;
       end = added.end ∙ (ap (λ e. earlier_end e (end_on line)) is.end ∙ sym (end-more lines line));
@@ -259,10 +279,32 @@ read-more design lines line old new is fine added =
     }
 
 -- a line that is refused is the first one
-pub refused-at : (design : FlatDesign) (all : List PlanLine) (place : ℕ) (line : PlanLine) (draft : Draft) (fault : PlanFault) → IsRead design (take place all) draft → slice_get all place ≡ Some line → FaultIs (place + 1) (reason_at design draft draft.end line) fault → FaultOf design all fault
-refused-at design all place line draft (BadLine number) is there h = record { place = place; numbered = h.0; line = line; stands = there; refused = reason-is design (take place all) draft line is ∙ h.1; first = is.sound }
-refused-at design all place line draft (UnknownSite number) is there h = record { place = place; numbered = h.0; line = line; stands = there; refused = reason-is design (take place all) draft line is ∙ h.1; first = is.sound }
-refused-at design all place line draft (TooMany number) is there h = record { place = place; numbered = h.0; line = line; stands = there; refused = reason-is design (take place all) draft line is ∙ h.1; first = is.sound }
+pub refused-at : (design : FlatDesign) (all : List PlanLine) (place : ℕ) (line : PlanLine) (draft : Draft) (fault : PlanFault) → IsRead design (take place all) draft →
+    slice_get all place ≡ Some line → FaultIs (place + 1) (reason_at design draft draft.end line) fault → FaultOf design all fault
+refused-at design all place line draft (BadLine number) is there h = record {
+  place = place;
+  numbered = h.0;
+  line = line;
+  stands = there;
+  refused = reason-is design (take place all) draft line is ∙ h.1;
+  first = is.sound;
+}
+refused-at design all place line draft (UnknownSite number) is there h = record {
+  place = place;
+  numbered = h.0;
+  line = line;
+  stands = there;
+  refused = reason-is design (take place all) draft line is ∙ h.1;
+  first = is.sound;
+}
+refused-at design all place line draft (TooMany number) is there h = record {
+  place = place;
+  numbered = h.0;
+  line = line;
+  stands = there;
+  refused = reason-is design (take place all) draft line is ∙ h.1;
+  first = is.sound;
+}
 refused-at design all place line draft TooLong is there h = h
 refused-at design all place line draft NoMemory is there h = tt
 
@@ -279,7 +321,8 @@ say-at [] i line h = cc
 say-at (x ∷ xs) zero line h = let same : x ≡ line = cc in ap (λ l. Some (line_of (words_of l.now))) same
 say-at (x ∷ xs) (suc i) line h = say-at xs i line h
 
-pub say-more : (lines : List (Bor (List ℕ))) (i : ℕ) (line : Bor (List ℕ)) → slice_get lines i ≡ Some line → lines_say (plain_texts (take (i + 1) lines)) ≡ lines_say (plain_texts (take i lines)) ++ line_of (words_of line.now) ∷ []
+pub say-more : (lines : List (Bor (List ℕ))) (i : ℕ) (line : Bor (List ℕ)) → slice_get lines i ≡ Some line →
+    lines_say (plain_texts (take (i + 1) lines)) ≡ lines_say (plain_texts (take i lines)) ++ line_of (words_of line.now) ∷ []
 say-more [] i line h = cc
 say-more (x ∷ xs) zero line h = let same : x ≡ line = cc in ap (λ l. line_of (words_of l.now) ∷ []) same
 say-more (x ∷ xs) (suc i) line h = rw add-one (ap (λ l. line_of (words_of x.now) ∷ l) (rw add-one at (say-more xs i line h)))
@@ -287,10 +330,12 @@ say-more (x ∷ xs) (suc i) line h = rw add-one (ap (λ l. line_of (words_of x.n
 -- the next line of the code was read
 pub lines-more : (design : FlatDesign) (lines : List (Bor (List ℕ))) (i : ℕ) (d : Bor (List ℕ)) (row words : List (Bor (List ℕ))) (line : PlanLine) (old new : Draft) →
     i < length lines → plain_texts row ≡ words_of (get_or lines i d).now → words ≡ row → line ≡ line_of (plain_texts words) →
-    IsRead design (lines_say (plain_texts (take i lines))) old → reason_at design old old.end line ≡ None → IsAdded design line old new → IsRead design (lines_say (plain_texts (take (i + 1) lines))) new
+    IsRead design (lines_say (plain_texts (take i lines))) old → reason_at design old old.end line ≡ None → IsAdded design line old new →
+    IsRead design (lines_say (plain_texts (take (i + 1) lines))) new
 lines-more design lines i d row words line old new below r s l is fine added =
     let said : line ≡ line_of (words_of (get_or lines i d).now) = l ∙ (ap (λ w. line_of (plain_texts w)) s ∙ ap line_of r) in
-    let more : lines_say (plain_texts (take (i + 1) lines)) ≡ lines_say (plain_texts (take i lines)) ++ line_of (words_of (get_or lines i d).now) ∷ [] = say-more lines i (get_or lines i d) (slice_get-get_or lines i d below) in
+    let more : lines_say (plain_texts (take (i + 1) lines)) ≡ lines_say (plain_texts (take i lines)) ++ line_of (words_of (get_or lines i d).now) ∷
+    [] = say-more lines i (get_or lines i d) (slice_get-get_or lines i d below) in
     let P : List PlanLine → Type 0 = λ ls. IsRead design ls new in
     subst P (sym (more ∙ ap (λ it. lines_say (plain_texts (take i lines)) ++ it ∷ []) (sym said))) (read-more design (lines_say (plain_texts (take i lines))) line old new is fine added)
 
@@ -301,7 +346,8 @@ pub lines-refused : (design : FlatDesign) (lines : List (Bor (List ℕ))) (i : �
 lines-refused design lines i d row words line old fault below r s l is h =
     let said : line ≡ line_of (words_of (get_or lines i d).now) = l ∙ (ap (λ w. line_of (plain_texts w)) s ∙ ap line_of r) in
     let P : List PlanLine → Type 0 = λ ls. IsRead design ls old in
-    refused-at design (lines_say (plain_texts lines)) i line old fault (subst P (sym (say-take lines i)) is) (say-at lines i (get_or lines i d) (slice_get-get_or lines i d below) ∙ ap (λ it. Some it) (sym said)) h
+    refused-at design (lines_say (plain_texts lines)) i line old fault (subst P (sym (say-take lines i)) is)
+    (say-at lines i (get_or lines i d) (slice_get-get_or lines i d below) ∙ ap (λ it. Some it) (sym said)) h
 
 -- what holds of an error holds of the same error
 pub err-same : {A E : Type 0} (r : Result A E) (fault : E) (P : E → Type 0) → IsErrAnd r (λ e. e ≡ fault) → P fault → IfErr r P

@@ -30,9 +30,11 @@ reason-by end before times many none few = rw (none, few) refl
 -- strobes that are in time and few
 pub strobes-good : (end from step count before : ℕ) → from + step * count ≤ end → before + (count + 1) ≤ 65536 → strobes_reason end (row from step (count + 1)) before ≡ None
 strobes-good end from step count before last few =
-    reason-by end before (row from step (count + 1)) false (row-none end from step (count + 1) (λ k lt. up-to-last end from step count k last lt)) (rw length-row (le-ltb 65536 (before + (count + 1)) (omega arith)))
+    reason-by end before (row from step (count + 1)) false (row-none end from step (count + 1) (λ k lt. up-to-last end from step count k last lt))
+    (rw length-row (le-ltb 65536 (before + (count + 1)) (omega arith)))
 
 -- strobes that are in time and too many
 pub strobes-many : (end from step count before : ℕ) → from + step * count ≤ end → 65536 < before + (count + 1) → strobes_reason end (row from step (count + 1)) before ≡ Some IsTooMany
 strobes-many end from step count before last many =
-    reason-by end before (row from step (count + 1)) true (row-none end from step (count + 1) (λ k lt. up-to-last end from step count k last lt)) (rw length-row (lt-ltb 65536 (before + (count + 1)) (omega arith)))
+    reason-by end before (row from step (count + 1)) true (row-none end from step (count + 1) (λ k lt. up-to-last end from step count k last lt))
+    (rw length-row (lt-ltb 65536 (before + (count + 1)) (omega arith)))

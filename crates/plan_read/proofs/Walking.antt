@@ -41,7 +41,8 @@ module _ {A B : Type 0} (view : A → B) (f : ℕ → B → List WatchedBit) (ke
   bits-go xs base bits more place x next walk is added e =
       let sound = key-sound (map key_of (map view xs)) key walk.place.from place walk.place.found in
       let low : place < length xs = omega (arith, sound.1, length-map (map view xs) key_of, length-map xs view) in
-      let goes : bits_from f (place + 1) (map view (drop (place + 1) xs)) ≡ rest_from view (bits_from f) [] xs next = rest-goes view key_of key (bits_from f) [] (λ m. refl) skips xs place next sound.2 e in
+      let goes : bits_from f (place + 1) (map view (drop (place + 1) xs)) ≡ rest_from view (bits_from f) [] xs next =
+      rest-goes view key_of key (bits_from f) [] (λ m. refl) skips xs place next sound.2 e in
       record {
         place = record { from = place + 1; found = e ∙ ap (λ k. key_from (map key_of (map view xs)) k (place + 1)) (sym (one (get_or (map key_of (map view xs)) place []) sound.2)) };
         rest =
@@ -54,12 +55,14 @@ module _ {A B : Type 0} (view : A → B) (f : ℕ → B → List WatchedBit) (ke
       one : (other : List ℕ) → bytes_eq key other ≡ true → key ≡ other
       one other e = (bytes_eq-Decides key other).0 e
 
-pub bits-place : {A B : Type 0} (view : A → B) (f : ℕ → B → List WatchedBit) (key_of : B → List ℕ) (key : List ℕ) (xs : List A) (base bits : List WatchedBit) (place : ℕ) → IsBitsWalk view f key_of key xs base bits (Some place) → place < length xs
+pub bits-place : {A B : Type 0} (view : A → B) (f : ℕ → B → List WatchedBit) (key_of : B → List ℕ) (key : List ℕ) (xs : List A) (base bits : List WatchedBit) (place : ℕ) →
+    IsBitsWalk view f key_of key xs base bits (Some place) → place < length xs
 bits-place view f key_of key xs base bits place walk =
     let sound = key-sound (map key_of (map view xs)) key walk.place.from place walk.place.found in
     omega (arith, sound.1, length-map (map view xs) key_of, length-map xs view)
 
-pub bits-end : {A B : Type 0} (view : A → B) (f : ℕ → B → List WatchedBit) (key_of : B → List ℕ) (key : List ℕ) (xs : List A) (base bits : List WatchedBit) → IsBitsWalk view f key_of key xs base bits None →
+pub bits-end : {A B : Type 0} (view : A → B) (f : ℕ → B → List WatchedBit) (key_of : B → List ℕ) (key : List ℕ) (xs : List A) (base bits : List WatchedBit) →
+    IsBitsWalk view f key_of key xs base bits None →
     bits ≡ base ++ joined (map_numbered f 0 (map view xs))
 bits-end view f key_of key xs base bits walk = sym (append-nil bits) ∙ walk.rest
 

@@ -14,7 +14,8 @@ use Rattle.plan_read.specs.Spelled.{lines_say, plan_lines, most_bytes, NoneRefus
 use Rattle.plan_read.specs.Steps.{IsRead, FaultOf}
 
 -- what was read over the same design and the same lines
-read-there : (design there : FlatDesign) (text : List ℕ) (said : List (List ℕ)) (draft : Draft) → there ≡ design → said ≡ lines_of text → IsRead there (lines_say said) draft → IsRead design (plan_lines text) draft
+read-there : (design there : FlatDesign) (text : List ℕ) (said : List (List ℕ)) (draft : Draft) → there ≡ design → said ≡ lines_of text → IsRead there (lines_say said) draft →
+    IsRead design (plan_lines text) draft
 read-there design there text said draft same lines is =
     let P : FlatDesign → Type 0 = λ d. IsRead d (lines_say said) draft in
     let Q : List (List ℕ) → Type 0 = λ s. IsRead design (lines_say s) draft in
@@ -23,7 +24,8 @@ read-there design there text said draft same lines is =
 
 pub spelled-from : (design there : FlatDesign) (text : List ℕ) (said : List (List ℕ)) (draft : Draft) (end : ℕ) (plan : TestPlan) →
     there ≡ design → said ≡ lines_of text → length text ≤ most_bytes → IsRead there (lines_say said) draft → draft.end ≡ Some end →
-    plan.end ≡ end → plan.watched ≡ watched_bits draft.watched.items → plan.faults ≡ stuck draft.faults.items → IsAscending plan.strobes → ((time : ℕ) → Contains plan.strobes time ↔ Contains draft.strobes.items time) →
+    plan.end ≡ end → plan.watched ≡ watched_bits draft.watched.items → plan.faults ≡ stuck draft.faults.items → IsAscending plan.strobes →
+    ((time : ℕ) → Contains plan.strobes time ↔ Contains draft.strobes.items time) →
     Spells design text plan
 spelled-from design there text said draft end plan same lines short is ends e w f ascending strobes =
     let read = read-there design there text said draft same lines is in
@@ -53,7 +55,8 @@ refused-there design text (TooMany number) short h = (short, h)
 refused-there design text TooLong short h = absurd h
 refused-there design text NoMemory short h = tt
 
-pub refused-from : (design there : FlatDesign) (text : List ℕ) (said : List (List ℕ)) (fault : PlanFault) → there ≡ design → said ≡ lines_of text → length text ≤ most_bytes → FaultOf there (lines_say said) fault → Refuses design text fault
+pub refused-from : (design there : FlatDesign) (text : List ℕ) (said : List (List ℕ)) (fault : PlanFault) → there ≡ design → said ≡ lines_of text → length text ≤ most_bytes →
+    FaultOf there (lines_say said) fault → Refuses design text fault
 refused-from design there text said fault same lines short h =
     let P : FlatDesign → Type 0 = λ d. FaultOf d (lines_say said) fault in
     let Q : List (List ℕ) → Type 0 = λ s. FaultOf design (lines_say s) fault in

@@ -3,7 +3,8 @@ use Rattle.std.specs.Prelude.{List, map}
 use Rattle.vf_base.specs.declared.ids.WatchBit.{WatchBit}
 use Rattle.vf_base.specs.Base.{WatchedBit, watched_bit}
 use Rattle.plan_read.specs.declared.form.Line.{Line}
-use Rattle.plan_read.specs.declared.form.Line.TheVariants.{Empty as EmptyLine, Ends as EndsLine, Watches as WatchesLine, Strobes as StrobesLine, Lists as ListsLine, ListsAll as ListsAllLine, Formless as FormlessLine}
+use Rattle.plan_read.specs.declared.form.Line.TheVariants.{Empty as EmptyLine, Ends as EndsLine, Watches as WatchesLine, Strobes as StrobesLine, Lists as ListsLine, ListsAll as ListsAllLine}
+use Rattle.plan_read.specs.declared.form.Line.TheVariants.{Formless as FormlessLine}
 use Rattle.plan_read.specs.Forms.{PlanLine, Empty, Ends, Watches, Strobes, Lists, ListsAll, Formless}
 
 -- a line

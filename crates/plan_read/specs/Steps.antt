@@ -15,7 +15,8 @@ use Rattle.plan_read.specs.declared.fault.PlanFault.TheVariants.{BadLine, Unknow
 use Rattle.plan_read.specs.declared.draft.Draft.{Draft}
 use Rattle.plan_read.specs.Forms.{PlanLine, Empty, Ends, Watches, Strobes, Lists, ListsAll, Formless, times_on}
 use Rattle.plan_read.specs.Plain.{watched_bits}
-use Rattle.plan_read.specs.Spelled.{PlanReason, IsBad, IsUnknown, IsTooMany, are_none, most_strobes, most_watched, most_faults, latest_end, end_on, earlier_end, bits_on, faults_on, NoneRefused, IsFirstRefused, HaveNoEnd, end_of, times_of, bits_of, listed_faults}
+use Rattle.plan_read.specs.Spelled.{PlanReason, IsBad, IsUnknown, IsTooMany, are_none, most_strobes, most_watched, most_faults, latest_end, end_on, earlier_end, bits_on, faults_on, NoneRefused}
+use Rattle.plan_read.specs.Spelled.{IsFirstRefused, HaveNoEnd, end_of, times_of, bits_of, listed_faults}
 
 -- a time is past the last one
 abbrev pub IsPast : Option ℕ → ℕ → Type 0

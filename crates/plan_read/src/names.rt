@@ -30,7 +30,8 @@ pub struct SiteNames<'d> {
     pub ghost objects_listed: { objects ≡ map object_key (design_of design.now).objects },
     pub ghost gates_listed: { gates ≡ map gate_key (design_of design.now).nodes },
     pub ghost joined_listed: { joined ≡ map joined_key (design_of design.now).joined },
-    pub ghost drivers_found: { (object : ℕ) → object < length (design_of design.now).objects → option_map node_number (slice_index_or drivers.items object None) ≡ driver_of (design_of design.now) object },
+    pub ghost drivers_found: { (object : ℕ) → object < length (design_of design.now).objects →
+        option_map node_number (slice_index_or drivers.items object None) ≡ driver_of (design_of design.now) object },
     pub ghost drivers_len: { length drivers.items ≡ length (design_of design.now).objects },
 }
 

@@ -125,7 +125,8 @@ task_others [] = []
 task_others (task ∷ tasks) = tasks
 
 -- equal tasks of one rest have equal counts of each repeat, where those whose turns aren't left have
-counts-same : (rest : List Part) (one other : List ℕ) (number : ℕ) → tasks_of one rest ≡ tasks_of other rest → (HasNoTurns number rest → get_or one number 0 ≡ get_or other number 0) → get_or one number 0 ≡ get_or other number 0
+counts-same : (rest : List Part) (one other : List ℕ) (number : ℕ) → tasks_of one rest ≡ tasks_of other rest → (HasNoTurns number rest → get_or one number 0 ≡ get_or other number 0) →
+    get_or one number 0 ≡ get_or other number 0
 unfolding task_turns task_others
 counts-same [] one other number same idle = idle tt
 counts-same (Runs statement ∷ rest) one other number same idle = counts-same rest one other number (ap task_others same) idle
@@ -156,7 +157,8 @@ left_tasks (Writes place updates ∷ tasks) = tasks
 left_tasks (Appends place delay updates ∷ tasks) = tasks
 left_tasks other = other
 
-left_updates-is : (place : SourcePlace) (delay : Option ℕ) (updates : List (Option ValueUpdate)) (counts : List ℕ) (rest : List Part) → left_updates (updates_left place delay updates (tasks_of counts rest)) ≡ updates
+left_updates-is : (place : SourcePlace) (delay : Option ℕ) (updates : List (Option ValueUpdate)) (counts : List ℕ) (rest : List Part) →
+    left_updates (updates_left place delay updates (tasks_of counts rest)) ≡ updates
 unfolding left_updates
 left_updates-is place None [] counts [] = refl
 left_updates-is place None [] counts (Runs statement ∷ rest) = refl
@@ -167,7 +169,8 @@ left_updates-is place (Some delay) [] counts (TurnsLeft number own body ∷ rest
 left_updates-is place None (update ∷ updates) counts rest = refl
 left_updates-is place (Some delay) (update ∷ updates) counts rest = refl
 
-left_tasks-is : (place : SourcePlace) (delay : Option ℕ) (updates : List (Option ValueUpdate)) (counts : List ℕ) (rest : List Part) → left_tasks (updates_left place delay updates (tasks_of counts rest)) ≡ tasks_of counts rest
+left_tasks-is : (place : SourcePlace) (delay : Option ℕ) (updates : List (Option ValueUpdate)) (counts : List ℕ) (rest : List Part) →
+    left_tasks (updates_left place delay updates (tasks_of counts rest)) ≡ tasks_of counts rest
 unfolding left_tasks
 left_tasks-is place None [] counts [] = refl
 left_tasks-is place None [] counts (Runs statement ∷ rest) = refl
@@ -218,7 +221,8 @@ stands-with code p q s same operands =
     let rest = get_or rests p.position [] in
     let other = get_or rests q.position [] in
     let updates : p.updates ≡ q.updates = sym (left_updates-is p.place p.delay p.updates p.counts rest) ∙ ap left_updates same ∙ left_updates-is q.place q.delay q.updates q.counts other in
-    let tasks : tasks_of p.counts rest ≡ tasks_of q.counts other = sym (left_tasks-is p.place p.delay p.updates p.counts rest) ∙ ap left_tasks same ∙ left_tasks-is q.place q.delay q.updates q.counts other in
+    let tasks : tasks_of p.counts rest ≡ tasks_of q.counts other = sym (left_tasks-is p.place p.delay p.updates p.counts rest) ∙ ap left_tasks same
+    ∙ left_tasks-is q.place q.delay q.updates q.counts other in
     let position : p.position ≡ q.position =
     tasks-apart code p.position q.position s.rest s.other p.counts q.counts s.differ s.is s.here s.there
     (ap (tasks_of p.counts) (sym (rest-known rests p.position s.rest s.here)) ∙ tasks ∙ ap (tasks_of q.counts) (rest-known rests q.position s.other s.there)) in
@@ -232,8 +236,10 @@ stands-with code p q s same operands =
       operands,
       updates,
       same-assignment p.updates p q (λ some. (
-        sym (left_place-is p.place p.delay p.updates (tasks_of p.counts rest) some) ∙ ap left_place same ∙ left_place-is q.place q.delay q.updates (tasks_of q.counts other) (subst HasUpdates updates some),
-        sym (left_delay-is p.place p.delay p.updates (tasks_of p.counts rest) some) ∙ ap left_delay same ∙ left_delay-is q.place q.delay q.updates (tasks_of q.counts other) (subst HasUpdates updates some),
+        sym (left_place-is p.place p.delay p.updates (tasks_of p.counts rest) some) ∙ ap left_place same
+            ∙ left_place-is q.place q.delay q.updates (tasks_of q.counts other) (subst HasUpdates updates some),
+        sym (left_delay-is p.place p.delay p.updates (tasks_of p.counts rest) some) ∙ ap left_delay same
+            ∙ left_delay-is q.place q.delay q.updates (tasks_of q.counts other) (subst HasUpdates updates some),
       )),
     )
 
@@ -267,7 +273,8 @@ stands-there [] i some = absurd some
 stands-there (rest ∷ rests) zero some = refl
 stands-there (rest ∷ rests) (suc i) some = stands-there rests i some
 
-waits-apart : (code : Code) (i j : ℕ) → PlacesDiffer (statement_of code.process.now.body) → IsCodeOf code.process.now code → BeginsWait (get_or (rests_in_code code) i []) → BeginsWait (get_or (rests_in_code code) j []) →
+waits-apart : (code : Code) (i j : ℕ) → PlacesDiffer (statement_of code.process.now.body) → IsCodeOf code.process.now code → BeginsWait (get_or (rests_in_code code) i []) →
+    BeginsWait (get_or (rests_in_code code) j []) →
     wait_place (get_or (rests_in_code code) i []) ≡ wait_place (get_or (rests_in_code code) j []) → i ≡ j
 waits-apart code i j differ is begins ends same =
     let rests = rests_in_code code in

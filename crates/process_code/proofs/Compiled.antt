@@ -1,5 +1,6 @@
 -- A statement whose own spot stands before the rest of a position, and whose parts are compiled behind it.
-use Rattle.std.proofs.Common.{◌≡◌, ◌≢◌, ◌≤◌, ◌<◌, ℕ, zero, suc, ◌+◌, ◌-◌, Bool, List, [], ◌∷◌, ◌++◌, length, get_or, Option, Some, None, refl, sym, ap, ◌∙◌, subst, arith, length-append, append-nil, append_assoc, unwrap_or}
+use Rattle.std.proofs.Common.{◌≡◌, ◌≢◌, ◌≤◌, ◌<◌, ℕ, zero, suc, ◌+◌, ◌-◌, Bool, List, [], ◌∷◌, ◌++◌, length, get_or, Option, Some, None, refl, sym, ap, ◌∙◌, subst, arith, length-append, append-nil}
+use Rattle.std.proofs.Common.{append_assoc, unwrap_or}
 use Rattle.std.specs.List.{slice_get}
 use Rattle.v_design.specs.Trees.{Expression, Target, Statement, Block, Case, For, While, Repeat, Blocking, Statements, no_statements, more_statements, CaseItems, no_items, more_items}
 use Rattle.vf_base.specs.Base.{SourcePlace}
@@ -26,7 +27,8 @@ use Rattle.process_code.specs.declared.builder.Builder.{Builder}
 -- layouts with the same rests and as many repeats are one
 layout-same : (rests more : List (List Part)) (repeats number : ℕ) → rests ≡ more → repeats ≡ number →
     let one : Layout = record { rests = rests; repeats = repeats } in one ≡ record { rests = more; repeats = number }
-layout-same rests more repeats number e f = ap (λ (xs : List (List Part)). let l : Layout = record { rests = xs; repeats = repeats } in l) e ∙ ap (λ n. let l : Layout = record { rests = more; repeats = n } in l) f
+layout-same rests more repeats number e f = ap (λ (xs : List (List Part)). let l : Layout = record { rests = xs; repeats = repeats } in l) e
+    ∙ ap (λ n. let l : Layout = record { rests = more; repeats = n } in l) f
 
 -- The rests stay
 
@@ -47,7 +49,8 @@ placed-stands old placed head next own rest p h =
     ∙ ap (λ h. Some (part_of_head h ∷ rest)) p.head_is
 
 -- what stands at the positions then
-pub placed-layout : (old placed : Builder) (head : Head) (part : Part) (next own : ℕ) (rest : List Part) → Places old placed head next own → part_of_head head ≡ part → StandsAt (rests_in old) next rest →
+pub placed-layout : (old placed : Builder) (head : Head) (part : Part) (next own : ℕ) (rest : List Part) → Places old placed head next own → part_of_head head ≡ part →
+    StandsAt (rests_in old) next rest →
     layout_in placed ≡ with_rest (part ∷ rest) (layout_in old)
 placed-layout old placed head part next own rest p part_is h =
     let stands : StandsAt (rests_in old) p.spot.next rest = ap (slice_get (rests_in old)) p.next_is ∙ h in
@@ -91,7 +94,8 @@ may-own old placed head next own m p falls =
     }
 
 -- before a statement's spot that is placed
-pub may-runs : (old placed : Builder) (head : Head) (s : Statement) (next own : ℕ) → MayCompile old next → Places old placed head next own × IsInStep placed → part_of_head head ≡ Runs s → MayCompile placed own
+pub may-runs : (old placed : Builder) (head : Head) (s : Statement) (next own : ℕ) → MayCompile old next → Places old placed head next own × IsInStep placed → part_of_head head ≡ Runs s →
+    MayCompile placed own
 may-runs old placed head s next own m p e =
     may-own old placed head next own m p (λ rest h. let P : Part → Type 0 = λ part. NumbersFall old.repeats (part ∷ rest) in subst P (sym e) (m.below rest h))
 
@@ -122,7 +126,11 @@ may-entry old new s next entry m k =
 turned-in_step : (grown new : Builder) (own : ℕ) (ways : Ways) → IsInStep grown → Turned grown new own ways → IsInStep new
 turned-in_step grown new own ways in_step t =
     let spots : length new.spots.items ≡ length grown.spots.items = ap length t.spots in
-    record { sized = λ i spot there. in_step.sized i spot (ap (λ xs. slice_get xs i) (sym t.spots) ∙ there); ways = omega (arith, spots, in_step.ways, t.lengths); repeats = omega (arith, spots, in_step.repeats, t.repeats) }
+    record {
+      sized = λ i spot there. in_step.sized i spot (ap (λ xs. slice_get xs i) (sym t.spots) ∙ there);
+      ways = omega (arith, spots, in_step.ways, t.lengths);
+      repeats = omega (arith, spots, in_step.repeats, t.repeats);
+    }
 
 turned-own : (old placed grown new : Builder) (head : Head) (next own : ℕ) (ways : Ways) → Places old placed head next own → Turned grown new (own - 1) ways →
     Turned grown new (length old.spots.items) ways
@@ -141,7 +149,8 @@ marks-own old placed grown new head next own mark inner p mark_is behind same =
     ap marks_at same ∙ behind ∙ ap (λ ms. ms ++ inner) placed_marks ∙ append_assoc (marks_in old) (mark ∷ []) inner
 
 -- the marks of two parts, one compiled behind the other
-pub marks-both : (placed one grown : Builder) (first second : List Mark) → marks_in one ≡ marks_in placed ++ first → marks_in grown ≡ marks_in one ++ second → marks_in grown ≡ marks_in placed ++ (first ++ second)
+pub marks-both : (placed one grown : Builder) (first second : List Mark) → marks_in one ≡ marks_in placed ++ first → marks_in grown ≡ marks_in one ++ second →
+    marks_in grown ≡ marks_in placed ++ (first ++ second)
 marks-both placed one grown first second h k = k ∙ ap (λ ms. ms ++ second) h ∙ append_assoc (marks_in placed) first second
 
 -- what stands at the positions stays where the ways of a spot are set
@@ -208,7 +217,8 @@ pub compiled-branches : (old placed one grown new : Builder) (head : Head) (s fi
     MayCompile old next → Places old placed head next own × IsInStep placed → Compiles placed one first next inner → Compiles one grown second next other → Turned grown new (own - 1) ways →
     part_of_head head ≡ Runs s → ((rest : List Part) → opened_parts s rest ≡ Runs s ∷ rest) → marks_of s ≡ mark_of_statement s ∷ (marks_of first ++ marks_of second) →
     ((rest : List Part) (layout : Layout) → laid_out s rest layout ≡ laid_out second rest (laid_out first rest (with_rest (Runs s ∷ rest) layout))) → ways.inner ≡ inner → ways.other ≡ other →
-    ((rest : List Part) → StandsAt (rests_in new) ways.inner (opened_parts first rest) → StandsAt (rests_in new) ways.other (opened_parts second rest) → PartLeads new.repeats (rests_in new) ways (Runs s) rest) →
+    ((rest : List Part) → StandsAt (rests_in new) ways.inner (opened_parts first rest) → StandsAt (rests_in new) ways.other (opened_parts second rest) →
+    PartLeads new.repeats (rests_in new) ways (Runs s) rest) →
     Compiles old new s next own
 compiled-branches old placed one grown new head s first second next own inner other ways m p j k t head_is opened own_marks own_layout inner_is other_is leads =
     compiled-own old placed grown new head s next own ways (marks_of first ++ marks_of second) m p (grows-trans placed one grown p.1.ways j.grows k.grows) k.in_step t head_is opened
@@ -239,7 +249,8 @@ turned-self old placed grown head next own p in_step g =
 
 -- a statement without parts
 pub compiled-leaf : (old placed : Builder) (head : Head) (s : Statement) (next own : ℕ) →
-    MayCompile old next → Places old placed head next own × IsInStep placed → part_of_head head ≡ Runs s → ((rest : List Part) → opened_parts s rest ≡ Runs s ∷ rest) → marks_of s ≡ mark_of_statement s ∷ [] →
+    MayCompile old next → Places old placed head next own × IsInStep placed → part_of_head head ≡ Runs s → ((rest : List Part) → opened_parts s rest ≡ Runs s ∷ rest) →
+    marks_of s ≡ mark_of_statement s ∷ [] →
     ((rest : List Part) (layout : Layout) → laid_out s rest layout ≡ with_rest (Runs s ∷ rest) layout) →
     ((ways : Ways) (rest : List Part) → PartLeads placed.repeats (rests_in placed) ways (Runs s) rest) → Compiles old placed s next own
 compiled-leaf old placed head s next own m p head_is opened own_marks own_layout leads =
@@ -250,7 +261,8 @@ compiled-leaf old placed head s next own m p head_is opened own_marks own_layout
     (λ rest h. placed-layout old placed head (Runs s) next own rest p.0 head_is h ∙ sym (own_layout rest (layout_in old))) (λ rest h. leads p.0.way rest)
 
 -- a null statement
-pub compiled-null : (old : Builder) (next : ℕ) (s : Statement) → MayCompile old next → ((rest : List Part) → opened_parts s rest ≡ rest) → marks_of s ≡ [] → ((rest : List Part) (layout : Layout) → laid_out s rest layout ≡ layout) → Compiles old old s next next
+pub compiled-null : (old : Builder) (next : ℕ) (s : Statement) → MayCompile old next → ((rest : List Part) → opened_parts s rest ≡ rest) → marks_of s ≡ [] →
+    ((rest : List Part) (layout : Layout) → laid_out s rest layout ≡ layout) → Compiles old old s next next
 compiled-null old next s m opened no_marks no_layout =
     record {
       in_step = m.in_step;
@@ -274,7 +286,8 @@ items_lead-push rests (p ∷ positions) position (x ∷ items) item rest h k = (
 pub marks-push : (items : List CaseItem) (item : CaseItem) → marks_of_items (items_of (items ++ (item ∷ []))) ≡ marks_of_items (items_of items) ++ marks_of (statement_of item.statement)
 marks-push [] item = append-nil (marks_of (statement_of item.statement))
 marks-push (x ∷ items) item =
-    ap (λ ms. marks_of (statement_of x.statement) ++ ms) (marks-push items item) ∙ sym (append_assoc (marks_of (statement_of x.statement)) (marks_of_items (items_of items)) (marks_of (statement_of item.statement)))
+    ap (λ ms. marks_of (statement_of x.statement) ++ ms) (marks-push items item) ∙ sym (append_assoc (marks_of (statement_of x.statement)) (marks_of_items (items_of items))
+    (marks_of (statement_of item.statement)))
 
 -- the positions of one more item
 pub layout-push : (items : List CaseItem) (item : CaseItem) (rest : List Part) (layout : Layout) →
@@ -289,7 +302,8 @@ pub compiled-case : (old placed one grown new : Builder) (head : Head) (place : 
     Turned grown new (own - 1) ways → part_of_head head ≡ Runs (Case place kind value items default) → ways.items.items ≡ positions → ways.other ≡ other →
     Compiles old new (Case place kind value items default) next own
 compiled-case old placed one grown new head place kind value items default next own other positions ways m p j k t head_is items_are other_is =
-    compiled-own old placed grown new head (Case place kind value items default) next own ways (marks_of_items items ++ marks_of default) m p (grows-trans placed one grown p.1.ways j.grows k.grows) k.in_step t head_is
+    compiled-own old placed grown new head (Case place kind value items default) next own ways (marks_of_items items ++ marks_of default) m p
+    (grows-trans placed one grown p.1.ways j.grows k.grows) k.in_step t head_is
     (λ rest. refl) refl (marks-both placed one grown (marks_of_items items) (marks_of default) j.marks k.marks)
     (λ rest h.
     let here = placed-keeps old placed head next own p.0 next rest h in
@@ -345,7 +359,8 @@ pub compiled-repeat : (old placed counted turned grown led new : Builder) (head 
     part_of_head head ≡ Runs (Repeat place count body) → part_of_head turns_head ≡ TurnsLeft old.repeats place body →
     turns_ways.inner ≡ inner → ways.inner ≡ turns → ways.other ≡ old.repeats →
     Compiles old new (Repeat place count body) next own
-compiled-repeat old placed counted turned grown led new head turns_head place count body next own turns inner turns_ways ways m p gc same_spots counted_in one_more q k t u head_is turns_is inner_is turns_at number_is =
+compiled-repeat old placed counted turned grown led new head turns_head place count body next own turns inner turns_ways ways m p gc same_spots counted_in one_more q k t u head_is turns_is inner_is
+    turns_at number_is =
     let more : old.repeats < counted.repeats = omega (arith, one_more) in
     let may_counted = may-grown placed counted next (may-placed old placed head next own m p) gc counted_in in
     let known = rest_at counted.spots.items next may_counted.there in
@@ -365,14 +380,17 @@ compiled-repeat old placed counted turned grown led new head turns_head place co
     refl (behind ∙ ap (λ spots. marks_at spots ++ (turns_mark place ∷ marks_of body)) same_spots)
     (λ rest h.
     let here = grows-keeps placed counted gc next rest (placed-keeps old placed head next own p.0 next rest h) in
-    let stands : StandsAt (rests_in turned) turns (TurnsLeft old.repeats place body ∷ rest) = placed-stands counted turned turns_head next turns rest q.0 here ∙ ap (λ part. Some (part ∷ rest)) turns_is in
-    let one_repeat : layout_in counted ≡ with_repeat (layout_in placed) = layout-same (rests_in counted) (rests_in placed) counted.repeats (placed.repeats + 1) (ap rests_of same_spots) (omega (arith, one_more, p.0.repeats)) in
+    let stands : StandsAt (rests_in turned) turns (TurnsLeft old.repeats place body ∷ rest) = placed-stands counted turned turns_head next turns rest q.0 here
+    ∙ ap (λ part. Some (part ∷ rest)) turns_is in
+    let one_repeat : layout_in counted ≡ with_repeat (layout_in placed) = layout-same (rests_in counted) (rests_in placed) counted.repeats (placed.repeats + 1) (ap rests_of same_spots)
+    (omega (arith, one_more, p.0.repeats)) in
     turned-layout grown led (turns - 1) turns_ways t ∙ k.layout (TurnsLeft old.repeats place body ∷ rest) stands
     ∙ ap (laid_out body (TurnsLeft old.repeats place body ∷ rest)) (placed-layout counted turned turns_head (TurnsLeft old.repeats place body) next turns rest q.0 turns_is here
     ∙ ap (with_rest (TurnsLeft old.repeats place body ∷ rest)) (one_repeat ∙ ap with_repeat (placed-layout old placed head (Runs (Repeat place count body)) next own rest p.0 head_is h))))
     (λ rest h.
     let here = grows-keeps placed counted gc next rest (placed-keeps old placed head next own p.0 next rest h) in
-    let stands : StandsAt (rests_in turned) turns (TurnsLeft old.repeats place body ∷ rest) = placed-stands counted turned turns_head next turns rest q.0 here ∙ ap (λ part. Some (part ∷ rest)) turns_is in
+    let stands : StandsAt (rests_in turned) turns (TurnsLeft old.repeats place body ∷ rest) = placed-stands counted turned turns_head next turns rest q.0 here
+    ∙ ap (λ part. Some (part ∷ rest)) turns_is in
     let F : ℕ → Type 0 = λ n. NumbersFall n rest in (
       omega (arith, number_is, more_led, u.repeats),
       subst F (sym number_is) (m.below rest h),
@@ -398,7 +416,8 @@ compiled-for old placed tested advanced grown led new head test_head advance_hea
     let g : Grows tested grown = grows-own tested advanced grown grown advance_head test advance r.0.way _ q.1.ways r.0 k.grows
     (turned-self tested advanced grown advance_head test advance r.0 q.1.ways k.grows) known (subst A (sym advance_is) tt) in
     let loop : Compiles placed led (loop_of place condition next_targets next_value body) next test =
-    compiled-own placed tested grown led test_head (loop_of place condition next_targets next_value body) next test test_ways (assignment_mark place ∷ marks_of body) may_placed q g k.in_step t test_is (λ rest. refl)
+    compiled-own placed tested grown led test_head (loop_of place condition next_targets next_value body) next test test_ways
+    (assignment_mark place ∷ marks_of body) may_placed q g k.in_step t test_is (λ rest. refl)
     refl (marks-own tested advanced grown grown advance_head test advance (assignment_mark place) (marks_of body) r.0 (ap mark_of advance_is) k.marks refl)
     (λ rest h.
     let again : List Part = Runs (loop_of place condition next_targets next_value body) ∷ rest in
@@ -409,13 +428,15 @@ compiled-for old placed tested advanced grown led new head test_head advance_hea
     ∙ ap (with_rest last) (placed-layout placed tested test_head (Runs (loop_of place condition next_targets next_value body)) next test rest q.0 test_is h)))
     (λ rest h. at-way (rests_in led) test_ways.inner inner _ inner_is (turned-keeps grown led _ test_ways t inner _
     (k.opens _ (placed-stands tested advanced advance_head test advance _ r.0
-    (placed-stands placed tested test_head next test rest q.0 h ∙ ap (λ part. Some (part ∷ rest)) test_is) ∙ ap (λ part. Some (part ∷ (Runs (loop_of place condition next_targets next_value body) ∷ rest))) advance_is)))) in
+    (placed-stands placed tested test_head next test rest q.0 h ∙ ap (λ part. Some (part ∷ rest)) test_is)
+    ∙ ap (λ part. Some (part ∷ (Runs (loop_of place condition next_targets next_value body) ∷ rest))) advance_is)))) in
     compiled-body old placed led new head _ (loop_of place condition next_targets next_value body) next own test ways m p loop u head_is (λ rest. refl) refl (λ rest layout. refl) test_at (λ rest h. h)
 
 -- Parts
 
 -- a statement of a block is sized
-pub sized-statement : (statements : List FlatStmt) (i : ℕ) (s : FlatStmt) → i < length statements → s ≡ get_or statements i s → AreSizedStatements (statements_of statements) → IsSizedStatement (statement_of s)
+pub sized-statement : (statements : List FlatStmt) (i : ℕ) (s : FlatStmt) → i < length statements → s ≡ get_or statements i s → AreSizedStatements (statements_of statements) →
+    IsSizedStatement (statement_of s)
 sized-statement [] i s h e k = absurd (omega (arith, h))
 sized-statement (x ∷ xs) zero s h e k = subst (λ y. IsSizedStatement (statement_of y)) (sym e) k.0
 sized-statement (x ∷ xs) (suc i) s h e k = sized-statement xs i s (omega (arith, h)) e k.1

@@ -20,7 +20,8 @@ use Rattle.process_code.proofs.Growing.{rests_of-length, rest_at}
 use Rattle.process_code.proofs.Spots.{rest-end, rest-spot}
 
 -- the updates that are left of an assignment have its line
-pub left-line : (place : SourcePlace) (delay : Option ℕ) (updates : List (Option ValueUpdate)) (tasks : List Task) → (length updates ≡ 0 → ⊥) → place.line ≡ line_of_tasks (updates_left place delay updates tasks)
+pub left-line : (place : SourcePlace) (delay : Option ℕ) (updates : List (Option ValueUpdate)) (tasks : List Task) → (length updates ≡ 0 → ⊥) →
+    place.line ≡ line_of_tasks (updates_left place delay updates tasks)
 left-line place None [] tasks some = absurd (some refl)
 left-line place (Some delay) [] tasks some = absurd (some refl)
 left-line place None (update ∷ updates) tasks some = refl
@@ -38,7 +39,8 @@ first-line counts (Runs statement) after = refl
 first-line counts (TurnsLeft number place body) after = refl
 
 -- the rest of a position begins with its spot
-pub spot-rest : (code : Code) (position : ℕ) (spot : Spot) → IsCodeOf code.process.now code → (position ≡ 0 → ⊥) → position - 1 < length code.spots.items → spot ≡ get_or code.spots.items (position - 1) spot →
+pub spot-rest : (code : Code) (position : ℕ) (spot : Spot) → IsCodeOf code.process.now code → (position ≡ 0 → ⊥) → position - 1 < length code.spots.items →
+    spot ≡ get_or code.spots.items (position - 1) spot →
     (after : List Part) × (get_or (rests_in_code code) position [] ≡ part_of_head spot.head ∷ after)
 spot-rest code position spot is some low at =
     let spots = code.spots.items in

@@ -1,5 +1,6 @@
 -- Code that grows: what was there keeps its place, and what is added leads on.
-use Rattle.std.proofs.Common.{◌≡◌, ◌≢◌, ◌≤◌, ◌<◌, ℕ, zero, suc, ◌+◌, List, [], ◌∷◌, ◌++◌, length, get_or, Option, Some, None, refl, sym, ap, ◌∙◌, subst, arith, length-append, append_assoc, append-nil, inl, inr, unwrap_or}
+use Rattle.std.proofs.Common.{◌≡◌, ◌≢◌, ◌≤◌, ◌<◌, ℕ, zero, suc, ◌+◌, List, [], ◌∷◌, ◌++◌, length, get_or, Option, Some, None, refl, sym, ap, ◌∙◌, subst, arith, length-append, append_assoc}
+use Rattle.std.proofs.Common.{append-nil, inl, inr, unwrap_or}
 use Rattle.std.specs.List.{slice_get}
 use Rattle.std.proofs.lemmas.Bool.{cases_lt}
 use Rattle.std.proofs.Math.Nat.{eq-or-lt_of_le}
@@ -90,7 +91,8 @@ rest_at spots position h =
     slice_get-get_or (rests_of spots) position [] (omega (arith, n, h))
 
 -- the rests where a spot is put last
-pub rests-last : (spots : List Spot) (spot : Spot) (after : List Part) → StandsAt (rests_of spots) spot.next after → rests_of (spots ++ (spot ∷ [])) ≡ rests_of spots ++ ((part_of_head spot.head ∷ after) ∷ [])
+pub rests-last : (spots : List Spot) (spot : Spot) (after : List Part) → StandsAt (rests_of spots) spot.next after →
+    rests_of (spots ++ (spot ∷ [])) ≡ rests_of spots ++ ((part_of_head spot.head ∷ after) ∷ [])
 rests-last spots spot after h =
     let same : get_or (rests_of spots) spot.next [] ≡ after = get_or_from_slice_get (rests_of spots) spot.next after [] h in
     rests_from-append ([] ∷ []) spots (spot ∷ []) ∙ ap (λ rest. rests_of spots ++ ((part_of_head spot.head ∷ rest) ∷ [])) same
@@ -212,7 +214,8 @@ own-leads old placed grown new head next own ways after p g t stands leads spot 
     let spot_is : p.spot ≡ spot = some-same (sym there ∙ s) in
     let way_is : ways ≡ way = some-same (sym t.set ∙ w) in
     let keeps : Keeps (rests_in old) (rests_in new) =
-    λ position rest h. turned-keeps grown new _ ways t position rest (grows-keeps placed grown g position rest (keeps-spots old.spots.items (p.spot ∷ []) placed.spots.items p.spots position rest h)) in
+    λ position rest h. turned-keeps grown new _ ways t position rest (grows-keeps placed grown g position rest (keeps-spots old.spots.items (p.spot ∷ []) placed.spots.items p.spots position rest h))
+    in
     let P : Spot → Type 0 = λ x. Leads new.repeats (rests_in new) x way in
     let Q : Ways → Type 0 = λ x. Leads new.repeats (rests_in new) p.spot x in
     let H : Head → Type 0 = λ x. PartLeads new.repeats (rests_in new) ways (part_of_head x) after in

@@ -4,7 +4,8 @@ use Rattle.std.specs.List.{IsDistinct, AllByRecursion, slice_get}
 use Rattle.std.proofs.lemmas.Bool.{eqb-true, eq-eqb}
 use Rattle.std.proofs.lemmas.Option.{slice_get-map}
 use Rattle.vf_base.specs.Base.{SourcePlace}
-use Rattle.v_design.specs.Trees.{Statement, Null, Block, If, Case, For, While, Repeat, Forever, Delay, EventControl, Wait, Blocking, Nonblocking, Finish, Statements, no_statements, more_statements, CaseItems, no_items, more_items}
+use Rattle.v_design.specs.Trees.{Statement, Null, Block, If, Case, For, While, Repeat, Forever, Delay, EventControl, Wait, Blocking, Nonblocking, Finish, Statements, no_statements, more_statements}
+use Rattle.v_design.specs.Trees.{CaseItems, no_items, more_items}
 use Rattle.v_design.specs.Places.{same_place, places_in, places_in_all, places_in_items, PlacesDiffer}
 use Rattle.process_code.specs.Marks.{Form, Whole, Loop, Assignment, TurnsOf, Mark, mark_of_spot, marks_at, marks_of, marks_of_all, marks_of_items}
 use Rattle.process_code.specs.declared.code.Spot.{Spot}
@@ -66,7 +67,8 @@ none-after q (y ∷ ys) h =
     let b = none-after q ys h.1 in
     omega (arith, a, b)
 
-more-once : (p q : SourcePlace) (qs : List SourcePlace) (b : Bool) → same_place p q ≡ b → AllByRecursion (λ y. same_place q y ≡ false) qs → times (same_place p) qs ≤ 1 → one b + times (same_place p) qs ≤ 1
+more-once : (p q : SourcePlace) (qs : List SourcePlace) (b : Bool) → same_place p q ≡ b → AllByRecursion (λ y. same_place q y ≡ false) qs → times (same_place p) qs ≤ 1 →
+    one b + times (same_place p) qs ≤ 1
 more-once p q qs true e none few = let n : times (same_place p) qs ≡ 0 = ap (λ x. times (same_place x) qs) (same_place-equal p q e) ∙ none-after q qs none in omega (arith, n)
 more-once p q qs false e none few = omega (arith, few)
 

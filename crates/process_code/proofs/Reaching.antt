@@ -5,7 +5,8 @@ use Rattle.std.proofs.lemmas.Bool.{cases_eq}
 use Rattle.std.proofs.lemmas.Option.{get_or_from_slice_get}
 use Rattle.vf_base.specs.Base.{SourcePlace}
 use Rattle.four_value.specs.Values.{LogicValue, is_true}
-use Rattle.v_design.specs.Trees.{Expression, Statement, Null, Block, If, Case, For, While, Repeat, Forever, Delay, EventControl, Wait, Blocking, Nonblocking, Finish, Statements, no_statements, more_statements}
+use Rattle.v_design.specs.Trees.{Expression, Statement, Null, Block, If, Case, For, While, Repeat, Forever, Delay, EventControl, Wait, Blocking, Nonblocking, Finish, Statements, no_statements}
+use Rattle.v_design.specs.Trees.{more_statements}
 use Rattle.v_design.specs.Expressions.{sign_of, Progress, Needs, Has, read_expression}
 use Rattle.v_design.specs.Assignments.{ValueUpdate, read_assignment}
 use Rattle.v_design.specs.Processes.{loop_of, read_case, either_statement}
@@ -55,7 +56,8 @@ counts-set : (number count : ℕ) (place : SourcePlace) (body : Statement) (afte
 counts-set number count place body after counts h other none = get_or-set_other counts number other count 0 none.0 ∙ h other none.0 none.1
 
 -- a repeat without turns leaves no count
-counts-ended : (number : ℕ) (place : SourcePlace) (body : Statement) (after : List Part) (counts : List ℕ) → get_or counts number 0 ≡ 0 → CountsOnly (TurnsLeft number place body ∷ after) counts → CountsOnly after counts
+counts-ended : (number : ℕ) (place : SourcePlace) (body : Statement) (after : List Part) (counts : List ℕ) → get_or counts number 0 ≡ 0 → CountsOnly (TurnsLeft number place body ∷ after) counts →
+    CountsOnly after counts
 counts-ended number place body after counts ended h other none =
     elim (cases_eq other number) [
       | inl e ↦ ap (λ n. get_or counts n 0) e ∙ ended
@@ -81,18 +83,22 @@ stops-delay : (rests : List (List Part)) (now delay : ℕ) → StopsWith rests (
 stops-delay rests now zero = refl
 stops-delay rests now (suc delay) = refl
 
-pub goes-reached : (rests : List (List Part)) (old new : Point) (position : ℕ) (said : StepSaid) (rest : List Part) → old.stage ≡ Ready → GoesTo old position new said → StandsAt rests position rest → CountsOnly rest old.counts →
+pub goes-reached : (rests : List (List Part)) (old new : Point) (position : ℕ) (said : StepSaid) (rest : List Part) → old.stage ≡ Ready → GoesTo old position new said →
+    StandsAt rests position rest → CountsOnly rest old.counts →
     IsReached rests new
 goes-reached rests old new position said rest ready h stands counts =
-    moved rests new (record old { position = position; operands = [] }) h.0 (reached-at rests (record old { position = position; operands = [] }) rest stands counts (stops-ready rests old.stage [] ready))
+    moved rests new (record old { position = position; operands = [] }) h.0 (reached-at rests (record old { position = position; operands = [] }) rest stands counts
+    (stops-ready rests old.stage [] ready))
 
-pub takes-reached : (rests : List (List Part)) (now : ℕ) (p new : Point) (said : StepSaid) (updates : List (Option ValueUpdate)) (rest : List Part) → p.stage ≡ Ready → TakesFirst now p new said updates →
+pub takes-reached : (rests : List (List Part)) (now : ℕ) (p new : Point) (said : StepSaid) (updates : List (Option ValueUpdate)) (rest : List Part) → p.stage ≡ Ready →
+    TakesFirst now p new said updates →
     StandsAt rests p.position rest → CountsOnly rest p.counts → IsReached rests new
 takes-reached rests now p new said [] rest ready h stands counts = absurd h
 takes-reached rests now p new said (update ∷ others) rest ready h stands counts =
     moved rests new (record p { operands = []; updates = others }) h.0 (reached-at rests (record p { operands = []; updates = others }) rest stands counts (stops-ready rests p.stage [] ready))
 
-assigns-reached : (rests : List (List Part)) (now : ℕ) (old : Point) (place : SourcePlace) (delay : Option ℕ) (position : ℕ) (updates : List (Option ValueUpdate)) (new : Point) (said : StepSaid) (rest : List Part) → old.stage ≡ Ready →
+assigns-reached : (rests : List (List Part)) (now : ℕ) (old : Point) (place : SourcePlace) (delay : Option ℕ) (position : ℕ) (updates : List (Option ValueUpdate)) (new : Point) (said : StepSaid)
+    (rest : List Part) → old.stage ≡ Ready →
     Assigns now old place delay position updates new said → StandsAt rests position rest → CountsOnly rest old.counts → IsReached rests new
 assigns-reached rests now old place None position updates new said rest ready h stands counts =
     takes-reached rests now (filled old place None position updates) new said updates rest ready h stands counts
@@ -102,7 +108,8 @@ assigns-reached rests now old place (Some delay) position updates new said rest 
     (reached-at rests (record p { stage = stage_after now delay; position = position; operands = [] }) rest stands counts (stops-delay rests now delay))
 
 -- it reads, else acts
-acts-reached : {A : Type 0} (rests : List (List Part)) (values : List LogicValue) (progress : Progress A) (act : A → Point → StepSaid → Type 0) (old new : Point) (said : StepSaid) → old.stage ≡ Ready → IsReached rests old →
+acts-reached : {A : Type 0} (rests : List (List Part)) (values : List LogicValue) (progress : Progress A) (act : A → Point → StepSaid → Type 0) (old new : Point) (said : StepSaid) →
+    old.stage ≡ Ready → IsReached rests old →
     ((a : A) → act a new said → IsReached rests new) → Acts values progress act old new said → IsReached rests new
 acts-reached rests values (Needs object) act old new said ready here goes h =
     moved rests new _ h.0 (record { counts = here.counts; stops = stops-ready rests old.stage _ ready })
@@ -115,15 +122,19 @@ begins-reached rests old new position said waiting rest h here begins stands cou
     let p : Point = record old { stage = Waiting old.position; position = position; operands = [] } in
     moved rests new p h.0 (reached-at rests p rest stands counts (refl, subst BeginsWait (sym (get_or_from_slice_get rests old.position waiting [] here)) begins))
 
-waits-reached : (rests : List (List Part)) (holds : Bool) (old new : Point) (inner : ℕ) (said : StepSaid) (place : SourcePlace) (condition : Expression) (body : Statement) (after : List Part) → old.stage ≡ Ready →
-    WaitsUnless old inner holds new said → StandsAt rests old.position (Runs (Wait place condition body) ∷ after) → StandsAt rests inner (opened_parts body after) → CountsOnly after old.counts → IsReached rests new
+waits-reached : (rests : List (List Part)) (holds : Bool) (old new : Point) (inner : ℕ) (said : StepSaid) (place : SourcePlace) (condition : Expression) (body : Statement) (after : List Part) →
+    old.stage ≡ Ready →
+    WaitsUnless old inner holds new said → StandsAt rests old.position (Runs (Wait place condition body) ∷ after) → StandsAt rests inner (opened_parts body after) → CountsOnly after old.counts →
+    IsReached rests new
 waits-reached rests true old new inner said place condition body after ready h here there counts =
     goes-reached rests old new inner said (opened_parts body after) ready h there (counts-opened body after old.counts counts)
 waits-reached rests false old new inner said place condition body after ready h here there counts =
     begins-reached rests old new old.position said (Runs (Wait place condition body) ∷ after) (Runs (Wait place condition body) ∷ after) h here tt here counts
 
-turn-reached : (rests : List (List Part)) (old new : Point) (number inner next count : ℕ) (place : SourcePlace) (body : Statement) (after : List Part) → old.stage ≡ Ready → get_or old.counts number 0 ≡ count →
-    new ≡ after_turn old number inner next count → StandsAt rests inner (opened_parts body (TurnsLeft number place body ∷ after)) → StandsAt rests next after → CountsOnly (TurnsLeft number place body ∷ after) old.counts →
+turn-reached : (rests : List (List Part)) (old new : Point) (number inner next count : ℕ) (place : SourcePlace) (body : Statement) (after : List Part) → old.stage ≡ Ready →
+    get_or old.counts number 0 ≡ count →
+    new ≡ after_turn old number inner next count → StandsAt rests inner (opened_parts body (TurnsLeft number place body ∷ after)) → StandsAt rests next after →
+    CountsOnly (TurnsLeft number place body ∷ after) old.counts →
     IsReached rests new
 turn-reached rests old new number inner next zero place body after ready left e there further counts =
     moved rests new _ e (reached-at rests (after_turn old number inner next zero) after further (counts-ended number place body after old.counts left counts) (stops-ready rests old.stage [] ready))
@@ -133,7 +144,8 @@ turn-reached rests old new number inner next (suc count) place body after ready 
     (stops-ready rests old.stage [] ready))
 
 -- a step of what is first in the rest
-pub part-reached : (now : ℕ) (values : List LogicValue) (rests : List (List Part)) (repeats : ℕ) (ways : Ways) (next : ℕ) (part : Part) (after : List Part) (old new : Point) (said : StepSaid) → old.stage ≡ Ready →
+pub part-reached : (now : ℕ) (values : List LogicValue) (rests : List (List Part)) (repeats : ℕ) (ways : Ways) (next : ℕ) (part : Part) (after : List Part) (old new : Point) (said : StepSaid) →
+    old.stage ≡ Ready →
     StandsAt rests old.position (part ∷ after) → StandsAt rests next after → PartLeads repeats rests ways part after → IsReached rests old →
     ActsPart now values part ways next old new said → IsReached rests new
 part-reached now values rests repeats ways next (Runs Null) after old new said ready here stands leads reached acts = absurd leads
@@ -161,7 +173,8 @@ part-reached now values rests repeats ways next (Runs (While p condition inner))
 part-reached now values rests repeats ways next (Runs (Repeat p count inner)) after old new said ready here stands leads reached acts =
     let counts = counts-at rests old _ here reached in
     acts-reached rests values (read_expression count old.operands) (Counts old ways.other ways.inner (sign_of count)) old new said ready reached
-    (λ value h. moved rests new _ h.0 (reached-at rests _ (TurnsLeft ways.other p inner ∷ after) leads.2 (counts-set ways.other _ p inner after old.counts (λ other ne none. counts other none)) (stops-ready rests old.stage [] ready))) acts
+    (λ value h. moved rests new _ h.0 (reached-at rests _ (TurnsLeft ways.other p inner ∷ after) leads.2 (counts-set ways.other _ p inner after old.counts (λ other ne none. counts other none))
+    (stops-ready rests old.stage [] ready))) acts
 part-reached now values rests repeats ways next (Runs (Forever p inner)) after old new said ready here stands leads reached acts =
     let counts = counts-at rests old _ here reached in
     goes-reached rests old new ways.inner said (opened_parts inner (Runs (Forever p inner) ∷ after)) ready acts leads (counts-opened inner (Runs (Forever p inner) ∷ after) old.counts counts)
@@ -198,7 +211,8 @@ update-reached now rests old new said ready reached acts = by_updates old.update
         moved rests new (record old { operands = []; updates = others }) h.0 (record { counts = reached.counts; stops = stops-ready rests old.stage [] ready })
 
 -- the end of the body
-pub end-reached : (rests : List (List Part)) (always : Bool) (body : Statement) (old new : Point) (start : ℕ) (said : StepSaid) → old.stage ≡ Ready → StandsAt rests old.position [] → StandsAt rests start (opened_parts body []) → IsReached rests old →
+pub end-reached : (rests : List (List Part)) (always : Bool) (body : Statement) (old new : Point) (start : ℕ) (said : StepSaid) → old.stage ≡ Ready → StandsAt rests old.position [] →
+    StandsAt rests start (opened_parts body []) → IsReached rests old →
     (always ≡ true → GoesTo old start new said) → (always ≡ false → IsDone old new said) → IsReached rests new
 end-reached rests true body old new start said ready here stands reached again done =
     goes-reached rests old new start said (opened_parts body []) ready (again refl) stands (counts-opened body [] old.counts (counts-at rests old [] here reached))

@@ -1,5 +1,6 @@
 -- The rest that stands at each position of code, and what stays of a state.
-use Rattle.std.proofs.Common.{◌≡◌, ◌≤◌, ◌<◌, ℕ, zero, suc, Bool, true, false, ◌+◌, ◌-◌, List, [], ◌∷◌, ◌++◌, length, take, drop, get_or, replicate, Option, Some, None, refl, sym, ap, ◌∙◌, subst, arith}
+use Rattle.std.proofs.Common.{◌≡◌, ◌≤◌, ◌<◌, ℕ, zero, suc, Bool, true, false, ◌+◌, ◌-◌, List, [], ◌∷◌, ◌++◌, length, take, drop, get_or, replicate, Option, Some, None, refl, sym, ap, ◌∙◌, subst}
+use Rattle.std.proofs.Common.{arith}
 use Rattle.std.specs.List.{slice_get}
 use Rattle.std.specs.Prelude.{vec_capacity, map, option_map}
 use Rattle.std.proofs.lemmas.List.{take-append-drop, length-take-le, take_more, length-replicate}
@@ -78,13 +79,16 @@ fits-kept old new part k h = more-room (vec_capacity old.operands) (vec_capacity
 -- Steps
 
 -- a step of a spot is the step of the definition
-pub step-of-spot : (process : FlatProcess) (now : ℕ) (values : List LogicValue) (rests : List (List Part)) (repeats : ℕ) (p : Point) (ways : Ways) (next : ℕ) (part : Part) (after : List Part) (new : Point) (said : StepSaid) →
+pub step-of-spot : (process : FlatProcess) (now : ℕ) (values : List LogicValue) (rests : List (List Part)) (repeats : ℕ) (p : Point) (ways : Ways) (next : ℕ) (part : Part) (after : List Part)
+    (new : Point) (said : StepSaid) →
     p.stage ≡ Ready → p.updates ≡ [] → StandsAt rests p.position (part ∷ after) → StandsAt rests next after → PartLeads repeats rests ways part after → repeats ≤ length p.counts →
     ActsPart now values part ways next p new said → IsStep now values rests (process_step process now (tasks_at rests p) p.operands) new said
 step-of-spot process now values rests repeats p ways next part after new said stage none here stands leads room acts =
     let tasks : tasks_at rests p ≡ tasks_of p.counts (part ∷ after) =
-    ap (λ (us : List (Option ValueUpdate)). updates_left p.place p.delay us (tasks_of p.counts (get_or rests p.position []))) none ∙ tasks-ready rests p.position (part ∷ after) p.counts p.place p.delay here in
-    let ready : ActsPart now values part ways next (ready_at p.position p.operands p.counts p.place p.delay) new said = subst (λ q. ActsPart now values part ways next q new said) (ready-point p stage none) acts in
+    ap (λ (us : List (Option ValueUpdate)). updates_left p.place p.delay us (tasks_of p.counts (get_or rests p.position []))) none
+    ∙ tasks-ready rests p.position (part ∷ after) p.counts p.place p.delay here in
+    let ready : ActsPart now values part ways next (ready_at p.position p.operands p.counts p.place p.delay) new said =
+    subst (λ q. ActsPart now values part ways next q new said) (ready-point p stage none) acts in
     subst (λ ts. IsStep now values rests (process_step process now ts p.operands) new said) (sym tasks)
     (part-step process now values rests repeats p.position p.operands p.counts p.place p.delay ways next part after new said here stands leads room ready)
 
@@ -107,7 +111,8 @@ step-of-end process now values rests p start new said stage none here stands aga
         is-step now values rests _ new _ said _ (done h).0 (done h).1 (step-done now values rests p.position p.counts p.place p.delay 0 _ (ap (λ b. end_step b process.body) h))
 
 -- where the process stands at the end of its body
-pub end-ends : (body : Statement) (rests : List (List Part)) (always : Bool) (p new : Point) (start : ℕ) (said : StepSaid) → IsSizedStatement body → IsRestAt body rests p.position → StandsAt rests start (opened_parts body []) →
+pub end-ends : (body : Statement) (rests : List (List Part)) (always : Bool) (p new : Point) (start : ℕ) (said : StepSaid) → IsSizedStatement body → IsRestAt body rests p.position →
+    StandsAt rests start (opened_parts body []) →
     (always ≡ true → GoesTo p start new said) → (always ≡ false → IsDone p new said) → IsRestAt body rests new.position
 end-ends body rests true p new start said sized here stands again done =
     subst (IsRestAt body rests) (sym (ap (λ (q : Point). q.position) (again refl).0))
@@ -127,7 +132,8 @@ spot-within code position some rest =
     let low : position < length (rests_in_code code) = slice_get_within (rests_in_code code) position rest.rest rest.stands in
     omega (arith, low, rests_of-length code.spots.items, some)
 
-pub spot-facts : (code : Code) (position : ℕ) (spot : Spot) (ways : Ways) → IsCodeOf code.process.now code → (position ≡ 0 → ⊥) → IsRestAt (statement_of code.process.now.body) (rests_in_code code) position →
+pub spot-facts : (code : Code) (position : ℕ) (spot : Spot) (ways : Ways) → IsCodeOf code.process.now code → (position ≡ 0 → ⊥) →
+    IsRestAt (statement_of code.process.now.body) (rests_in_code code) position →
     spot ≡ get_or code.spots.items (position - 1) spot → ways ≡ get_or code.ways.items (position - 1) ways → SpotFacts code position spot ways
 spot-facts code position spot ways is some rest spot_is ways_is =
     let low = spot-within code position some rest in
@@ -136,11 +142,20 @@ spot-facts code position spot ways is some rest spot_is ways_is =
     let leads = is.led (position - 1) spot ways there there_ways in
     let n : position - 1 + 1 ≡ position = omega (arith, some) in
     let here : StandsAt (rests_in_code code) position (part_of_head spot.head ∷ leads.after) =
-    subst (λ k. StandsAt (rests_in_code code) k (part_of_head spot.head ∷ leads.after)) n (rest-spot code.spots.items (position - 1) spot leads.after there (is.falls (position - 1) spot there) leads.stands) in
-    record { within = low; there = there; leads = leads; here = here; parts = part-within (statement_of code.process.now.body) (rests_in_code code) position (part_of_head spot.head) leads.after rest here }
+    subst (λ k. StandsAt (rests_in_code code) k (part_of_head spot.head ∷ leads.after)) n (rest-spot code.spots.items (position - 1) spot leads.after there
+    (is.falls (position - 1) spot there) leads.stands) in
+    record {
+      within = low;
+      there = there;
+      leads = leads;
+      here = here;
+      parts = part-within (statement_of code.process.now.body) (rests_in_code code) position
+          (part_of_head spot.head) leads.after rest here;
+    }
 
 -- a state has a count for each part
-pub counts-part : (rests : List (List Part)) (repeats : ℕ) (ways : Ways) (part : Part) (after : List Part) (state : ProcState) → PartLeads repeats rests ways part after → repeats ≤ length state.counts.items → CountsPart part ways.other state
+pub counts-part : (rests : List (List Part)) (repeats : ℕ) (ways : Ways) (part : Part) (after : List Part) (state : ProcState) → PartLeads repeats rests ways part after →
+    repeats ≤ length state.counts.items → CountsPart part ways.other state
 counts-part rests repeats ways (Runs Null) after state leads room = absurd leads
 counts-part rests repeats ways (Runs (Block many)) after state leads room = absurd leads
 counts-part rests repeats ways (Runs (If place condition first second)) after state leads room = tt
@@ -158,9 +173,15 @@ counts-part rests repeats ways (Runs (Finish place)) after state leads room = tt
 counts-part rests repeats ways (TurnsLeft number place body) after state leads room = omega (arith, leads.0, room)
 
 -- a state of code stays one
-pub state-kept : (code : Code) (old new : ProcState) → IsStateOf code old → KeepsRoom old new → IsRestAt (statement_of code.process.now.body) (rests_in_code code) new.position → IsReached (rests_in_code code) (point_of new) →
+pub state-kept : (code : Code) (old new : ProcState) → IsStateOf code old → KeepsRoom old new → IsRestAt (statement_of code.process.now.body) (rests_in_code code) new.position →
+    IsReached (rests_in_code code) (point_of new) →
     IsStateOf code new
-state-kept code old new h k rest reached = record { reached = reached; rest = rest; counts = k.counts ∙ h.counts; room = λ i spot there. fits-kept old new (part_of_head spot.head) k (h.room i spot there) }
+state-kept code old new h k rest reached = record {
+  reached = reached;
+  rest = rest;
+  counts = k.counts ∙ h.counts;
+  room = λ i spot there. fits-kept old new (part_of_head spot.head) k (h.room i spot there);
+}
 
 -- among counts of 0 each is 0
 pub zeros : (repeats number : ℕ) → let counts : List ℕ = replicate repeats 0 in get_or counts number 0 ≡ 0
@@ -178,7 +199,10 @@ state-new code state is start counts ready room =
           (record { rest = opened_parts body []; stands = is.starts; within = opened-within body body [] (record { sized = is.sized; below = λ limit b. b }) tt });
       counts = ap length counts ∙ length-replicate code.repeats 0;
       room = room;
-      reached = record { counts = λ number idle. ap (λ (xs : List ℕ). get_or xs number 0) counts ∙ zeros code.repeats number; stops = stops-ready (rests_in_code code) state.stage state.operands.items ready };
+      reached = record {
+        counts = λ number idle. ap (λ (xs : List ℕ). get_or xs number 0) counts ∙ zeros code.repeats number;
+        stops = stops-ready (rests_in_code code) state.stage state.operands.items ready;
+      };
     }
 
 -- what the process does then

@@ -1,5 +1,6 @@
 -- The entries of a wait, one piece more at a time (nothing of the language).
-use Rattle.std.proofs.Common.{◌≡◌, ℕ, zero, suc, ◌+◌, ◌<◌, Bool, true, false, List, [], ◌∷◌, ◌++◌, length, get_or, drop, take, map, refl, ap, sym, subst, ◌∙◌, ◌-◌, ◌≤◌, inl, inr, append_assoc, append-nil, length-append, arith}
+use Rattle.std.proofs.Common.{◌≡◌, ℕ, zero, suc, ◌+◌, ◌<◌, Bool, true, false, List, [], ◌∷◌, ◌++◌, length, get_or, drop, take, map, refl, ap, sym, subst, ◌∙◌, ◌-◌, ◌≤◌, inl, inr, append_assoc}
+use Rattle.std.proofs.Common.{append-nil, length-append, arith}
 use Rattle.std.specs.Prelude.{◌||◌, nat_eq, Vec, slice_get, Some}
 use Rattle.std.specs.declared.alloc.Global.{Global}
 use Rattle.std.proofs.lemmas.Bool.{cases_lt}
@@ -125,7 +126,8 @@ pub entries-past : (spots : List Spot) (position : ℕ) → length spots < posit
 entries-past spots position past = sym (ap wait_entries (get_or_past (rests_of spots) position [] (omega (arith, past, rests_of-length spots))))
 
 -- the entries that stand at a position
-pub entries-here : (process : Process) (code : Code) (position : ℕ) (entries : Vec WaitEntry Global) (slice : List WaitEntry) → IsCodeOf process code → (position ≡ 0 → ⊥) → position ≤ length code.spots.items →
+pub entries-here : (process : Process) (code : Code) (position : ℕ) (entries : Vec WaitEntry Global) (slice : List WaitEntry) → IsCodeOf process code → (position ≡ 0 → ⊥) →
+    position ≤ length code.spots.items →
     entries ≡ get_or code.waits.items (position - 1) entries → slice ≡ entries.items → map entry_of slice ≡ wait_entries (get_or (rests_in_code code) position [])
 entries-here process code position entries slice is some low read opened =
     let spots = code.spots.items in
@@ -139,7 +141,8 @@ entries-here process code position entries slice is some low read opened =
     subst (λ k. StandsAt (rests_of spots) k (part_of_head spot.head ∷ get_or (rests_of spots) spot.next [])) n
     (rest-spot spots i spot (get_or (rests_of spots) spot.next []) found.1 falls (rest_at spots spot.next (omega (arith, falls, low, some)))) in
     let listed : get_or (map (λ (e : Vec WaitEntry Global). e.items) code.waits.items) i [] ≡ entries.items =
-    get_or-map-at (λ (e : Vec WaitEntry Global). e.items) code.waits.items i entries [] (omega (arith, low, some, sym (length-map code.waits.items (λ (e : Vec WaitEntry Global). e.items)) ∙ is.waits.count))
+    get_or-map-at (λ (e : Vec WaitEntry Global). e.items) code.waits.items i entries [] (omega
+    (arith, low, some, sym (length-map code.waits.items (λ (e : Vec WaitEntry Global). e.items)) ∙ is.waits.count))
     ∙ ap (λ (e : Vec WaitEntry Global). e.items) (sym read) in
     ap (map entry_of) (opened ∙ sym listed) ∙ is.waits.entries i spot found.1 ∙ sym (first-entries (part_of_head spot.head) (get_or (rests_of spots) spot.next []))
     ∙ ap wait_entries (sym (get_or_from_slice_get (rests_of spots) position (part_of_head spot.head ∷ get_or (rests_of spots) spot.next []) [] stands))

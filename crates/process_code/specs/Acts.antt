@@ -81,7 +81,8 @@ ActsBy now values (For place first_targets first condition next_targets last bod
 ActsBy now values (While place condition body) ways next old new said = Acts values (read_expression condition old.operands) (Branches old ways.inner next) old new said
 ActsBy now values (Repeat place count body) ways next old new said = Acts values (read_expression count old.operands) (Counts old ways.other ways.inner (sign_of count)) old new said
 ActsBy now values (Forever place body) ways next old new said = GoesTo old ways.inner new said
-ActsBy now values (Delay place delay body) ways next old new said = (new ≡ record old { stage = stage_after now delay; position = ways.inner; operands = []; delay = None }) × (said ≡ said_delay now delay)
+ActsBy now values (Delay place delay body) ways next old new said = (new ≡ record old { stage = stage_after now delay; position = ways.inner; operands = []; delay = None })
+    × (said ≡ said_delay now delay)
 ActsBy now values (EventControl place entries body) ways next old new said = WaitsAt old old.position ways.inner new said
 ActsBy now values (Wait place condition body) ways next old new said = Acts values (read_expression condition old.operands) (λ value. WaitsUnless old ways.inner (is_true value)) old new said
 ActsBy now values (Blocking place targets delay value) ways next old new said = Acts values (read_assignment place.line targets value old.operands) (Assigns now old place delay next) old new said

@@ -1,6 +1,7 @@
 -- Where the rests of a statement stand in code: a plain function of the statement (IEEE 1364-2001, clause 9).
 use Rattle.std.specs.Prelude.{ℕ, ◌+◌, List, [], ◌∷◌, ◌++◌, None}
-use Rattle.v_design.specs.Trees.{Statement, Null, Block, If, Case, For, While, Repeat, Forever, Delay, EventControl, Wait, Blocking, Nonblocking, Finish, Statements, no_statements, more_statements, CaseItems, no_items, more_items}
+use Rattle.v_design.specs.Trees.{Statement, Null, Block, If, Case, For, While, Repeat, Forever, Delay, EventControl, Wait, Blocking, Nonblocking, Finish, Statements, no_statements, more_statements}
+use Rattle.v_design.specs.Trees.{CaseItems, no_items, more_items}
 use Rattle.v_design.specs.Processes.{loop_of}
 use Rattle.process_code.specs.Rests.{Part, Runs, TurnsLeft, opened_all_parts}
 

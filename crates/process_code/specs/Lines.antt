@@ -6,7 +6,8 @@ use Rattle.v_design.specs.Trees.{Statement, Null, Block, If, Case, For, While, R
 use Rattle.v_design.specs.Expressions.{Progress, Needs, Has, sign_of, read_expression}
 use Rattle.v_design.specs.Designs.{FlatProcess}
 use Rattle.v_design.specs.Assignments.{ValueUpdate, read_assignment}
-use Rattle.v_design.specs.Processes.{Task, Run, Turns, Writes, Appends, ProcessStep, reads_or, write_step, append_step, assignment_step, wait_step, end_step, turns_step, statement_step, process_step, read_case}
+use Rattle.v_design.specs.Processes.{Task, Run, Turns, Writes, Appends, ProcessStep, reads_or, write_step, append_step, assignment_step, wait_step, end_step, turns_step, statement_step}
+use Rattle.v_design.specs.Processes.{process_step, read_case}
 use Rattle.process_code.specs.Rests.{Part, Runs, TurnsLeft}
 
 -- the line of a statement; a null statement and a block take no step

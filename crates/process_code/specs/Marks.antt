@@ -1,7 +1,8 @@
 -- What marks a part of a rest: the place of its statement, and which part of that statement it is (IEEE 1364-2001, clause 9).
 use Rattle.std.specs.Prelude.{◌≡◌, List, [], ◌∷◌, ◌++◌, map}
 use Rattle.vf_base.specs.Base.{SourcePlace}
-use Rattle.v_design.specs.Trees.{Statement, Null, Block, If, Case, For, While, Repeat, Forever, Delay, EventControl, Wait, Blocking, Nonblocking, Finish, Statements, no_statements, more_statements, CaseItems, no_items, more_items}
+use Rattle.v_design.specs.Trees.{Statement, Null, Block, If, Case, For, While, Repeat, Forever, Delay, EventControl, Wait, Blocking, Nonblocking, Finish, Statements, no_statements, more_statements}
+use Rattle.v_design.specs.Trees.{CaseItems, no_items, more_items}
 use Rattle.process_code.specs.Rests.{Part, Runs, TurnsLeft}
 use Rattle.process_code.specs.Positions.{part_of_head}
 use Rattle.process_code.specs.declared.code.Spot.{Spot}

@@ -1,7 +1,8 @@
 -- What is left of a process, but for the counts of its repeats (IEEE 1364-2001, clause 9).
 use Rattle.std.specs.Prelude.{ℕ, suc, zero, ◌+◌, ◌<◌, List, [], ◌∷◌, get_or}
 use Rattle.vf_base.specs.Base.{SourcePlace}
-use Rattle.v_design.specs.Trees.{Statement, Null, Block, If, Case, For, While, Repeat, Forever, Delay, EventControl, Wait, Blocking, Nonblocking, Finish, Statements, no_statements, more_statements, CaseItems, no_items, more_items}
+use Rattle.v_design.specs.Trees.{Statement, Null, Block, If, Case, For, While, Repeat, Forever, Delay, EventControl, Wait, Blocking, Nonblocking, Finish, Statements, no_statements, more_statements}
+use Rattle.v_design.specs.Trees.{CaseItems, no_items, more_items}
 use Rattle.v_design.specs.Processes.{Task, Run, Turns}
 
 -- a part of the rest: a statement that is to be run, or the turns that are left of a repeat with a number

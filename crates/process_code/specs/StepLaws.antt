@@ -5,17 +5,20 @@ use Rattle.std.proofs.lemmas.Option.{get_or_from_slice_get}
 use Rattle.vf_base.specs.Base.{SourcePlace}
 use Rattle.four_value.specs.Values.{LogicValue, is_true, natural_number}
 use Rattle.four_value.specs.declared.operator.CaseKind.{CaseKind}
-use Rattle.v_design.specs.Trees.{Entry, Expression, Target, Statement, Null, Block, If, Case, For, While, Repeat, Forever, Delay, EventControl, Wait, Blocking, Nonblocking, Finish, no_statements, more_statements, CaseItems}
+use Rattle.v_design.specs.Trees.{Entry, Expression, Target, Statement, Null, Block, If, Case, For, While, Repeat, Forever, Delay, EventControl, Wait, Blocking, Nonblocking, Finish, no_statements}
+use Rattle.v_design.specs.Trees.{more_statements, CaseItems}
 use Rattle.v_design.specs.Expressions.{sign_of, Progress, Needs, Has, read_expression}
 use Rattle.v_design.specs.Assignments.{ValueUpdate, value_at, read_assignment}
 use Rattle.v_design.specs.Designs.{FlatProcess}
-use Rattle.v_design.specs.Processes.{Task, Run, Activity, ProcessStep, ReadsObject, TouchesNothing, process_step, end_step, reads_or, turns_to, goes_on, after_delay, opened, either_statement, read_case, turns_of, turns_step, loop_of, write_step, write_action, writes_left, append_step, append_action, appends_left, assignment_step, wait_step}
+use Rattle.v_design.specs.Processes.{Task, Run, Activity, ProcessStep, ReadsObject, TouchesNothing, process_step, end_step, reads_or, turns_to, goes_on, after_delay, opened, either_statement}
+use Rattle.v_design.specs.Processes.{read_case, turns_of, turns_step, loop_of, write_step, write_action, writes_left, append_step, append_action, appends_left, assignment_step, wait_step}
 use Rattle.v_design.specs.Processes as activities
 use Rattle.v_design.specs.States.{next_activity}
 use Rattle.process_code.specs.Rests.{Part, Runs, TurnsLeft, opened_parts, tasks_of, NumbersFall}
 use Rattle.process_code.specs.RestsLaws.{tasks_of-opened, tasks_of-set}
 use Rattle.process_code.specs.Positions.{StandsAt}
-use Rattle.process_code.specs.Points.{Point, tasks_at, updates_left, wait_place, wait_entries, activity_at, activity_by, StepSaid, SaysRead, SaysWrite, SaysLater, SaysAwait, SaysSleep, SaysZero, SaysFinished, SaysInner, said_of, said_of_activity, IsStep, ready_at, left_at, said_write, said_append, stage_after, said_delay}
+use Rattle.process_code.specs.Points.{Point, tasks_at, updates_left, wait_place, wait_entries, activity_at, activity_by, StepSaid, SaysRead, SaysWrite, SaysLater, SaysAwait, SaysSleep, SaysZero}
+use Rattle.process_code.specs.Points.{SaysFinished, SaysInner, said_of, said_of_activity, IsStep, ready_at, left_at, said_write, said_append, stage_after, said_delay}
 use Rattle.process_code.specs.declared.state.Stage.{Stage}
 use Rattle.process_code.specs.declared.state.Stage.TheVariants.{Ready, Waiting, Asleep, Postponed, Done}
 
@@ -46,7 +49,8 @@ opened-tasks counts s rest = sym (tasks_of-opened counts s rest)
 -- Steps of any statement
 
 -- a step that reads an object
-pub step-reads : {A : Type 0} (now : ℕ) (values : List LogicValue) (rests : List (List Part)) (position : ℕ) (rest : List Part) (operands : List LogicValue) (counts : List ℕ) (place : SourcePlace) (delay : Option ℕ)
+pub step-reads : {A : Type 0} (now : ℕ) (values : List LogicValue) (rests : List (List Part)) (position : ℕ) (rest : List Part) (operands : List LogicValue) (counts : List ℕ) (place : SourcePlace)
+    (delay : Option ℕ)
     (line object : ℕ) (progress : Progress A) (act : A → ProcessStep) (step : ProcessStep) →
     StandsAt rests position rest → step ≡ reads_or line (tasks_of counts rest) operands progress act → progress ≡ Needs object →
     IsStep now values rests step (ready_at position (operands ++ (value_at values object ∷ [])) counts place delay) (SaysRead object)
@@ -57,7 +61,8 @@ step-reads now values rests position rest operands counts place delay line objec
     subst P (sym known) (record { activity = activity-ready rests position rest (operands ++ (value_at values object ∷ [])) counts place delay h; says = refl })
 
 -- a step that touches no object and goes on at a position
-pub step-inner : (now : ℕ) (values : List LogicValue) (rests : List (List Part)) (position : ℕ) (rest : List Part) (counts : List ℕ) (place : SourcePlace) (delay : Option ℕ) (line : ℕ) (step : ProcessStep) →
+pub step-inner : (now : ℕ) (values : List LogicValue) (rests : List (List Part)) (position : ℕ) (rest : List Part) (counts : List ℕ) (place : SourcePlace) (delay : Option ℕ) (line : ℕ)
+    (step : ProcessStep) →
     StandsAt rests position rest → step ≡ turns_to line (tasks_of counts rest) → IsStep now values rests step (ready_at position [] counts place delay) SaysInner
 step-inner now values rests position rest counts place delay line step h e =
     let P : ProcessStep → Type 0 = λ s. IsStep now values rests s (ready_at position [] counts place delay) SaysInner in
@@ -84,7 +89,8 @@ step-append now values rests position rest counts place delay update updates ste
     let here : activity_at rests (left_at Ready position counts place (Some delay) updates) ≡ activities.Ready (appends_left place delay updates (tasks_of counts rest)) [] =
     ap (λ r. activities.Ready (appends_left place delay updates (tasks_of counts r)) []) (rest-is rests position rest h) in
     let P : ProcessStep → Type 0 = λ s. IsStep now values rests s (left_at Ready position counts place (Some delay) updates) (said_append (now + delay) update) in
-    let Q : Option ValueUpdate → Type 0 = λ u. IsStep now values rests (append_step place delay (u ∷ updates) (tasks_of counts rest)) (left_at Ready position counts place (Some delay) updates) (said_append (now + delay) u) in
+    let Q : Option ValueUpdate → Type 0 = λ u. IsStep now values rests (append_step place delay (u ∷ updates) (tasks_of counts rest)) (left_at Ready position counts place (Some delay) updates)
+    (said_append (now + delay) u) in
     subst P (sym e) (elim update as Q [ None ↦ record { activity = here; says = refl } | Some u ↦ record { activity = here; says = refl } ])
 
 -- a delay, before the updates that are left of an assignment and a rest
@@ -94,7 +100,8 @@ pub step-delay : (now : ℕ) (values : List LogicValue) (rests : List (List Part
     IsStep now values rests step (left_at (stage_after now delay) position counts place None updates) (said_delay now delay)
 step-delay now values rests position rest counts place line delay updates step h e =
     let P : ProcessStep → Type 0 = λ s. IsStep now values rests s (left_at (stage_after now delay) position counts place None updates) (said_delay now delay) in
-    let Q : ℕ → Type 0 = λ d. IsStep now values rests (goes_on line (after_delay now d (writes_left place updates (tasks_of counts rest)))) (left_at (stage_after now d) position counts place None updates) (said_delay now d) in
+    let Q : ℕ → Type 0 = λ d. IsStep now values rests (goes_on line (after_delay now d (writes_left place updates (tasks_of counts rest))))
+    (left_at (stage_after now d) position counts place None updates) (said_delay now d) in
     subst P (sym e) (elim delay as Q [
       | zero ↦ record { activity = ap (λ r. activities.Postponed (writes_left place updates (tasks_of counts r))) (rest-is rests position rest h); says = refl }
       | suc d ↦ record { activity = ap (λ r. activities.Asleep (now + suc d) (writes_left place updates (tasks_of counts r))) (rest-is rests position rest h); says = refl }
@@ -123,7 +130,8 @@ step-if process now values rests operands left counts old_place delay place cond
     ∙ ap (turns_to place.line) (opened-tasks counts (either_statement (is_true value) first second) after))
 
 -- a loop that decides: its body stands before the loop
-pub step-while : (process : FlatProcess) (now : ℕ) (values : List LogicValue) (rests : List (List Part)) (operands left : List LogicValue) (counts : List ℕ) (old_place : SourcePlace) (delay : Option ℕ)
+pub step-while : (process : FlatProcess) (now : ℕ) (values : List LogicValue) (rests : List (List Part)) (operands left : List LogicValue) (counts : List ℕ) (old_place : SourcePlace)
+    (delay : Option ℕ)
     (place : SourcePlace) (condition : Expression) (body : Statement) (after : List Part) (inner next : ℕ) (value : LogicValue) →
     StandsAt rests inner (opened_parts body (Runs (While place condition body) ∷ after)) → StandsAt rests next after → read_expression condition operands ≡ Has value left →
     IsStep now values rests (process_step process now (tasks_of counts (Runs (While place condition body) ∷ after)) operands)
@@ -156,7 +164,8 @@ step-forever process now values rests operands counts old_place delay place body
     step-inner now values rests inner _ counts old_place delay place.line _ h (ap (turns_to place.line) (opened-tasks counts body (Runs (Forever place body) ∷ after)))
 
 -- the count of a repeat is fixed
-pub step-repeat : (process : FlatProcess) (now : ℕ) (values : List LogicValue) (rests : List (List Part)) (operands left : List LogicValue) (counts : List ℕ) (old_place : SourcePlace) (delay : Option ℕ)
+pub step-repeat : (process : FlatProcess) (now : ℕ) (values : List LogicValue) (rests : List (List Part)) (operands left : List LogicValue) (counts : List ℕ) (old_place : SourcePlace)
+    (delay : Option ℕ)
     (place : SourcePlace) (count : Expression) (body : Statement) (after : List Part) (number inner : ℕ) (value : LogicValue) → number < length counts → NumbersFall number after →
     StandsAt rests inner (TurnsLeft number place body ∷ after) → read_expression count operands ≡ Has value left →
     IsStep now values rests (process_step process now (tasks_of counts (Runs (Repeat place count body) ∷ after)) operands)
@@ -195,7 +204,8 @@ step-turns_end process now values rests operands counts old_place delay place bo
 -- a delay before a statement
 pub step-delayed : (process : FlatProcess) (now : ℕ) (values : List LogicValue) (rests : List (List Part)) (operands : List LogicValue) (counts : List ℕ) (old_place : SourcePlace)
     (place : SourcePlace) (delay : ℕ) (body : Statement) (after : List Part) (inner : ℕ) → StandsAt rests inner (opened_parts body after) →
-    IsStep now values rests (process_step process now (tasks_of counts (Runs (Delay place delay body) ∷ after)) operands) (left_at (stage_after now delay) inner counts old_place None []) (said_delay now delay)
+    IsStep now values rests (process_step process now (tasks_of counts (Runs (Delay place delay body) ∷ after)) operands) (left_at (stage_after now delay) inner counts old_place None [])
+    (said_delay now delay)
 step-delayed process now values rests operands counts old_place place delay body after inner h =
     step-delay now values rests inner _ counts old_place place.line delay [] _ h (ap (λ tasks. goes_on place.line (after_delay now delay tasks)) (opened-tasks counts body after))
 
@@ -220,7 +230,8 @@ step-event process now values rests operands counts old_place delay place entrie
     }
 
 -- a wait whose condition is true goes on
-pub step-wait_over : (process : FlatProcess) (now : ℕ) (values : List LogicValue) (rests : List (List Part)) (operands left : List LogicValue) (counts : List ℕ) (old_place : SourcePlace) (delay : Option ℕ)
+pub step-wait_over : (process : FlatProcess) (now : ℕ) (values : List LogicValue) (rests : List (List Part)) (operands left : List LogicValue) (counts : List ℕ) (old_place : SourcePlace)
+    (delay : Option ℕ)
     (place : SourcePlace) (condition : Expression) (body : Statement) (after : List Part) (inner : ℕ) (value : LogicValue) →
     StandsAt rests inner (opened_parts body after) → read_expression condition operands ≡ Has value left → is_true value ≡ true →
     IsStep now values rests (process_step process now (tasks_of counts (Runs (Wait place condition body) ∷ after)) operands) (ready_at inner [] counts old_place delay) SaysInner
@@ -294,7 +305,8 @@ step-done now values rests position counts place delay line step e =
     subst P (sym e) (record { activity = refl; says = refl })
 
 -- an always begins again
-pub step-again : (process : FlatProcess) (now : ℕ) (values : List LogicValue) (rests : List (List Part)) (start : ℕ) (operands : List LogicValue) (counts : List ℕ) (place : SourcePlace) (delay : Option ℕ) →
+pub step-again : (process : FlatProcess) (now : ℕ) (values : List LogicValue) (rests : List (List Part)) (start : ℕ) (operands : List LogicValue) (counts : List ℕ) (place : SourcePlace)
+    (delay : Option ℕ) →
     process.always ≡ true → StandsAt rests start (opened_parts process.body []) → IsStep now values rests (process_step process now [] operands) (ready_at start [] counts place delay) SaysInner
 step-again process now values rests start operands counts place delay always h =
     step-inner now values rests start _ counts place delay 0 _ h (ap (λ b. end_step b process.body) always ∙ ap (turns_to 0) (opened-tasks counts process.body []))

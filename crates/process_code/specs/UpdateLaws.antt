@@ -12,7 +12,8 @@ abbrev IfAnswer : {A : Type 0} → (A → Type 0) → Progress A → Type 0
 IfAnswer P (Needs object) = Unit {0}
 IfAnswer P (Has answer left) = P answer
 
-answers-then : {A B : Type 0} (Q : A → Type 0) (P : B → Type 0) (p : Progress A) (k : A → List LogicValue → Progress B) → IfAnswer Q p → ((a : A) (left : List LogicValue) → Q a → IfAnswer P (k a left)) → IfAnswer P (then_with p k)
+answers-then : {A B : Type 0} (Q : A → Type 0) (P : B → Type 0) (p : Progress A) (k : A → List LogicValue → Progress B) → IfAnswer Q p →
+    ((a : A) (left : List LogicValue) → Q a → IfAnswer P (k a left)) → IfAnswer P (then_with p k)
 answers-then Q P (Needs object) k h more = tt
 answers-then Q P (Has a left) k h more = more a left h
 
@@ -25,7 +26,8 @@ indexes-some target targets operands =
     answers-then (λ (a : Option ℕ). Unit {0}) HasUpdates (read_index target operands) _ (answers-any (read_index target operands))
     (λ index rest u. answers-then (λ (a : List (Option ℕ)). Unit {0}) HasUpdates (read_indexes targets rest) _ (answers-any (read_indexes targets rest)) (λ indexes left v. tt))
 
-updates-some : (line : ℕ) (target : Target) (targets : List Target) (indexes : List (Option ℕ)) (value : LogicValue) → HasUpdates indexes → HasUpdates (target_updates line (target ∷ targets) indexes value)
+updates-some : (line : ℕ) (target : Target) (targets : List Target) (indexes : List (Option ℕ)) (value : LogicValue) → HasUpdates indexes →
+    HasUpdates (target_updates line (target ∷ targets) indexes value)
 updates-some line target targets [] value h = absurd h
 updates-some line target targets (index ∷ indexes) value h = tt
 

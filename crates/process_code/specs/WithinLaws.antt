@@ -4,7 +4,8 @@ use Rattle.std.specs.Prelude.{if◌then◌else◌}
 use Rattle.vf_base.specs.Base.{SourcePlace}
 use Rattle.four_value.specs.Values.{LogicValue, is_true}
 use Rattle.vf_base.specs.Lists.{AllHold}
-use Rattle.v_design.specs.Trees.{Piece, Expression, Target, Statement, Null, Block, If, Case, For, While, Repeat, Forever, Delay, EventControl, Wait, Blocking, Nonblocking, Finish, Statements, no_statements, more_statements, CaseItems, no_items, more_items}
+use Rattle.v_design.specs.Trees.{Piece, Expression, Target, Statement, Null, Block, If, Case, For, While, Repeat, Forever, Delay, EventControl, Wait, Blocking, Nonblocking, Finish, Statements}
+use Rattle.v_design.specs.Trees.{no_statements, more_statements, CaseItems, no_items, more_items}
 use Rattle.v_design.specs.Reads.{named_in, named_in_parts, named_in_targets, named_by, named_by_all, named_by_items}
 use Rattle.v_design.specs.Sized.{IsSizedStatement, AreSizedStatements, AreSizedItems}
 use Rattle.v_design.specs.Expressions.{sign_of, width_of, Progress, Needs, Has, read_expression}
@@ -53,7 +54,8 @@ mutual
 -- Positions
 
 -- an opened statement stands there
-goes-opened : (body s : Statement) (rests : List (List Part)) (position : ℕ) (after : List Part) → StandsAt rests position (opened_parts s after) → IsWithin body s → AllHold (IsPartWithin body) after → IsRestAt body rests position
+goes-opened : (body s : Statement) (rests : List (List Part)) (position : ℕ) (after : List Part) → StandsAt rests position (opened_parts s after) → IsWithin body s →
+    AllHold (IsPartWithin body) after → IsRestAt body rests position
 goes-opened body s rests position after stands w h = record { rest = opened_parts s after; stands = stands; within = opened-within body s after w h }
 
 -- a rest stands there
@@ -69,7 +71,8 @@ acts-ends : {A : Type 0} (body : Statement) (rests : List (List Part)) (values :
 acts-ends body rests values (Needs object) act old new said here goes h = at-same body rests new.position old.position (ap (λ (p : Point). p.position) h.0) here
 acts-ends body rests values (Has a left) act old new said here goes h = goes a h
 
-either-ends : (body : Statement) (rests : List (List Part)) (chosen : Bool) (inner other position : ℕ) → position ≡ (if chosen then inner else other) → IsRestAt body rests inner → IsRestAt body rests other → IsRestAt body rests position
+either-ends : (body : Statement) (rests : List (List Part)) (chosen : Bool) (inner other position : ℕ) → position ≡ (if chosen then inner else other) → IsRestAt body rests inner →
+    IsRestAt body rests other → IsRestAt body rests position
 either-ends body rests true inner other position e h k = at-same body rests position inner e h
 either-ends body rests false inner other position e h k = at-same body rests position other e k
 
@@ -78,15 +81,18 @@ takes-ends now p new said [] h = absurd h
 takes-ends now p new said (update ∷ updates) h = ap (λ (q : Point). q.position) h.0
 
 -- the position after the updates of an assignment are put in
-assigns-ends : (now : ℕ) (old : Point) (place : SourcePlace) (delay : Option ℕ) (position : ℕ) (updates : List (Option ValueUpdate)) (new : Point) (said : StepSaid) → Assigns now old place delay position updates new said → new.position ≡ position
+assigns-ends : (now : ℕ) (old : Point) (place : SourcePlace) (delay : Option ℕ) (position : ℕ) (updates : List (Option ValueUpdate)) (new : Point) (said : StepSaid) →
+    Assigns now old place delay position updates new said → new.position ≡ position
 assigns-ends now old place None position updates new said h = takes-ends now (filled old place None position updates) new said updates h
 assigns-ends now old place (Some delay) position updates new said h = ap (λ (q : Point). q.position) h.0
 
-waits-ends : (body : Statement) (rests : List (List Part)) (holds : Bool) (old new : Point) (inner : ℕ) (said : StepSaid) → WaitsUnless old inner holds new said → IsRestAt body rests old.position → IsRestAt body rests inner → IsRestAt body rests new.position
+waits-ends : (body : Statement) (rests : List (List Part)) (holds : Bool) (old new : Point) (inner : ℕ) (said : StepSaid) → WaitsUnless old inner holds new said → IsRestAt body rests old.position →
+    IsRestAt body rests inner → IsRestAt body rests new.position
 waits-ends body rests true old new inner said h here there = at-same body rests new.position inner (ap (λ (q : Point). q.position) h.0) there
 waits-ends body rests false old new inner said h here there = at-same body rests new.position old.position (ap (λ (q : Point). q.position) h.0) here
 
-turn-ends : (p : Point) (number inner next count : ℕ) (body : Statement) (rests : List (List Part)) (position : ℕ) → position ≡ (after_turn p number inner next count).position → IsRestAt body rests inner → IsRestAt body rests next → IsRestAt body rests position
+turn-ends : (p : Point) (number inner next count : ℕ) (body : Statement) (rests : List (List Part)) (position : ℕ) → position ≡ (after_turn p number inner next count).position →
+    IsRestAt body rests inner → IsRestAt body rests next → IsRestAt body rests position
 turn-ends p number inner next zero body rests position e h k = at-same body rests position next e k
 turn-ends p number inner next (suc count) body rests position e h k = at-same body rests position inner e h
 
@@ -105,10 +111,20 @@ items-ends body rests (p ∷ positions) no_items other after (Some n) leads w h 
 items-ends body rests [] (more_items labels statement others) other after (Some n) leads w h k = absurd leads
 items-ends body rests (p ∷ positions) (more_items labels statement others) other after (Some zero) leads w h k =
     goes-opened body statement rests p after leads.0
-    (record { sized = w.sized.1; below = λ limit b. AllHold-left _ (named_by statement) (named_by_items others) (AllHold-right _ (named_in_parts labels) (named_by statement ++ named_by_items others) (w.below limit b)) }) h
+    (record {
+      sized = w.sized.1;
+      below = λ limit b. AllHold-left _ (named_by statement) (named_by_items others)
+          (AllHold-right _ (named_in_parts labels) (named_by statement ++ named_by_items others) (w.below limit b));
+    }) h
 items-ends body rests (p ∷ positions) (more_items labels statement others) other after (Some (suc n)) leads w h k =
     items-ends body rests positions others other after (Some n) leads.1
-    (record { width = w.width; signed = w.signed; sized = w.sized.2; below = λ limit b. AllHold-right _ (named_by statement) (named_by_items others) (AllHold-right _ (named_in_parts labels) (named_by statement ++ named_by_items others) (w.below limit b)) }) h k
+    (record {
+      width = w.width;
+      signed = w.signed;
+      sized = w.sized.2;
+      below = λ limit b. AllHold-right _ (named_by statement) (named_by_items others)
+          (AllHold-right _ (named_in_parts labels) (named_by statement ++ named_by_items others) (w.below limit b));
+    }) h k
 
 AllHold-both : {A : Type 0} (P : A → Type 0) (xs ys : List A) → AllHold P xs → AllHold P ys → AllHold P (xs ++ ys)
 AllHold-both P [] ys h k = k
@@ -127,7 +143,8 @@ loop-below limit p condition next_targets last inner h =
     (AllHold-both below (named_in_targets next_targets) (named_in last) (AllHold-left below (named_in_targets next_targets) _ rest) (AllHold-left below (named_in last) _ more)) tt))
 
 -- after a step a rest of the body stands at the position
-pub part-ends : (body : Statement) (now : ℕ) (values : List LogicValue) (rests : List (List Part)) (repeats : ℕ) (ways : Ways) (next : ℕ) (part : Part) (after : List Part) (old new : Point) (said : StepSaid) →
+pub part-ends : (body : Statement) (now : ℕ) (values : List LogicValue) (rests : List (List Part)) (repeats : ℕ) (ways : Ways) (next : ℕ) (part : Part) (after : List Part) (old new : Point)
+    (said : StepSaid) →
     StandsAt rests old.position (part ∷ after) → StandsAt rests next after → PartLeads repeats rests ways part after → AllHold (IsPartWithin body) (part ∷ after) →
     ActsPart now values part ways next old new said → IsRestAt body rests new.position
 part-ends body now values rests repeats ways next (Runs Null) after old new said here stands leads within acts = absurd leads
@@ -136,15 +153,28 @@ part-ends body now values rests repeats ways next (Runs (If p condition first se
     let w = within.0 in
     acts-ends body rests values (read_expression condition old.operands) (Branches old ways.inner ways.other) old new said (goes-rest body rests old.position _ here within)
     (λ value h. either-ends body rests (is_true value) ways.inner ways.other new.position (ap (λ (q : Point). q.position) h.0)
-    (goes-opened body first rests ways.inner after leads.0 (record { sized = w.sized.1; below = λ limit b. AllHold-left _ (named_by first) (named_by second) (AllHold-right _ (named_in condition) _ (w.below limit b)) }) within.1)
-    (goes-opened body second rests ways.other after leads.1 (record { sized = w.sized.2; below = λ limit b. AllHold-right _ (named_by first) (named_by second) (AllHold-right _ (named_in condition) _ (w.below limit b)) }) within.1)) acts
+    (goes-opened body first rests ways.inner after leads.0 (record {
+      sized = w.sized.1;
+      below =
+          λ limit b. AllHold-left _ (named_by first) (named_by second) (AllHold-right _ (named_in condition) _ (w.below limit b));
+    }) within.1)
+    (goes-opened body second rests ways.other after leads.1 (record {
+      sized = w.sized.2;
+      below =
+          λ limit b. AllHold-right _ (named_by first) (named_by second) (AllHold-right _ (named_in condition) _ (w.below limit b));
+    }) within.1)) acts
 part-ends body now values rests repeats ways next (Runs (Case p kind value items default)) after old new said here stands leads within acts =
     let w = within.0 in
-    let items_below : (limit : ℕ) → AreBelow limit (named_by body) → AreBelow limit (named_by_items items) = λ limit b. AllHold-left _ (named_by_items items) (named_by default) (AllHold-right _ (named_in value) _ (w.below limit b)) in
+    let items_below : (limit : ℕ) → AreBelow limit (named_by body) → AreBelow limit (named_by_items items) =
+    λ limit b. AllHold-left _ (named_by_items items) (named_by default) (AllHold-right _ (named_in value) _ (w.below limit b)) in
     acts-ends body rests values (read_case kind value items default old.operands) (Chooses items default ways.items.items ways.other old) old new said (goes-rest body rests old.position _ here within)
     (λ statement h. at-same body rests new.position _ (ap (λ (q : Point). q.position) h.goes.0)
     (items-ends body rests ways.items.items items ways.other after h.choice leads.0 (record { width = width_of value; signed = sign_of value; sized = w.sized.2; below = items_below }) within.1
-    (goes-opened body default rests ways.other after leads.1 (record { sized = w.sized.3; below = λ limit b. AllHold-right _ (named_by_items items) (named_by default) (AllHold-right _ (named_in value) _ (w.below limit b)) }) within.1))) acts
+    (goes-opened body default rests ways.other after leads.1 (record {
+      sized = w.sized.3;
+      below =
+          λ limit b. AllHold-right _ (named_by_items items) (named_by default) (AllHold-right _ (named_in value) _ (w.below limit b));
+    }) within.1))) acts
 part-ends body now values rests repeats ways next (Runs (For p first_targets first condition next_targets last inner)) after old new said here stands leads within acts =
     let w = within.0 in
     let loop : IsWithin body (loop_of p condition next_targets last inner) =
@@ -186,7 +216,8 @@ part-ends body now values rests repeats ways next (Runs (Blocking p targets d va
     acts-ends body rests values (read_assignment p.line targets value old.operands) (Assigns now old p d next) old new said (goes-rest body rests old.position _ here within)
     (λ updates h. at-same body rests new.position next (assigns-ends now old p d next updates new said h) (goes-rest body rests next after stands within.1)) acts
 part-ends body now values rests repeats ways next (Runs (Nonblocking p targets d value)) after old new said here stands leads within acts =
-    acts-ends body rests values (read_assignment p.line targets value old.operands) (λ updates. TakesUpdate now (filled old p (Some d) next updates)) old new said (goes-rest body rests old.position _ here within)
+    acts-ends body rests values (read_assignment p.line targets value old.operands) (λ updates. TakesUpdate now (filled old p (Some d) next updates)) old new said
+    (goes-rest body rests old.position _ here within)
     (λ updates h. at-same body rests new.position next (takes-ends now (filled old p (Some d) next updates) new said updates h) (goes-rest body rests next after stands within.1)) acts
 part-ends body now values rests repeats ways next (Runs (Finish p)) after old new said here stands leads within acts =
     at-same body rests new.position old.position (ap (λ (q : Point). q.position) acts.0) (goes-rest body rests old.position _ here within)

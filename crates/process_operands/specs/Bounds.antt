@@ -1,7 +1,8 @@
 -- How many operands a statement reads at most, and which objects (IEEE 1364-2001, clause 4).
 use Rattle.std.specs.Prelude.{ℕ, ◌+◌, ◌<◌, ◌≤◌, List, [], ◌∷◌, length}
 use Rattle.four_value.specs.Values.{LogicValue}
-use Rattle.v_design.specs.Trees.{Expression, Constant, Name, BitSelect, PartSelect, WordSelect, Unary, Binary, Conditional, Concatenation, Replication, Expressions, no_expressions, more_expressions, Target, WholeTarget, BitTarget, PartTarget, WordTarget, CaseItems, no_items, more_items}
+use Rattle.v_design.specs.Trees.{Expression, Constant, Name, BitSelect, PartSelect, WordSelect, Unary, Binary, Conditional, Concatenation, Replication, Expressions, no_expressions, more_expressions}
+use Rattle.v_design.specs.Trees.{Target, WholeTarget, BitTarget, PartTarget, WordTarget, CaseItems, no_items, more_items}
 use Rattle.v_design.specs.Expressions.{Progress, Needs, Has}
 
 abbrev mutual

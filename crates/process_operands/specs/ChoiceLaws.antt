@@ -52,7 +52,8 @@ choice-step all default statement otherwise None true i h = sym h
 choice-step all default statement otherwise None false i h = refl
 
 -- one item more
-pub items-more : (kind : CaseKind) (value : LogicValue) (items : List CaseItem) (i : ℕ) (d : CaseItem) (default : Statement) (choice : Option ℕ) (matches : Bool) (operands left : List LogicValue) → i < length items →
+pub items-more : (kind : CaseKind) (value : LogicValue) (items : List CaseItem) (i : ℕ) (d : CaseItem) (default : Statement) (choice : Option ℕ) (matches : Bool) (operands left : List LogicValue) →
+    i < length items →
     got (some_label_matches kind value) (read_each (expressions_of (get_or items i d).labels.items) operands) ≡ Has matches left →
     got (chosen_or (items_of items) default choice) (read_items kind value (items_of (drop i items)) default operands)
     ≡ got (chosen_or (items_of items) default (choice_after choice matches i)) (read_items kind value (items_of (drop (i + 1) items)) default left)
@@ -67,7 +68,8 @@ items-more kind value items i d default choice matches operands left low has =
     ∙ then-has (got (some_label_matches kind value) (read_each labels operands)) _ matches left has
     ∙ then_with-is (λ o. either_statement matches statement o) (read_items kind value rest default left))
     ∙ got-got (chosen_or (items_of items) default choice) (λ o. either_statement matches statement o) (read_items kind value rest default left)
-    ∙ got-same (λ o. chosen_or (items_of items) default choice (either_statement matches statement o)) (chosen_or (items_of items) default (choice_after choice matches i)) (read_items kind value rest default left)
+    ∙ got-same (λ o. chosen_or (items_of items) default choice (either_statement matches statement o)) (chosen_or (items_of items) default (choice_after choice matches i))
+    (read_items kind value rest default left)
     (λ o. choice-step (items_of items) default statement o choice matches i (chosen-at items i d default low))
 
 -- Parts

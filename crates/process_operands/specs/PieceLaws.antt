@@ -38,10 +38,12 @@ pieces-any v index before after h e =
     e ∙ ap (λ l. before ++ l) (sym (whole-pieces v.pieces)) ∙ ap (λ b. before ++ slice_pieces (bit_slices b v (index_number no_values index))) (sym h)
 
 -- a constant index
-pub pieces-constant : (v : Vector) (index : Expression) (operands left value : List _) (number : Option ℕ) (before after : List Piece) → is_constant index ≡ true → read_expression index operands ≡ Has value left →
+pub pieces-constant : (v : Vector) (index : Expression) (operands left value : List _) (number : Option ℕ) (before after : List Piece) → is_constant index ≡ true →
+    read_expression index operands ≡ Has value left →
     number ≡ natural_number (sign_of index) value → after ≡ before ++ slice_pieces (slices_at (place_of_number v.high v.low number ∷ []) 0 v.pieces) →
     after ≡ before ++ slice_pieces (bit_slices (is_constant index) v (index_number no_values index))
 pieces-constant v index operands left value number before after h has is e =
     e
-    ∙ ap (λ (n : Option ℕ). before ++ slice_pieces (slices_at (place_of_number v.high v.low n ∷ []) 0 v.pieces)) (is ∙ ap (natural_number (sign_of index)) (sym (constant-value index value operands left h has)))
+    ∙ ap (λ (n : Option ℕ). before ++ slice_pieces (slices_at (place_of_number v.high v.low n ∷ []) 0 v.pieces))
+    (is ∙ ap (natural_number (sign_of index)) (sym (constant-value index value operands left h has)))
     ∙ ap (λ b. before ++ slice_pieces (bit_slices b v (index_number no_values index))) (sym h)

@@ -1,5 +1,6 @@
 -- What each form of an expression gets from its operands (IEEE 1364-2001, clause 4).
-use Rattle.std.proofs.Common.{◌≡◌, ℕ, zero, suc, ◌+◌, ◌-◌, ◌<◌, ◌≤◌, Bool, true, false, List, [], ◌∷◌, ◌++◌, length, get_or, take, drop, replicate, map, inl, inr, None, refl, ap, sym, ◌∙◌, subst, arith, append_assoc}
+use Rattle.std.proofs.Common.{◌≡◌, ℕ, zero, suc, ◌+◌, ◌-◌, ◌<◌, ◌≤◌, Bool, true, false, List, [], ◌∷◌, ◌++◌, length, get_or, take, drop, replicate, map, inl, inr, None, refl, ap, sym, ◌∙◌, subst}
+use Rattle.std.proofs.Common.{arith, append_assoc}
 use Rattle.std.specs.Prelude.{if◌then◌else◌, ◌&&◌}
 use Rattle.std.proofs.lemmas.Bool.{le-leb, cases_lt}
 use Rattle.v_design.specs.declared.tree.FlatExpr.{FlatExpr}
@@ -9,8 +10,10 @@ use Rattle.std.proofs.lemmas.List.{drop_more, take-append-le, take_all, length-t
 use Rattle.four_value.specs.declared.logic.Bit.{Bit}
 use Rattle.four_value.specs.declared.logic.Bit.TheVariants.{X}
 use Rattle.four_value.specs.Values.{LogicValue, resized, fill_bit, natural_number}
-use Rattle.v_design.specs.Trees.{Piece, Vector, Expression, Constant, Name, BitSelect, PartSelect, WordSelect, Unary, Binary, Conditional, Concatenation, Replication, Expressions, no_expressions, more_expressions}
-use Rattle.v_design.specs.Expressions.{sign_of, is_constant, are_constant, place_of, place_of_number, part_places, part_indexes, up_from, down_from, bit_at_place, whole_slices, slices_at, bit_slices, index_number, no_values, value_of, parts_value, Progress, Needs, Has, then_with, read_slices, read_expression, read_parts}
+use Rattle.v_design.specs.Trees.{Piece, Vector, Expression, Constant, Name, BitSelect, PartSelect, WordSelect, Unary, Binary, Conditional, Concatenation, Replication, Expressions, no_expressions}
+use Rattle.v_design.specs.Trees.{more_expressions}
+use Rattle.v_design.specs.Expressions.{sign_of, is_constant, are_constant, place_of, place_of_number, part_places, part_indexes, up_from, down_from, bit_at_place, whole_slices, slices_at}
+use Rattle.v_design.specs.Expressions.{bit_slices, index_number, no_values, value_of, parts_value, Progress, Needs, Has, then_with, read_slices, read_expression, read_parts}
 use Rattle.process_operands.specs.Sought.{got}
 use Rattle.process_operands.specs.PartReads.{piece-unread, got-same}
 
@@ -124,7 +127,8 @@ pub reads-nowhere : (low : ℕ) (pieces : List Piece) (operands : List LogicValu
 reads-nowhere low [] operands = refl
 reads-nowhere low (piece ∷ pieces) operands = piece-unread (λ (bits : LogicValue). X) (None ∷ []) low piece pieces operands refl ∙ reads-nowhere (low + piece.width) pieces operands
 
-pub constant-value : (index : Expression) (value : LogicValue) (operands left : List LogicValue) → is_constant index ≡ true → read_expression index operands ≡ Has value left → value_of no_values index ≡ value
+pub constant-value : (index : Expression) (value : LogicValue) (operands left : List LogicValue) → is_constant index ≡ true → read_expression index operands ≡ Has value left →
+    value_of no_values index ≡ value
 constant-value index value operands left h has = let own = reads-constant index operands h in cc
 
 constant-left : (index : Expression) (value : LogicValue) (operands left : List LogicValue) → is_constant index ≡ true → read_expression index operands ≡ Has value left → left ≡ operands
@@ -159,10 +163,12 @@ bit-finish v index bit left width signed (Has bits rest) h has =
 
 -- the bit that a constant index selects
 pub bit-has : (v : Vector) (index : Expression) (operands left rest value : List _) (bit : Bit) → is_constant index ≡ true → read_expression index operands ≡ Has value left →
-    got (λ bits. bit_at_place bits (place_of_number v.high v.low (natural_number (sign_of index) value))) (read_slices (slices_at (place_of_number v.high v.low (natural_number (sign_of index) value) ∷ []) 0 v.pieces) left) ≡ Has bit rest →
+    got (λ bits. bit_at_place bits (place_of_number v.high v.low (natural_number (sign_of index) value)))
+    (read_slices (slices_at (place_of_number v.high v.low (natural_number (sign_of index) value) ∷ []) 0 v.pieces) left) ≡ Has bit rest →
     (width : ℕ) (signed : Bool) → read_expression (BitSelect width signed v index) operands ≡ Has (resized signed width (bit ∷ [])) rest
 bit-has v index operands left rest value bit h has own width signed =
-    let P : List LogicValue → LogicValue → Type 0 = λ l x. got (λ bits. bit_at_place bits (place_of_number v.high v.low (natural_number (sign_of index) x))) (read_slices (slices_at (place_of_number v.high v.low (natural_number (sign_of index) x) ∷ []) 0 v.pieces) l) ≡ Has bit rest in
+    let P : List LogicValue → LogicValue → Type 0 = λ l x. got (λ bits. bit_at_place bits (place_of_number v.high v.low (natural_number (sign_of index) x)))
+    (read_slices (slices_at (place_of_number v.high v.low (natural_number (sign_of index) x) ∷ []) 0 v.pieces) l) ≡ Has bit rest in
     let one : P operands value = subst (λ l. P l value) (constant-left index value operands left h has) own in
     let two : P operands (value_of no_values index) = subst (P operands) (sym (constant-value index value operands left h has)) one in
     bit-finish v index bit rest width signed (read_slices (bit_slices (is_constant index) v (index_number no_values index)) operands) h
@@ -179,7 +185,8 @@ parts-more part rest operands left value bits has =
     ∙ got-same (λ (lower : LogicValue). (lower ++ value) ++ bits) (λ lower. lower ++ (value ++ bits)) (read_parts rest left) (λ lower. append_assoc lower value bits)
 
 -- the parts from a number on
-pub read_parts-at : (parts : List FlatExpr) (i : ℕ) (d : FlatExpr) → i < length parts → expressions_of (drop i parts) ≡ more_expressions (expression_of (get_or parts i d)) (expressions_of (drop (i + 1) parts))
+pub read_parts-at : (parts : List FlatExpr) (i : ℕ) (d : FlatExpr) → i < length parts → expressions_of (drop i parts) ≡ more_expressions (expression_of (get_or parts i d))
+    (expressions_of (drop (i + 1) parts))
 read_parts-at parts i d low = ap expressions_of (drop_more parts i d low)
 
 -- their width

@@ -4,7 +4,8 @@ use Rattle.std.specs.Prelude.{slice_get, nat_eq, IsTrue}
 use Rattle.std.proofs.lemmas.Bool.{and_parts, eqb-true, eq-eqb, or_left, or_right}
 use Rattle.four_value.specs.Values.{IsWidth}
 use Rattle.vf_base.specs.Lists.{has, AllHold}
-use Rattle.v_design.specs.Trees.{Piece, Entry, Statement, Null, Block, If, Case, For, While, Repeat, Forever, Delay, EventControl, Wait, Blocking, Nonblocking, Finish, Statements, no_statements, more_statements, CaseItems, no_items, more_items}
+use Rattle.v_design.specs.Trees.{Piece, Entry, Statement, Null, Block, If, Case, For, While, Repeat, Forever, Delay, EventControl, Wait, Blocking, Nonblocking, Finish, Statements, no_statements}
+use Rattle.v_design.specs.Trees.{more_statements, CaseItems, no_items, more_items}
 use Rattle.v_design.specs.Designs.{FlatObject, FlatDesign, FlatProcess, width_in}
 use Rattle.v_design.specs.Reads.{named_in, named_in_parts, named_in_targets, named_by, named_by_all, named_by_items, entries_in, entries_in_all, entries_in_items}
 use Rattle.v_design.specs.Sized.{IsSizedEntry, IsSizedStatement, AreSizedStatements, AreSizedItems}
@@ -197,7 +198,8 @@ entry-within design entry fits sized =
     let some : 1 ≤ width_in design entry.object = omega (arith, fits, sized.1) in
     (width-there design.objects entry.object some, (sized.1, sized.2))
 
-body-waitable : (design : FlatDesign) (process : FlatProcess) → AllHold IsSizedObject design.objects → IsProcessOf design process → AllHold (IsWaitable design process.body) (waited_entries process.body)
+body-waitable : (design : FlatDesign) (process : FlatProcess) → AllHold IsSizedObject design.objects → IsProcessOf design process →
+    AllHold (IsWaitable design process.body) (waited_entries process.body)
 body-waitable design process objects rules =
     let body = process.body in
     let entries : AllHold (Within design) (entries_in body) =
@@ -222,7 +224,8 @@ bodies-waitable design rules n = go design.processes n rules.processes
 -- What the rules of a design give of its processes
 
 -- their bodies are sized
-pub sized-processes : (design : FlatDesign) (processes : List Process) → AllHold (IsProcessOf design) (map process_of processes) → AllHold (λ (process : Process). IsSizedStatement (statement_of process.body)) processes
+pub sized-processes : (design : FlatDesign) (processes : List Process) → AllHold (IsProcessOf design) (map process_of processes) →
+    AllHold (λ (process : Process). IsSizedStatement (statement_of process.body)) processes
 sized-processes design [] h = tt
 sized-processes design (process ∷ processes) h = (h.0.sized, sized-processes design processes h.1)
 

@@ -51,10 +51,12 @@ pushed P [] x h p = (p, tt)
 pushed P (y ∷ ys) x h p = (h.0, pushed P ys x h.1 p)
 
 -- one change more
-pub waiters-more : (index : List (List ℕ)) (changes : List Change) (i : ℕ) (change : Change) (old new : List ℕ) → i < length changes → change ≡ get_or changes i change → new ≡ old ++ get_or index (change_seen change).object [] →
+pub waiters-more : (index : List (List ℕ)) (changes : List Change) (i : ℕ) (change : Change) (old new : List ℕ) → i < length changes → change ≡ get_or changes i change →
+    new ≡ old ++ get_or index (change_seen change).object [] →
     HasWaiters index (map change_seen (take i changes)) old → HasWaiters index (map change_seen (take (i + 1) changes)) new
 waiters-more index changes i change old new low is grown h =
-    let has-more : (n : ℕ) → has new n ≡ (has old n || has (get_or index (change_seen change).object []) n) = λ n. ap (λ ns. has ns n) grown ∙ has-append old (get_or index (change_seen change).object []) n in
+    let has-more : (n : ℕ) → has new n ≡ (has old n || has (get_or index (change_seen change).object []) n) = λ n. ap (λ ns. has ns n) grown
+    ∙ has-append old (get_or index (change_seen change).object []) n in
     let one : map change_seen (take (i + 1) changes) ≡ map change_seen (take i changes) ++ change_seen change ∷ [] =
     ap (map change_seen) (take_more changes i change low ∙ ap (λ c. take i changes ++ c ∷ []) (sym is)) ∙ map_push change_seen (take i changes) change in
     subst (λ cs. HasWaiters index cs new) (sym one)
@@ -70,11 +72,13 @@ waits-of P (Asleep time tasks) h = tt
 waits-of P (Postponed tasks) h = tt
 waits-of P Done h = tt
 
-pub waiting-waitable : (design : FlatDesign) (n : ℕ) (activity : Activity) → AllHold (IsWaitable design (body_of design n)) (activity_entries activity) → AllHold (IsWaitable design (body_of design n)) (waiting_entries activity)
+pub waiting-waitable : (design : FlatDesign) (n : ℕ) (activity : Activity) → AllHold (IsWaitable design (body_of design n)) (activity_entries activity) →
+    AllHold (IsWaitable design (body_of design n)) (waiting_entries activity)
 waiting-waitable design n activity h = waits-of (IsWaitable design (body_of design n)) activity h
 
 -- who is woken is a candidate
-pub woken-listed : (design : FlatDesign) (index : List (List ℕ)) (changes : List ObjectChange) (numbers : List ℕ) (processes : List ProcessState) → IsIndexOf design index → HasWaiters index changes numbers →
+pub woken-listed : (design : FlatDesign) (index : List (List ℕ)) (changes : List ObjectChange) (numbers : List ℕ) (processes : List ProcessState) → IsIndexOf design index →
+    HasWaiters index changes numbers →
     ((n : ℕ) → AllHold (IsWaitable design (body_of design n)) (activity_entries (found_or idle_process (slice_get processes n)).activity)) → HasWoken changes processes numbers
 woken-listed design index changes numbers processes indexed waiters waits n e =
     matched-some (has numbers n ≡ true) (IsWaitable design (body_of design n)) (matches_one changes) (waiting_entries (found_or idle_process (slice_get processes n)).activity) one
@@ -88,7 +92,8 @@ woken-listed design index changes numbers processes indexed waiters waits n e =
         ∙ ap (λ o. has (waiters_of design o) n) (sym same)
         ∙ ap (has (waiters_of design entry.object)) (sym zeroth) ∙ among-waiters entry.object 0 design.processes n there.waited
 
-    each : (entry : Entry) → IsWaitable design (body_of design n) entry → (changes : List ObjectChange) → HasWaiters index changes numbers → AllHold (λ (change : ObjectChange). entry.object ≡ change.object → has numbers n ≡ true) changes
+    each : (entry : Entry) → IsWaitable design (body_of design n) entry → (changes : List ObjectChange) → HasWaiters index changes numbers →
+        AllHold (λ (change : ObjectChange). entry.object ≡ change.object → has numbers n ≡ true) changes
     each entry there [] h = tt
     each entry there (change ∷ changes) h = ((λ same. h.0 n (listed entry there change same)), each entry there changes h.1)
 

@@ -21,7 +21,8 @@ abbrev pub no_row : RowState
 no_row = record { activity = Done; lane = [] }
 
 -- A change of one row is one of the rows
-pub rows-change : (rows : List Row) (p : ℕ) (old new : Row) (change : RowState → RowState) → p < length rows → old ≡ get_or rows p old → RowChanges old new (change (row_state old)) → RowsChange rows (set rows p new) p change
+pub rows-change : (rows : List Row) (p : ℕ) (old new : Row) (change : RowState → RowState) → p < length rows → old ≡ get_or rows p old → RowChanges old new (change (row_state old)) →
+    RowsChange rows (set rows p new) p change
 rows-change rows p old new change low is row = record {
   texts = map-set_same row_text rows p old new low is row.text;
   good = λ h. AllHold-set IsGoodRow rows p new (row.good (AllHold-at IsGoodRow rows p old h low is)) h;
@@ -41,7 +42,8 @@ processes-change (s ∷ states) (h ∷ queue) (suc p) change hold g e = ap (λ x
 
 -- the same where the queue stays
 pub processes-change_row : (states : List RowState) (queue : List HeldProcess) (p : ℕ) (change : RowState → RowState) (g : ProcessState → ProcessState) →
-    with_held (change (state_at states p)) (held_at queue p) ≡ g (with_held (state_at states p) (held_at queue p)) → processes_of (change_at states p change) queue ≡ change_at (processes_of states queue) p g
+    with_held (change (state_at states p)) (held_at queue p) ≡ g (with_held (state_at states p) (held_at queue p)) →
+    processes_of (change_at states p change) queue ≡ change_at (processes_of states queue) p g
 processes-change_row [] queue p change g e = refl
 processes-change_row (s ∷ states) [] zero change g e = refl
 processes-change_row (s ∷ states) [] (suc p) change g e = refl
@@ -49,7 +51,8 @@ processes-change_row (s ∷ states) (h ∷ queue) zero change g e = ap (λ x. x 
 processes-change_row (s ∷ states) (h ∷ queue) (suc p) change g e = ap (λ xs. with_held s h ∷ xs) (processes-change_row states queue p change g e)
 
 -- the process at a place
-pub at-process : (states : List RowState) (queue : List HeldProcess) (p : ℕ) → length queue ≡ length states → found_or idle_process (slice_get (processes_of states queue) p) ≡ with_held (state_at states p) (held_at queue p)
+pub at-process : (states : List RowState) (queue : List HeldProcess) (p : ℕ) → length queue ≡ length states →
+    found_or idle_process (slice_get (processes_of states queue) p) ≡ with_held (state_at states p) (held_at queue p)
 at-process [] [] p e = refl
 at-process [] (h ∷ queue) p e = absurd (omega (arith, e))
 at-process (s ∷ states) [] p e = absurd (omega (arith, e))
@@ -63,13 +66,15 @@ length-processes (s ∷ states) [] e = absurd (omega (arith, e))
 length-processes (s ∷ states) (h ∷ queue) e = ap suc (length-processes states queue (omega (arith, e)))
 
 -- what is seen of the rows alone
-pub map-processes : {B : Type 0} (f : ProcessState → B) (g : RowState → B) → ((s : RowState) (h : HeldProcess) → f (with_held s h) ≡ g s) → (states : List RowState) (queue : List HeldProcess) → length queue ≡ length states →
+pub map-processes : {B : Type 0} (f : ProcessState → B) (g : RowState → B) → ((s : RowState) (h : HeldProcess) → f (with_held s h) ≡ g s) → (states : List RowState) (queue : List HeldProcess) →
+    length queue ≡ length states →
     map f (processes_of states queue) ≡ map g states
 map-processes f g same [] queue e = refl
 map-processes f g same (s ∷ states) [] e = absurd (omega (arith, e))
 map-processes f g same (s ∷ states) (h ∷ queue) e = ap (λ y. y ∷ map f (processes_of states queue)) (same s h) ∙ ap (λ ys. g s ∷ ys) (map-processes f g same states queue (omega (arith, e)))
 
-module _ (design : FlatDesign) (time : ℕ) (rows : List Row) (index : List (List ℕ)) (ready lanes : List Bool) (queue : List HeldProcess) (table : IsTable design time rows index ready lanes queue) where
+module _ (design : FlatDesign) (time : ℕ) (rows : List Row) (index : List (List ℕ)) (ready lanes : List Bool) (queue : List HeldProcess)
+    (table : IsTable design time rows index ready lanes queue) where
   -- the queue has as many processes as there are rows
   pub queue-length : length queue ≡ length (row_states rows)
   queue-length = sym (length-map queue (λ (h : HeldProcess). h.holding)) ∙ ap length table.holdings ∙ length-map (row_states rows) row_holding
@@ -78,7 +83,8 @@ module _ (design : FlatDesign) (time : ℕ) (rows : List Row) (index : List (Lis
   pub holding-at : (p : ℕ) → (held_at queue p).holding ≡ row_holding (state_at (row_states rows) p)
   holding-at p = go queue (row_states rows) p table.holdings
     where
-      go : (queue : List HeldProcess) (states : List RowState) (p : ℕ) → map (λ (h : HeldProcess). h.holding) queue ≡ map row_holding states → (held_at queue p).holding ≡ row_holding (state_at states p)
+      go : (queue : List HeldProcess) (states : List RowState) (p : ℕ) → map (λ (h : HeldProcess). h.holding) queue ≡ map row_holding states →
+          (held_at queue p).holding ≡ row_holding (state_at states p)
       go [] [] p e = refl
       go [] (s ∷ states) p e = absurd (cc)
       go (h ∷ queue) [] p e = absurd (cc)
@@ -98,8 +104,10 @@ module _ (design : FlatDesign) (time : ℕ) (rows : List Row) (index : List (Lis
         texts = row.texts ∙ table.texts;
         good = row.good table.good;
         index = table.index;
-        ready = is_ready ∙ ap (λ l. change_at l p (λ (member : Bool). row_ready (change (state_at states p)))) table.ready ∙ sym (ap (map row_ready) row.states ∙ map-change no_row row_ready states p change);
-        lanes = is_lanes ∙ ap (λ l. change_at l p (λ (member : Bool). row_busy (change (state_at states p)))) table.lanes ∙ sym (ap (map row_busy) row.states ∙ map-change no_row row_busy states p change);
+        ready = is_ready ∙ ap (λ l. change_at l p (λ (member : Bool). row_ready (change (state_at states p)))) table.ready
+            ∙ sym (ap (map row_ready) row.states ∙ map-change no_row row_ready states p change);
+        lanes = is_lanes ∙ ap (λ l. change_at l p (λ (member : Bool). row_busy (change (state_at states p)))) table.lanes
+            ∙ sym (ap (map row_busy) row.states ∙ map-change no_row row_busy states p change);
         holdings =
             ap (map (λ (h : HeldProcess). h.holding)) is_queue ∙ map-change nothing_held (λ (h : HeldProcess). h.holding) queue p hold
             ∙ ap (λ l. change_at l p (λ (b : Holding). (hold (held_at queue p)).holding)) table.holdings
@@ -108,7 +116,8 @@ module _ (design : FlatDesign) (time : ℕ) (rows : List Row) (index : List (Lis
         after = subst (AllHold (ComesAfter time)) (sym is_queue) (AllHold-change nothing_held (ComesAfter time) queue p hold after table.after);
         waits =
             subst (WaitsAreWaitable design) (sym (ap (map row_activity) row.states ∙ map-change no_row row_activity states p change))
-            (each-changed Done (λ n activity. AllHold (IsWaitable design (body_of design n)) (activity_entries activity)) (map row_activity states) p (λ activity. (change (state_at states p)).activity) waits table.waits);
+            (each-changed Done (λ n activity. AllHold (IsWaitable design (body_of design n)) (activity_entries activity)) (map row_activity states) p
+            (λ activity. (change (state_at states p)).activity) waits table.waits);
       }
 
   -- a set that doesn't see the change
@@ -174,7 +183,8 @@ pub rows-length : (rows : List Row) → length (row_states rows) ≡ length rows
 rows-length rows = length-map rows row_state
 
 -- A step of one row is one of the rows
-pub rows-step : (rows : List Row) (p : ℕ) (old new : Row) (now : ℕ) (values : List LogicValue) (line : ℕ) (said : StepSaid) → p < length rows → old ≡ get_or rows p old → StepsRow now values old new line said →
+pub rows-step : (rows : List Row) (p : ℕ) (old new : Row) (now : ℕ) (values : List LogicValue) (line : ℕ) (said : StepSaid) → p < length rows → old ≡ get_or rows p old →
+    StepsRow now values old new line said →
     StepsRows now values p rows (set rows p new) line said
 rows-step rows p old new now values line said low is steps =
     let st : step_at now rows p ≡ step_from (row_text old) now (row_state old).activity =
@@ -183,5 +193,6 @@ rows-step rows p old new now values line said low is steps =
     record {
       line = steps.line ∙ ap (λ (s : ProcessStep). s.line) (sym st);
       said = steps.said ∙ ap (λ (s : ProcessStep). said_of now s.action s.next) (sym st);
-      rows = rows-change rows p old new (after_row_step values (step_at now rows p)) low is (subst (λ (s : ProcessStep). RowChanges old new (after_row_step values s (row_state old))) (sym st) steps.row);
+      rows = rows-change rows p old new (after_row_step values (step_at now rows p)) low is
+          (subst (λ (s : ProcessStep). RowChanges old new (after_row_step values s (row_state old))) (sym st) steps.row);
     }

@@ -40,7 +40,8 @@ readies-more old now new numbers n had more = record {
   states = more.states ∙ ap (λ states. change_at states n made_ready) had.states ∙ sym (each-push made_ready numbers n (row_states old));
 }
 
-pub fills-more : (old now new : List Row) (lanes : List (ℕ × List ValueUpdate)) (lane : ℕ × List ValueUpdate) → FillsLanes old now lanes → RowsChange now new lane.0 (with_lane lane.1) → FillsLanes old new (lanes ++ lane ∷ [])
+pub fills-more : (old now new : List Row) (lanes : List (ℕ × List ValueUpdate)) (lane : ℕ × List ValueUpdate) → FillsLanes old now lanes → RowsChange now new lane.0 (with_lane lane.1) →
+    FillsLanes old new (lanes ++ lane ∷ [])
 fills-more old now new lanes lane had more = record {
   texts = more.texts ∙ had.texts;
   good = λ h. more.good (had.good h);

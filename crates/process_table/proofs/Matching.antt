@@ -85,7 +85,8 @@ pub others-left : {A : Type 0} (f : A → Entry) (test : Entry → Bool) (xs : L
 others-left f test xs i is = (let e : i + 1 ≡ suc i = omega arith in ap (λ k. map f (take i xs ++ drop k xs)) e) ∙ others-suc f test xs i is
 
 -- one that passes is there
-some-by : (test : Entry → Bool) (entries : List Entry) (b : Bool) (i : ℕ) → ((j : ℕ) → Some j ≡ first_place test entries → some_entry test entries ≡ true) → Some i ≡ earlier_place b (first_place test entries) →
+some-by : (test : Entry → Bool) (entries : List Entry) (b : Bool) (i : ℕ) → ((j : ℕ) → Some j ≡ first_place test entries → some_entry test entries ≡ true) →
+    Some i ≡ earlier_place b (first_place test entries) →
     (b || some_entry test entries) ≡ true
 some-by test entries true i rest is = refl
 some-by test entries false i rest is = let found = later_place i (first_place test entries) is in rest found.0 found.1.0
@@ -94,7 +95,8 @@ pub found-some : (test : Entry → Bool) (entries : List Entry) (i : ℕ) → So
 found-some test [] i is = absurd (cc)
 found-some test (entry ∷ entries) i is = some-by test entries (test entry) i (λ j e. found-some test entries j e) is
 
-below-by : {A : Type 0} (test : A → Bool) (xs : List A) (b : Bool) (i : ℕ) → ((j : ℕ) → Some j ≡ first_place test xs → j < length xs) → Some i ≡ earlier_place b (first_place test xs) → i < suc (length xs)
+below-by : {A : Type 0} (test : A → Bool) (xs : List A) (b : Bool) (i : ℕ) → ((j : ℕ) → Some j ≡ first_place test xs → j < length xs) → Some i ≡ earlier_place b (first_place test xs) →
+    i < suc (length xs)
 below-by test xs true i rest is = (let zeroth : i ≡ 0 = cc in omega (arith, zeroth))
 below-by test xs false i rest is = let found = later_place i (first_place test xs) is in omega (arith, rest found.0 found.1.0, found.1.1)
 
@@ -124,7 +126,8 @@ matched-one G (change ∷ changes) entry h e =
     ]
 
 -- one of some entries that passes a test
-pub matched-some : (G : Type 0) (P : Entry → Type 0) (test : Entry → Bool) (entries : List Entry) → ((entry : Entry) → P entry → test entry ≡ true → G) → AllHold P entries → some_entry test entries ≡ true → G
+pub matched-some : (G : Type 0) (P : Entry → Type 0) (test : Entry → Bool) (entries : List Entry) → ((entry : Entry) → P entry → test entry ≡ true → G) → AllHold P entries →
+    some_entry test entries ≡ true → G
 matched-some G P test [] gives h e = absurd (cc)
 matched-some G P test (entry ∷ entries) gives h e =
     elim (or_cases (test entry) (some_entry test entries) e) [ inl here ↦ gives entry h.0 here | inr there ↦ matched-some G P test entries gives h.1 there ]

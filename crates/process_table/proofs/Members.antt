@@ -1,5 +1,6 @@
 -- Sets with their least member (nothing of the language).
-use Rattle.std.proofs.Common.{◌≡◌, ℕ, zero, suc, ◌+◌, ◌<◌, ◌≤◌, ◌^◌, Bool, true, false, List, [], ◌∷◌, ◌++◌, length, get_or, set, min, Option, Some, None, refl, sym, ap, ◌∙◌, subst, arith, inl, inr, cond}
+use Rattle.std.proofs.Common.{◌≡◌, ℕ, zero, suc, ◌+◌, ◌<◌, ◌≤◌, ◌^◌, Bool, true, false, List, [], ◌∷◌, ◌++◌, length, get_or, set, min, Option, Some, None, refl, sym, ap, ◌∙◌, subst, arith, inl, inr}
+use Rattle.std.proofs.Common.{cond}
 use Rattle.std.proofs.lemmas.List.{length-set}
 use Rattle.std.proofs.lemmas.Bool.{cases_lt, cases_eq}
 use Rattle.vf_base.specs.Lists.{first_place, earlier_place}
@@ -111,7 +112,12 @@ repeated-at x (suc n) (suc k) d low = repeated-at x n k d (omega (arith, low))
 pub set-all : (n : ℕ) → n < 2 ^ 32 → IsSet (repeated true n) 0
 set-all n few = record {
   few = omega (arith, few, repeated-length true n);
-  first = record { above = omega arith; within = omega arith; none = λ k from below. absurd (omega (arith, below)); member = λ inside. repeated-at true n 0 false (omega (arith, inside, repeated-length true n)) };
+  first = record {
+    above = omega arith;
+    within = omega arith;
+    none = λ k from below. absurd (omega (arith, below));
+    member = λ inside. repeated-at true n 0 false (omega (arith, inside, repeated-length true n));
+  };
 }
 
 pub set-none : (n : ℕ) → n < 2 ^ 32 → IsSet (repeated false n) n

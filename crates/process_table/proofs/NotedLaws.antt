@@ -1,5 +1,6 @@
 -- The accesses of a wait's entries (IEEE 1364-2001, clauses 5 and 9.7).
-use Rattle.std.proofs.Common.{◌≡◌, ℕ, zero, suc, ◌+◌, ◌<◌, ◌≤◌, Bool, true, false, List, [], ◌∷◌, ◌++◌, length, map, get_or, take, drop, Option, Some, None, refl, sym, ap, ◌∙◌, subst, arith, inl, inr, append_assoc, append-nil}
+use Rattle.std.proofs.Common.{◌≡◌, ℕ, zero, suc, ◌+◌, ◌<◌, ◌≤◌, Bool, true, false, List, [], ◌∷◌, ◌++◌, length, map, get_or, take, drop, Option, Some, None, refl, sym, ap, ◌∙◌, subst, arith, inl}
+use Rattle.std.proofs.Common.{inr, append_assoc, append-nil}
 use Rattle.std.specs.Prelude.{filter, cond}
 use Rattle.std.specs.List.{All}
 use Rattle.std.proofs.lemmas.List.{map-append, take_more, map_push}
@@ -28,7 +29,8 @@ abbrev pub access_of : AccessKind → ℕ → ℕ → Entry → ObjectAccess
 access_of k process line entry = record { act = act_of k None None entry; object = entry.object; process = process; line = line }
 
 -- the accesses of some entries, as plain data
-pub accesses-seen : (k : AccessKind) (process : ProcId) (line : ℕ) (entries : List WaitEntry) → map noted_access (map (noted_entry k process line) entries) ≡ map (access_of k (process_number process) line) (map entry_of entries)
+pub accesses-seen : (k : AccessKind) (process : ProcId) (line : ℕ) (entries : List WaitEntry) →
+    map noted_access (map (noted_entry k process line) entries) ≡ map (access_of k (process_number process) line) (map entry_of entries)
 accesses-seen k process line [] = refl
 accesses-seen k process line (entry ∷ entries) = ap (λ xs. access_of k (process_number process) line (entry_of entry) ∷ xs) (accesses-seen k process line entries)
 
@@ -39,13 +41,15 @@ accesses-behind k process line entries before after is =
     ap (map noted_access) is ∙ map-append noted_access before (map (noted_entry k process line) entries) ∙ ap (λ xs. map noted_access before ++ xs) (accesses-seen k process line entries)
 
 -- the entries on net pieces
-pub on-nets : (design : FlatDesign) (entries : List WaitEntry) → map entry_of (filter (is_on_net design) entries) ≡ filter (λ (entry : Entry). has (net_pieces design) entry.object) (map entry_of entries)
+pub on-nets : (design : FlatDesign) (entries : List WaitEntry) → map entry_of (filter (is_on_net design) entries) ≡ filter (λ (entry : Entry). has (net_pieces design) entry.object)
+    (map entry_of entries)
 on-nets design [] = refl
 on-nets design (entry ∷ entries) = go (is_on_net design entry) (on-nets design entries)
   where
     go : (b : Bool) → map entry_of (filter (is_on_net design) entries) ≡ filter (λ (entry : Entry). has (net_pieces design) entry.object) (map entry_of entries) →
         map entry_of (cond b (entry ∷ filter (is_on_net design) entries) (filter (is_on_net design) entries))
-        ≡ cond b (entry_of entry ∷ filter (λ (entry : Entry). has (net_pieces design) entry.object) (map entry_of entries)) (filter (λ (entry : Entry). has (net_pieces design) entry.object) (map entry_of entries))
+        ≡ cond b (entry_of entry ∷ filter (λ (entry : Entry). has (net_pieces design) entry.object) (map entry_of entries))
+        (filter (λ (entry : Entry). has (net_pieces design) entry.object) (map entry_of entries))
     go true rest = ap (λ xs. entry_of entry ∷ xs) rest
     go false rest = rest
 
@@ -55,11 +59,13 @@ pub hold-both : {A : Type 0} (P : A → Type 0) (xs ys : List A) → AllHold P x
 hold-both P [] ys h i = i
 hold-both P (x ∷ xs) ys h i = (h.0, hold-both P xs ys h.1 i)
 
-ended-noted : (design : FlatDesign) (process : ProcId) (line : ℕ) (entries : List WaitEntry) → AllHold (IsEntryIn design) (map entry_of entries) → AllHold IsNoted (map (noted_entry kind.Ended process line) entries)
+ended-noted : (design : FlatDesign) (process : ProcId) (line : ℕ) (entries : List WaitEntry) → AllHold (IsEntryIn design) (map entry_of entries) →
+    AllHold IsNoted (map (noted_entry kind.Ended process line) entries)
 ended-noted design process line [] h = tt
 ended-noted design process line (entry ∷ entries) h = (h.0.width, ended-noted design process line entries h.1)
 
-await-noted : (design : FlatDesign) (process : ProcId) (line : ℕ) (entries : List WaitEntry) → AllHold (IsEntryIn design) (map entry_of entries) → AllHold IsNoted (map (noted_entry kind.Await process line) entries)
+await-noted : (design : FlatDesign) (process : ProcId) (line : ℕ) (entries : List WaitEntry) → AllHold (IsEntryIn design) (map entry_of entries) →
+    AllHold IsNoted (map (noted_entry kind.Await process line) entries)
 await-noted design process line [] h = tt
 await-noted design process line (entry ∷ entries) h = (h.0.width, await-noted design process line entries h.1)
 
@@ -71,14 +77,16 @@ there : (k : AccessKind) (design : FlatDesign) (process : ProcId) (line : ℕ) (
     All (λ (noted : Noted). object_number noted.access.object < length design.objects) (map (noted_entry k process line) entries)
 there k design process line [] h = All-nil (λ (noted : Noted). object_number noted.access.object < length design.objects)
 there k design process line (entry ∷ entries) h =
-    All-cons (λ (noted : Noted). object_number noted.access.object < length design.objects) (noted_entry k process line entry) (map (noted_entry k process line) entries) h.0.there (there k design process line entries h.1)
+    All-cons (λ (noted : Noted). object_number noted.access.object < length design.objects) (noted_entry k process line entry) (map (noted_entry k process line) entries) h.0.there
+    (there k design process line entries h.1)
 
 -- accesses of waits that end behind others
 pub ended-behind : (design : FlatDesign) (process : ProcId) (line : ℕ) (entries : List WaitEntry) (before after : List Noted) → after ≡ before ++ map (noted_entry kind.Ended process line) entries →
     AllHold (IsEntryIn design) (map entry_of entries) → AreNoted design before → AreNoted design after
 ended-behind design process line entries before after is h old = subst (AreNoted design) (sym is) (record {
   noted = hold-both IsNoted before (map (noted_entry kind.Ended process line) entries) old.noted (ended-noted design process line entries h);
-  objects = All-append (λ (noted : Noted). object_number noted.access.object < length design.objects) before (map (noted_entry kind.Ended process line) entries) old.objects (there kind.Ended design process line entries h);
+  objects = All-append (λ (noted : Noted). object_number noted.access.object < length design.objects) before (map (noted_entry kind.Ended process line) entries) old.objects
+      (there kind.Ended design process line entries h);
 })
 
 -- accesses of a wait that begins
@@ -86,7 +94,8 @@ pub await-behind : (design : FlatDesign) (process : ProcId) (line : ℕ) (entrie
     AllHold (IsEntryIn design) (map entry_of entries) → AreNoted design before → AreNoted design after
 await-behind design process line entries before after is h old = subst (AreNoted design) (sym is) (record {
   noted = hold-both IsNoted before (map (noted_entry kind.Await process line) entries) old.noted (await-noted design process line entries h);
-  objects = All-append (λ (noted : Noted). object_number noted.access.object < length design.objects) before (map (noted_entry kind.Await process line) entries) old.objects (there kind.Await design process line entries h);
+  objects = All-append (λ (noted : Noted). object_number noted.access.object < length design.objects) before (map (noted_entry kind.Await process line) entries) old.objects
+      (there kind.Await design process line entries h);
 })
 
 -- entries that a phase holds
@@ -94,7 +103,8 @@ pub held-behind : (design : FlatDesign) (process : ProcId) (line : ℕ) (entries
     AllHold (IsEntryIn design) (map entry_of entries) → AreHeld design before → AreHeld design after
 held-behind design process line entries before after is h old = subst (AreHeld design) (sym is) (record {
   held = hold-both IsHeld before (map (noted_entry kind.Held process line) entries) old.held (held-held process line entries);
-  objects = All-append (λ (noted : Noted). object_number noted.access.object < length design.objects) before (map (noted_entry kind.Held process line) entries) old.objects (there kind.Held design process line entries h);
+  objects = All-append (λ (noted : Noted). object_number noted.access.object < length design.objects) before (map (noted_entry kind.Held process line) entries) old.objects
+      (there kind.Held design process line entries h);
 })
 
 -- some of the entries
@@ -108,14 +118,17 @@ hold-filtered f P test (x ∷ xs) h = go (test x) (hold-filtered f P test xs h.1
 
 -- One entry more
 
-pub entries-more : (k : AccessKind) (process : ProcId) (line : ℕ) (entries : List WaitEntry) (i : ℕ) (entry : WaitEntry) (old now new : List Noted) → i < length entries → entry ≡ get_or entries i entry →
+pub entries-more : (k : AccessKind) (process : ProcId) (line : ℕ) (entries : List WaitEntry) (i : ℕ) (entry : WaitEntry) (old now new : List Noted) → i < length entries →
+    entry ≡ get_or entries i entry →
     now ≡ old ++ map (noted_entry k process line) (take i entries) → new ≡ now ++ noted_entry k process line entry ∷ [] → new ≡ old ++ map (noted_entry k process line) (take (i + 1) entries)
 entries-more k process line entries i entry old now new low is had pushed =
     pushed ∙ ap (λ xs. xs ++ noted_entry k process line entry ∷ []) had ∙ append_assoc old (map (noted_entry k process line) (take i entries)) (noted_entry k process line entry ∷ [])
-    ∙ ap (λ xs. old ++ xs) (sym (ap (map (noted_entry k process line)) (take_more entries i entry low ∙ ap (λ e. take i entries ++ e ∷ []) (sym is)) ∙ map_push (noted_entry k process line) (take i entries) entry))
+    ∙ ap (λ xs. old ++ xs) (sym (ap (map (noted_entry k process line)) (take_more entries i entry low ∙ ap (λ e. take i entries ++ e ∷ []) (sym is))
+    ∙ map_push (noted_entry k process line) (take i entries) entry))
 
 -- the same of those that pass a test
-pub passing-more : (test : WaitEntry → Bool) (k : AccessKind) (process : ProcId) (line : ℕ) (entries : List WaitEntry) (i : ℕ) (entry : WaitEntry) (old now new : List Noted) → i < length entries → entry ≡ get_or entries i entry →
+pub passing-more : (test : WaitEntry → Bool) (k : AccessKind) (process : ProcId) (line : ℕ) (entries : List WaitEntry) (i : ℕ) (entry : WaitEntry) (old now new : List Noted) → i < length entries →
+    entry ≡ get_or entries i entry →
     now ≡ old ++ map (noted_entry k process line) (filter test (take i entries)) → new ≡ now ++ map (noted_entry k process line) (filter test (entry ∷ [])) →
     new ≡ old ++ map (noted_entry k process line) (filter test (take (i + 1) entries))
 passing-more test k process line entries i entry old now new low is had pushed =
@@ -134,11 +147,13 @@ ends-none changes process activity entries accesses same none =
     let no : some_entry (matches_one changes) (waiting_entries activity) ≡ false = none-some (matches_one changes) (waiting_entries activity) (none ∙ ap (first_place (matches_one changes)) same) in
     record {
       told_is = sym no;
-      accesses = sym (append-nil (map noted_access accesses)) ∙ ap (λ b. map noted_access accesses ++ ended_of b (matches_one changes) process (waiting_line activity) (waiting_entries activity)) (sym no);
+      accesses = sym (append-nil (map noted_access accesses)) ∙ ap (λ b. map noted_access accesses ++ ended_of b (matches_one changes) process (waiting_line activity) (waiting_entries activity))
+          (sym no);
       noted = λ design there old. old;
     }
 
-pub ends-some : (changes : List ObjectChange) (process : ProcId) (activity : Activity) (entries : List WaitEntry) (place line : ℕ) (before after : List Noted) → map entry_of entries ≡ waiting_entries activity → line ≡ waiting_line activity →
+pub ends-some : (changes : List ObjectChange) (process : ProcId) (activity : Activity) (entries : List WaitEntry) (place line : ℕ) (before after : List Noted) →
+    map entry_of entries ≡ waiting_entries activity → line ≡ waiting_line activity →
     Some place ≡ first_place (matches_one changes) (map entry_of entries) → after ≡ before ++ map (noted_entry kind.Ended process line) (take place entries ++ drop (place + 1) entries) →
     EndsWait changes (process_number process) activity true before after
 ends-some changes process activity entries place line before after same lines found pushed =
@@ -152,5 +167,6 @@ ends-some changes process activity entries place line before after same lines fo
           ∙ ap (λ es. map noted_access before ++ map (access_of kind.Ended (process_number process) line) es) (others-left entry_of test entries place found ∙ ap (without_first test) same)
           ∙ ap (λ l. map noted_access before ++ map (access_of kind.Ended (process_number process) l) (without_first test (waiting_entries activity))) lines
           ∙ ap (λ b. map noted_access before ++ ended_of b test (process_number process) (waiting_line activity) (waiting_entries activity)) (sym yes);
-      noted = λ design there old. ended-behind design process line others before after pushed (AllHold-others entry_of (IsEntryIn design) entries place (subst (AllHold (IsEntryIn design)) (sym same) there)) old;
+      noted = λ design there old. ended-behind design process line others before after pushed
+          (AllHold-others entry_of (IsEntryIn design) entries place (subst (AllHold (IsEntryIn design)) (sym same) there)) old;
     }

@@ -43,7 +43,8 @@ module _ (code : Code) (old new : ProcState) (now : ℕ) (values : List LogicVal
   pub row-said : said_by did ≡ said_of now (step_from (process_of code.process.now) now (activity_of code old)).action (step_from (process_of code.process.now) now (activity_of code old)).next
   row-said = steps.says ∙ ap (λ (s : does.ProcessStep). said_of now s.action s.next) (sym stands)
 
-  pub row-activity : activity_of code new ≡ next_activity values (step_from (process_of code.process.now) now (activity_of code old)).action (step_from (process_of code.process.now) now (activity_of code old)).next
+  pub row-activity : activity_of code new ≡ next_activity values (step_from (process_of code.process.now) now (activity_of code old)).action
+      (step_from (process_of code.process.now) now (activity_of code old)).next
   row-activity = steps.activity ∙ ap (λ (s : does.ProcessStep). next_activity values s.action s.next) (sym stands)
 
 -- A process is made ready

@@ -6,7 +6,8 @@ use Rattle.v_design.specs.Trees.{Expression, Statement, Null, Block, If, Case, F
 use Rattle.v_design.specs.Expressions.{Progress, Needs, Has, read_expression}
 use Rattle.v_design.specs.Designs.{FlatProcess}
 use Rattle.v_design.specs.Assignments.{ValueUpdate, read_assignment}
-use Rattle.v_design.specs.Processes.{Task, Run, Turns, Writes, Appends, Activity, Ready, Waiting, Asleep, Postponed, Done, Action, ReadsObject, WritesObject, AppendsUpdate, TouchesNothing, ProcessStep, reads_or, write_step, append_step, assignment_step, wait_step, end_step, turns_step, statement_step, process_step, read_case, goes_on, after_delay}
+use Rattle.v_design.specs.Processes.{Task, Run, Turns, Writes, Appends, Activity, Ready, Waiting, Asleep, Postponed, Done, Action, ReadsObject, WritesObject, AppendsUpdate, TouchesNothing}
+use Rattle.v_design.specs.Processes.{ProcessStep, reads_or, write_step, append_step, assignment_step, wait_step, end_step, turns_step, statement_step, process_step, read_case, goes_on, after_delay}
 use Rattle.v_design.specs.States.{next_activity}
 use Rattle.event_queue.specs.Queues.{holding_of, WakesAfter}
 use Rattle.process_table.specs.Rows.{step_from}
@@ -15,7 +16,8 @@ use Rattle.process_table.specs.Rows.{step_from}
 abbrev Wakes : ℕ → ProcessStep → Type 0
 Wakes now step = WakesAfter now (holding_of step.next)
 
-reads-wakes : {A : Type 0} (now line : ℕ) (tasks : List Task) (operands : List LogicValue) (progress : Progress A) (act : A → ProcessStep) → ((answer : A) → Wakes now (act answer)) → Wakes now (reads_or line tasks operands progress act)
+reads-wakes : {A : Type 0} (now line : ℕ) (tasks : List Task) (operands : List LogicValue) (progress : Progress A) (act : A → ProcessStep) → ((answer : A) → Wakes now (act answer)) →
+    Wakes now (reads_or line tasks operands progress act)
 reads-wakes now line tasks operands (Needs object) act same = tt
 reads-wakes now line tasks operands (Has answer left) act same = same answer
 

@@ -8,7 +8,8 @@ use Rattle.v_design.specs.Trees.{Entry}
 use Rattle.v_design.specs.Designs.{FlatDesign, FlatProcess, Machine}
 use Rattle.v_design.specs.Assignments.{ValueUpdate}
 use Rattle.v_design.specs.Processes.{Activity, Ready, Waiting, Asleep, Postponed, Done, Action, ReadsObject, WritesObject, AppendsUpdate, TouchesNothing, ProcessStep, process_step}
-use Rattle.v_design.specs.States.{State, ProcessState, LaterUpdate, found_or, idle_process, is_ready, is_any, source_at, activity_step, step_of, process_at, after_step, with_process, next_activity, appended, write_of}
+use Rattle.v_design.specs.States.{State, ProcessState, LaterUpdate, found_or, idle_process, is_ready, is_any, source_at, activity_step, step_of, process_at, after_step, with_process, next_activity}
+use Rattle.v_design.specs.States.{appended, write_of}
 use Rattle.v_design.specs.Accesses.{waiting_entries, is_waiting}
 use Rattle.v_design.specs.Plain.{due_of}
 use Rattle.event_queue.specs.declared.held.Holding.TheVariants as held
@@ -36,7 +37,8 @@ activity-step-from machine state p (Asleep time tasks) = refl
 activity-step-from machine state p (Postponed tasks) = refl
 activity-step-from machine state p Done = refl
 
-pub step-of : (machine : Machine) (state : State) (table : TableState) (p : ℕ) → IsTableOf machine state table → step_of machine state p ≡ step_from (text_at table.design.processes p) table.time (process_in table p).activity
+pub step-of : (machine : Machine) (state : State) (table : TableState) (p : ℕ) → IsTableOf machine state table →
+    step_of machine state p ≡ step_from (text_at table.design.processes p) table.time (process_in table p).activity
 step-of machine state table p t =
     activity-step-from machine state p (process_at state p).activity
     ∙ ap (λ (d : FlatDesign). step_from (text_at d.processes p) state.time (process_at state p).activity) (sym t.design)
@@ -108,7 +110,8 @@ ready-next values TouchesNothing next = refl
 
 -- What comes after the present time
 
-waitable-next : (P : Entry → Type 0) (values : List LogicValue) (action : Action) (next : Activity) → AllHold P (activity_entries next) → AllHold P (activity_entries (next_activity values action next))
+waitable-next : (P : Entry → Type 0) (values : List LogicValue) (action : Action) (next : Activity) → AllHold P (activity_entries next) →
+    AllHold P (activity_entries (next_activity values action next))
 waitable-next P values (ReadsObject object) (Ready tasks operands) h = h
 waitable-next P values (ReadsObject object) (Waiting place entries tasks) h = h
 waitable-next P values (ReadsObject object) (Asleep time tasks) h = h
@@ -130,7 +133,8 @@ hold-more P [] ys h i = i
 hold-more P (x ∷ xs) ys h i = (h.0, hold-more P xs ys h.1 i)
 
 -- The entries for which a process may wait are those of its body
-pub waitable-step : (P : Entry → Type 0) (process : FlatProcess) (now : ℕ) (values : List LogicValue) (activity : Activity) → AllHold P (waited_entries process.body) → AllHold P (activity_entries activity) →
+pub waitable-step : (P : Entry → Type 0) (process : FlatProcess) (now : ℕ) (values : List LogicValue) (activity : Activity) → AllHold P (waited_entries process.body) →
+    AllHold P (activity_entries activity) →
     AllHold P (activity_entries (next_activity values (step_from process now activity).action (step_from process now activity).next))
 waitable-step P process now values (Ready tasks operands) b h =
     waitable-next P values (process_step process now tasks operands).action (process_step process now tasks operands).next (step-waits P process now tasks operands b h)
@@ -192,7 +196,8 @@ module _ (design : FlatDesign) (time : ℕ) (rows : List Row) (index : List (Lis
   due-later = subst (AllHold (λ (later : LaterUpdate). time ≤ later.time)) (sym laters) (later-after time step.action)
 
   -- where the queue holds what the step left to it
-  pub table-step : (stage : Stage) (is_ready' waits' : Bool) (ready1 : List Bool) (queue1 : List HeldProcess) → HasStage (state_at (row_states rows1) p).activity stage is_ready' waits' → p < length (row_states rows) →
+  pub table-step : (stage : Stage) (is_ready' waits' : Bool) (ready1 : List Bool) (queue1 : List HeldProcess) → HasStage (state_at (row_states rows1) p).activity stage is_ready' waits' →
+      p < length (row_states rows) →
       ready1 ≡ change_at ready p (λ member. is_ready') → queue1 ≡ change_at queue p (held_so (stage_holding stage) (later_by said)) →
       IsTable design time rows1 index ready1 lanes queue1
   table-step stage is_ready' waits' ready1 queue1 has low marked kept =
@@ -208,7 +213,8 @@ module _ (design : FlatDesign) (time : ℕ) (rows : List Row) (index : List (Lis
       waits-now
 
   -- it is the step of each state
-  pub is-step : (stage : Stage) (is_ready' waits' : Bool) (queue1 : List HeldProcess) (stepped : Stepped) → HasStage (state_at (row_states rows1) p).activity stage is_ready' waits' → p < length (row_states rows) →
+  pub is-step : (stage : Stage) (is_ready' waits' : Bool) (queue1 : List HeldProcess) (stepped : Stepped) → HasStage (state_at (row_states rows1) p).activity stage is_ready' waits' →
+      p < length (row_states rows) →
       queue1 ≡ change_at queue p (held_so (stage_holding stage) (later_by said)) → stepped.line ≡ line → read_by stepped.act ≡ read_said said → written_by stepped.act ≡ written_said said →
       option_to_list (option_map due_of stepped.later) ≡ later_by said → stepped.waits ≡ waits' → stepped.ready ≡ is_ready' →
       (machine : Machine) (state : State) → IsTableOf machine state (record { design = design; time = time; processes = processes_of (row_states rows) queue }) → state.values ≡ values →
@@ -227,7 +233,8 @@ module _ (design : FlatDesign) (time : ℕ) (rows : List Row) (index : List (Lis
       (rw (same, same_values, sym of.time, laters) refl) in
       let does : (found_or idle_process (slice_get (processes_of (row_states rows1) queue1) p)).activity ≡ next_activity state.values (step_of machine state p).action (step_of machine state p).next =
       ap (λ ps. (found_or idle_process (slice_get ps p)).activity) changes
-      ∙ ap (λ (r : ProcessState). r.activity) (at-change idle_process (processes_of (row_states rows) queue) p (after_step state (step_of machine state p)) (omega (arith, low, length-processes (row_states rows) queue long))) in
+      ∙ ap (λ (r : ProcessState). r.activity) (at-change idle_process (processes_of (row_states rows) queue) p (after_step state (step_of machine state p))
+      (omega (arith, low, length-processes (row_states rows) queue long))) in
       record {
         line = lines ∙ steps.line ∙ ap (λ (s : ProcessStep). s.line) (sym same);
         read = reads ∙ ap read_said steps.said ∙ read-said time step.action step.next ∙ ap (λ (s : ProcessStep). read_of s.action) (sym same);

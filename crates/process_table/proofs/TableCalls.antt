@@ -26,7 +26,8 @@ use Rattle.process_table.specs.Arranged.{with_held, processes_of, row_ready, row
 use Rattle.process_table.specs.Wakes.{HasWoken, HasWaiters}
 use Rattle.process_table.proofs.Lists.{first_place-map, change-none}
 use Rattle.process_table.proofs.Woken.{wakes, woken-none, ended-none}
-use Rattle.process_table.proofs.Changed.{no_row, processes-change_row, at-process, map-processes, length-processes, queue-length, holding-at, changed, ready-unseen, lanes-unseen, queue-unseen, after-at, waits-at, rows-length}
+use Rattle.process_table.proofs.Changed.{no_row, processes-change_row, at-process, map-processes, length-processes, queue-length, holding-at, changed, ready-unseen, lanes-unseen, queue-unseen}
+use Rattle.process_table.proofs.Changed.{after-at, waits-at, rows-length}
 use Rattle.process_table.proofs.Steps.{waitable-readied, readied-free}
 
 -- A new table
@@ -54,7 +55,8 @@ new-waits P (p ∷ ps) h zero = opened-waits (P 0) p.body [] (h 0) tt
 new-waits P (p ∷ ps) h (suc n) = new-waits (λ m. P (suc m)) ps (λ m. h (suc m)) n
 
 pub table-new : (design : FlatDesign) (rows : List Row) (waiters : List (List ℕ)) (ready lanes : List Bool) (queue : List HeldProcess) (n : ℕ) →
-    ((n : ℕ) → AllHold (IsWaitable design (body_of design n)) (waited_entries (body_of design n))) → map row_text rows ≡ design.processes → AllHold IsGoodRow rows → row_states rows ≡ map new_state design.processes →
+    ((n : ℕ) → AllHold (IsWaitable design (body_of design n)) (waited_entries (body_of design n))) → map row_text rows ≡ design.processes → AllHold IsGoodRow rows →
+    row_states rows ≡ map new_state design.processes →
     IsIndexOf design waiters → ready ≡ repeated true n → lanes ≡ repeated false n → queue ≡ repeated nothing_held n → n ≡ length design.processes → IsTable design 0 rows waiters ready lanes queue
 table-new design rows waiters ready lanes queue n bodies texts good states index all none empty count = record {
   texts = texts;
@@ -68,7 +70,8 @@ table-new design rows waiters ready lanes queue n bodies texts good states index
 }
 
 -- its processes are those of the start
-pub start-processes : (ps : List FlatProcess) → processes_of (map new_state ps) (repeated nothing_held (length ps)) ≡ map (λ (process : FlatProcess). record { activity = does.Ready (opened process.body []) []; later = []; lane = [] }) ps
+pub start-processes : (ps : List FlatProcess) → processes_of (map new_state ps) (repeated nothing_held (length ps)) ≡ map
+    (λ (process : FlatProcess). record { activity = does.Ready (opened process.body []) []; later = []; lane = [] }) ps
 start-processes [] = refl
 start-processes (p ∷ ps) = ap (λ xs. record { activity = does.Ready (opened p.body []) []; later = []; lane = [] } ∷ xs) (start-processes ps)
 
@@ -80,7 +83,8 @@ ready-free (does.Asleep time tasks) e = absurd (cc)
 ready-free (does.Postponed tasks) e = absurd (cc)
 ready-free does.Done e = absurd (cc)
 
-module _ (design : FlatDesign) (time : ℕ) (rows : List Row) (waiters : List (List ℕ)) (ready lanes : List Bool) (queue : List HeldProcess) (table : IsTable design time rows waiters ready lanes queue) where
+module _ (design : FlatDesign) (time : ℕ) (rows : List Row) (waiters : List (List ℕ)) (ready lanes : List Bool) (queue : List HeldProcess)
+    (table : IsTable design time rows waiters ready lanes queue) where
   pub long : length queue ≡ length (row_states rows)
   long = queue-length design time rows waiters ready lanes queue table
 
@@ -141,7 +145,8 @@ module _ (design : FlatDesign) (time : ℕ) (rows : List Row) (waiters : List (L
       (after-at design time rows waiters ready lanes queue table p) (waits-at design time rows waiters ready lanes queue table p)
 
   -- A wake
-  pub wake-table : (changes : List ObjectChange) (p : ℕ) (rows1 : List Row) (ready1 : List Bool) → some_entry (matches_one changes) (waiting_entries (state_at (row_states rows) p).activity) ≡ true → RowsChange rows rows1 p made_ready →
+  pub wake-table : (changes : List ObjectChange) (p : ℕ) (rows1 : List Row) (ready1 : List Bool) → some_entry (matches_one changes) (waiting_entries (state_at (row_states rows) p).activity) ≡ true →
+      RowsChange rows rows1 p made_ready →
       ready1 ≡ change_at ready p (λ member. true) → IsTable design time rows1 waiters ready1 lanes queue
   wake-table changes p rows1 ready1 some row marked =
       changed design time rows waiters ready lanes queue table rows1 ready1 lanes queue p made_ready (λ h. h) row
@@ -167,12 +172,14 @@ module _ (design : FlatDesign) (time : ℕ) (rows : List Row) (waiters : List (L
       waits-free does.Done e = refl
 
   -- the processes after it
-  pub wake-processes : (changes : List ObjectChange) (p : ℕ) (rows1 : List Row) → some_entry (matches_one changes) (waiting_entries (state_at (row_states rows) p).activity) ≡ true → RowsChange rows rows1 p made_ready →
+  pub wake-processes : (changes : List ObjectChange) (p : ℕ) (rows1 : List Row) → some_entry (matches_one changes) (waiting_entries (state_at (row_states rows) p).activity) ≡ true →
+      RowsChange rows rows1 p made_ready →
       processes_of (row_states rows1) queue ≡ change_at (processes_of (row_states rows) queue) p (woken_by changes)
   wake-processes changes p rows1 some row =
       ap (λ states. processes_of states queue) row.states
       ∙ processes-change_row (row_states rows) queue p made_ready (woken_by changes)
-      (ap (λ (a : Activity). record { activity = a; later = (held_at queue p).later; lane = (state_at (row_states rows) p).lane }) (sym (wakes (matches_one changes) (state_at (row_states rows) p).activity some)))
+      (ap (λ (a : Activity). record { activity = a; later = (held_at queue p).later; lane = (state_at (row_states rows) p).lane })
+      (sym (wakes (matches_one changes) (state_at (row_states rows) p).activity some)))
 
 -- The next turn
 
@@ -186,7 +193,8 @@ held-queue (s ∷ states) (h ∷ queue) e =
     ∙ ap (λ hs. h ∷ hs) (held-queue states queue (cc))
 
 -- it has the state's next turn
-pub turn-table : (design : FlatDesign) (time : ℕ) (rows : List Row) (waiters : List (List ℕ)) (ready lanes : List Bool) (queue : List HeldProcess) → IsTable design time rows waiters ready lanes queue → (machine : Machine) (state : State) →
+pub turn-table : (design : FlatDesign) (time : ℕ) (rows : List Row) (waiters : List (List ℕ)) (ready lanes : List Bool) (queue : List HeldProcess) →
+    IsTable design time rows waiters ready lanes queue → (machine : Machine) (state : State) →
     IsTableOf machine state (record { design = design; time = time; processes = processes_of (row_states rows) queue }) → next_turn time queue ≡ turn_of state
 turn-table design time rows waiters ready lanes queue table machine state of =
     ap (next_turn time) (sym (held-queue (row_states rows) queue table.holdings))

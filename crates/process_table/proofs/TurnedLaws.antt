@@ -1,5 +1,6 @@
 -- A table after a turn (IEEE 1364-2001, clauses 5.3 and 5.4).
-use Rattle.std.proofs.Common.{◌≡◌, ℕ, zero, suc, ◌+◌, ◌<◌, ◌≤◌, Bool, true, false, not, List, [], ◌∷◌, ◌++◌, length, map, Option, Some, None, refl, sym, ap, ◌∙◌, subst, arith, inl, inr, append-nil, cond}
+use Rattle.std.proofs.Common.{◌≡◌, ℕ, zero, suc, ◌+◌, ◌<◌, ◌≤◌, Bool, true, false, not, List, [], ◌∷◌, ◌++◌, length, map, Option, Some, None, refl, sym, ap, ◌∙◌, subst, arith, inl, inr, append-nil}
+use Rattle.std.proofs.Common.{cond}
 use Rattle.std.specs.Prelude.{slice_get, filter, min, nat_le, ◌||◌, if◌then◌else◌}
 use Rattle.std.proofs.lemmas.List.{length-map}
 use Rattle.std.proofs.lemmas.Bool.{leb-false}
@@ -11,10 +12,12 @@ use Rattle.v_design.specs.Processes as does
 use Rattle.v_design.specs.Processes.{Activity}
 use Rattle.v_design.specs.Runs.{turned_by}
 use Rattle.v_design.specs.States as state
-use Rattle.v_design.specs.States.{State, ProcessState, LaterUpdate, TurnKind, PostponedTurn, UpdatesTurn, TimeTurn, turned, turn_of, turn_by, time_turn_at, some_in, has_event, is_ready, is_any, is_due, due_time, least_of, found_or, idle_process}
+use Rattle.v_design.specs.States.{State, ProcessState, LaterUpdate, TurnKind, PostponedTurn, UpdatesTurn, TimeTurn, turned, turn_of, turn_by, time_turn_at, some_in, has_event, is_ready, is_any}
+use Rattle.v_design.specs.States.{is_due, due_time, least_of, found_or, idle_process}
 use Rattle.event_queue.specs.declared.held.Holding.{Holding}
 use Rattle.event_queue.specs.declared.held.Holding.TheVariants as held
-use Rattle.event_queue.specs.Queues.{HeldProcess, TurnRegion, holding_of, is_postponed, wakes_by, wake_time, ComesAfter, WakesAfter, next_time, next_turn, next_region, region_of, held_after, held_after_turn, free_if, without_due, numbers_where, number_if, lanes_from, lane_if, updates_due}
+use Rattle.event_queue.specs.Queues.{HeldProcess, TurnRegion, holding_of, is_postponed, wakes_by, wake_time, ComesAfter, WakesAfter, next_time, next_turn, next_region, region_of, held_after}
+use Rattle.event_queue.specs.Queues.{held_after_turn, free_if, without_due, numbers_where, number_if, lanes_from, lane_if, updates_due}
 use Rattle.process_table.specs.declared.row.Row.{Row}
 use Rattle.process_table.specs.Tables.{TableState, IsTableOf}
 use Rattle.process_table.specs.Waited.{IsWaitable, WaitsAreWaitable, activity_entries, body_of}
@@ -61,7 +64,8 @@ put-next [] x xs = refl
 put-next (lane ∷ lanes) x xs = put-next lanes x (change_at xs lane.0 (with_lane lane.1))
 
 -- the elements are changed whose partners pass a test
-pub changed-where : {A B : Type 0} (change : A → A) (test : B → Bool) (xs : List A) (ys : List B) → length ys ≡ length xs → each_changed change (numbers_where test 0 ys) xs ≡ zip_with (λ x y. cond (test y) (change x) x) xs ys
+pub changed-where : {A B : Type 0} (change : A → A) (test : B → Bool) (xs : List A) (ys : List B) → length ys ≡ length xs →
+    each_changed change (numbers_where test 0 ys) xs ≡ zip_with (λ x y. cond (test y) (change x) x) xs ys
 changed-where change test [] [] e = refl
 changed-where change test [] (y ∷ ys) e = absurd (omega (arith, e))
 changed-where change test (x ∷ xs) [] e = absurd (omega (arith, e))
@@ -76,7 +80,8 @@ changed-where change test (x ∷ xs) (y ∷ ys) e =
     go false ns = changed-next change ns x xs
 
 -- the rows get lanes whose partners have updates
-pub put-where : {B : Type 0} (lane : B → List ValueUpdate) (xs : List RowState) (ys : List B) → length ys ≡ length xs → lanes_put (lanes_from lane 0 ys) xs ≡ zip_with (λ x y. cond (is_any (lane y)) (with_lane (lane y) x) x) xs ys
+pub put-where : {B : Type 0} (lane : B → List ValueUpdate) (xs : List RowState) (ys : List B) → length ys ≡ length xs →
+    lanes_put (lanes_from lane 0 ys) xs ≡ zip_with (λ x y. cond (is_any (lane y)) (with_lane (lane y) x) x) xs ys
 put-where lane [] [] e = refl
 put-where lane [] (y ∷ ys) e = absurd (omega (arith, e))
 put-where lane (x ∷ xs) [] e = absurd (omega (arith, e))
@@ -95,13 +100,15 @@ pub lane-numbers : {B : Type 0} (lane : B → List ValueUpdate) (n : ℕ) (ys : 
 lane-numbers lane n [] = refl
 lane-numbers lane n (y ∷ ys) = go (lane y) ∙ ap (number_if (is_any (lane y)) n) (lane-numbers lane (n + 1) ys)
   where
-    go : (us : List ValueUpdate) → map (λ (l : ℕ × List ValueUpdate). l.0) (lane_if n us (lanes_from lane (n + 1) ys)) ≡ number_if (is_any us) n (map (λ (l : ℕ × List ValueUpdate). l.0) (lanes_from lane (n + 1) ys))
+    go : (us : List ValueUpdate) → map (λ (l : ℕ × List ValueUpdate). l.0) (lane_if n us (lanes_from lane (n + 1) ys)) ≡ number_if (is_any us) n
+        (map (λ (l : ℕ × List ValueUpdate). l.0) (lanes_from lane (n + 1) ys))
     go [] = refl
     go (u ∷ us) = refl
 
 -- Pairs
 
-pairs-alike : {C : Type 0} (Q : RowState → Type 0) (f g : RowState → HeldProcess → C) → ((s : RowState) (h : HeldProcess) → h.holding ≡ row_holding s → Q s → f s h ≡ g s h) → (states : List RowState) (queue : List HeldProcess) →
+pairs-alike : {C : Type 0} (Q : RowState → Type 0) (f g : RowState → HeldProcess → C) → ((s : RowState) (h : HeldProcess) → h.holding ≡ row_holding s → Q s → f s h ≡ g s h) →
+    (states : List RowState) (queue : List HeldProcess) →
     map (λ (h : HeldProcess). h.holding) queue ≡ map row_holding states → AllHold Q states → zip_with f states queue ≡ zip_with g states queue
 pairs-alike Q f g same [] queue e q = refl
 pairs-alike Q f g same (s ∷ states) [] e q = refl
@@ -198,12 +205,15 @@ lane-busy (u ∷ us) s = refl
 
 -- it is the process after the turn
 postponed-same : (a : Activity) (later : List LaterUpdate) (lane : List ValueUpdate) (holding : Holding) → holding ≡ holding_of a →
-    with_held (cond (is_postponed holding) (made_ready (record { activity = a; lane = lane })) (record { activity = a; lane = lane })) (free_if (is_postponed holding) (record { holding = holding; later = later }))
+    with_held (cond (is_postponed holding) (made_ready (record { activity = a; lane = lane })) (record { activity = a; lane = lane }))
+    (free_if (is_postponed holding) (record { holding = holding; later = later }))
     ≡ record { activity = state.resumed a; later = later; lane = lane }
 postponed-same a later lane holding e =
-    ap (λ (hd : Holding). with_held (cond (is_postponed hd) (made_ready (record { activity = a; lane = lane })) (record { activity = a; lane = lane })) (free_if (is_postponed hd) (record { holding = hd; later = later }))) e ∙ go a
+    ap (λ (hd : Holding). with_held (cond (is_postponed hd) (made_ready (record { activity = a; lane = lane })) (record { activity = a; lane = lane }))
+    (free_if (is_postponed hd) (record { holding = hd; later = later }))) e ∙ go a
   where
-    go : (a : Activity) → with_held (cond (is_postponed (holding_of a)) (made_ready (record { activity = a; lane = lane })) (record { activity = a; lane = lane })) (free_if (is_postponed (holding_of a)) (record { holding = holding_of a; later = later }))
+    go : (a : Activity) → with_held (cond (is_postponed (holding_of a)) (made_ready (record { activity = a; lane = lane })) (record { activity = a; lane = lane }))
+        (free_if (is_postponed (holding_of a)) (record { holding = holding_of a; later = later }))
         ≡ record { activity = state.resumed a; later = later; lane = lane }
     go (does.Ready tasks operands) = refl
     go (does.Waiting place entries tasks) = refl
@@ -212,18 +222,22 @@ postponed-same a later lane holding e =
     go does.Done = refl
 
 awake-same : (now : ℕ) (a : Activity) (later : List LaterUpdate) (lane : List ValueUpdate) (holding : Holding) → holding ≡ holding_of a →
-    with_held (cond (wakes_by now holding) (made_ready (record { activity = a; lane = lane })) (record { activity = a; lane = lane })) (free_if (wakes_by now holding) (record { holding = holding; later = later }))
+    with_held (cond (wakes_by now holding) (made_ready (record { activity = a; lane = lane })) (record { activity = a; lane = lane }))
+    (free_if (wakes_by now holding) (record { holding = holding; later = later }))
     ≡ record { activity = state.awake_at now a; later = later; lane = lane }
 awake-same now a later lane holding e =
-    ap (λ (hd : Holding). with_held (cond (wakes_by now hd) (made_ready (record { activity = a; lane = lane })) (record { activity = a; lane = lane })) (free_if (wakes_by now hd) (record { holding = hd; later = later }))) e ∙ go a
+    ap (λ (hd : Holding). with_held (cond (wakes_by now hd) (made_ready (record { activity = a; lane = lane })) (record { activity = a; lane = lane }))
+    (free_if (wakes_by now hd) (record { holding = hd; later = later }))) e ∙ go a
   where
     by_test : (b : Bool) (time : ℕ) (tasks : List does.Task) →
-        with_held (cond b (made_ready (record { activity = does.Asleep time tasks; lane = lane })) (record { activity = does.Asleep time tasks; lane = lane })) (free_if b (record { holding = held.Asleep time; later = later }))
+        with_held (cond b (made_ready (record { activity = does.Asleep time tasks; lane = lane })) (record { activity = does.Asleep time tasks; lane = lane }))
+        (free_if b (record { holding = held.Asleep time; later = later }))
         ≡ record { activity = (if b then does.Ready tasks [] else does.Asleep time tasks); later = later; lane = lane }
     by_test true time tasks = refl
     by_test false time tasks = refl
 
-    go : (a : Activity) → with_held (cond (wakes_by now (holding_of a)) (made_ready (record { activity = a; lane = lane })) (record { activity = a; lane = lane })) (free_if (wakes_by now (holding_of a)) (record { holding = holding_of a; later = later }))
+    go : (a : Activity) → with_held (cond (wakes_by now (holding_of a)) (made_ready (record { activity = a; lane = lane })) (record { activity = a; lane = lane }))
+        (free_if (wakes_by now (holding_of a)) (record { holding = holding_of a; later = later }))
         ≡ record { activity = state.awake_at now a; later = later; lane = lane }
     go (does.Ready tasks operands) = refl
     go (does.Waiting place entries tasks) = refl
@@ -231,11 +245,13 @@ awake-same now a later lane holding e =
     go (does.Postponed tasks) = refl
     go does.Done = refl
 
-updates-same : (us : List ValueUpdate) (s : RowState) (h : HeldProcess) → s.lane ≡ [] → with_held (cond (is_any us) (with_lane us s) s) h ≡ record { activity = s.activity; later = h.later; lane = s.lane ++ us }
+updates-same : (us : List ValueUpdate) (s : RowState) (h : HeldProcess) → s.lane ≡ [] → with_held
+    (cond (is_any us) (with_lane us s) s) h ≡ record { activity = s.activity; later = h.later; lane = s.lane ++ us }
 updates-same [] s h empty = ap (λ l. record { activity = s.activity; later = h.later; lane = l }) (sym (append-nil s.lane))
 updates-same (u ∷ us) s h empty = ap (λ l. record { activity = s.activity; later = h.later; lane = l ++ (u ∷ us) }) (sym empty)
 
-pub process-same : (now : ℕ) (kind : TurnKind) (s : RowState) (h : HeldProcess) → h.holding ≡ row_holding s → s.lane ≡ [] → with_held (row_after now kind s h) (held_turned now kind h) ≡ process_turned now kind (with_held s h)
+pub process-same : (now : ℕ) (kind : TurnKind) (s : RowState) (h : HeldProcess) → h.holding ≡ row_holding s → s.lane ≡ [] →
+    with_held (row_after now kind s h) (held_turned now kind h) ≡ process_turned now kind (with_held s h)
 process-same now PostponedTurn s h e empty = postponed-same s.activity h.later s.lane h.holding e
 process-same now UpdatesTurn s h e empty = updates-same (updates_due now h.later) s (without_due now h) empty
 process-same now (TimeTurn time) s h e empty = awake-same time s.activity h.later s.lane h.holding e
@@ -257,7 +273,8 @@ least-due least [] h = tt
 least-due least (l ∷ later) h = let both = least-both least (Some l.time) (due_time later) h in (both.0, least-due least later both.1)
 
 -- a sleeper that isn't woken wakes later
-wakes-later : (time : ℕ) (holding : Holding) (later : List LaterUpdate) → AtLeast time (wake_time holding) → WakesAfter time (free_if (wakes_by time holding) (record { holding = holding; later = later })).holding
+wakes-later : (time : ℕ) (holding : Holding) (later : List LaterUpdate) → AtLeast time (wake_time holding) →
+    WakesAfter time (free_if (wakes_by time holding) (record { holding = holding; later = later })).holding
 wakes-later time held.Free later h = tt
 wakes-later time (held.Asleep wake) later h = go (nat_le wake time) refl
   where
@@ -306,12 +323,14 @@ turn-time false true next time e = absurd (cc)
 turn-time false false None time e = absurd (cc)
 turn-time false false (Some other) time e = (let same : other ≡ time = cc in ap Some same)
 
-comes-after : (time : ℕ) (kind : TurnKind) (queue : List HeldProcess) → next_turn time queue ≡ Some kind → AllHold (ComesAfter time) queue → AllHold (ComesAfter (time_after time kind)) (map (held_turned time kind) queue)
+comes-after : (time : ℕ) (kind : TurnKind) (queue : List HeldProcess) → next_turn time queue ≡ Some kind → AllHold (ComesAfter time) queue →
+    AllHold (ComesAfter (time_after time kind)) (map (held_turned time kind) queue)
 comes-after time PostponedTurn queue next h = postponed-after time queue h
 comes-after time UpdatesTurn queue next h = updates-after time queue h
 comes-after time (TimeTurn later) queue next h =
     time-after later queue
-    (subst (AtLeast later) (sym (turn-time (some_in (λ (h : HeldProcess). is_postponed h.holding) queue) (some_in (λ (h : HeldProcess). some_in (is_due time) h.later) queue) (next_time queue) later next)) (omega arith))
+    (subst (AtLeast later) (sym (turn-time (some_in (λ (h : HeldProcess). is_postponed h.holding) queue) (some_in (λ (h : HeldProcess). some_in (is_due time) h.later) queue)
+    (next_time queue) later next)) (omega arith))
 
 -- What the queue holds after it
 queue-after : (time : ℕ) (kind : TurnKind) (queue : List HeldProcess) → next_turn time queue ≡ Some kind → held_after time queue ≡ map (held_turned time kind) queue
@@ -383,7 +402,8 @@ states-told time (TimeTurn later) states queue region long e =
 
 -- the set of the processes that are ready, where a test of how they are held makes them so
 readied-set : (test : Holding → Bool) (states : List RowState) (queue : List HeldProcess) → test held.Free ≡ false → IsPaired states queue →
-    each_changed (λ (member : Bool). true) (numbers_where (λ (h : HeldProcess). test h.holding) 0 queue) (map row_ready states) ≡ map row_ready (zip_with (λ (s : RowState) (h : HeldProcess). cond (test h.holding) (made_ready s) s) states queue)
+    each_changed (λ (member : Bool). true) (numbers_where (λ (h : HeldProcess). test h.holding) 0 queue) (map row_ready states) ≡ map row_ready
+    (zip_with (λ (s : RowState) (h : HeldProcess). cond (test h.holding) (made_ready s) s) states queue)
 readied-set test states queue free paired =
     changed-where (λ (member : Bool). true) (λ (h : HeldProcess). test h.holding) (map row_ready states) queue (paired.as_long ∙ sym (length-map states row_ready))
     ∙ pairs-map (λ (b : Bool) (h : HeldProcess). cond (test h.holding) true b) row_ready states queue
@@ -391,7 +411,8 @@ readied-set test states queue free paired =
     (λ s h e any. ready-if (test h.holding) s (λ is_free. ap test (e ∙ is_free) ∙ free)) states queue paired.holdings (all-any states)
     ∙ sym (map-pairs row_ready (λ (s : RowState) (h : HeldProcess). cond (test h.holding) (made_ready s) s) states queue)
 
-kept-set : {C : Type 0} (see : RowState → C) (after : RowState → HeldProcess → RowState) → ((s : RowState) (h : HeldProcess) → see s ≡ see (after s h)) → (states : List RowState) (queue : List HeldProcess) → IsPaired states queue →
+kept-set : {C : Type 0} (see : RowState → C) (after : RowState → HeldProcess → RowState) → ((s : RowState) (h : HeldProcess) → see s ≡ see (after s h)) →
+    (states : List RowState) (queue : List HeldProcess) → IsPaired states queue →
     map see states ≡ map see (zip_with after states queue)
 kept-set see after same states queue paired =
     map-first see states queue paired.as_long
@@ -442,12 +463,14 @@ holdings-told : (time : ℕ) (kind : TurnKind) (states : List RowState) (queue :
 holdings-told time kind states queue paired =
     twice (λ (h : HeldProcess). h.holding) (held_turned time kind) queue
     ∙ map-second (λ (h : HeldProcess). (held_turned time kind h).holding) states queue paired.as_long
-    ∙ pairs-alike Any (λ (s : RowState) (h : HeldProcess). (held_turned time kind h).holding) (λ (s : RowState) (h : HeldProcess). row_holding (row_after time kind s h)) (λ s h e any. holding-same time kind s h e) states queue
+    ∙ pairs-alike Any (λ (s : RowState) (h : HeldProcess). (held_turned time kind h).holding) (λ (s : RowState) (h : HeldProcess). row_holding (row_after time kind s h))
+    (λ s h e any. holding-same time kind s h e) states queue
     paired.holdings (all-any states)
     ∙ sym (map-pairs row_holding (row_after time kind) states queue)
 
 -- the entries for which each may wait
-waits-one : (P : Entry → Type 0) (time : ℕ) (kind : TurnKind) (s : RowState) (h : HeldProcess) → AllHold P (activity_entries s.activity) → AllHold P (activity_entries (row_after time kind s h).activity)
+waits-one : (P : Entry → Type 0) (time : ℕ) (kind : TurnKind) (s : RowState) (h : HeldProcess) → AllHold P (activity_entries s.activity) →
+    AllHold P (activity_entries (row_after time kind s h).activity)
 waits-one P time PostponedTurn s h waits = waits-if P (is_postponed h.holding) s waits
 waits-one P time UpdatesTurn s h waits = subst (λ (es : List Entry). AllHold P es) (lane-same activity_entries (updates_due time h.later) s) waits
 waits-one P time (TimeTurn later) s h waits = waits-if P (wakes_by later h.holding) s waits
@@ -469,7 +492,8 @@ neither : (b c : Bool) → (b || c) ≡ false → (b ≡ false) × (c ≡ false)
 neither true c e = absurd (cc)
 neither false c e = (refl, e)
 
-pub quiet-lanes : (states : List RowState) (queue : List HeldProcess) → length queue ≡ length states → some_in has_event (processes_of states queue) ≡ false → AllHold (λ (s : RowState). s.lane ≡ []) states
+pub quiet-lanes : (states : List RowState) (queue : List HeldProcess) → length queue ≡ length states → some_in has_event (processes_of states queue) ≡ false →
+    AllHold (λ (s : RowState). s.lane ≡ []) states
 quiet-lanes [] queue long e = tt
 quiet-lanes (s ∷ states) [] long e = absurd (omega (arith, long))
 quiet-lanes (s ∷ states) (h ∷ queue) long e =
@@ -481,7 +505,8 @@ processes-told : (time : ℕ) (kind : TurnKind) (states : List RowState) (queue 
     processes_of (zip_with (row_after time kind) states queue) (map (held_turned time kind) queue) ≡ map (process_turned time kind) (processes_of states queue)
 processes-told time kind states queue paired empty =
     pairs-both with_held (row_after time kind) (held_turned time kind) states queue
-    ∙ pairs-alike (λ (s : RowState). s.lane ≡ []) (λ (s : RowState) (h : HeldProcess). with_held (row_after time kind s h) (held_turned time kind h)) (λ (s : RowState) (h : HeldProcess). process_turned time kind (with_held s h))
+    ∙ pairs-alike (λ (s : RowState). s.lane ≡ []) (λ (s : RowState) (h : HeldProcess). with_held (row_after time kind s h) (held_turned time kind h))
+    (λ (s : RowState) (h : HeldProcess). process_turned time kind (with_held s h))
     (λ s h e lane. process-same time kind s h e lane) states queue paired.holdings empty
     ∙ sym (map-pairs (process_turned time kind) with_held states queue)
 
@@ -493,7 +518,8 @@ state-told (TimeTurn later) now = (refl, refl)
 
 -- The table after a turn
 
-module _ (design : FlatDesign) (time : ℕ) (rows : List Row) (waiters : List (List ℕ)) (ready lanes : List Bool) (queue : List HeldProcess) (table : IsTable design time rows waiters ready lanes queue) where
+module _ (design : FlatDesign) (time : ℕ) (rows : List Row) (waiters : List (List ℕ)) (ready lanes : List Bool) (queue : List HeldProcess)
+    (table : IsTable design time rows waiters ready lanes queue) where
   paired : IsPaired (row_states rows) queue
   paired = record { as_long = long design time rows waiters ready lanes queue table; holdings = table.holdings }
 
@@ -526,7 +552,8 @@ module _ (design : FlatDesign) (time : ℕ) (rows : List Row) (waiters : List (L
 
   -- it stands for the state after the turn
   pub turned-state : (region : TurnRegion) (rows2 : List Row) (queue1 : List HeldProcess) → Some region ≡ next_region time queue →
-      row_states rows2 ≡ lanes_put region.lanes (each_changed made_ready region.processes (row_states rows)) → queue1 ≡ held_after time queue → some_in has_event (processes_of (row_states rows) queue) ≡ false →
+      row_states rows2 ≡ lanes_put region.lanes (each_changed made_ready region.processes (row_states rows)) → queue1 ≡ held_after time queue →
+      some_in has_event (processes_of (row_states rows) queue) ≡ false →
       (machine : Machine) (now : State) → IsTableOf machine now (record { design = design; time = time; processes = processes_of (row_states rows) queue }) →
       IsTableOf machine (turned_by (turn_of now) now) (record { design = design; time = region.time; processes = processes_of (row_states rows2) queue1 })
   turned-state region rows2 queue1 is states queue_is quiet machine now of =
@@ -552,5 +579,6 @@ module _ (design : FlatDesign) (time : ℕ) (rows : List Row) (waiters : List (L
   pub unturned-queue : (queue1 : List HeldProcess) → None ≡ next_region time queue → queue1 ≡ held_after time queue → queue1 ≡ queue
   unturned-queue queue1 none queue_is = queue_is ∙ ap (λ turn. held_after_turn time turn queue) (region-none time (next_turn time queue) queue none)
 
-  pub unturned-state : None ≡ next_region time queue → (machine : Machine) (now : State) → IsTableOf machine now (record { design = design; time = time; processes = processes_of (row_states rows) queue }) → turn_of now ≡ None
+  pub unturned-state : None ≡ next_region time queue → (machine : Machine) (now : State) →
+      IsTableOf machine now (record { design = design; time = time; processes = processes_of (row_states rows) queue }) → turn_of now ≡ None
   unturned-state none machine now of = sym (turn-table design time rows waiters ready lanes queue table machine now of) ∙ region-none time (next_turn time queue) queue none

@@ -38,7 +38,8 @@ in-design design n [] h = tt
 in-design design n (entry ∷ entries) h = (record { there = h.0.there; width = h.0.width }, in-design design n entries h.1)
 
 -- the processes that some changes wake are there
-pub ended-below : (changes : List ObjectChange) (processes : List ProcessState) (old new : List ProcId) → map process_number new ≡ map process_number old ++ numbers_where (is_woken changes) 0 processes →
+pub ended-below : (changes : List ObjectChange) (processes : List ProcessState) (old new : List ProcId) →
+    map process_number new ≡ map process_number old ++ numbers_where (is_woken changes) 0 processes →
     All (λ process. process_number process < length processes) old → All (λ process. process_number process < length processes) new
 ended-below changes processes old new is h =
     hold-images process_number (λ n. n < length processes) new
@@ -50,22 +51,26 @@ ended-below changes processes old new is h =
 pub held-more : (design : FlatDesign) (n : ℕ) (processes : List ProcessState) (old now new : List ObjectAccess) → now ≡ old ++ listed_below (held_by design) 0 n processes →
     new ≡ now ++ held_by design n (found_or idle_process (slice_get processes n)) → new ≡ old ++ listed_below (held_by design) 0 (n + 1) processes
 held-more design n processes old now new had more =
-    more ∙ ap (λ xs. xs ++ held_by design n (found_or idle_process (slice_get processes n))) had ∙ append_assoc old (listed_below (held_by design) 0 n processes) (held_by design n (found_or idle_process (slice_get processes n)))
-    ∙ ap (λ xs. old ++ xs) (sym ((let e : n + 1 ≡ suc n = omega arith in ap (λ k. listed_below (held_by design) 0 k processes) e) ∙ listed-more idle_process (held_by design) 0 n n processes (omega arith) refl))
+    more ∙ ap (λ xs. xs ++ held_by design n (found_or idle_process (slice_get processes n))) had
+    ∙ append_assoc old (listed_below (held_by design) 0 n processes) (held_by design n (found_or idle_process (slice_get processes n)))
+    ∙ ap (λ xs. old ++ xs) (sym ((let e : n + 1 ≡ suc n = omega arith in ap (λ k. listed_below (held_by design) 0 k processes) e)
+    ∙ listed-more idle_process (held_by design) 0 n n processes (omega arith) refl))
 
 -- those of all processes
 pub held-all : (design : FlatDesign) (n : ℕ) (processes : List ProcessState) (old now : List ObjectAccess) → length processes ≤ n → now ≡ old ++ listed_below (held_by design) 0 n processes →
     now ≡ old ++ joined (map_numbered (held_by design) 0 processes)
 held-all design n processes old now past had = had ∙ ap (λ xs. old ++ xs) (listed-all (held_by design) 0 n processes past)
 
-module _ (design : FlatDesign) (time : ℕ) (rows : List Row) (waiters : List (List ℕ)) (ready lanes : List Bool) (queue : List HeldProcess) (table : IsTable design time rows waiters ready lanes queue) where
+module _ (design : FlatDesign) (time : ℕ) (rows : List Row) (waiters : List (List ℕ)) (ready lanes : List Bool) (queue : List HeldProcess)
+    (table : IsTable design time rows waiters ready lanes queue) where
   -- the table, as contracts see it
   abbrev seen : TableState
   seen = record { design = design; time = time; processes = processes_of (row_states rows) queue }
 
   -- the entries of a process's wait look at bits of the design
   pub entries-in : (p : ℕ) → AllHold (IsEntryIn design) (waiting_entries (state_at (row_states rows) p).activity)
-  entries-in p = in-design design p (waiting_entries (state_at (row_states rows) p).activity) (waiting-waitable design p (state_at (row_states rows) p).activity (waits-at design time rows waiters ready lanes queue table p))
+  entries-in p = in-design design p (waiting_entries (state_at (row_states rows) p).activity)
+      (waiting-waitable design p (state_at (row_states rows) p).activity (waits-at design time rows waiters ready lanes queue table p))
 
   -- what a process does is what its row does
   pub activity-row : (p : ℕ) → (process_in seen p).activity ≡ (state_at (row_states rows) p).activity
@@ -85,7 +90,8 @@ module _ (design : FlatDesign) (time : ℕ) (rows : List Row) (waiters : List (L
   woken-past changes entries0 ended p past = one-past changes seen entries0 ended p (omega (arith, past, count-processes design time rows waiters ready lanes queue table))
 
   -- whether a process is woken
-  woken-told : (changes : List ObjectChange) (p : ℕ) (told : Bool) (before after : List Noted) → EndsWait changes p (state_at (row_states rows) p).activity told before after → is_woken changes (process_in seen p) ≡ told
+  woken-told : (changes : List ObjectChange) (p : ℕ) (told : Bool) (before after : List Noted) → EndsWait changes p (state_at (row_states rows) p).activity told before after →
+      is_woken changes (process_in seen p) ≡ told
   woken-told changes p told before after ends = ap (λ (a : Activity). some_entry (matches_one changes) (waiting_entries a)) (activity-row p) ∙ sym ends.told_is
 
   -- the accesses of the wait that ends
@@ -93,7 +99,8 @@ module _ (design : FlatDesign) (time : ℕ) (rows : List Row) (waiters : List (L
       map noted_access after ≡ map noted_access before ++ ended_by_changes changes p (process_in seen p)
   noted-told changes p told before after ends =
       ends.accesses
-      ∙ ap (λ (a : Activity). map noted_access before ++ ended_of (some_entry (matches_one changes) (waiting_entries a)) (matches_one changes) p (waiting_line a) (waiting_entries a)) (sym (activity-row p))
+      ∙ ap (λ (a : Activity). map noted_access before ++ ended_of (some_entry (matches_one changes) (waiting_entries a)) (matches_one changes) p (waiting_line a) (waiting_entries a))
+      (sym (activity-row p))
 
   -- one whose wait doesn't end
   pub woken-stays : (changes : List ObjectChange) (p : ℕ) (before after : List Noted) (ended : List ℕ) → EndsWait changes p (state_at (row_states rows) p).activity false before after →
@@ -105,10 +112,12 @@ module _ (design : FlatDesign) (time : ℕ) (rows : List Row) (waiters : List (L
   pub woken-ends : (changes : List ObjectChange) (process : ProcId) (before after : List Noted) (ended0 ended1 : List ProcId) (rows1 : List Row) →
       EndsWait changes (process_number process) (state_at (row_states rows) (process_number process)).activity true before after →
       RowsChange rows rows1 (process_number process) made_ready → ended1 ≡ ended0 ++ process ∷ [] →
-      IsWokenAt changes seen (record { design = design; time = time; processes = processes_of (row_states rows1) queue }) (map noted_access before) (map noted_access after) (map process_number ended0) (map process_number ended1) (process_number process)
+      IsWokenAt changes seen (record { design = design; time = time; processes = processes_of (row_states rows1) queue }) (map noted_access before) (map noted_access after)
+      (map process_number ended0) (map process_number ended1) (process_number process)
   woken-ends changes process before after ended0 ended1 rows1 ends row pushed =
       let p = process_number process in
-      one-woken changes seen (record { design = design; time = time; processes = processes_of (row_states rows1) queue }) (map noted_access before) (map noted_access after) (map process_number ended0) (map process_number ended1) p
+      one-woken changes seen (record { design = design; time = time; processes = processes_of (row_states rows1) queue }) (map noted_access before) (map noted_access after)
+      (map process_number ended0) (map process_number ended1) p
       (woken-told changes p true before after ends)
       (ap (λ ps. record seen { processes = ps }) (wake-processes design time rows waiters ready lanes queue table changes p rows1 (sym ends.told_is) row))
       (noted-told changes p true before after ends)
@@ -121,5 +130,6 @@ module _ (design : FlatDesign) (time : ℕ) (rows : List Row) (waiters : List (L
       (λ n. subst (λ (a : Activity). AllHold (IsWaitable design (body_of design n)) (activity_entries a)) (sym (activity-row n)) (waits-at design time rows waiters ready lanes queue table n))
 
   -- the objects of the changes have lists
-  pub changes-indexed : (changes : List Change) → All (λ (change : Change). object_number change.object < length design.objects) changes → All (λ (change : Change). object_number change.object < length waiters) changes
+  pub changes-indexed : (changes : List Change) → All (λ (change : Change). object_number change.object < length design.objects) changes →
+      All (λ (change : Change). object_number change.object < length waiters) changes
   changes-indexed changes h = subst (λ n. All (λ (change : Change). object_number change.object < n) changes) (sym table.index.objects) h

@@ -1,5 +1,6 @@
 -- The processes that some changes make ready, one after another (IEEE 1364-2001, clause 9.7).
-use Rattle.std.proofs.Common.{◌≡◌, ℕ, zero, suc, ◌+◌, ◌-◌, ◌<◌, ◌≤◌, Bool, true, false, List, [], ◌∷◌, ◌++◌, length, map, get_or, Option, Some, None, refl, sym, ap, ◌∙◌, subst, arith, append-nil, append_assoc, inl, inr}
+use Rattle.std.proofs.Common.{◌≡◌, ℕ, zero, suc, ◌+◌, ◌-◌, ◌<◌, ◌≤◌, Bool, true, false, List, [], ◌∷◌, ◌++◌, length, map, get_or, Option, Some, None, refl, sym, ap, ◌∙◌, subst, arith, append-nil}
+use Rattle.std.proofs.Common.{append_assoc, inl, inr}
 use Rattle.std.specs.Prelude.{slice_get}
 use Rattle.std.proofs.lemmas.Bool.{cases_lt}
 use Rattle.vf_base.specs.Lists.{has, change_at, joined, map_numbered}
@@ -66,7 +67,8 @@ change-stays d f k [] e = refl
 change-stays d f zero (x ∷ xs) e = ap (λ y. y ∷ xs) e
 change-stays d f (suc k) (x ∷ xs) e = ap (λ ys. x ∷ ys) (change-stays d f k xs e)
 
-pub listed-more : {A B : Type 0} (d : A) (give : ℕ → A → List B) (n k m : ℕ) (xs : List A) → n + k ≡ m → give m d ≡ [] → listed_below give n (suc k) xs ≡ listed_below give n k xs ++ give m (found_or d (slice_get xs k))
+pub listed-more : {A B : Type 0} (d : A) (give : ℕ → A → List B) (n k m : ℕ) (xs : List A) → n + k ≡ m → give m d ≡ [] →
+    listed_below give n (suc k) xs ≡ listed_below give n k xs ++ give m (found_or d (slice_get xs k))
 listed-more d give n zero m [] e none = sym none
 listed-more d give n zero m (x ∷ xs) e none = append-nil (give n x) ∙ (let same : n ≡ m = omega (arith, e) in ap (λ i. give i x) same)
 listed-more d give n (suc k) m [] e none = sym none
@@ -127,7 +129,8 @@ module _ (changes : List ObjectChange) (old : TableState) (entries0 : List Objec
       subst (IsWokenBelow changes old next entries0 entries2 ended0 ended2) e more
 
   -- a process that isn't woken
-  pub woken-skip : (new : TableState) (entries1 : List ObjectAccess) (ended1 : List ℕ) (k : ℕ) → is_woken changes (process_in old k) ≡ false → IsWokenBelow changes old new entries0 entries1 ended0 ended1 k →
+  pub woken-skip : (new : TableState) (entries1 : List ObjectAccess) (ended1 : List ℕ) (k : ℕ) → is_woken changes (process_in old k) ≡ false →
+      IsWokenBelow changes old new entries0 entries1 ended0 ended1 k →
       IsWokenBelow changes old new entries0 entries1 ended0 ended1 (k + 1)
   woken-skip new entries1 ended1 k none below =
       let same : process_in new k ≡ process_in old k =
@@ -200,7 +203,8 @@ nobody (x ∷ xs) zero past = absurd (omega (arith, past))
 nobody (x ∷ xs) (suc n) past = nobody xs n (omega (arith, past))
 
 -- one that isn't there
-pub one-past : (changes : List ObjectChange) (table : TableState) (entries0 : List ObjectAccess) (ended : List ℕ) (n : ℕ) → length table.processes ≤ n → IsWokenAt changes table table entries0 entries0 ended ended n
+pub one-past : (changes : List ObjectChange) (table : TableState) (entries0 : List ObjectAccess) (ended : List ℕ) (n : ℕ) → length table.processes ≤ n →
+    IsWokenAt changes table table entries0 entries0 ended ended n
 one-past changes table entries0 ended n past =
     let idle : process_in table n ≡ idle_process = nobody table.processes n past in
     one-none changes table entries0 entries0 ended n (ap (is_woken changes) idle) (sym (append-nil entries0) ∙ ap (λ p. entries0 ++ ended_by_changes changes n p) (sym idle))
@@ -233,7 +237,8 @@ reach-seen candidates place next number is low reaches = record {
 }
 
 -- the next candidate
-pub reach-next : (candidates : List ℕ) (place next number : ℕ) → number ≡ get_or candidates place 0 → next ≤ number → Climbs candidates → Reaches candidates place next → Reaches candidates (place + 1) (number + 1)
+pub reach-next : (candidates : List ℕ) (place next number : ℕ) → number ≡ get_or candidates place 0 → next ≤ number → Climbs candidates → Reaches candidates place next →
+    Reaches candidates (place + 1) (number + 1)
 reach-next candidates place next number is low climbs reaches = record {
   seen = λ j below.
       elim (cases_lt j place) [
@@ -245,7 +250,8 @@ reach-next candidates place next number is low climbs reaches = record {
 
 module _ (changes : List ObjectChange) (old : TableState) (entries0 : List ObjectAccess) (ended0 : List ℕ) (candidates : List ℕ) (all : HasWoken changes old.processes candidates) where
   -- it is woken, or stays
-  pub wake-next : (new next_table : TableState) (entries1 entries2 : List ObjectAccess) (ended1 ended2 : List ℕ) (place next number : ℕ) → place < length candidates → number ≡ get_or candidates place 0 → next ≤ number → Climbs candidates →
+  pub wake-next : (new next_table : TableState) (entries1 entries2 : List ObjectAccess) (ended1 ended2 : List ℕ) (place next number : ℕ) → place < length candidates →
+      number ≡ get_or candidates place 0 → next ≤ number → Climbs candidates →
       Reaches candidates place next → IsWokenBelow changes old new entries0 entries1 ended0 ended1 next → IsWokenAt changes new next_table entries1 entries2 ended1 ended2 number →
       IsWokenBelow changes old next_table entries0 entries2 ended0 ended2 (number + 1)
   wake-next new next_table entries1 entries2 ended1 ended2 place next number there is low climbs reaches below at =
@@ -257,7 +263,9 @@ module _ (changes : List ObjectChange) (old : TableState) (entries0 : List Objec
       below)) at
 
   -- and behind the last nobody is
-  pub wake-end : (new : TableState) (entries1 : List ObjectAccess) (ended1 : List ℕ) (place next : ℕ) → length candidates ≤ place → Reaches candidates place next → IsWokenBelow changes old new entries0 entries1 ended0 ended1 next →
+  pub wake-end : (new : TableState) (entries1 : List ObjectAccess) (ended1 : List ℕ) (place next : ℕ) → length candidates ≤ place → Reaches candidates place next →
+      IsWokenBelow changes old new entries0 entries1 ended0 ended1 next →
       IsWoken changes old new entries0 entries1 ended0 ended1
   wake-end new entries1 ended1 place next past reaches below =
-      woken-end changes old entries0 ended0 new entries1 ended1 next (λ n from. between changes old.processes candidates place next n all reaches from (λ j above within. absurd (omega (arith, above, within, past)))) below
+      woken-end changes old entries0 ended0 new entries1 ended1 next (λ n from. between changes old.processes candidates place next n all reaches from
+      (λ j above within. absurd (omega (arith, above, within, past)))) below

@@ -50,5 +50,6 @@ is_on_net design entry = has (net_pieces design) (object_number entry.object)
 -- whether some changes end the wait of a process that does this, and the accesses of the wait put behind others, if they do
 pub record EndsWait (changes : List ObjectChange) (process : ℕ) (activity : Activity) (told : Bool) (before after : List Noted) : Type 0 where
   pub told_is : told ≡ some_entry (matches_one changes) (waiting_entries activity)
-  pub accesses : map noted_access after ≡ map noted_access before ++ ended_of (some_entry (matches_one changes) (waiting_entries activity)) (matches_one changes) process (waiting_line activity) (waiting_entries activity)
+  pub accesses : map noted_access after ≡ map noted_access before ++ ended_of (some_entry (matches_one changes) (waiting_entries activity)) (matches_one changes) process (waiting_line activity)
+      (waiting_entries activity)
   pub noted : (design : FlatDesign) → AllHold (IsEntryIn design) (waiting_entries activity) → AreNoted design before → AreNoted design after

@@ -21,12 +21,14 @@ own-test : (x : RunEnd) → is_end_of x.phase (process_number x.process) x ≡ t
 own-test x = λ i. eq-eqb x.phase x.phase refl i && eq-eqb (process_number x.process) (process_number x.process) refl i
 
 -- where two lists tell the same, their first ends do, if both pass the test, and so do the others
-heads : (code : Code) (b c : Bool) (x y : RunEnd) (xs ys : List RunEnd) → b ≡ true → b ≡ c → map (told_by code) (cond b (x ∷ xs) xs) ≡ map (told_by code) (cond c (y ∷ ys) ys) → told_by code x ≡ told_by code y
+heads : (code : Code) (b c : Bool) (x y : RunEnd) (xs ys : List RunEnd) → b ≡ true → b ≡ c → map (told_by code) (cond b (x ∷ xs) xs) ≡ map (told_by code) (cond c (y ∷ ys) ys) →
+    told_by code x ≡ told_by code y
 heads code true true x y xs ys here same e = cc
 heads code true false x y xs ys here same e = cc
 heads code false c x y xs ys here same e = cc
 
-tails : (code : Code) (b c : Bool) (x y : RunEnd) (xs ys : List RunEnd) → b ≡ c → map (told_by code) (cond b (x ∷ xs) xs) ≡ map (told_by code) (cond c (y ∷ ys) ys) → map (told_by code) xs ≡ map (told_by code) ys
+tails : (code : Code) (b c : Bool) (x y : RunEnd) (xs ys : List RunEnd) → b ≡ c → map (told_by code) (cond b (x ∷ xs) xs) ≡ map (told_by code) (cond c (y ∷ ys) ys) →
+    map (told_by code) xs ≡ map (told_by code) ys
 tails code true true x y xs ys same e = cc
 tails code true false x y xs ys same e = cc
 tails code false true x y xs ys same e = cc
@@ -46,7 +48,8 @@ first-told codes x y key told = go (slice_get codes (process_number x.process)) 
         ap (option_map (λ (code : Code). told_by code x)) is ∙ ap Some (told code is) ∙ sym (ap (option_map (λ (code : Code). told_by code y)) (sym other ∙ is))
 
 same-told : (codes : List Code) (count : ℕ) (one other : List RunEnd) → All (IsEndWithin codes count) one → map ender_told one ≡ map ender_told other →
-    ((number process : ℕ) (code : Code) → 1 ≤ number → number ≤ count → slice_get codes process ≡ Some code → map (told_by code) (ends_of number process one) ≡ map (told_by code) (ends_of number process other)) →
+    ((number process : ℕ) (code : Code) → 1 ≤ number → number ≤ count → slice_get codes process ≡ Some code →
+    map (told_by code) (ends_of number process one) ≡ map (told_by code) (ends_of number process other)) →
     map (told_by_codes codes) one ≡ map (told_by_codes codes) other
 same-told codes count [] [] within keys told = refl
 same-told codes count [] (y ∷ other) within keys told = cc
@@ -65,12 +68,14 @@ same-told codes count (x ∷ one) (y ∷ other) within keys told =
     let later : map (told_by_codes codes) one ≡ map (told_by_codes codes) other =
     same-told codes count one other (λ k d low. within (suc k) d (omega (arith, low))) rest
     (λ number process code low high is.
-    tails code (is_end_of number process x) (is_end_of number process y) x y (ends_of number process one) (ends_of number process other) (same-test number process x y key) (told number process code low high is))
+    tails code (is_end_of number process x) (is_end_of number process y) x y (ends_of number process one) (ends_of number process other) (same-test number process x y key)
+    (told number process code low high is))
     in
     λ i. first i ∷ later i
 
 -- two lists of a phase's ends tell the same
-phase-told : (codes : List Code) (machine : Machine) (phases : List Phase) (one other : List RunEnd) → AreRunEnds codes machine phases one → AreRunEnds codes machine phases other → (number process : ℕ) (code : Code) →
+phase-told : (codes : List Code) (machine : Machine) (phases : List Phase) (one other : List RunEnd) → AreRunEnds codes machine phases one → AreRunEnds codes machine phases other →
+    (number process : ℕ) (code : Code) →
     1 ≤ number → number ≤ length phases → slice_get codes process ≡ Some code → map (told_by code) (ends_of number process one) ≡ map (told_by code) (ends_of number process other)
 phase-told codes machine phases one other a b zero process code low high is = absurd (omega (arith, low))
 phase-told codes machine phases one other a b (suc number) process code low high is =

@@ -132,7 +132,8 @@ begins = record {
   where
     settled_node : AreSettled (good_machine design) (start (good_machine design)).values
     settled_node zero node e =
-        subst (λ (n : FlatNode). map (value_at (start (good_machine design)).values) n.outputs ≡ node_outputs (good_machine design) 0 n (start (good_machine design)).values) (ap (found_or the_node) e) refl
+        subst (λ (n : FlatNode). map (value_at (start (good_machine design)).values) n.outputs ≡ node_outputs (good_machine design) 0 n (start (good_machine design)).values)
+        (ap (found_or the_node) e) refl
     settled_node (suc number) node e = cc
 
     writers : WriteVariables design (start (good_machine design))

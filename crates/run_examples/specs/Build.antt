@@ -1,7 +1,8 @@
 -- Short words for designs that are written out as plain data.
 use Rattle.std.specs.Prelude.{ℕ, pred, Bool, true, false, List, [], ◌∷◌, map, None}
 use Rattle.four_value.specs.Values.{LogicValue, bits_of}
-use Rattle.v_design.specs.Trees.{Vector, Expression, Constant, Name, Unary, Binary, Expressions, no_expressions, more_expressions, Variable, WholeTarget, Statement, Block, Blocking, Nonblocking, EventControl, Statements, no_statements, more_statements, Entry}
+use Rattle.v_design.specs.Trees.{Vector, Expression, Constant, Name, Unary, Binary, Expressions, no_expressions, more_expressions, Variable, WholeTarget, Statement, Block, Blocking, Nonblocking}
+use Rattle.v_design.specs.Trees.{EventControl, Statements, no_statements, more_statements, Entry}
 use Rattle.vf_base.specs.Base.{SourcePlace, WatchedBit}
 use Rattle.v_design.specs.Designs.{FlatObject, FlatNodeKind, FlatNode, FlatProcess, TestPlan, StuckAt, VariableBit, OutputBit, GateTerminal}
 use Rattle.v_design.specs.Grades.{FaultGrade, Raced}

@@ -12,7 +12,8 @@ design = record {
   objects = reg_bit Zero ∷ reg_bit One ∷ reg_bit Zero ∷ reg_bit Zero ∷ [];
   joined = [];
   nodes = [];
-  processes = process true 3 (Delay (at 3) 5 (set_bit 3 0 (not_of (bit_operand 0)))) ∷ process true 4 (wait_for 4 Pos 0 (later_bit 4 2 (bit_operand 1))) ∷ process true 5 (wait_for 5 Pos 0 (later_bit 5 3 (bit_operand 2))) ∷ [];
+  processes = process true 3 (Delay (at 3) 5 (set_bit 3 0 (not_of (bit_operand 0)))) ∷ process true 4 (wait_for 4 Pos 0 (later_bit 4 2 (bit_operand 1))) ∷
+      process true 5 (wait_for 5 Pos 0 (later_bit 5 3 (bit_operand 2))) ∷ [];
 }
 
 abbrev pub test_plan : TestPlan
@@ -20,7 +21,8 @@ test_plan = plan 30 (3 ∷ []) (3 ∷ 13 ∷ 23 ∷ []) (variable_fault 1 0 fals
 
 -- the grades of the listed faults
 abbrev pub Grades : Type 0
-Grades = map (grade design test_plan) test_plan.faults ≡ Some (Judged (Detected 23)) ∷ Some (Judged (Detected 13)) ∷ Some (Judged (Detected 23)) ∷ Some (Judged (Detected 23)) ∷ Some (Judged (Detected 23)) ∷ []
+Grades = map (grade design test_plan) test_plan.faults ≡ Some (Judged (Detected 23)) ∷ Some (Judged (Detected 13)) ∷ Some (Judged (Detected 23)) ∷ Some (Judged (Detected 23)) ∷
+    Some (Judged (Detected 23)) ∷ []
 
 pub grades : Grades
 grades = refl

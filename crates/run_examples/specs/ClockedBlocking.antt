@@ -14,7 +14,8 @@ design = record {
   objects = reg_bit Zero ∷ reg_bit One ∷ reg_bit Zero ∷ reg_bit Zero ∷ [];
   joined = [];
   nodes = [];
-  processes = process true 3 (Delay (at 3) 5 (set_bit 3 0 (not_of (bit_operand 0)))) ∷ process true 4 (wait_for 4 Pos 0 (set_bit 4 2 (bit_operand 1))) ∷ process true 5 (wait_for 5 Pos 0 (set_bit 5 3 (bit_operand 2))) ∷ [];
+  processes = process true 3 (Delay (at 3) 5 (set_bit 3 0 (not_of (bit_operand 0)))) ∷ process true 4 (wait_for 4 Pos 0 (set_bit 4 2 (bit_operand 1))) ∷
+      process true 5 (wait_for 5 Pos 0 (set_bit 5 3 (bit_operand 2))) ∷ [];
 }
 
 abbrev pub test_plan : TestPlan

@@ -14,7 +14,8 @@ design = record {
   objects = reg_bit Zero ∷ reg_bit Zero ∷ reg_bit X ∷ [];
   joined = [];
   nodes = [];
-  processes = process false 3 (Delay (at 3) 5 (block (set_bit 3 0 (number 1 1) ∷ set_bit 3 1 (number 1 1) ∷ []))) ∷ process true 4 (wait_for_two 4 Any 0 Any 1 (set_bit 4 2 (and_of (bit_operand 0) (bit_operand 1)))) ∷ [];
+  processes = process false 3 (Delay (at 3) 5 (block (set_bit 3 0 (number 1 1) ∷ set_bit 3 1 (number 1 1) ∷ []))) ∷
+      process true 4 (wait_for_two 4 Any 0 Any 1 (set_bit 4 2 (and_of (bit_operand 0) (bit_operand 1)))) ∷ [];
 }
 
 abbrev pub test_plan : TestPlan

@@ -11,7 +11,8 @@ design = record {
   objects = reg_bit Zero ∷ reg_bit Zero ∷ reg_bit Zero ∷ reg_bit Zero ∷ [];
   joined = [];
   nodes = [];
-  processes = process false 3 (Delay (at 3) 10 (set_bit 3 3 (bit_operand 0))) ∷ process false 4 (Delay (at 4) 20 (If (at 4) (bit_operand 0) (set_bit 4 1 (number 1 1)) Null)) ∷ process false 5 (Delay (at 5) 20 (set_bit 5 2 (bit_operand 1))) ∷ [];
+  processes = process false 3 (Delay (at 3) 10 (set_bit 3 3 (bit_operand 0))) ∷ process false 4 (Delay (at 4) 20 (If (at 4) (bit_operand 0) (set_bit 4 1 (number 1 1)) Null)) ∷
+      process false 5 (Delay (at 5) 20 (set_bit 5 2 (bit_operand 1))) ∷ [];
 }
 
 abbrev pub test_plan : TestPlan

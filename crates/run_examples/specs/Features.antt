@@ -1,12 +1,14 @@
 -- Statements and expressions in small runs: the values at the end of the first run, as numbers.
 use Rattle.std.specs.Prelude.{◌≡◌, refl, ℕ, true, false, List, [], ◌∷◌, Option, Some, None, map}
 use Rattle.four_value.specs.Values.{number_of, bits_of, sum_of, quotient_of, remainder_of, logical_equality, truth_of, chosen_value}
-use Rattle.v_design.specs.Trees.{Binary, BitSelect, Blocking, Case, Concatenation, Conditional, Constant, Delay, Expression, Finish, For, Memory, Name, Nonblocking, PartSelect, PartTarget, Repeat, Replication, Statement, Unary, Variable, Vector, Wait, WholeTarget, WordSelect, WordTarget, more_items, no_items}
+use Rattle.v_design.specs.Trees.{Binary, BitSelect, Blocking, Case, Concatenation, Conditional, Constant, Delay, Expression, Finish, For, Memory, Name, Nonblocking, PartSelect, PartTarget, Repeat}
+use Rattle.v_design.specs.Trees.{Replication, Statement, Unary, Variable, Vector, Wait, WholeTarget, WordSelect, WordTarget, more_items, no_items}
 use Rattle.v_design.specs.Designs.{AssignNode, FlatDesign, FlatObject, faulty_machine, good_machine}
 use Rattle.v_design.specs.States.{Evaluation, NetUpdate, Step, start}
 use Rattle.v_design.specs.Runs.{Happens, counted_steps, first_moves, first_run, slot_moves}
 use Rattle.v_design.specs.Grades.{values_after, grade, Judged, Detected}
-use Rattle.run_examples.specs.Build.{at, bit_operand, block, node, number, object, operand, plan, plus_one, process, reg_bit, reg_vector, set_bit, set_vector, terminals, variable, variable_fault, wire_bit}
+use Rattle.run_examples.specs.Build.{at, bit_operand, block, node, number, object, operand, plan, plus_one, process, reg_bit, reg_vector, set_bit, set_vector, terminals, variable, variable_fault}
+use Rattle.run_examples.specs.Build.{wire_bit}
 use Rattle.four_value.specs.declared.logic.Bit.TheVariants.{Zero, One, X, Z}
 use Rattle.four_value.specs.declared.logic.Truth.TheVariants.{True, Unknown}
 use Rattle.four_value.specs.Operators.{label_matches}
@@ -36,11 +38,13 @@ pub merges : chosen_value Unknown (Zero ∷ One ∷ Zero ∷ One ∷ []) (One �
 merges = refl
 
 -- gates take z as x
-pub gates : (gate_bit And (One ∷ Z ∷ []) ≡ X) × (gate_bit And (Zero ∷ Z ∷ []) ≡ Zero) × (gate_bit Or (Zero ∷ One ∷ []) ≡ One) × (gate_bit Nor (Zero ∷ X ∷ []) ≡ X) × (gate_bit Xnor (One ∷ One ∷ []) ≡ One) × (gate_bit Buf (Z ∷ []) ≡ X) × (gate_bit Not (Zero ∷ []) ≡ One)
+pub gates : (gate_bit And (One ∷ Z ∷ []) ≡ X) × (gate_bit And (Zero ∷ Z ∷ []) ≡ Zero) × (gate_bit Or (Zero ∷ One ∷ []) ≡ One) × (gate_bit Nor (Zero ∷ X ∷ []) ≡ X)
+    × (gate_bit Xnor (One ∷ One ∷ []) ≡ One) × (gate_bit Buf (Z ∷ []) ≡ X) × (gate_bit Not (Zero ∷ []) ≡ One)
 gates = (refl, refl, refl, refl, refl, refl, refl)
 
 -- 4'b10x1 against the labels 4'b1z01 and 4'b1011: casex ignores x and z on either side, casez z alone, and case nothing
-pub labels : (label_matches IgnoreXz (One ∷ X ∷ Zero ∷ One ∷ []) (One ∷ Zero ∷ Z ∷ One ∷ []) ≡ true) × (label_matches IgnoreZ (One ∷ X ∷ Zero ∷ One ∷ []) (One ∷ Zero ∷ Z ∷ One ∷ []) ≡ false) × (label_matches IgnoreXz (One ∷ X ∷ Zero ∷ One ∷ []) (One ∷ One ∷ Zero ∷ One ∷ []) ≡ true) × (label_matches Exact (One ∷ X ∷ Zero ∷ One ∷ []) (One ∷ One ∷ Zero ∷ One ∷ []) ≡ false)
+pub labels : (label_matches IgnoreXz (One ∷ X ∷ Zero ∷ One ∷ []) (One ∷ Zero ∷ Z ∷ One ∷ []) ≡ true) × (label_matches IgnoreZ (One ∷ X ∷ Zero ∷ One ∷ []) (One ∷ Zero ∷ Z ∷ One ∷ []) ≡ false)
+    × (label_matches IgnoreXz (One ∷ X ∷ Zero ∷ One ∷ []) (One ∷ One ∷ Zero ∷ One ∷ []) ≡ true) × (label_matches Exact (One ∷ X ∷ Zero ∷ One ∷ []) (One ∷ One ∷ Zero ∷ One ∷ []) ≡ false)
 labels = (refl, refl, refl, refl)
 
 -- Runs

@@ -14,7 +14,8 @@ design = record {
   objects = reg_bit Zero ∷ reg_bit One ∷ reg_bit Zero ∷ wire_bit ∷ [];
   joined = [];
   nodes = node (AssignNode (and_of (bit_operand 0) (bit_operand 1)) (0 ∷ [])) (0 ∷ 1 ∷ []) (3 ∷ []) ∷ [];
-  processes = process true 4 (Delay (at 4) 5 (set_bit 4 0 (not_of (bit_operand 0)))) ∷ process true 5 (wait_for 5 Pos 3 (later_bit 5 2 (not_of (bit_operand 2)))) ∷ process false 6 (Delay (at 6) 5 (set_bit 6 1 (number 1 0))) ∷ [];
+  processes = process true 4 (Delay (at 4) 5 (set_bit 4 0 (not_of (bit_operand 0)))) ∷ process true 5 (wait_for 5 Pos 3 (later_bit 5 2 (not_of (bit_operand 2)))) ∷
+      process false 6 (Delay (at 6) 5 (set_bit 6 1 (number 1 0))) ∷ [];
 }
 
 abbrev pub test_plan : TestPlan

@@ -16,11 +16,13 @@ design = record {
 }
 
 abbrev pub test_plan : TestPlan
-test_plan = plan 40 (2 ∷ []) (5 ∷ 15 ∷ 25 ∷ 35 ∷ []) (terminal_fault 0 1 false ∷ terminal_fault 0 2 false ∷ output_fault 0 2 0 true ∷ terminal_fault 0 1 true ∷ terminal_fault 0 2 true ∷ output_fault 0 2 0 false ∷ [])
+test_plan = plan 40 (2 ∷ []) (5 ∷ 15 ∷ 25 ∷ 35 ∷ []) (terminal_fault 0 1 false ∷ terminal_fault 0 2 false ∷ output_fault 0 2 0 true ∷ terminal_fault 0 1 true ∷ terminal_fault 0 2 true ∷
+    output_fault 0 2 0 false ∷ [])
 
 -- the grades of the listed faults
 abbrev pub Grades : Type 0
-Grades = map (grade design test_plan) test_plan.faults ≡ Some (Judged (Detected 25)) ∷ Some (Judged (Detected 25)) ∷ Some (Judged (Detected 25)) ∷ Some (Judged (Detected 15)) ∷ Some (Judged (Detected 35)) ∷ Some (Judged (Detected 5)) ∷ []
+Grades = map (grade design test_plan) test_plan.faults ≡ Some (Judged (Detected 25)) ∷ Some (Judged (Detected 25)) ∷ Some (Judged (Detected 25)) ∷ Some (Judged (Detected 15)) ∷
+    Some (Judged (Detected 35)) ∷ Some (Judged (Detected 5)) ∷ []
 
 pub grades : Grades
 grades = refl

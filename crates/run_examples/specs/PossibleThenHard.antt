@@ -11,7 +11,8 @@ design = record {
   objects = reg_bit Zero ∷ reg_bit X ∷ [];
   joined = [];
   nodes = [];
-  processes = process false 3 (block (If (at 3) (bit_operand 0) (set_bit 3 1 (Constant 1 false (X ∷ []))) (set_bit 3 1 (number 1 1)) ∷ Delay (at 3) 10 (set_bit 3 1 (number 1 1)) ∷ Delay (at 3) 10 (set_bit 3 1 (not_of (bit_operand 0))) ∷ [])) ∷ [];
+  processes = process false 3 (block (If (at 3) (bit_operand 0) (set_bit 3 1 (Constant 1 false (X ∷ []))) (set_bit 3 1 (number 1 1)) ∷ Delay (at 3) 10 (set_bit 3 1 (number 1 1)) ∷
+      Delay (at 3) 10 (set_bit 3 1 (not_of (bit_operand 0))) ∷ [])) ∷ [];
 }
 
 abbrev pub test_plan : TestPlan

@@ -21,7 +21,8 @@ pub divides_towards_zero : (quotient_of true (bits_of 8 249) (bits_of 8 2) ≡ b
 divides_towards_zero = (refl, refl)
 
 -- the remainder of 7 by -2 is 1; at 4 bits -8 / -1 wraps, and a division by 0 is unknown
-pub divides_at_the_edge : (remainder_of true (bits_of 4 7) (bits_of 4 14) ≡ bits_of 4 1) × (quotient_of true (bits_of 4 8) (bits_of 4 15) ≡ bits_of 4 8) × (quotient_of true (bits_of 4 8) (bits_of 4 0) ≡ replicate 4 X)
+pub divides_at_the_edge : (remainder_of true (bits_of 4 7) (bits_of 4 14) ≡ bits_of 4 1) × (quotient_of true (bits_of 4 8) (bits_of 4 15) ≡ bits_of 4 8)
+    × (quotient_of true (bits_of 4 8) (bits_of 4 0) ≡ replicate 4 X)
 divides_at_the_edge = (refl, refl, refl)
 
 -- -1 is less than 1, 15 isn't

@@ -14,7 +14,8 @@ design = record {
   objects = reg_bit Zero ∷ reg_bit One ∷ reg_vector 2 0 ∷ [];
   joined = [];
   nodes = [];
-  processes = process false 3 (Delay (at 3) 5 (set_bit 3 0 (number 1 1))) ∷ process false 4 (Delay (at 4) 5 (set_bit 4 1 (number 1 0))) ∷ process true 5 (wait_for_two 5 Pos 0 Neg 1 (set_vector 5 2 2 (plus_one 2 2))) ∷ [];
+  processes = process false 3 (Delay (at 3) 5 (set_bit 3 0 (number 1 1))) ∷ process false 4 (Delay (at 4) 5 (set_bit 4 1 (number 1 0))) ∷
+      process true 5 (wait_for_two 5 Pos 0 Neg 1 (set_vector 5 2 2 (plus_one 2 2))) ∷ [];
 }
 
 abbrev pub test_plan : TestPlan

@@ -31,12 +31,14 @@ run-set runs n old new change low is told = map-set so_far runs n new ∙ ap (se
 -- a step after which the process is ready
 pub step-called : Laws → (process : ℕ) (later : Option LaterUpdate) (write : Option ValueUpdate) (old new : List SoFar) (ended : List RunEnd) → process < length old →
     new ≡ set old process (with_step later write (get_or old process nothing_so_far)) → (machine : Machine) (before : List Phase) (phase : Phase) → AreNotes machine before phase old ended →
-    StepSays machine (state_in machine phase) process later write → is_ready (step_of machine (state_in machine phase) process).next ≡ true → AreNotes machine before (one_more (Step process) phase) new ended
+    StepSays machine (state_in machine phase) process later write → is_ready (step_of machine (state_in machine phase) process).next ≡ true →
+    AreNotes machine before (one_more (Step process) phase) new ended
 step-called laws process later write old new ended there is machine before phase notes says ready =
     subst (λ l. AreNotes machine before (one_more (Step process) phase) l ended) (sym is) (step-noted laws machine before phase process old ended there notes later write says ready)
 
 -- one that ends the process's run
-pub end-called : Laws → (number process : ℕ) (later : Option LaterUpdate) (write : Option ValueUpdate) (stands : ProcState) (old mid new : List SoFar) (ended now : List RunEnd) (run : RunEnd) → process < length old →
+pub end-called : Laws → (number process : ℕ) (later : Option LaterUpdate) (write : Option ValueUpdate) (stands : ProcState) (old mid new : List SoFar) (ended now : List RunEnd) (run : RunEnd) →
+    process < length old →
     mid ≡ set old process (with_step later write (get_or old process nothing_so_far)) → new ≡ set mid process nothing_so_far → IsEndOf number process stands (get_or mid process nothing_so_far) run →
     now ≡ ended ++ run ∷ [] → (machine : Machine) (before : List Phase) (phase : Phase) → AreNotes machine before phase old ended → StepSays machine (state_in machine phase) process later write →
     is_ready (step_of machine (state_in machine phase) process).next ≡ false → number ≡ length before + 1 → StandsAfter machine (state_in machine phase) process stands →

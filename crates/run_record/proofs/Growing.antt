@@ -163,14 +163,16 @@ none-present (run ∷ next ∷ rest) none = none-present (next ∷ rest) none
 abbrev pub next_seen : Machine → Phase → ℕ → Activity × StepSeen
 next_seen machine phase process = ((process_at (state_in machine phase) process).activity, seen_step machine (state_in machine phase) process)
 
-pub own-step : Laws → (machine : Machine) (process : ℕ) (phase : Phase) → process_runs machine process (one_more (Step process) phase) ≡ grow (process_runs machine process phase) (next_seen machine phase process)
+pub own-step : Laws → (machine : Machine) (process : ℕ) (phase : Phase) → process_runs machine process (one_more (Step process) phase) ≡ grow (process_runs machine process phase)
+    (next_seen machine phase process)
 own-step laws machine process phase =
     ap runs_of
     (laws.steps machine process phase.begins phase.events (Step process)
     ∙ ap (λ own. steps_in machine process phase.begins phase.events ++ seen_if own (next_seen machine phase process) []) (eq-eqb process process refl))
     ∙ laws.runs (steps_in machine process phase.begins phase.events) (next_seen machine phase process)
 
-pub other-step : Laws → (machine : Machine) (process : ℕ) (phase : Phase) (event : Event) → is_step_of process event ≡ false → process_runs machine process (one_more event phase) ≡ process_runs machine process phase
+pub other-step : Laws → (machine : Machine) (process : ℕ) (phase : Phase) (event : Event) → is_step_of process event ≡ false →
+    process_runs machine process (one_more event phase) ≡ process_runs machine process phase
 other-step laws machine process phase event other =
     ap runs_of
     (laws.steps machine process phase.begins phase.events event
@@ -179,7 +181,8 @@ other-step laws machine process phase event other =
 
 -- The runs that end
 
-enders-last : (machine : Machine) (state : State) (events : List Event) (event : Event) → enders_in machine state (events ++ event ∷ []) ≡ enders_in machine state events ++ ender_of machine (happened machine state events) event
+enders-last : (machine : Machine) (state : State) (events : List Event) (event : Event) → enders_in machine state (events ++ event ∷ []) ≡ enders_in machine state events
+    ++ ender_of machine (happened machine state events) event
 enders-last machine state [] event = append-nil (ender_of machine state event)
 enders-last machine state (x ∷ events) event =
     ap (λ rest. ender_of machine state x ++ rest) (enders-last machine (after machine state x) events event)

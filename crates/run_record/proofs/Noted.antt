@@ -1,5 +1,6 @@
 -- Notes of process runs go on with the events of a slot (phases by IEEE 1364-2001, clause 5; processes by clause 9).
-use Rattle.std.proofs.Common.{◌≡◌, ℕ, zero, suc, ◌+◌, ◌<◌, List, [], ◌∷◌, ◌++◌, map, length, get_or, set, Bool, true, false, ◌&&◌, ◌⊎◌, inl, inr, refl, sym, ap, subst, ◌∙◌, append-nil, length-append, arith}
+use Rattle.std.proofs.Common.{◌≡◌, ℕ, zero, suc, ◌+◌, ◌<◌, List, [], ◌∷◌, ◌++◌, map, length, get_or, set, Bool, true, false, ◌&&◌, ◌⊎◌, inl, inr, refl, sym, ap, subst, ◌∙◌, append-nil}
+use Rattle.std.proofs.Common.{length-append, arith}
 use Rattle.std.specs.Prelude.{◌≢◌, Option, Some, cond, nat_eq, slice_get}
 use Rattle.std.specs.List.{All}
 use Rattle.std.specs.Option.{option_to_list}
@@ -83,7 +84,8 @@ none-later design most number process (run ∷ ended) within low =
 -- What a step more tells
 
 -- so the steps so far have appended and written
-so-far-more : (time : ℕ) (steps : List StepSeen) (seen : StepSeen) (later : Option LaterUpdate) (write : Option ValueUpdate) → option_to_list later ≡ appended time seen.step.action → write ≡ write_of seen.step.action →
+so-far-more : (time : ℕ) (steps : List StepSeen) (seen : StepSeen) (later : Option LaterUpdate) (write : Option ValueUpdate) → option_to_list later ≡ appended time seen.step.action →
+    write ≡ write_of seen.step.action →
     with_step later write (so_far_of time steps) ≡ so_far_of time (steps ++ seen ∷ [])
 so-far-more time steps seen later write laters writes =
     λ i. record {
@@ -92,7 +94,8 @@ so-far-more time steps seen later write laters writes =
     }
 
 -- where a step of a phase says so
-step-more : Laws → (machine : Machine) (phase : Phase) (process : ℕ) (steps : List StepSeen) (later : Option LaterUpdate) (write : Option ValueUpdate) → StepSays machine (state_in machine phase) process later write →
+step-more : Laws → (machine : Machine) (phase : Phase) (process : ℕ) (steps : List StepSeen) (later : Option LaterUpdate) (write : Option ValueUpdate) →
+    StepSays machine (state_in machine phase) process later write →
     with_step later write (so_far_of phase.begins.time steps) ≡ so_far_of phase.begins.time (steps ++ seen_step machine (state_in machine phase) process ∷ [])
 step-more laws machine phase process steps later write says =
     so-far-more phase.begins.time steps (seen_step machine (state_in machine phase) process) later write
@@ -108,7 +111,8 @@ quiet-event laws machine before phase event present ended others none notes = re
   within = notes.within;
   order =
       notes.order
-      ∙ sym (enders-event machine before phase event ∙ ap (λ l. slot_enders machine (before ++ phase ∷ []) ++ map (ender (length before + 1)) l) none ∙ append-nil (slot_enders machine (before ++ phase ∷ [])));
+      ∙ sym (enders-event machine before phase event ∙ ap (λ l. slot_enders machine (before ++ phase ∷ []) ++ map (ender (length before + 1)) l) none
+      ∙ append-nil (slot_enders machine (before ++ phase ∷ [])));
   told_before = notes.told_before;
   told_now = λ process code at. notes.told_now process code at ∙ ap (λ runs. map (told_of phase.begins.time) (ended_runs runs)) (sym (other-step laws machine process phase event (others process)));
 }
@@ -122,7 +126,8 @@ events-note-nothing laws machine before phase (NetUpdate node) kept quiet notes 
 -- A process step
 
 -- the runs so far where that of one process is set
-module _ (laws : Laws) (machine : Machine) (before : List Phase) (phase : Phase) (process : ℕ) (present : List SoFar) (ended : List RunEnd) (there : process < length present) (notes : AreNotes machine before phase present ended) where
+module _ (laws : Laws) (machine : Machine) (before : List Phase) (phase : Phase) (process : ℕ) (present : List SoFar) (ended : List RunEnd) (there : process < length present)
+    (notes : AreNotes machine before phase present ended) where
   -- the runs of another process stay
   others-present : (told : SoFar) (other : ℕ) → nat_eq other process ≡ false → other < length (set present process told) →
       get_or (set present process told) other nothing_so_far ≡ so_far_of phase.begins.time (present_steps (process_runs machine other (one_more (Step process) phase)))
@@ -131,11 +136,13 @@ module _ (laws : Laws) (machine : Machine) (before : List Phase) (phase : Phase)
       ∙ ap (λ runs. so_far_of phase.begins.time (present_steps runs)) (sym (other-step laws machine other phase (Step process) is))
 
   -- that of the process is told
-  all-present : (told : SoFar) → told ≡ so_far_of phase.begins.time (present_steps (process_runs machine process (one_more (Step process) phase))) → (any : ℕ) → any < length (set present process told) →
+  all-present : (told : SoFar) → told ≡ so_far_of phase.begins.time (present_steps (process_runs machine process (one_more (Step process) phase))) → (any : ℕ) →
+      any < length (set present process told) →
       get_or (set present process told) any nothing_so_far ≡ so_far_of phase.begins.time (present_steps (process_runs machine any (one_more (Step process) phase)))
   all-present told is =
       each-process
-      (λ any. any < length (set present process told) → get_or (set present process told) any nothing_so_far ≡ so_far_of phase.begins.time (present_steps (process_runs machine any (one_more (Step process) phase)))) process
+      (λ any. any < length (set present process told) → get_or (set present process told) any nothing_so_far ≡ so_far_of phase.begins.time
+      (present_steps (process_runs machine any (one_more (Step process) phase)))) process
       (λ low. get_or-set_same present process told nothing_so_far there ∙ is) (λ other no low. others-present told other no low)
 
   -- what the step says of the present run
@@ -146,7 +153,8 @@ module _ (laws : Laws) (machine : Machine) (before : List Phase) (phase : Phase)
       ap (with_step later write) (notes.present_are process there) ∙ step-more laws machine phase process (present_steps (process_runs machine process phase)) later write says
 
   -- a step after which the process is ready
-  pub step-noted : (later : Option LaterUpdate) (write : Option ValueUpdate) → StepSays machine (state_in machine phase) process later write → is_ready (step_of machine (state_in machine phase) process).next ≡ true →
+  pub step-noted : (later : Option LaterUpdate) (write : Option ValueUpdate) → StepSays machine (state_in machine phase) process later write →
+      is_ready (step_of machine (state_in machine phase) process).next ≡ true →
       AreNotes machine before (one_more (Step process) phase) (set present process (with_step later write (get_or present process nothing_so_far))) ended
   step-noted later write says ready =
       let told : SoFar = with_step later write (get_or present process nothing_so_far) in
@@ -193,7 +201,8 @@ module _ (laws : Laws) (machine : Machine) (before : List Phase) (phase : Phase)
 
     other-test : (other : ℕ) → nat_eq other process ≡ false → is_end_of (length before + 1) other run ≡ false
     other-test other differs =
-        and-false (nat_eq run.phase (length before + 1)) (nat_eq (process_number run.process) other) (unequal (process_number run.process) other (λ e. apart other process differs (sym e ∙ end.process_is)))
+        and-false (nat_eq run.phase (length before + 1)) (nat_eq (process_number run.process) other)
+        (unequal (process_number run.process) other (λ e. apart other process differs (sym e ∙ end.process_is)))
 
     low : process < length machine.design.processes
     low = subst (λ n. process < n) notes.count there
@@ -209,7 +218,8 @@ module _ (laws : Laws) (machine : Machine) (before : List Phase) (phase : Phase)
     pub end-noted : AreNotes machine before (one_more (Step process) phase) (set present process nothing_so_far) (ended ++ run ∷ [])
     end-noted =
         let own : process_runs machine process (one_more (Step process) phase) ≡ grow (process_runs machine process phase) (next_seen machine phase process) = own-step laws machine process phase in
-        let stopped : Ends phase.begins.time (process_runs machine process phase) (grow (process_runs machine process phase) (next_seen machine phase process)) (seen_step machine (state_in machine phase) process) =
+        let stopped : Ends phase.begins.time (process_runs machine process phase) (grow (process_runs machine process phase) (next_seen machine phase process))
+        (seen_step machine (state_in machine phase) process) =
         ends phase.begins.time (process_runs machine process phase) (next_seen machine phase process) stops in
         record {
           count = length-set present process nothing_so_far ∙ notes.count;
@@ -245,7 +255,8 @@ none-goes laws machine phase process none =
     not-true (last_goes_on (process_runs machine process phase)) (λ goes. let no : true ≡ false = sym (laws.ready machine process phase.begins phase.events goes) ∙ none process in cc)
 
 -- so that all that is told is told of whole runs
-all-told : Laws → (machine : Machine) (before : List Phase) (phase : Phase) (present : List SoFar) (ended : List RunEnd) → NoneReady (state_in machine phase) → AreNotes machine before phase present ended →
+all-told : Laws → (machine : Machine) (before : List Phase) (phase : Phase) (present : List SoFar) (ended : List RunEnd) → NoneReady (state_in machine phase) →
+    AreNotes machine before phase present ended →
     (number process : ℕ) (one : Phase) (code : Code) → slice_get (before ++ phase ∷ []) number ≡ Some one → IsCodeAt machine.design process code →
     map (told_by code) (ends_of (number + 1) process ended) ≡ map (told_of one.begins.time) (process_runs machine process one)
 all-told laws machine before phase present ended none notes number process one code stands at =
@@ -258,7 +269,8 @@ all-told laws machine before phase present ended none notes number process one c
     ]
 
 -- and nothing of a present run
-none-kept : Laws → (machine : Machine) (before : List Phase) (phase : Phase) (present : List SoFar) (ended : List RunEnd) → NoneReady (state_in machine phase) → AreNotes machine before phase present ended →
+none-kept : Laws → (machine : Machine) (before : List Phase) (phase : Phase) (present : List SoFar) (ended : List RunEnd) → NoneReady (state_in machine phase) →
+    AreNotes machine before phase present ended →
     (process : ℕ) → process < length present → get_or present process nothing_so_far ≡ nothing_so_far
 none-kept laws machine before phase present ended none notes process low =
     notes.present_are process low ∙ ap (so_far_of phase.begins.time) (none-present (process_runs machine process phase) (none-goes laws machine phase process none))

@@ -72,7 +72,8 @@ NoneReady state = (process : ℕ) → is_ready (process_at state process).activi
 -- where no process is ready, a turn ends the phase and begins the next one
 abbrev pub PhasesNoteNothing : Type 0
 PhasesNoteNothing =
-    (machine : Machine) (before : List Phase) (phase : Phase) (turn : Option TurnKind) (begins : State) (kept : RunRecord) → NoneReady (state_in machine phase) → RecordsRuns machine before phase kept →
+    (machine : Machine) (before : List Phase) (phase : Phase) (turn : Option TurnKind) (begins : State) (kept : RunRecord) → NoneReady (state_in machine phase) →
+    RecordsRuns machine before phase kept →
     RecordsRuns machine (before ++ phase ∷ []) (record { turn = turn; begins = begins; events = [] }) kept
 
 -- a slot begins where no process is in a run, and none has ended
@@ -88,4 +89,5 @@ pub record EndsNotes (machine : Machine) (phases : List Phase) (kept : RunRecord
 
 abbrev pub SlotsEndNotes : Type 0
 SlotsEndNotes =
-    (machine : Machine) (before : List Phase) (phase : Phase) (kept : RunRecord) → NoneReady (state_in machine phase) → RecordsRuns machine before phase kept → EndsNotes machine (before ++ phase ∷ []) kept
+    (machine : Machine) (before : List Phase) (phase : Phase) (kept : RunRecord) → NoneReady (state_in machine phase) → RecordsRuns machine before phase kept →
+    EndsNotes machine (before ++ phase ∷ []) kept

@@ -1,5 +1,6 @@
 -- What the closed board shows, by what the workers found.
-use Rattle.std.proofs.Common.{◌≡◌, ◌≢◌, ℕ, zero, suc, ◌+◌, ◌<◌, ◌==◌, Bool, true, false, cond, List, [], ◌∷◌, sum_by, slice_index, get_or, length, IsTrue, refl, sym, ap, subst, ◌∙◌, ⊎_elim, arith, Option, Some, None}
+use Rattle.std.proofs.Common.{◌≡◌, ◌≢◌, ℕ, zero, suc, ◌+◌, ◌<◌, ◌==◌, Bool, true, false, cond, List, [], ◌∷◌, sum_by, slice_index, get_or, length, IsTrue, refl, sym, ap, subst, ◌∙◌, ⊎_elim, arith}
+use Rattle.std.proofs.Common.{Option, Some, None}
 use Rattle.std.specs.Prelude.{nat_lt, if◌then◌else◌}
 use Rattle.std.specs.List.{All, Contains, flat_map}
 use Rattle.std.proofs.lemmas.Bool.{eqb-true, lt-ltb}
@@ -49,7 +50,8 @@ marks-in : (f : ℕ) (ms : List Mark) → 0 < marks f ms → (m : Mark) × Conta
 marks-in f [] h = absurd (omega (arith, h))
 marks-in f (m ∷ ms) h = go (fault_number m.fault == f) refl (subst (λ n. 0 < n) (sum_by-cons (λ (a : Mark). cond {A = ℕ} (fault_number a.fault == f) 1 0) m ms) h) (λ k. marks-in f ms k)
   where
-    go : (b : Bool) → (fault_number m.fault == f) ≡ b → 0 < cond {A = ℕ} b 1 0 + marks f ms → (0 < marks f ms → (a : Mark) × Contains ms a × (fault_number a.fault ≡ f)) → (a : Mark) × Contains (m ∷ ms) a × (fault_number a.fault ≡ f)
+    go : (b : Bool) → (fault_number m.fault == f) ≡ b → 0 < cond {A = ℕ} b 1 0 + marks f ms → (0 < marks f ms → (a : Mark) × Contains ms a × (fault_number a.fault ≡ f)) →
+        (a : Mark) × Contains (m ∷ ms) a × (fault_number a.fault ≡ f)
     go true e k rest = (m, (0, omega arith, refl), eqb-true (fault_number m.fault) f e)
     go false e k rest = let r = rest (omega (arith, k)) in (r.0, (suc r.1.0, (let l = r.1.1 in omega (arith, l)), r.1.2), r.2)
 
@@ -64,7 +66,8 @@ claimed-in representatives claims claim fault c h = by claims c.0 c.1 c.2
 
 -- The close
 
-module _ (design : FlatDesign) (plan : TestPlan) (representatives : List ℕ) (sizes : Sizes) (words : List ℕ) (v : View) (found : List Finding) (cover : ShardsCover) (are : AreRepresentatives design plan.faults representatives)
+module _ (design : FlatDesign) (plan : TestPlan) (representatives : List ℕ) (sizes : Sizes) (words : List ℕ) (v : View) (found : List Finding) (cover : ShardsCover)
+    (are : AreRepresentatives design plan.faults representatives)
     (faults : sizes.faults ≡ length plan.faults) (claims : sizes.claims ≡ shard_count (length representatives)) (dry : IsTrue v.dry) (k : Closing (codes_of design plan) sizes words v)
     (h : IsHarvest design plan representatives (claimed_faults representatives v.claimed) v found) where
   -- each shard was claimed, so each representative is done
@@ -112,15 +115,20 @@ never-loops design plan (Some race) is time loops = hyper (some-stop (sym is ∙
     hyper e = (let clash : plain.Race (reported_pair race) ≡ plain.Hyper = ap (λ (s : plain.Stop). s.outcome) e in cc)
 
 -- each finding is on one of so many faults
-pub found-below : (design : FlatDesign) (plan : TestPlan) (count : ℕ) (found : List Finding) → count ≡ length plan.faults → All (IsFinding design plan) found → All (λ (finding : Finding). fault_number finding.fault < count) found
+pub found-below : (design : FlatDesign) (plan : TestPlan) (count : ℕ) (found : List Finding) → count ≡ length plan.faults → All (IsFinding design plan) found →
+    All (λ (finding : Finding). fault_number finding.fault < count) found
 found-below design plan count found counted graded =
-    All-weaker (IsFinding design plan) (λ (finding : Finding). fault_number finding.fault < count) (λ finding is. subst (λ n. fault_number finding.fault < n) (sym counted) (listed-below design plan finding is)) found graded
+    All-weaker (IsFinding design plan) (λ (finding : Finding). fault_number finding.fault < count)
+    (λ finding is. subst (λ n. fault_number finding.fault < n) (sym counted) (listed-below design plan finding is)) found graded
 
 module _ {N : Type 0} (design : FlatDesign) (plan : TestPlan) (shards : Shards) (work : Work N) (sizes : Sizes) (v : View) (found : List Finding) where
   -- a harvest of all claims, and the close, make the work
-  pub work-is : ShardsCover → AreShardsOf design plan.faults shards → sizes_of work.closed ≡ sizes → sizes.faults ≡ length plan.faults → sizes.claims ≡ shard_count (length (representatives_of shards)) → last_view work.closed ≡ v → IsTrue v.dry →
-      Closing (codes_of design plan) (sizes_of work.closed) (words_of work.closed) (last_view work.closed) → IsHarvest design plan (representatives_of shards) (claimed_faults (representatives_of shards) v.claimed) v found →
-      AreInOrder (fault_count shards) work.findings.items → (AreFound design plan found → AreGrades design plan (grades_of work.findings.items)) → ((time : ℕ) → LoopsAt design plan time → ⊥) → IsWork design plan work
+  pub work-is : ShardsCover → AreShardsOf design plan.faults shards → sizes_of work.closed ≡ sizes → sizes.faults ≡ length plan.faults →
+      sizes.claims ≡ shard_count (length (representatives_of shards)) → last_view work.closed ≡ v → IsTrue v.dry →
+      Closing (codes_of design plan) (sizes_of work.closed) (words_of work.closed) (last_view work.closed) →
+      IsHarvest design plan (representatives_of shards) (claimed_faults (representatives_of shards) v.claimed) v found →
+      AreInOrder (fault_count shards) work.findings.items → (AreFound design plan found → AreGrades design plan (grades_of work.findings.items)) → ((time : ℕ) → LoopsAt design plan time → ⊥) →
+      IsWork design plan work
   work-is cover cut sizes_is faults claims view_is dry k h order grades on = record {
     grades = grades (all-found design plan reps sizes words v found cover are faults claims dry closes h);
     in_order = subst (λ n. AreInOrder n work.findings.items) cut.counted order;

@@ -23,13 +23,59 @@ use Rattle.fault_shards.specs.contracts.shards.Shards as cut
 use Rattle.shard_workers.specs.contracts.job.Job as job
 
 nodes : IsSync node.the_row
-nodes = search (binary_operator_crosses.the_field_sync, binary_operator_crosses.the_sync, unary_operator_crosses.the_field_sync, unary_operator_crosses.the_sync, vec4_crosses.the_sync, memory_ref_crosses.the_field_sync, memory_ref_crosses.the_sync, vector_ref_crosses.the_field_sync, vector_ref_crosses.the_sync, std.crosses, expressions.crosses, statements.crosses, sendable) depth 60 fits 20000
+nodes = search (
+  binary_operator_crosses.the_field_sync,
+  binary_operator_crosses.the_sync,
+  unary_operator_crosses.the_field_sync,
+  unary_operator_crosses.the_sync,
+  vec4_crosses.the_sync,
+  memory_ref_crosses.the_field_sync,
+  memory_ref_crosses.the_sync,
+  vector_ref_crosses.the_field_sync,
+  vector_ref_crosses.the_sync,
+  std.crosses,
+  expressions.crosses,
+  statements.crosses,
+  sendable,
+)
+    depth 60 fits 20000
 
 processes : IsSync process.the_row
-processes = search (binary_operator_crosses.the_field_sync, binary_operator_crosses.the_sync, unary_operator_crosses.the_field_sync, unary_operator_crosses.the_sync, vec4_crosses.the_sync, memory_ref_crosses.the_field_sync, memory_ref_crosses.the_sync, vector_ref_crosses.the_field_sync, vector_ref_crosses.the_sync, std.crosses, expressions.crosses, statements.crosses, sendable) depth 60 fits 20000
+processes = search (
+  binary_operator_crosses.the_field_sync,
+  binary_operator_crosses.the_sync,
+  unary_operator_crosses.the_field_sync,
+  unary_operator_crosses.the_sync,
+  vec4_crosses.the_sync,
+  memory_ref_crosses.the_field_sync,
+  memory_ref_crosses.the_sync,
+  vector_ref_crosses.the_field_sync,
+  vector_ref_crosses.the_sync,
+  std.crosses,
+  expressions.crosses,
+  statements.crosses,
+  sendable,
+)
+    depth 60 fits 20000
 
 design_sync : IsSync design.the_row
-design_sync = search (nodes, processes, binary_operator_crosses.the_field_sync, binary_operator_crosses.the_sync, unary_operator_crosses.the_field_sync, unary_operator_crosses.the_sync, vec4_crosses.the_sync, memory_ref_crosses.the_field_sync, memory_ref_crosses.the_sync, vector_ref_crosses.the_field_sync, vector_ref_crosses.the_sync, std.crosses, expressions.crosses, statements.crosses, sendable) depth 60 fits 20000
+design_sync = search (
+  nodes,
+  processes,
+  binary_operator_crosses.the_field_sync,
+  binary_operator_crosses.the_sync,
+  unary_operator_crosses.the_field_sync,
+  unary_operator_crosses.the_sync,
+  vec4_crosses.the_sync,
+  memory_ref_crosses.the_field_sync,
+  memory_ref_crosses.the_sync,
+  vector_ref_crosses.the_field_sync,
+  vector_ref_crosses.the_sync,
+  std.crosses,
+  expressions.crosses,
+  statements.crosses,
+  sendable,
+) depth 60 fits 20000
 
 graph_sync : (a : NamedLft) → IsSync (graph.the_row a)
 graph_sync a = search (design_sync, std.crosses, sendable) depth 60 fits 20000

@@ -32,7 +32,12 @@ settled-keeps fault v w s = go s.1 s.2
   where
     go : (answer : Settled) → Told fault s.0 v answer w → KeepsClaims v w
     go Moved told = record { claimed = ap (λ (u : View). u.claimed) told; share = ap (λ (u : View). u.share) told; calls = ap (λ (u : View). u.calls) told; dry = ap (λ (u : View). u.dry) told }
-    go (Was code) told = record { claimed = ap (λ (u : View). u.claimed) told.1; share = ap (λ (u : View). u.share) told.1; calls = ap (λ (u : View). u.calls) told.1; dry = ap (λ (u : View). u.dry) told.1 }
+    go (Was code) told = record {
+      claimed = ap (λ (u : View). u.claimed) told.1;
+      share = ap (λ (u : View). u.share) told.1;
+      calls = ap (λ (u : View). u.calls) told.1;
+      dry = ap (λ (u : View). u.dry) told.1;
+    }
 
 pub keeps-same : (v : View) → KeepsClaims v v
 keeps-same v = record { claimed = refl; share = refl; calls = refl; dry = refl }
@@ -74,7 +79,8 @@ pub numbers-more : (done : List ℕ) (items : List FaultId) (i : ℕ) (d fault :
 numbers-more done items i d fault low is =
     append_assoc done (map fault_number (take i items)) (fault_number fault ∷ [])
     ∙ ap (λ (l : List ℕ). done ++ l)
-    (ap (λ (f : FaultId). map fault_number (take i items) ++ fault_number f ∷ []) is ∙ (sym (map-append fault_number (take i items) (get_or items i d ∷ [])) ∙ ap (map fault_number) (sym (take_more items i d low))))
+    (ap (λ (f : FaultId). map fault_number (take i items) ++ fault_number f ∷ []) is ∙ (sym (map-append fault_number (take i items) (get_or items i d ∷ []))
+    ∙ ap (map fault_number) (sym (take_more items i d low))))
 
 module _ (design : FlatDesign) (plan : TestPlan) (representatives : List ℕ) where
   abbrev Listed : Mark → Type 0
@@ -85,14 +91,16 @@ module _ (design : FlatDesign) (plan : TestPlan) (representatives : List ℕ) wh
   harvest-start v none = record { graded = All-nil (IsFinding design plan); complete = λ fault h. nothing-in fault h; moved = All-same Listed v.moved [] none (All-nil Listed) }
 
   -- a claim that is drawn, or that isn't, changes nothing of it
-  pub harvest-claim : (done : List ℕ) (claim : ℕ) (v : View) (found : List Finding) → IsHarvest design plan representatives done v found → IsHarvest design plan representatives done (with_claim claim v) found
+  pub harvest-claim : (done : List ℕ) (claim : ℕ) (v : View) (found : List Finding) → IsHarvest design plan representatives done v found →
+      IsHarvest design plan representatives done (with_claim claim v) found
   harvest-claim done claim v found h = record { graded = h.graded; complete = h.complete; moved = h.moved }
 
   pub harvest-none : (done : List ℕ) (v : View) (found : List Finding) → IsHarvest design plan representatives done v found → IsHarvest design plan representatives done (with_none v) found
   harvest-none done v found h = record { graded = h.graded; complete = h.complete; moved = h.moved }
 
   -- one fault more
-  pub harvest-more : (done : List ℕ) (fault : ℕ) (v w : View) (found : List Finding) (finding : Finding) → fault_number finding.fault ≡ fault → IsFinding design plan finding → Contains representatives fault → IsSettled fault v w →
+  pub harvest-more : (done : List ℕ) (fault : ℕ) (v w : View) (found : List Finding) (finding : Finding) → fault_number finding.fault ≡ fault → IsFinding design plan finding →
+      Contains representatives fault → IsSettled fault v w →
       IsHarvest design plan representatives done v found → IsHarvest design plan representatives (done ++ fault ∷ []) w (found ++ finding ∷ [])
   harvest-more done fault v w found finding own is listed s h = record {
     graded = All-push (IsFinding design plan) found finding h.graded is;
@@ -124,8 +132,15 @@ module _ (design : FlatDesign) (plan : TestPlan) (representatives : List ℕ) wh
       IsHarvest design plan representatives (one ++ other) (joined v w) (found ++ more)
   harvest-joined one other v w found more h k = record {
     graded = All-append (IsFinding design plan) found more h.graded k.graded;
-    complete = λ fault here. ⊎_elim (λ (left : Contains one fault). let c = h.complete fault left in (subst (λ l. Contains l fault) (sym both-found) (Contains-append_left (found_faults found) (found_faults more) fault c.0), (c.1.0, Contains-append_left v.seen w.seen (mark fault c.1.0) c.1.1)))
-        (λ (right : Contains other fault). let c = k.complete fault right in (subst (λ l. Contains l fault) (sym both-found) (Contains-append_right (found_faults found) (found_faults more) fault c.0), (c.1.0, Contains-append_right v.seen w.seen (mark fault c.1.0) c.1.1)))
+    complete = λ fault here. ⊎_elim (λ (left : Contains one fault). let c = h.complete fault left in (
+      subst (λ l. Contains l fault) (sym both-found) (Contains-append_left (found_faults found) (found_faults more) fault c.0),
+      (c.1.0, Contains-append_left v.seen w.seen (mark fault c.1.0) c.1.1),
+    ))
+        (λ (right : Contains other fault). let c = k.complete fault right in (
+          subst (λ l. Contains l fault) (sym both-found)
+              (Contains-append_right (found_faults found) (found_faults more) fault c.0),
+          (c.1.0, Contains-append_right v.seen w.seen (mark fault c.1.0) c.1.1),
+        ))
         (Contains-append_cases one other fault here);
     moved = All-append Listed v.moved w.moved h.moved k.moved;
   }
@@ -137,8 +152,10 @@ module _ (design : FlatDesign) (plan : TestPlan) (representatives : List ℕ) wh
 
 module _ {N : Type 0} (job : Job) (board : Board N) where
   -- the one seat was split off the other, and both come back
-  pub worked-joined : (seat one other back : Seat N) (a b : Seat N × Result (Vec Finding Global) NoMemory) (all : Result (Vec Finding Global) NoMemory) → IsWorked job board other a → IsWorked job board one b → view one ≡ without_lent (view seat) →
-      view other ≡ newcomer (view seat) → lent_share ≤ (view seat).share → IsSeatOf board back → view back ≡ joined (view a.0) (view b.0) → IfOk all (AreOfBoth a.1 b.1) → IsWorked job board seat (back, all)
+  pub worked-joined : (seat one other back : Seat N) (a b : Seat N × Result (Vec Finding Global) NoMemory) (all : Result (Vec Finding Global) NoMemory) → IsWorked job board other a →
+      IsWorked job board one b → view one ≡ without_lent (view seat) →
+      view other ≡ newcomer (view seat) → lent_share ≤ (view seat).share → IsSeatOf board back → view back ≡ joined (view a.0) (view b.0) → IfOk all (AreOfBoth a.1 b.1) →
+      IsWorked job board seat (back, all)
   worked-joined seat one other back a b all p q old new enough own both found = record {
     own = own;
     share =
@@ -161,7 +178,8 @@ module _ {N : Type 0} (job : Job) (board : Board N) where
       dry-by (Err e) other (Ok all) d f = absurd f
 
       harvest-by : (one other all : Result (Vec Finding Global) NoMemory) → IfOk one (λ found. IsHarvestOf job (claimed_faults reps (view a.0).claimed) (view a.0) found.items) →
-          IfOk other (λ found. IsHarvestOf job (claimed_faults reps (view b.0).claimed) (view b.0) found.items) → IfOk all (AreOfBoth one other) → IfOk all (λ found. IsHarvestOf job (claimed_faults reps (view back).claimed) (view back) found.items)
+          IfOk other (λ found. IsHarvestOf job (claimed_faults reps (view b.0).claimed) (view b.0) found.items) → IfOk all (AreOfBoth one other) →
+          IfOk all (λ found. IsHarvestOf job (claimed_faults reps (view back).claimed) (view back) found.items)
       harvest-by one other (Err e) h k f = tt
       harvest-by (Err e) other (Ok all) h k f = absurd f
       harvest-by (Ok found) (Err e) (Ok all) h k f = absurd f

@@ -11,7 +11,8 @@ use Rattle.v_design.specs.Designs.{FlatDesign, Machine, TestPlan, StuckAt, good_
 use Rattle.v_design.specs.States.{State, start, TurnKind, PostponedTurn, UpdatesTurn, TimeTurn, turn_of, time_turn}
 use Rattle.v_design.specs.Runs.{FirstSlot, first_moves, first_slots, first_run, next_slot, next_slot_at, only_if, is_hyper, slot_end}
 use Rattle.four_value.specs.declared.logic.Bit.{Bit}
-use Rattle.v_design.specs.Grades.{Samples, SlotOutcome, Fine, Race, Hyper, slot_outcome, Stop, first_stop, Verdict, Detected, Possible, Undetected, verdict_by, FaultGrade, Judged, Raced, Looped, by_then, stop_time, good_ending, faulty_ending, good_or, faulty_or, graded, graded_faulty, grade, is_hard, is_possible, some_sample, first_samples, first_strobe}
+use Rattle.v_design.specs.Grades.{Samples, SlotOutcome, Fine, Race, Hyper, slot_outcome, Stop, first_stop, Verdict, Detected, Possible, Undetected, verdict_by, FaultGrade, Judged, Raced, Looped}
+use Rattle.v_design.specs.Grades.{by_then, stop_time, good_ending, faulty_ending, good_or, faulty_or, graded, graded_faulty, grade, is_hard, is_possible, some_sample, first_samples, first_strobe}
 use Rattle.v_design.specs.Plain.{grade_of}
 use Rattle.v_design.specs.WellFormed.{KeepsRules, IsPlan}
 use Rattle.order_laws.specs.FirstRuns.{FirstRunsGoOn}
@@ -50,13 +51,15 @@ slots-within (suc count) machine time state h = (h, go (next_slot machine time h
     here : FirstSlot
     here = record { begins = state; moves = first_moves machine state }
 
-    go : (next : Option State) → next_slot machine time here ≡ next → ((later : State) → later.time ≤ time → AllHold (λ (slot : FirstSlot). slot.begins.time ≤ time) (first_slots count machine time later)) →
+    go : (next : Option State) → next_slot machine time here ≡ next → ((later : State) → later.time ≤ time →
+        AllHold (λ (slot : FirstSlot). slot.begins.time ≤ time) (first_slots count machine time later)) →
         AllHold (λ (slot : FirstSlot). slot.begins.time ≤ time) (elim next [ None ↦ [] | Some later ↦ first_slots count machine time later ])
     go None e rest = tt
     go (Some next) e rest = rest next (next-within machine time here next e)
 
 -- so a stop is at its end or before it
-stop-by : (machine : Machine) (time : ℕ) (slots : List FirstSlot) (stop : Stop) → AllHold (λ (slot : FirstSlot). slot.begins.time ≤ time) slots → first_stop machine slots ≡ Some stop → stop.time ≤ time
+stop-by : (machine : Machine) (time : ℕ) (slots : List FirstSlot) (stop : Stop) → AllHold (λ (slot : FirstSlot). slot.begins.time ≤ time) slots → first_stop machine slots ≡ Some stop →
+    stop.time ≤ time
 stop-by machine time [] stop h e = cc
 stop-by machine time (slot ∷ slots) stop h e = go (slot_outcome machine slot) e (λ f. stop-by machine time slots stop h.1 f)
   where
@@ -104,7 +107,8 @@ faulty-within end stop g Hyper w o e = subst (λ (h : FaultGrade). time_of_grade
 judged-within : (end : ℕ) (given : Verdict) (g : FaultGrade) → time_of_verdict given ≤ end → Some (Judged given) ≡ Some g → time_of_grade g ≤ end
 judged-within end given g w e = subst (λ (h : FaultGrade). time_of_grade h ≤ end) (some-grade (Judged given) g e) w
 
-faulty-graded : (end : ℕ) (faulty : Option Stop) (hard : Option ℕ) (given : Verdict) (g : FaultGrade) → IsWithin end faulty → time_of_verdict given ≤ end → graded_faulty faulty hard given ≡ Some g → time_of_grade g ≤ end
+faulty-graded : (end : ℕ) (faulty : Option Stop) (hard : Option ℕ) (given : Verdict) (g : FaultGrade) → IsWithin end faulty → time_of_verdict given ≤ end → graded_faulty faulty hard given ≡ Some g →
+    time_of_grade g ≤ end
 faulty-graded end None hard given g w v e = judged-within end given g v e
 faulty-graded end (Some stop) hard given g w v e = go (by_then stop.time hard) e
   where
@@ -112,7 +116,8 @@ faulty-graded end (Some stop) hard given g w v e = go (by_then stop.time hard) e
     go true f = faulty-within end stop g stop.outcome w refl f
     go false f = judged-within end given g v f
 
-graded-within : (end : ℕ) (good faulty : Option Stop) (hard : Option ℕ) (given : Verdict) (g : FaultGrade) → IsWithin end good → IsWithin end faulty → time_of_verdict given ≤ end → graded good faulty hard given ≡ Some g → time_of_grade g ≤ end
+graded-within : (end : ℕ) (good faulty : Option Stop) (hard : Option ℕ) (given : Verdict) (g : FaultGrade) → IsWithin end good → IsWithin end faulty → time_of_verdict given ≤ end →
+    graded good faulty hard given ≡ Some g → time_of_grade g ≤ end
 graded-within end None faulty hard given g w w' v e = faulty-graded end faulty hard given g w' v e
 graded-within end (Some stop) faulty hard given g w w' v e = go (by_then stop.time (stop_time faulty) && by_then stop.time hard) e
   where
@@ -141,7 +146,8 @@ verdict-within end (Some time) possible h p = h time refl
 -- The whole
 
 -- the time of a fault's grade
-pub grade-within : (design : FlatDesign) (plan : TestPlan) (fault : StuckAt) (g : FaultGrade) → FirstRunsGoOn → KeepsRules design → IsPlan plan → grade design plan fault ≡ Some g → time_of_grade g ≤ plan.end
+pub grade-within : (design : FlatDesign) (plan : TestPlan) (fault : StuckAt) (g : FaultGrade) → FirstRunsGoOn → KeepsRules design → IsPlan plan → grade design plan fault ≡ Some g →
+    time_of_grade g ≤ plan.end
 grade-within design plan fault g law rules p e =
     graded-within plan.end (stops good) (stops faulty) (first_strobe is_hard (shown good) (shown faulty) plan.strobes)
     (verdict_by (first_strobe is_hard (shown good) (shown faulty) plan.strobes) (first_strobe is_possible (shown good) (shown faulty) plan.strobes)) g (within good rules) (within faulty rules)

@@ -40,8 +40,10 @@ pub of-shard : (representatives : List ℕ) (number : ℕ) (items : List FaultId
 of-shard representatives number items i d cover same low =
     cover.within representatives number (fault_number (get_or items i d))
     (subst (λ (l : List ℕ). Contains l (fault_number (get_or items i d))) same
-    (subst (Contains (map fault_number items)) (get_or-map fault_number items i d 0 low) (Contains-get_or (map fault_number items) i 0 (let l : length (map fault_number items) ≡ length items = length-map items fault_number in omega (arith, l, low)))))
+    (subst (Contains (map fault_number items)) (get_or-map fault_number items i d 0 low) (Contains-get_or (map fault_number items) i 0
+    (let l : length (map fault_number items) ≡ length items = length-map items fault_number in omega (arith, l, low)))))
 
 -- so it is listed
-pub representative-below : (design : FlatDesign) (faults : List StuckAt) (representatives : List ℕ) (fault : ℕ) → AreRepresentatives design faults representatives → Contains representatives fault → fault < length faults
+pub representative-below : (design : FlatDesign) (faults : List StuckAt) (representatives : List ℕ) (fault : ℕ) → AreRepresentatives design faults representatives → Contains representatives fault →
+    fault < length faults
 representative-below design faults representatives fault are h = let r = (are.each fault).0 h in slice_get_within faults fault r.fault r.listed

@@ -13,7 +13,8 @@ use Rattle.shard_workers.specs.Results.{IsGraded, StandsInEveryOrder}
 use Rattle.shard_workers.specs.declared.plan.PlanGrades.{PlanGrades}
 use Rattle.shard_workers.specs.declared.plan.PlanGrades.TheVariants.{Findings, GoodLoop}
 
-speaks-all : (design : FlatDesign) (plan : TestPlan) → OrdersExist → NothingBefore → KeepsRules design → IsPlan plan → (faults : List StuckAt) (lines : List FaultGrade) → AllZip (λ fault line. grade design plan fault ≡ Some line) faults lines →
+speaks-all : (design : FlatDesign) (plan : TestPlan) → OrdersExist → NothingBefore → KeepsRules design → IsPlan plan → (faults : List StuckAt) (lines : List FaultGrade) →
+    AllZip (λ fault line. grade design plan fault ≡ Some line) faults lines →
     AllZip (SpeaksOfOrders design plan) faults lines
 speaks-all design plan exist before rules plan_rules [] [] h = tt
 speaks-all design plan exist before rules plan_rules [] (line ∷ lines) h = absurd h
@@ -31,6 +32,7 @@ pub stands-all : (design : FlatDesign) (plan : TestPlan) (lines : List FaultGrad
 stands-all design plan lines law exist before rules plan_rules grades = (law design plan lines rules plan_rules grades, speaks-all design plan exist before rules plan_rules plan.faults lines grades)
 
 -- the same of an answer
-pub stands-graded : (design : FlatDesign) (plan : TestPlan) (grades : PlanGrades) → ReportsHold → OrdersExist → NothingBefore → KeepsRules design → IsPlan plan → IsGraded design plan grades → StandsInEveryOrder design plan grades
+pub stands-graded : (design : FlatDesign) (plan : TestPlan) (grades : PlanGrades) → ReportsHold → OrdersExist → NothingBefore → KeepsRules design → IsPlan plan → IsGraded design plan grades →
+    StandsInEveryOrder design plan grades
 stands-graded design plan (Findings findings) law exist before rules plan_rules graded = stands-all design plan (grades_of findings.items) law exist before rules plan_rules graded.0
 stands-graded design plan (GoodLoop time) law exist before rules plan_rules graded = tt

@@ -47,14 +47,16 @@ last-below test (x ∷ xs) n e = go (test x) (last_place test xs) (λ m f. last-
     go false (Some m) h f = let z : m + 1 ≡ n = ap (found_or n) f in let w : m < length xs = h m refl in omega (arith, z, w)
 
 -- as many events are logged, and writers kept, as are noted
-pub events-logged : (machine : Machine) (number : ℕ) (begins : State) (noted : List NotedEvent) (kept : PhaseRecord) → IsRecordOf machine number begins noted kept → length kept.log.log.events ≡ length noted
+pub events-logged : (machine : Machine) (number : ℕ) (begins : State) (noted : List NotedEvent) (kept : PhaseRecord) → IsRecordOf machine number begins noted kept →
+    length kept.log.log.events ≡ length noted
 events-logged machine number begins noted kept had = ap (λ (l : LoggedPhase). length l.events) had.log ∙ length-map noted (logged machine)
 
 pub writers-kept : (machine : Machine) (noted : List NotedEvent) (causes : Causes) → AreCausesOf machine noted causes → length causes.writers.items ≡ length noted
 writers-kept machine noted causes had = sym (length-map causes.writers.items writer_of) ∙ ap length had.writers ∙ length-map noted noted_writer
 
 -- a cause is an earlier event
-pub cause-noted : (machine : Machine) (noted : List NotedEvent) (event : Event) (cause : Option ℕ) (count : ℕ) → cause ≡ cause_of machine noted event → count ≡ length noted → ForSome cause (λ c. c < count)
+pub cause-noted : (machine : Machine) (noted : List NotedEvent) (event : Event) (cause : Option ℕ) (count : ℕ) → cause ≡ cause_of machine noted event → count ≡ length noted →
+    ForSome cause (λ c. c < count)
 cause-noted machine noted event cause count is many = λ c e. let low : c < length noted = last-below (may_cause machine event) noted c (sym is ∙ e) in omega (arith, low, many)
 
 -- One event more
@@ -63,7 +65,8 @@ cause-noted machine noted event cause count is many = λ c e. let low : c < leng
 pub names-objects : (machine : Machine) (noted : List NotedEvent) (causes : Causes) (accesses : List Noted) → AreCausesOf machine noted causes →
     All (λ noted. object_number noted.access.object < length causes.changes.items) accesses → NameObjects machine.design (map noted_access accesses)
 names-objects machine noted causes accesses had low =
-    let named : AllHold (λ (access : ObjectAccess). access.object < length causes.changes.items) (map noted_access accesses) = all-seen (λ (access : ObjectAccess). access.object < length causes.changes.items) noted_access accesses low in
+    let named : AllHold (λ (access : ObjectAccess). access.object < length causes.changes.items) (map noted_access accesses) =
+    all-seen (λ (access : ObjectAccess). access.object < length causes.changes.items) noted_access accesses low in
     subst (λ n. AllHold (λ (access : ObjectAccess). access.object < n) (map noted_access accesses)) had.objects named
 
 -- what is kept after one event more
@@ -76,7 +79,8 @@ pub record Grows (machine : Machine) (noted : List NotedEvent) (state : State) (
   pub are_accesses : accesses ≡ accesses_of machine (note_of machine noted state event).process (note_of machine noted state event).line state event
   pub named : NameObjects machine.design accesses
 
-pub recorded : (machine : Machine) (number : ℕ) (begins : State) (noted : List NotedEvent) (state : State) (event : Event) (cause : Option ℕ) (accesses : List ObjectAccess) (actor : Actor) (old new : PhaseRecord) →
+pub recorded : (machine : Machine) (number : ℕ) (begins : State) (noted : List NotedEvent) (state : State) (event : Event) (cause : Option ℕ) (accesses : List ObjectAccess) (actor : Actor)
+    (old new : PhaseRecord) →
     IsRecordOf machine number begins noted old → Grows machine noted state event cause accesses actor old new → IsRecordOf machine number begins (noted ++ note_of machine noted state event ∷ []) new
 recorded machine number begins noted state event cause accesses actor old new had more = record {
   time = ap (λ (l : PhaseOfSlot). l.time) more.grown ∙ had.time;
@@ -111,7 +115,8 @@ objects-seen [] = refl
 objects-seen (change ∷ changes) = ap (λ xs. object_number change.object ∷ xs) (objects-seen changes)
 
 -- a fact of the objects of some changes
-pub all-changed : (n : ℕ) (changes : List Change) → All (λ (change : Change). object_number change.object < n) changes → All (λ object. object_number object < n) (map (λ (change : Change). change.object) changes)
+pub all-changed : (n : ℕ) (changes : List Change) → All (λ (change : Change). object_number change.object < n) changes →
+    All (λ object. object_number object < n) (map (λ (change : Change). change.object) changes)
 all-changed n [] h k d low = absurd (omega (arith, low))
 all-changed n (change ∷ changes) h zero d low = h 0 change (omega arith)
 all-changed n (change ∷ changes) h (suc k) d low = all-changed n changes (λ j e small. h (suc j) e (omega (arith, small))) k d (omega (arith, low))

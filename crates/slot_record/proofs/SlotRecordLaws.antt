@@ -37,7 +37,8 @@ with-record machine first before phase next old new log had turn race number tur
 
 -- one event more
 pub one-noted : NotesGoOn → (machine : Machine) (number : ℕ) (phase : Phase) (event : Event) (kept : PhaseRecord) →
-    IsRecordOf machine number phase.begins (noted_events machine phase.begins phase.events ++ note_of machine (noted_events machine phase.begins phase.events) (state_in machine phase) event ∷ []) kept →
+    IsRecordOf machine number phase.begins (noted_events machine phase.begins phase.events ++ note_of machine (noted_events machine phase.begins phase.events) (state_in machine phase) event ∷ [])
+    kept →
     IsRecordOf machine number phase.begins (noted_events machine phase.begins (phase.events ++ event ∷ [])) kept
 one-noted goes machine number phase event kept is =
     subst (λ noted. IsRecordOf machine number phase.begins noted kept) (sym (goes machine phase.begins phase.events event)) is

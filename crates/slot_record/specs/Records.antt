@@ -44,7 +44,8 @@ pub record SameRecord (old new : PhaseRecord) : Type 0 where
   pub actors : new.actors ≡ old.actors
 
 -- what is kept stands for the same phase
-pub same-record : (machine : Machine) (number : ℕ) (begins : State) (noted : List NotedEvent) (old new : PhaseRecord) → SameRecord old new → IsRecordOf machine number begins noted old → IsRecordOf machine number begins noted new
+pub same-record : (machine : Machine) (number : ℕ) (begins : State) (noted : List NotedEvent) (old new : PhaseRecord) → SameRecord old new → IsRecordOf machine number begins noted old →
+    IsRecordOf machine number begins noted new
 same-record machine number begins noted old new same had = record {
   time = ap (λ (l : PhaseOfSlot). l.time) same.log ∙ had.time;
   numbered = ap (λ (l : PhaseOfSlot). l.phase) same.log ∙ had.numbered;
@@ -83,7 +84,8 @@ BeginsRecord time number held old new =
     (machine : Machine) (earlier : List NotedEvent) (begins : State) → AreCausesOf machine earlier old.causes → begins.time ≡ time → held ≡ held_accesses machine begins →
     IsRecordOf machine number begins [] new
 
--- where what is kept stands for a phase, it comes to stand for it with one more process or lane step in a state, of which the line, the accesses, the objects that it changed and the processes whose waits it ended are told
+-- where what is kept stands for a phase, it comes to stand for it with one more process or lane step in a state, of which the line, the accesses, the objects that it changed and the processes whose
+-- waits it ended are told
 abbrev pub RecordsStep : (event : Event) (line : ℕ) (accesses : List ObjectAccess) (changed ended : List ℕ) (old new : PhaseRecord) → Type 0
 RecordsStep event line accesses changed ended old new =
     (machine : Machine) (number : ℕ) (begins : State) (noted : List NotedEvent) (state : State) → IsRecordOf machine number begins noted old →

@@ -18,12 +18,14 @@ outcome_kept true kept = Hyper
 outcome_kept false kept = race_or_fine (option_map reported_pair kept.race)
 
 -- where a slot ends at a moment and all phases so far are recorded, the race that is kept tells the slot's outcome
-pub outcome-recorded : (machine : Machine) (hyper : Bool) (at : Moment) (first : Turn) (kept : SlotRecord) (log : SlotLog) → EndsAt machine hyper at → RecordedSlot machine first (phases_so_far at) kept log →
+pub outcome-recorded : (machine : Machine) (hyper : Bool) (at : Moment) (first : Turn) (kept : SlotRecord) (log : SlotLog) → EndsAt machine hyper at →
+    RecordedSlot machine first (phases_so_far at) kept log →
     slot_outcome machine (slot_from machine at.begins) ≡ outcome_kept hyper kept
 outcome-recorded machine true at first kept log ends recorded = ends.outcome_is
 outcome-recorded machine false at first kept log ends recorded = ends.outcome_is ∙ ap race_or_fine (sym recorded.race_is)
 
 -- and the log stands for the slot
-pub log-recorded : (machine : Machine) (hyper : Bool) (at : Moment) (first : Turn) (kept : SlotRecord) (log : SlotLog) → EndsAt machine hyper at → RecordedSlot machine first (phases_so_far at) kept log →
+pub log-recorded : (machine : Machine) (hyper : Bool) (at : Moment) (first : Turn) (kept : SlotRecord) (log : SlotLog) → EndsAt machine hyper at →
+    RecordedSlot machine first (phases_so_far at) kept log →
     IsSlotLog machine first (phases machine (slot_from machine at.begins)) log
 log-recorded machine hyper at first kept log ends recorded = subst (λ ps. IsSlotLog machine first ps log) (sym ends.phases_are) recorded.logged

@@ -43,7 +43,8 @@ pub record Appends (kept : PhaseRecord) (turn : Turn) (old new : SlotLog) : Type
   pub turns : new.turns ≡ old.turns ++ turn ∷ []
   pub time : new.time ≡ old.time
 
-logged-more : (machine : Machine) (number : ℕ) (before : List Phase) (phase : Phase) → logged_phases machine number (before ++ phase ∷ []) ≡ logged_phases machine number before ++ logged_phase_of machine (length before + number) phase ∷ []
+logged-more : (machine : Machine) (number : ℕ) (before : List Phase) (phase : Phase) → logged_phases machine number (before ++ phase ∷ []) ≡ logged_phases machine number before
+    ++ logged_phase_of machine (length before + number) phase ∷ []
 logged-more machine number [] phase = let z : number ≡ 0 + number = omega arith in ap (λ n. logged_phase_of machine n phase ∷ []) z
 logged-more machine number (first ∷ before) phase =
     ap (λ l. logged_phase_of machine number first ∷ l) (logged-more machine (number + 1) before phase

@@ -64,14 +64,16 @@ BeginsPhase turn time held old new =
 -- a process or lane step more in the present phase, of which so much is told
 abbrev pub AddsStep : (event : Event) (line : ℕ) (accesses : List ObjectAccess) (changed ended : List ℕ) (old new : SlotRecord) → Type 0
 AddsStep event line accesses changed ended old new =
-    (machine : Machine) (first : Turn) (before : List Phase) (phase : Phase) (log : SlotLog) → RecordsSlot machine first before phase old log → line ≡ writer_line machine (state_in machine phase) event None →
+    (machine : Machine) (first : Turn) (before : List Phase) (phase : Phase) (log : SlotLog) → RecordsSlot machine first before phase old log →
+    line ≡ writer_line machine (state_in machine phase) event None →
     accesses ≡ accesses_of machine (writer_process event None) line (state_in machine phase) event → Tells machine (state_in machine phase) event changed ended →
     RecordsSlot machine first before (one_more event phase) new log
 
 -- an evaluation of a node and the update of its nets more, of which so much is told
 abbrev pub AddsNode : (node : ℕ) (inputs : List ℕ) (changes : List Change) (accesses : List ObjectAccess) (ended : List ℕ) (old new : SlotRecord) → Type 0
 AddsNode node inputs changes accesses ended old new =
-    (machine : Machine) (first : Turn) (before : List Phase) (phase : Phase) (log : SlotLog) (text : FlatNode) → RecordsSlot machine first before phase old log → slice_get machine.design.nodes node ≡ Some text →
+    (machine : Machine) (first : Turn) (before : List Phase) (phase : Phase) (log : SlotLog) (text : FlatNode) → RecordsSlot machine first before phase old log →
+    slice_get machine.design.nodes node ≡ Some text →
     text.inputs ≡ inputs → TellsUpdate machine (after machine (state_in machine phase) (Evaluation node)) node changes accesses ended → RecordsSlot machine first before (node_more node phase) new log
 
 -- the present phase ends: it is logged, and its race is kept where none was before

@@ -14,7 +14,8 @@ ghost use Rattle.v_design.specs.PlainDesigns.{design_of};
 ghost use Rattle.causal_monitor.specs.Notes.{IsNoted, IsHeld, noted_access};
 ghost use Rattle.causal_monitor.specs.Phases.{IsLogOf};
 ghost use Rattle.event_causes.specs.Causes.{AreCausesOf};
-ghost use Rattle.slot_record.specs.Records.{IsRecordOf, IsRecord, IsNodeRecord, SameRecord, Follows, BeginsRecord, RecordsStep, RecordsNode, RecordsEvaluation, RecordsUpdate, held_phase, write_of_change, process_count, object_count};
+ghost use Rattle.slot_record.specs.Records.{IsRecordOf, IsRecord, IsNodeRecord, SameRecord, Follows, BeginsRecord, RecordsStep};
+ghost use Rattle.slot_record.specs.Records.{RecordsNode, RecordsEvaluation, RecordsUpdate, held_phase, write_of_change, process_count, object_count};
 ghost use Rattle.slot_record.specs.SlotLogs.{Appends};
 
 use causal_monitor::{Actor, CheckIndex, Noted, PhaseLog, SlotLog, Turn, check};

@@ -18,7 +18,8 @@ abbrev made : ℕ → Kind → ℕ → ℕ → ℕ → Stage
 made number kind left right first = record { number = number; kind = kind; left = left; right = right; first = first }
 
 -- a stage by its four draws
-pub stage-drawn : (seed size number : ℕ) (kind : Kind) (one two three four : ℕ) → one ≡ draw seed (4 * number + 1) → kind ≡ kind_of one → two ≡ draw seed (4 * number + 2) → three ≡ draw seed (4 * number + 3) →
+pub stage-drawn : (seed size number : ℕ) (kind : Kind) (one two three four : ℕ) → one ≡ draw seed (4 * number + 1) → kind ≡ kind_of one → two ≡ draw seed (4 * number + 2) →
+    three ≡ draw seed (4 * number + 3) →
     four ≡ draw seed (4 * number + 4) → made number kind (two % size) (three % size) (four % 2) ≡ stage_of seed size number
 stage-drawn seed size number kind one two three four first is second third fourth =
     let k : Kind = kind_of (draw seed (4 * number + 1)) in
@@ -28,7 +29,8 @@ stage-drawn seed size number kind one two three four first is second third fourt
     ∙ (ap (λ x. made number k (x % size) (three % size) (four % 2)) second ∙ (ap (λ x. made number k l (x % size) (four % 2)) third ∙ ap (λ x. made number k l r (x % 2)) fourth))
 
 -- one more stage
-pub stages-more : (seed size count : ℕ) (stage : Stage) (stages more : List Stage) → stages ≡ map (stage_of seed size) (range_with_len 0 count) → stage ≡ stage_of seed size count → more ≡ stages ++ stage ∷ [] →
+pub stages-more : (seed size count : ℕ) (stage : Stage) (stages more : List Stage) → stages ≡ map (stage_of seed size) (range_with_len 0 count) → stage ≡ stage_of seed size count →
+    more ≡ stages ++ stage ∷ [] →
     more ≡ map (stage_of seed size) (range_with_len 0 (count + 1))
 stages-more seed size count stage stages more had is added =
     let next : 0 + count ≡ count = omega arith in

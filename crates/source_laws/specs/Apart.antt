@@ -54,7 +54,8 @@ body-apart meaning s is =
 
 -- in each flat design of the unit that a text spells no two statements of a process stand at one place
 abbrev pub TextsSetStatementsApart : Type 0
-TextsSetStatementsApart = (text : List ℕ) (tokens : List SourceToken) (u : SourceUnit) (top : Identifier) (mode : Mode) (design : FlatDesign) → AreTokens text tokens → SpellsUnit u tokens → flat u top mode ≡ Ok design →
+TextsSetStatementsApart = (text : List ℕ) (tokens : List SourceToken) (u : SourceUnit) (top : Identifier) (mode : Mode) (design : FlatDesign) → AreTokens text tokens → SpellsUnit u tokens →
+    flat u top mode ≡ Ok design →
     AllHold (λ (process : FlatProcess). PlacesDiffer process.body) design.processes
 
 pub text-apart : TextsSetStatementsApart
@@ -67,4 +68,5 @@ text-apart text tokens u top mode design are spelled e =
     let flat = flat_process made.parts (objects_in made.parts) in
     subst (AllHold (λ (process : FlatProcess). PlacesDiffer process.body)) (design-processes made.parts design made.made)
     (AllHold-map (λ (process : FlatProcess). PlacesDiffer process.body) flat (processes_in made.parts)
-    (AllHold-each body (λ process. PlacesDiffer (flat process).body) (processes_in made.parts) (λ process is. body-apart (meaning_in made.parts (objects_in made.parts) process) process.body is) processes))
+    (AllHold-each body (λ process. PlacesDiffer (flat process).body) (processes_in made.parts)
+    (λ process is. body-apart (meaning_in made.parts (objects_in made.parts) process) process.body is) processes))

@@ -110,17 +110,20 @@ pub record AreFrom (place : Place) (tokens : List SourceToken) : Type 0 where
   pub from : AllHold (λ (t : SourceToken). IsFrom place t.place) tokens
   pub order : IsInOrder ComesBefore tokens
 
-behind-tokens : (place : Place) (bytes : List ℕ) (pieces : List Piece) → AreFrom (place_behind place bytes) (tokens_from (place_behind place bytes) pieces) → AreFrom place (tokens_from (place_behind place bytes) pieces)
+behind-tokens : (place : Place) (bytes : List ℕ) (pieces : List Piece) → AreFrom (place_behind place bytes) (tokens_from (place_behind place bytes) pieces) →
+    AreFrom place (tokens_from (place_behind place bytes) pieces)
 behind-tokens place bytes pieces r =
     let behind = place_behind place bytes in
     record {
-      from = AllHold-each (λ (t : SourceToken). IsFrom behind t.place) (λ (t : SourceToken). IsFrom place t.place) (tokens_from behind pieces) (λ t d. from-from place behind t.place (behind-from place bytes) d) r.from;
+      from = AllHold-each (λ (t : SourceToken). IsFrom behind t.place) (λ (t : SourceToken). IsFrom place t.place) (tokens_from behind pieces)
+          (λ t d. from-from place behind t.place (behind-from place bytes) d) r.from;
       order = r.order;
     }
 
 tokens-from : (place : Place) (leading : Bool) (pieces : List Piece) (rest : List ℕ) → ArePieces leading pieces rest → AreFrom place (tokens_from place pieces)
 tokens-from place leading [] rest h = record { from = tt; order = tt }
-tokens-from place leading (Blank b ∷ pieces) rest h = behind-tokens place (piece_bytes (Blank b)) pieces (tokens-from (place_behind place (piece_bytes (Blank b))) (leads_behind leading (Blank b)) pieces rest h.1)
+tokens-from place leading (Blank b ∷ pieces) rest h = behind-tokens place (piece_bytes (Blank b)) pieces
+    (tokens-from (place_behind place (piece_bytes (Blank b))) (leads_behind leading (Blank b)) pieces rest h.1)
 tokens-from place leading (LineComment body ∷ pieces) rest h =
     behind-tokens place (piece_bytes (LineComment body)) pieces (tokens-from (place_behind place (piece_bytes (LineComment body))) (leads_behind leading (LineComment body)) pieces rest h.1)
 tokens-from place leading (BlockComment body ∷ pieces) rest h =

@@ -3,7 +3,9 @@ use Rattle.std.proofs.Common.{◌≡◌, ◌+◌, ◌≤◌, List, [], ◌∷◌
 use Rattle.vf_base.specs.Base.{SourcePlace}
 use Rattle.v_design.specs.Places.{same_place, places_in, places_in_all, places_in_items}
 use Rattle.v_tree.specs.Tokens.{SourceToken}
-use Rattle.v_tree.specs.Trees.{SourceTarget, OneSelect, JoinedSelects, place_of_target, SourceStatement, NullStatement, BlockStatement, IfStatement, IfElseStatement, CaseStatement, ForStatement, WhileStatement, RepeatStatement, ForeverStatement, WaitStatement, EventStatement, DelayStatement, BlockingStatement, NonblockingStatement, IgnoredTask, FinishTask, SourceStatements, no_source_statements, more_source_statements, SourceCaseItems, no_source_items, labelled, otherwise}
+use Rattle.v_tree.specs.Trees.{SourceTarget, OneSelect, JoinedSelects, place_of_target, SourceStatement, NullStatement, BlockStatement, IfStatement, IfElseStatement, CaseStatement, ForStatement}
+use Rattle.v_tree.specs.Trees.{WhileStatement, RepeatStatement, ForeverStatement, WaitStatement, EventStatement, DelayStatement, BlockingStatement, NonblockingStatement, IgnoredTask, FinishTask}
+use Rattle.v_tree.specs.Trees.{SourceStatements, no_source_statements, more_source_statements, SourceCaseItems, no_source_items, labelled, otherwise}
 use Rattle.v_readers.specs.declared.class.Class.TheVariants as classes
 use Rattle.v_readers.specs.Classes.{token_of, name_token}
 use Rattle.v_readers.specs.Reading.{place_of}
@@ -51,7 +53,14 @@ mutual
       let end = token_of classes.EndCase h.4 ∷ [] in
       let behind = token_of classes.RightParen h.3 ∷ (h.6 ++ end) in
       let e = ap (standing p) h.9 in
-      omega (arith, e, standing-append p h.5 behind, standing-append p h.6 end, times-append p (places_in_items (items_over meaning size items)) (places_in (default_over meaning items)), items-stand meaning size items h.6 h.8 p)
+      omega (
+        arith,
+        e,
+        standing-append p h.5 behind,
+        standing-append p h.6 end,
+        times-append p (places_in_items (items_over meaning size items)) (places_in (default_over meaning items)),
+        items-stand meaning size items h.6 h.8 p,
+      )
   statement-stands meaning (ForStatement place first_target first condition next_target next body) ts h p =
       let fifth = h.10 ++ token_of classes.RightParen h.5 ∷ h.11 in
       let fourth = h.9 ++ token_of classes.Assign h.4 ∷ fifth in
@@ -97,7 +106,14 @@ mutual
   body-stands meaning no_source_statements ts h p = omega arith
   body-stands meaning (more_source_statements first rest) ts h p =
       let e = ap (standing p) h.4 in
-      omega (arith, e, standing-append p h.0 h.1, times-append p (places_in (statement_over meaning first)) (places_in_all (statements_over meaning rest)), statement-stands meaning first h.0 h.2 p, body-stands meaning rest h.1 h.3 p)
+      omega (
+        arith,
+        e,
+        standing-append p h.0 h.1,
+        times-append p (places_in (statement_over meaning first)) (places_in_all (statements_over meaning rest)),
+        statement-stands meaning first h.0 h.2 p,
+        body-stands meaning rest h.1 h.3 p,
+      )
 
   -- a default may stand among the items, and is the last of the case over objects
   items-stand : (meaning : Meaning) (size : Option Size) (items : SourceCaseItems) (ts : List SourceToken) → SpellsItems items ts → (p : SourcePlace) →

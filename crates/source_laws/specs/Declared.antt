@@ -5,13 +5,16 @@ use Rattle.std.proofs.lemmas.List.{map-append}
 use Rattle.vf_base.specs.Base.{SourcePlace}
 use Rattle.four_value.specs.declared.operator.GateKind.{GateKind}
 use Rattle.v_tree.specs.Tokens.{SourceToken}
-use Rattle.v_tree.specs.Trees.{NamedPlace, SourceRange, SourceParameter, SourceParameters, SourcePorts, SourceWire, SourceReg, SourceGate, SourceInstance, SourceItem, ParameterItem, PortItem, WireItem, RegItem, IntegerItem, AssignItem, GateItem, InstanceItem, InitialItem, AlwaysItem, SourceHeads, PlainHeads, DeclaredHeads, SourceModule}
+use Rattle.v_tree.specs.Trees.{NamedPlace, SourceRange, SourceParameter, SourceParameters, SourcePorts, SourceWire, SourceReg, SourceGate, SourceInstance, SourceItem, ParameterItem, PortItem}
+use Rattle.v_tree.specs.Trees.{WireItem, RegItem, IntegerItem, AssignItem, GateItem, InstanceItem, InitialItem, AlwaysItem, SourceHeads, PlainHeads, DeclaredHeads, SourceModule}
 use Rattle.v_readers.specs.declared.class.Class.{Class}
 use Rattle.v_readers.specs.declared.class.Class.TheVariants as classes
 use Rattle.v_readers.specs.Classes.{name_token, token_of}
 use Rattle.v_readers.specs.Separated.{SpellsBehind, SpellsList}
-use Rattle.v_names.specs.Names.{Bounds, IntegerBounds, DeclaredParameter, DeclaredPort, DeclaredNet, DeclaredGate, DeclaredInstance, Declaration, bounds_of, parameter_declarations, port_declarations, reg_declared, gate_declarations, item_declarations, head_declarations, declarations_of}
-use Rattle.v_parse.specs.Spelling.{SpellsEach, SpellsNamed, SpellsParameter, SpellsParameters, SpellsGroup, parameter_word, SpellsParameterList, direction_word, SpellsPorts, SpellsHeads, SpellsWire, SpellsReg, SpellsDeclared, gate_word, SpellsGateName, SpellsGate, SpellsInstance, SpellsItem, SpellsModule}
+use Rattle.v_names.specs.Names.{Bounds, IntegerBounds, DeclaredParameter, DeclaredPort, DeclaredNet, DeclaredGate, DeclaredInstance, Declaration, bounds_of, parameter_declarations}
+use Rattle.v_names.specs.Names.{port_declarations, reg_declared, gate_declarations, item_declarations, head_declarations, declarations_of}
+use Rattle.v_parse.specs.Spelling.{SpellsEach, SpellsNamed, SpellsParameter, SpellsParameters, SpellsGroup, parameter_word, SpellsParameterList, direction_word, SpellsPorts, SpellsHeads, SpellsWire}
+use Rattle.v_parse.specs.Spelling.{SpellsReg, SpellsDeclared, gate_word, SpellsGateName, SpellsGate, SpellsInstance, SpellsItem, SpellsModule}
 use Rattle.source_laws.specs.InOrder.{StandsIn, none-stand, first-stands, append-stands, back-stands, front-stands}
 
 -- the token of a declared name
@@ -39,18 +42,22 @@ name-declares d ts = first-stands (declared_token d) [] ts (none-stand ts)
 
 -- Lists
 
-list-behind-declares : {A : Type 0} (L : A → List SourceToken → Type 0) (separator : Class) (f : A → List Declaration) → ((x : A) (ts : List SourceToken) → L x ts → Declares (f x) ts) → (xs : List A) (ts : List SourceToken) → SpellsBehind L separator xs ts → Declares (flat_map f xs) ts
+list-behind-declares : {A : Type 0} (L : A → List SourceToken → Type 0) (separator : Class) (f : A → List Declaration) → ((x : A) (ts : List SourceToken) → L x ts → Declares (f x) ts) →
+    (xs : List A) (ts : List SourceToken) → SpellsBehind L separator xs ts → Declares (flat_map f xs) ts
 list-behind-declares L separator f each [] ts h = none-stand ts
 list-behind-declares L separator f each (x ∷ xs) ts h =
     subst (Declares (f x ++ flat_map f xs)) (sym h.5)
-    (behind-declares (f x ++ flat_map f xs) (token_of separator h.0 ∷ []) (h.1 ++ h.2) (both-declare (f x) (flat_map f xs) h.1 h.2 (each x h.1 h.3) (list-behind-declares L separator f each xs h.2 h.4)))
+    (behind-declares (f x ++ flat_map f xs) (token_of separator h.0 ∷ []) (h.1 ++ h.2) (both-declare (f x) (flat_map f xs) h.1 h.2 (each x h.1 h.3)
+    (list-behind-declares L separator f each xs h.2 h.4)))
 
-list-declares : {A : Type 0} (L : A → List SourceToken → Type 0) (separator : Class) (f : A → List Declaration) → ((x : A) (ts : List SourceToken) → L x ts → Declares (f x) ts) → (xs : List A) (ts : List SourceToken) → SpellsList L separator xs ts → Declares (flat_map f xs) ts
+list-declares : {A : Type 0} (L : A → List SourceToken → Type 0) (separator : Class) (f : A → List Declaration) → ((x : A) (ts : List SourceToken) → L x ts → Declares (f x) ts) →
+    (xs : List A) (ts : List SourceToken) → SpellsList L separator xs ts → Declares (flat_map f xs) ts
 list-declares L separator f each [] ts h = none-stand ts
 list-declares L separator f each (x ∷ xs) ts h =
     subst (Declares (f x ++ flat_map f xs)) (sym h.4) (both-declare (f x) (flat_map f xs) h.0 h.1 (each x h.0 h.2) (list-behind-declares L separator f each xs h.1 h.3))
 
-each-declares : {A : Type 0} (L : A → List SourceToken → Type 0) (f : A → List Declaration) → ((x : A) (ts : List SourceToken) → L x ts → Declares (f x) ts) → (xs : List A) (ts : List SourceToken) → SpellsEach L xs ts → Declares (flat_map f xs) ts
+each-declares : {A : Type 0} (L : A → List SourceToken → Type 0) (f : A → List Declaration) → ((x : A) (ts : List SourceToken) → L x ts → Declares (f x) ts) → (xs : List A) (ts : List SourceToken) →
+    SpellsEach L xs ts → Declares (flat_map f xs) ts
 each-declares L f each [] ts h = none-stand ts
 each-declares L f each (x ∷ xs) ts h = subst (Declares (f x ++ flat_map f xs)) (sym h.4) (both-declare (f x) (flat_map f xs) h.0 h.1 (each x h.0 h.2) (each-declares L f each xs h.1 h.3))
 
@@ -59,7 +66,8 @@ one_each : {A : Type 0} (f : A → Declaration) (xs : List A) → flat_map (λ x
 one_each f [] = refl
 one_each f (x ∷ xs) = ap (λ l. f x ∷ l) (one_each f xs)
 
-names-declare : {A : Type 0} (L : A → List SourceToken → Type 0) (separator : Class) (f : A → Declaration) → ((x : A) (ts : List SourceToken) → L x ts → Declares (f x ∷ []) ts) → (xs : List A) (ts : List SourceToken) → SpellsList L separator xs ts → Declares (map f xs) ts
+names-declare : {A : Type 0} (L : A → List SourceToken → Type 0) (separator : Class) (f : A → Declaration) → ((x : A) (ts : List SourceToken) → L x ts → Declares (f x ∷ []) ts) →
+    (xs : List A) (ts : List SourceToken) → SpellsList L separator xs ts → Declares (map f xs) ts
 names-declare L separator f each xs ts h = subst (λ l. Declares l ts) (one_each f xs) (list-declares L separator (λ x. f x ∷ []) each xs ts h)
 
 -- Parameters

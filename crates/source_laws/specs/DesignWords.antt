@@ -8,7 +8,8 @@ use Rattle.v_ports.specs.Pieces.{CutPiece, pieces_of}
 use Rattle.v_names.specs.Scopes.{range_width}
 use Rattle.v_tree.specs.Trees.{Identifier}
 use Rattle.v_elab.specs.Parts.{Signal, WalkedProcess, Part, SignalPart, MemoryPart, AssignPart, GatePart, ProcessPart, InstancePart}
-use Rattle.v_elab.specs.Drivers.{signals_of, is_unjoined, WalkedNode, driving_variables, ObjectDrive, object_drives, run_of, Behaviour, IsNode, IsProcess, block_or_process, process_behaviour, part_behaviour, behaviours_of, nodes_of}
+use Rattle.v_elab.specs.Drivers.{signals_of, is_unjoined, WalkedNode, driving_variables, ObjectDrive, object_drives, run_of, Behaviour, IsNode, IsProcess, block_or_process, process_behaviour}
+use Rattle.v_elab.specs.Drivers.{part_behaviour, behaviours_of, nodes_of}
 use Rattle.v_elab.specs.Objects.{HeldObject, piece_object, pieces_or_variable, signal_objects, word_object, part_objects, objects_of_parts, joined_if, names_joined}
 use Rattle.v_elab.specs.Flat.{flat_node}
 use Rattle.graph_order.specs.ListLaws.{AllHold-slice_get}
@@ -60,15 +61,18 @@ signals-words (GatePart name kind drives path terminals ∷ parts) named = signa
 signals-words (ProcessPart process ∷ parts) named = signals-words parts named.1
 signals-words (InstancePart ∷ parts) named = signals-words parts named.1
 
-joined-word : (signals : List Signal) (objects : List HeldObject) (signal : Signal) → IsOneWord signal.name → (unjoined : Bool) → AllHold (λ (name : NameJoined). IsOneWord name.name) (joined_if unjoined signals objects signal)
+joined-word : (signals : List Signal) (objects : List HeldObject) (signal : Signal) → IsOneWord signal.name → (unjoined : Bool) →
+    AllHold (λ (name : NameJoined). IsOneWord name.name) (joined_if unjoined signals objects signal)
 joined-word signals objects signal word true = tt
 joined-word signals objects signal word false = (word, tt)
 
-joined-words : (signals : List Signal) (objects : List HeldObject) → AllHold (λ (signal : Signal). IsOneWord signal.name) signals → AllHold (λ (name : NameJoined). IsOneWord name.name) (names_joined signals objects)
+joined-words : (signals : List Signal) (objects : List HeldObject) → AllHold (λ (signal : Signal). IsOneWord signal.name) signals →
+    AllHold (λ (name : NameJoined). IsOneWord name.name) (names_joined signals objects)
 joined-words signals objects words =
     let P : NameJoined → Type 0 = λ name. IsOneWord name.name in
     AllHold-flat_map P (λ (s : Signal). joined_if (is_unjoined s) signals objects s) signals
-    (AllHold-each (λ (s : Signal). IsOneWord s.name) (λ (s : Signal). AllHold P (joined_if (is_unjoined s) signals objects s)) signals (λ s word. joined-word signals objects s word (is_unjoined s)) words)
+    (AllHold-each (λ (s : Signal). IsOneWord s.name) (λ (s : Signal). AllHold P (joined_if (is_unjoined s) signals objects s)) signals
+    (λ s word. joined-word signals objects s word (is_unjoined s)) words)
 
 -- Nodes
 
@@ -95,7 +99,8 @@ behaviour-words parts number InstancePart is = tt
 behaviours-words : (parts : List Part) (number : ℕ) (some : List Part) → AreNamedParts some → AllHold DoesUnderWord (joined (map_numbered (part_behaviour parts) number some))
 behaviours-words parts number [] named = tt
 behaviours-words parts number (part ∷ rest) named =
-    AllHold-append DoesUnderWord (part_behaviour parts number part) (joined (map_numbered (part_behaviour parts) (number + 1) rest)) (behaviour-words parts number part named.0) (behaviours-words parts (number + 1) rest named.1)
+    AllHold-append DoesUnderWord (part_behaviour parts number part) (joined (map_numbered (part_behaviour parts) (number + 1) rest)) (behaviour-words parts number part named.0)
+    (behaviours-words parts (number + 1) rest named.1)
 
 among-nodes : (behaviours : List Behaviour) → AllHold DoesUnderWord behaviours → AllHold (λ (node : WalkedNode). IsOneWord node.name) (nodes_of behaviours)
 among-nodes [] h = tt

@@ -10,7 +10,8 @@ use Rattle.v_tree.specs.Trees.{Identifier, SourceModule, same_name}
 use Rattle.v_elab.specs.declared.Mode.{Mode}
 use Rattle.v_elab.specs.Parts.{Signal, WalkedProcess, Part, SignalPart, MemoryPart, AssignPart, GatePart, ProcessPart, InstancePart}
 use Rattle.v_elab.specs.Walk.{walked_from}
-use Rattle.v_elab.specs.Drivers.{signals_of, NodeFunction, AssignFunction, GateFunction, BlockFunction, WalkedNode, Behaviour, IsNode, IsProcess, block_or_process, process_behaviour, part_behaviour, nodes_of}
+use Rattle.v_elab.specs.Drivers.{signals_of, NodeFunction, AssignFunction, GateFunction, BlockFunction, WalkedNode, Behaviour, IsNode, IsProcess, block_or_process, process_behaviour, part_behaviour}
+use Rattle.v_elab.specs.Drivers.{nodes_of}
 use Rattle.v_elab.specs.Objects.{HeldObject}
 use Rattle.v_elab.specs.Flat.{NodeOutput, node_kind, outputs_of, flat_node}
 use Rattle.flat_laws.specs.Hierarchy.Given.{name-same}
@@ -43,12 +44,14 @@ walked_named name node = function_named name node.name node.function
 abbrev flat_named : Identifier → FlatNode → ℕ
 flat_named name node = gate_named name node.name node.kind
 
-kind-counted : (name own : Identifier) (parts : List Part) (objects : List HeldObject) (outputs : List NodeOutput) (function : NodeFunction) → gate_named name own (node_kind parts objects outputs function) ≡ function_named name own function
+kind-counted : (name own : Identifier) (parts : List Part) (objects : List HeldObject) (outputs : List NodeOutput) (function : NodeFunction) →
+    gate_named name own (node_kind parts objects outputs function) ≡ function_named name own function
 kind-counted name own parts objects outputs (AssignFunction value) = refl
 kind-counted name own parts objects outputs (GateFunction kind path terminals) = refl
 kind-counted name own parts objects outputs (BlockFunction process) = refl
 
-nodes-counted : (name : Identifier) (parts : List Part) (objects : List HeldObject) (number : ℕ) (nodes : List WalkedNode) → sum_by (flat_named name) (map_numbered (flat_node parts objects) number nodes) ≡ sum_by (walked_named name) nodes
+nodes-counted : (name : Identifier) (parts : List Part) (objects : List HeldObject) (number : ℕ) (nodes : List WalkedNode) →
+    sum_by (flat_named name) (map_numbered (flat_node parts objects) number nodes) ≡ sum_by (walked_named name) nodes
 nodes-counted name parts objects number [] = refl
 nodes-counted name parts objects number (node ∷ nodes) =
     let first = kind-counted name node.name parts objects (outputs_of objects number) node.function in
@@ -65,11 +68,13 @@ nodes-append [] other = refl
 nodes-append (IsNode node ∷ one) other = ap (λ l. node ∷ l) (nodes-append one other)
 nodes-append (IsProcess process ∷ one) other = nodes-append one other
 
-block-counted : (name : Identifier) (signals : List Signal) (process : WalkedProcess) (test : Bool) (targets : List Identifier) → sum_by (walked_named name) (nodes_of (block_or_process signals process test targets ∷ [])) ≡ 0
+block-counted : (name : Identifier) (signals : List Signal) (process : WalkedProcess) (test : Bool) (targets : List Identifier) →
+    sum_by (walked_named name) (nodes_of (block_or_process signals process test targets ∷ [])) ≡ 0
 block-counted name signals process true targets = refl
 block-counted name signals process false targets = refl
 
-process-counted : (name : Identifier) (parts : List Part) (number : ℕ) (process : WalkedProcess) (targets : Option (List Identifier)) → sum_by (walked_named name) (nodes_of (process_behaviour parts number process targets ∷ [])) ≡ 0
+process-counted : (name : Identifier) (parts : List Part) (number : ℕ) (process : WalkedProcess) (targets : Option (List Identifier)) →
+    sum_by (walked_named name) (nodes_of (process_behaviour parts number process targets ∷ [])) ≡ 0
 process-counted name parts number process None = refl
 process-counted name parts number process (Some targets) = block-counted name (signals_of parts) process _ targets
 
@@ -82,7 +87,8 @@ part-counted name parts number (ProcessPart process) = omega (arith, process-cou
 part-counted name parts number InstancePart = omega arith
 
 -- the gates of a name are no more than the parts of the name
-behaviours-counted : (name : Identifier) (all : List Part) (number : ℕ) (parts : List Part) → sum_by (walked_named name) (nodes_of (joined (map_numbered (part_behaviour all) number parts))) ≤ count_named name parts
+behaviours-counted : (name : Identifier) (all : List Part) (number : ℕ) (parts : List Part) →
+    sum_by (walked_named name) (nodes_of (joined (map_numbered (part_behaviour all) number parts))) ≤ count_named name parts
 behaviours-counted name all number [] = omega arith
 behaviours-counted name all number (part ∷ parts) =
     let first = part_behaviour all number part in
@@ -103,13 +109,15 @@ gate-counted name own (GateNode kind terminals) some e = let is : one_if (same_n
 gate-counted name own (BlockNode statement) some e = absurd (omega (arith, some))
 
 -- no two gates of a design have one name
-pub gates-apart : (modules : List SourceModule) → IsNamedUnit modules → (mode : Mode) (top : SourceModule) → (k : ℕ) → slice_get modules k ≡ Some top → (parts : List Part) → walked_from modules mode top ≡ Ok parts → (design : FlatDesign) → IsMadeOf parts design →
+pub gates-apart : (modules : List SourceModule) → IsNamedUnit modules → (mode : Mode) (top : SourceModule) → (k : ℕ) → slice_get modules k ≡ Some top → (parts : List Part) →
+    walked_from modules mode top ≡ Ok parts → (design : FlatDesign) → IsMadeOf parts design →
     AllApart GatesDiffer design.nodes
 gates-apart modules unit mode top k at parts e design made =
     apart-from GatesDiffer design.nodes
     (λ i j one other at_one at_other less some_one some_other same.
     let name = other.name in
-    let moved : sum_by (flat_named name) design.nodes ≡ sum_by (flat_named name) (flat_nodes_in parts) = sum_by-IsPermutation (flat_named name) (flat_nodes_in parts) design.nodes (nodes-permutation parts design made) in
+    let moved : sum_by (flat_named name) design.nodes ≡ sum_by (flat_named name) (flat_nodes_in parts) =
+    sum_by-IsPermutation (flat_named name) (flat_nodes_in parts) design.nodes (nodes-permutation parts design made) in
     omega (
       arith,
       two-counted (flat_named name) design.nodes i j one other at_one at_other less (gate-counted name one.name one.kind some_one same) (gate-counted name other.name other.kind some_other refl),

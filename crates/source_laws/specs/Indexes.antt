@@ -60,7 +60,8 @@ same-bounds : (high low first last bit : ℕ) → high ≡ first → low ≡ las
 same-bounds high low first last bit h l = ap (λ n. index_of_bit n low bit) h ∙ ap (λ n. index_of_bit first n bit) l
 
 -- and that of a bit of a piece is that of its place in the whole
-pub piece-index : (range : DeclaredRange) (low width bit : ℕ) → low + width ≤ range_width range → bit < width → index_of_bit (index_at range (low + width - 1)) (index_at range low) bit ≡ index_at range (low + bit)
+pub piece-index : (range : DeclaredRange) (low width bit : ℕ) → low + width ≤ range_width range → bit < width →
+    index_of_bit (index_at range (low + width - 1)) (index_at range low) bit ≡ index_at range (low + bit)
 piece-index range low width bit within few =
     elim (cases_lt range.high range.low) [
       | inl down ↦ downwards down
@@ -73,7 +74,8 @@ piece-index range low width bit within few =
   where
     downwards : range.high < range.low → index_of_bit (index_at range (low + width - 1)) (index_at range low) bit ≡ index_at range (low + bit)
     downwards down =
-        let bounds = same-bounds (index_at range (low + width - 1)) (index_at range low) (range.low - (low + width - 1)) (range.low - low) bit (index-down range (low + width - 1) down) (index-down range low down) in
+        let bounds = same-bounds (index_at range (low + width - 1)) (index_at range low) (range.low - (low + width - 1)) (range.low - low) bit (index-down range (low + width - 1) down)
+        (index-down range low down) in
         let last = index-down range (low + bit) down in
         elim (cases_lt 1 width) [
           | inl more ↦

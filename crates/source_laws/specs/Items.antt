@@ -7,7 +7,8 @@ use Rattle.four_value.specs.declared.operator.GateKind.TheVariants.{And, Nand, O
 use Rattle.vf_base.specs.Lists.{AllHold}
 use Rattle.v_design.specs.WellFormed.{TerminalsFit}
 use Rattle.v_tree.specs.Tokens.{SourceToken}
-use Rattle.v_tree.specs.Trees.{SourceExpression, Concatenated, no_parts, more_parts, SourceWire, SourceAssignment, SourceGate, SourceConnection, SourceInstance, SourceItem, ParameterItem, PortItem, WireItem, RegItem, IntegerItem, AssignItem, GateItem, InstanceItem, InitialItem, AlwaysItem}
+use Rattle.v_tree.specs.Trees.{SourceExpression, Concatenated, no_parts, more_parts, SourceWire, SourceAssignment, SourceGate, SourceConnection, SourceInstance, SourceItem, ParameterItem, PortItem}
+use Rattle.v_tree.specs.Trees.{WireItem, RegItem, IntegerItem, AssignItem, GateItem, InstanceItem, InitialItem, AlwaysItem}
 use Rattle.v_readers.specs.Classes.{token_of}
 use Rattle.v_readers.specs.declared.class.Class.TheVariants as classes
 use Rattle.v_readers.specs.Separated.{SpellsList}
@@ -81,12 +82,14 @@ parts-held _ ts h = tt
 connection-good : (c : SourceConnection) (ts : List SourceToken) → SpellsActual c.actual ts → connection_height c ≤ most_height → IsGoodConnection c
 connection-good c ts h low = (low-there c.actual low, parts-held c.actual ts h)
 
-placed-good : (place : SourcePlace) (cs : List SourceConnection) (ts : List SourceToken) → SpellsPlacedConnections place cs ts → greatest connection_height cs ≤ most_height → AllHold IsGoodConnection cs
+placed-good : (place : SourcePlace) (cs : List SourceConnection) (ts : List SourceToken) → SpellsPlacedConnections place cs ts → greatest connection_height cs ≤ most_height →
+    AllHold IsGoodConnection cs
 placed-good place [] ts h low = absurd h
 placed-good place (c ∷ []) ts h low = (connection-good c ts h.2 (omega (arith, low)), tt)
 placed-good place (c ∷ d ∷ cs) ts h low = (connection-good c h.1 h.3.2 (omega (arith, low)), placed-good place (d ∷ cs) h.2 h.4 (omega (arith, low)))
 
-connections-good : (place : SourcePlace) (cs : List SourceConnection) (ts : List SourceToken) → SpellsConnections place cs ts → greatest connection_height cs ≤ most_height → AllHold IsGoodConnection cs
+connections-good : (place : SourcePlace) (cs : List SourceConnection) (ts : List SourceToken) → SpellsConnections place cs ts → greatest connection_height cs ≤ most_height →
+    AllHold IsGoodConnection cs
 connections-good place cs ts (inl h) low =
     list-hold SpellsNamedConnection classes.Comma connection_height most_height (suc (length ts)) IsGoodConnection (λ c ts h low short. connection-good c h.6 h.7 low) cs ts h low (omega arith)
 connections-good place cs ts (inr h) low = placed-good place cs ts h low
@@ -107,17 +110,20 @@ pub item-good : (item : SourceItem) (ts : List SourceToken) → SpellsItem item 
 item-good (ParameterItem group) ts h low few = tt
 item-good (PortItem group) ts h low few = tt
 item-good (WireItem place signed range wires) ts h low few =
-    list-hold SpellsWire classes.Comma wire_height most_height (suc (length h.3)) (λ (w : SourceWire). IsLowIfThere w.value) (λ w ts h low short. wire-good w ts h low) wires h.3 h.6 (omega (arith, low)) (omega arith)
+    list-hold SpellsWire classes.Comma wire_height most_height (suc (length h.3)) (λ (w : SourceWire). IsLowIfThere w.value) (λ w ts h low short. wire-good w ts h low) wires h.3 h.6
+    (omega (arith, low)) (omega arith)
 item-good (RegItem place signed range regs) ts h low few = tt
 item-good (IntegerItem place regs) ts h low few = tt
 item-good (AssignItem place assignments) ts h low few =
-    list-hold SpellsAssignment classes.Comma assignment_height most_height (suc (length h.3)) (λ (a : SourceAssignment). HasSelects a.target × (height_of a.value ≤ most_height)) (λ a ts h low short. assignment-good a ts h low)
+    list-hold SpellsAssignment classes.Comma assignment_height most_height (suc (length h.3)) (λ (a : SourceAssignment). HasSelects a.target × (height_of a.value ≤ most_height))
+    (λ a ts h low short. assignment-good a ts h low)
     assignments h.3 h.6 low (omega arith)
 item-good (GateItem place kind gates) ts h low few =
     let end = token_of classes.Semicolon h.0 ∷ [] in
     let short : length h.3 < 2 ^ 63 = omega (arith, ap length h.7, length-append h.1 (h.2 ++ (h.3 ++ end)), length-append h.2 (h.3 ++ end), length-append h.3 end, few) in
     list-hold (SpellsGate kind) classes.Comma gate_height most_height (2 ^ 63) (IsGoodGate kind) (gate-good kind) gates h.3 h.6 low short
 item-good (InstanceItem place module_name parameters instances) ts h low few =
-    list-hold SpellsInstance classes.Comma instance_height most_height (suc (length h.3)) IsGoodInstance (λ i ts h low short. instance-good i ts h low) instances h.3 h.5 (omega (arith, low)) (omega arith)
+    list-hold SpellsInstance classes.Comma instance_height most_height (suc (length h.3)) IsGoodInstance (λ i ts h low short. instance-good i ts h low) instances h.3 h.5 (omega (arith, low))
+    (omega arith)
 item-good (InitialItem place body) ts h low few = (statement-has body h.0 h.1, low)
 item-good (AlwaysItem place body) ts h low few = (statement-has body h.0 h.1, low)

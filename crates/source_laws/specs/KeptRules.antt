@@ -15,8 +15,10 @@ use Rattle.source_laws.specs.Texts.{text-source, text-named}
 
 -- each flat design of the unit that a text spells within its levels keeps all rules
 abbrev pub TextsKeepRules : Type 0
-TextsKeepRules = (text : List ℕ) (tokens : List SourceToken) (u : SourceUnit) (top : Identifier) (mode : Mode) (design : FlatDesign) → AreTokens text tokens → SpellsUnit u tokens → unit_height u < 256 →
+TextsKeepRules = (text : List ℕ) (tokens : List SourceToken) (u : SourceUnit) (top : Identifier) (mode : Mode) (design : FlatDesign) → AreTokens text tokens → SpellsUnit u tokens →
+    unit_height u < 256 →
     flat u top mode ≡ Ok design → KeepsRules design
 
 pub text-keeps : TextsKeepRules
-text-keeps text tokens u top mode design are spelled low e = named-keep u top mode design (text-source text tokens u are spelled low) (text-named text tokens u are spelled) e (text-apart text tokens u top mode design are spelled e)
+text-keeps text tokens u top mode design are spelled low e = named-keep u top mode design (text-source text tokens u are spelled low) (text-named text tokens u are spelled) e
+    (text-apart text tokens u top mode design are spelled e)

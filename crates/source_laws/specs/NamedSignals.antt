@@ -8,11 +8,14 @@ use Rattle.vf_base.specs.Lists.{AllHold}
 use Rattle.v_design.specs.WellFormed.{IsOneWord}
 use Rattle.v_tree.specs.declared.item.Direction.{Direction}
 use Rattle.v_tree.specs.declared.item.Direction.TheVariants.{Input, Output}
-use Rattle.v_tree.specs.Trees.{Identifier, NamedPlace, SourceExpression, SourceTarget, SourceWire, SourceAssignment, SourceGate, SourceConnection, SourceInstance, SourceItem, ParameterItem, PortItem, WireItem, RegItem, IntegerItem, AssignItem, GateItem, InstanceItem, InitialItem, AlwaysItem, SourceModule, same_name}
+use Rattle.v_tree.specs.Trees.{Identifier, NamedPlace, SourceExpression, SourceTarget, SourceWire, SourceAssignment, SourceGate, SourceConnection, SourceInstance, SourceItem, ParameterItem}
+use Rattle.v_tree.specs.Trees.{PortItem, WireItem, RegItem, IntegerItem, AssignItem, GateItem, InstanceItem, InitialItem, AlwaysItem, SourceModule, same_name}
 use Rattle.v_names.specs.Faults.{same_place}
 use Rattle.v_names.specs.Readings.{is_empty}
 use Rattle.v_names.specs.Scopes.{ScopeEntry, ParameterEntry, RefusedParameter, WaitingParameter, NetEntry, RegEntry, MemoryEntry, GateEntry, InstanceEntry, Scope, looked_up, is_parameter}
-use Rattle.v_names.specs.Names.{Bounds, Unbounded, IntegerBounds, RangeBounds, Declared, DeclaredParameter, DeclaredPort, DeclaredNet, DeclaredReg, DeclaredMemory, DeclaredGate, DeclaredInstance, Declaration, declarations_of, gate_declarations, item_declarations, of_name, joined_declaration, first_of_name, first_declarations, names_declared, GivenParameter, parameter_of, range_of, most_kept, kept_bound, kept_range, meaning_of, given_of, scope_of, module_name_faults, names}
+use Rattle.v_names.specs.Names.{Bounds, Unbounded, IntegerBounds, RangeBounds, Declared, DeclaredParameter, DeclaredPort, DeclaredNet, DeclaredReg, DeclaredMemory, DeclaredGate, DeclaredInstance}
+use Rattle.v_names.specs.Names.{Declaration, declarations_of, gate_declarations, item_declarations, of_name, joined_declaration, first_of_name, first_declarations, names_declared, GivenParameter}
+use Rattle.v_names.specs.Names.{parameter_of, range_of, most_kept, kept_bound, kept_range, meaning_of, given_of, scope_of, module_name_faults, names}
 use Rattle.v_width.specs.Targets.{target_of}
 use Rattle.v_elab.specs.declared.Mode.{Mode}
 use Rattle.v_elab.specs.Parts.{Signal, Part, SignalPart, MemoryPart, GatePart}
@@ -65,7 +68,8 @@ parameter-declared GateEntry e = tt
 parameter-declared InstanceEntry e = tt
 
 meaning-declared : (scope : Scope) (given : List GivenParameter) (name : Identifier) (d : Declared) → IsDeclaredEntry (Some (meaning_of scope given name d))
-meaning-declared scope given name (DeclaredParameter is_local signed bounds value) = parameter-declared (parameter_of scope signed bounds value (given_of given name)) (is-parameter scope signed bounds value (given_of given name))
+meaning-declared scope given name (DeclaredParameter is_local signed bounds value) = parameter-declared (parameter_of scope signed bounds value (given_of given name))
+    (is-parameter scope signed bounds value (given_of given name))
 meaning-declared scope given name (DeclaredPort direction true signed bounds first) = range-kept scope bounds
 meaning-declared scope given name (DeclaredPort direction false signed bounds first) = range-kept scope bounds
 meaning-declared scope given name (DeclaredNet signed bounds) = range-kept scope bounds
@@ -86,7 +90,8 @@ module-declared m given scope named name =
     let found_is : looked_up own name ≡ option_map (λ (d : Declaration). meaning_of own given d.name d.declared) (found (names_declared m) name) =
     ap (λ s. looked_up s name) (scope-fixed m given) ∙ in-meanings own given (names_declared m) name in
     subst (λ (s : Scope). IsDeclaredEntry (looked_up s name)) is
-    (subst IsDeclaredEntry (sym found_is) (option-declared (λ (d : Declaration). meaning_of own given d.name d.declared) (found (names_declared m) name) (λ d. meaning-declared own given d.name d.declared)))
+    (subst IsDeclaredEntry (sym found_is) (option-declared (λ (d : Declaration). meaning_of own given d.name d.declared) (found (names_declared m) name)
+    (λ d. meaning-declared own given d.name d.declared)))
 
 -- Names
 
@@ -97,7 +102,8 @@ first-spelled : (all earlier rest : List Declaration) → AllHold IsSpelledDecla
 first-spelled all earlier [] h = tt
 first-spelled all earlier (d ∷ rest) h = by_test (is_empty (of_name d.name earlier)) (first-spelled all (d ∷ earlier) rest h.1)
   where
-    by_test : (test : Bool) → AllHold IsSpelledDeclaration (first_declarations all (d ∷ earlier) rest) → AllHold IsSpelledDeclaration (first_of_name test (joined_declaration all d) (first_declarations all (d ∷ earlier) rest))
+    by_test : (test : Bool) → AllHold IsSpelledDeclaration (first_declarations all (d ∷ earlier) rest) →
+        AllHold IsSpelledDeclaration (first_of_name test (joined_declaration all d) (first_declarations all (d ∷ earlier) rest))
     by_test true later = (h.0, later)
     by_test false later = later
 
@@ -114,7 +120,8 @@ abbrev instance_declaration : SourceInstance → Declaration
 instance_declaration i = record { name = i.name; place = i.place; declared = DeclaredInstance }
 
 -- and so are those of its items
-item-spelled : (modules : List SourceModule) → IsNamedUnit modules → (here : Here) → IsModule modules here.instance → (item : SourceItem) → IsOf here.instance.inner item → AllHold IsSpelledDeclaration (item_declarations item)
+item-spelled : (modules : List SourceModule) → IsNamedUnit modules → (here : Here) → IsModule modules here.instance → (item : SourceItem) → IsOf here.instance.inner item →
+    AllHold IsSpelledDeclaration (item_declarations item)
 item-spelled modules unit here in_unit item of =
     let m = here.instance.inner in
     AllHold-from IsSpelledDeclaration (item_declarations item)
@@ -124,7 +131,8 @@ item-spelled modules unit here in_unit item of =
     AllHold-slice_get IsSpelledDeclaration (declarations_of m) there.0 d (unit.spelled in_unit.0 m in_unit.1) declared)
 
 -- and of its instances
-instance-spelled : (modules : List SourceModule) → IsNamedUnit modules → (here : Here) → IsModule modules here.instance → (inner : SourceModule) (given : List GivenParameter) (i : SourceInstance) → IsInstance here inner given i → IsSpelled i.name
+instance-spelled : (modules : List SourceModule) → IsNamedUnit modules → (here : Here) → IsModule modules here.instance → (inner : SourceModule) (given : List GivenParameter) (i : SourceInstance) →
+    IsInstance here inner given i → IsSpelled i.name
 instance-spelled modules unit here in_unit inner given i of =
     let item = InstanceItem of.place of.module_name of.parameters of.instances in
     let own = map-there instance_declaration of.instances of.number i of.at in
@@ -164,10 +172,25 @@ gate-word number gate None rest h = (words-append (codes "$g") (decimal number) 
 gate-word number gate (Some n) rest h = (spelled-word n.name h.0, h.1)
 
 module _ (modules : List SourceModule) (unit : IsNamedUnit modules) (mode : Mode) where
-  entry-named : (here : Here) → IsNamedInstance modules here.instance → (d : Declaration) → IsSpelled d.name → (entry : Option ScopeEntry) → IsDeclaredEntry entry → AllHold IsNamedPart (part_by_entry here d entry)
+  entry-named : (here : Here) → IsNamedInstance modules here.instance → (d : Declaration) → IsSpelled d.name → (entry : Option ScopeEntry) → IsDeclaredEntry entry →
+      AllHold IsNamedPart (part_by_entry here d entry)
   entry-named here is d spelled None h = tt
-  entry-named here is d spelled (Some (NetEntry range signed)) h = (record { name = signal-named here.instance.path d.name is.ends is.plain spelled; word = own-word here.instance.path d.name is.word spelled; range = h }, tt)
-  entry-named here is d spelled (Some (RegEntry range signed)) h = (record { name = signal-named here.instance.path d.name is.ends is.plain spelled; word = own-word here.instance.path d.name is.word spelled; range = h }, tt)
+  entry-named here is d spelled (Some (NetEntry range signed)) h = (
+    record {
+      name = signal-named here.instance.path d.name is.ends is.plain spelled;
+      word = own-word here.instance.path d.name is.word spelled;
+      range = h;
+    },
+    tt,
+  )
+  entry-named here is d spelled (Some (RegEntry range signed)) h = (
+    record {
+      name = signal-named here.instance.path d.name is.ends is.plain spelled;
+      word = own-word here.instance.path d.name is.word spelled;
+      range = h;
+    },
+    tt,
+  )
   entry-named here is d spelled (Some (MemoryEntry range first last signed)) h = (own-word here.instance.path d.name is.word spelled, tt)
   entry-named here is d spelled (Some (ParameterEntry value signed)) h = tt
   entry-named here is d spelled (Some RefusedParameter) h = tt
@@ -193,7 +216,8 @@ module _ (modules : List SourceModule) (unit : IsNamedUnit modules) (mode : Mode
   wire-named here wire None = tt
   wire-named here wire (Some value) = (tt, tt)
 
-  gates-named : (here : Here) → IsOneWord here.instance.path → (kind : GateKind) (number : ℕ) (gates : List SourceGate) → AllHold IsSpelledDeclaration (gate_declarations gates) → AllHold IsNamedPart (gate_parts here kind number gates)
+  gates-named : (here : Here) → IsOneWord here.instance.path → (kind : GateKind) (number : ℕ) (gates : List SourceGate) → AllHold IsSpelledDeclaration (gate_declarations gates) →
+      AllHold IsNamedPart (gate_parts here kind number gates)
   gates-named here word kind number [] spelled = tt
   gates-named here word kind number (gate ∷ rest) spelled =
       let own = gate-word number gate gate.name rest spelled in
@@ -208,7 +232,8 @@ module _ (modules : List SourceModule) (unit : IsNamedUnit modules) (mode : Mode
   item-named here is gates (RegItem place signed range regs) of = declared-named here is (RegItem place signed range regs)
   item-named here is gates (IntegerItem place regs) of = declared-named here is (IntegerItem place regs)
   item-named here is gates (AssignItem place assignments) of =
-      AllHold-map IsNamedPart (λ (a : SourceAssignment). assign_part here a.target a.value) assignments (AllHold-all (λ (a : SourceAssignment). IsNamedPart (assign_part here a.target a.value)) assignments (λ a. tt))
+      AllHold-map IsNamedPart (λ (a : SourceAssignment). assign_part here a.target a.value) assignments
+      (AllHold-all (λ (a : SourceAssignment). IsNamedPart (assign_part here a.target a.value)) assignments (λ a. tt))
   item-named here is gates (GateItem place kind all) of = gates-named here is.entered.word kind (gates + 1) all (item-spelled modules unit here is.entered.in_unit (GateItem place kind all) of)
   item-named here is gates (InstanceItem place module_name parameters instances) of = tt
   item-named here is gates (InitialItem place body) of = (tt, tt)
@@ -218,7 +243,8 @@ module _ (modules : List SourceModule) (unit : IsNamedUnit modules) (mode : Mode
   port-named child paths port e None = tt
   port-named child paths port e (Some target) = (tt, tt)
 
-  actual-named : (child : Child) (paths : Paths) (port : Identifier) (e : SourceExpression) (joined : Option Identifier) (direction : Option Direction) → AllHold IsNamedPart (actual_parts child paths port e joined direction)
+  actual-named : (child : Child) (paths : Paths) (port : Identifier) (e : SourceExpression) (joined : Option Identifier) (direction : Option Direction) →
+      AllHold IsNamedPart (actual_parts child paths port e joined direction)
   actual-named child paths port e (Some joined) direction = tt
   actual-named child paths port e None (Some Input) = (tt, tt)
   actual-named child paths port e None (Some Output) = port-named child paths port e (target_of e)
@@ -232,17 +258,20 @@ module _ (modules : List SourceModule) (unit : IsNamedUnit modules) (mode : Mode
   connections-named : (child : Child) (paths : Paths) (position : ℕ) (connections : List SourceConnection) → AllHold IsNamedPart (connections_parts child paths position connections)
   connections-named child paths position [] = tt
   connections-named child paths position (connection ∷ rest) =
-      AllHold-append IsNamedPart (connection_parts child paths (connected_name (head_names child.inner.heads) position connection.name) connection.actual) (connections_parts child paths (position + 1) rest)
+      AllHold-append IsNamedPart (connection_parts child paths (connected_name (head_names child.inner.heads) position connection.name) connection.actual)
+      (connections_parts child paths (position + 1) rest)
       (connection-named child paths (connected_name (head_names child.inner.heads) position connection.name) connection.actual) (connections-named child paths (position + 1) rest)
 
-  child-named : (here : Here) → IsHere (IsNamedInstance modules) modules mode here → (inner : SourceModule) (given : List GivenParameter) (i : SourceInstance) → IsInstance here inner given i → IsNamedInstance modules (entered here inner given i)
+  child-named : (here : Here) → IsHere (IsNamedInstance modules) modules mode here → (inner : SourceModule) (given : List GivenParameter) (i : SourceInstance) → IsInstance here inner given i →
+      IsNamedInstance modules (entered here inner given i)
   child-named here is inner given i of =
       let own = instance-spelled modules unit here is.entered.in_unit inner given i of in
       record {
         in_unit = enters-module modules mode here (record { scope = is.scope; entered = is.entered.in_unit; same_modules = is.same_modules; same_mode = is.same_mode }) inner given i of;
         ends = inr (here.instance.path ++ i.name, refl);
         plain =
-            AllHold-append (λ (byte : ℕ). byte ≡ 91 → ⊥) (here.instance.path ++ i.name) (codes ".") (AllHold-append (λ (byte : ℕ). byte ≡ 91 → ⊥) here.instance.path i.name is.entered.plain (own-plain i.name own))
+            AllHold-append (λ (byte : ℕ). byte ≡ 91 → ⊥) (here.instance.path ++ i.name) (codes ".")
+            (AllHold-append (λ (byte : ℕ). byte ≡ 91 → ⊥) here.instance.path i.name is.entered.plain (own-plain i.name own))
             (λ e. omega (arith, e), tt);
         word = words-append (here.instance.path ++ i.name) (codes ".") (own-word here.instance.path i.name is.entered.word own) (refl, tt);
       }

@@ -60,7 +60,14 @@ abbrev place_name : Signal → ℕ → List ℕ
 place_name signal place = signal.name ++ index_text signal.range.ranged (index_at signal.range place)
 
 place-named : (signal : Signal) → IsNamedSignal signal → (place : ℕ) → place < range_width signal.range → IsBitName (place_name signal place)
-place-named signal is place within = record { name = signal.name; ranged = signal.range.ranged; index = index_at signal.range place; named = is.name; small = index-small signal.range is.range place within; is = refl }
+place-named signal is place within = record {
+  name = signal.name;
+  ranged = signal.range.ranged;
+  index = index_at signal.range place;
+  named = is.name;
+  small = index-small signal.range is.range place within;
+  is = refl;
+}
 
 -- two places have two names
 places-differ : (signal : Signal) → IsNamedSignal signal → (place other : ℕ) → place < other → other < range_width signal.range → place_name signal place ≡ place_name signal other → ⊥
@@ -71,13 +78,15 @@ places-differ signal is place other less within e = by_range signal.range.ranged
         let text : signal.name ++ index_text true (index_at signal.range place) ≡ signal.name ++ index_text true (index_at signal.range other) =
         ap (λ b. signal.name ++ index_text b (index_at signal.range place)) (sym ranged) ∙ e ∙ ap (λ b. signal.name ++ index_text b (index_at signal.range other)) ranged in
         index-apart signal.range place other less within
-        (same-index signal.name (index_at signal.range place) (index_at signal.range other) (index-small signal.range is.range place (omega (arith, less, within))) (index-small signal.range is.range other within) text)
+        (same-index signal.name (index_at signal.range place) (index_at signal.range other) (index-small signal.range is.range place (omega (arith, less, within)))
+        (index-small signal.range is.range other within) text)
     by_range false ranged = omega (arith, is.range.single ranged, less, within)
 
 -- places of one name are of nets or variables of one name
 places-named : (one other : Signal) → IsNamedSignal one → IsNamedSignal other → (place number : ℕ) → place_name one place ≡ place_name other number → one.name ≡ other.name
 places-named one other is is_other place number e =
-    same-front one.name other.name one.range.ranged other.range.ranged (index_at one.range place) (index_at other.range number) (object-plain one.name is.name) (object-plain other.name is_other.name) e
+    same-front one.name other.name one.range.ranged other.range.ranged (index_at one.range place) (index_at other.range number) (object-plain one.name is.name)
+    (object-plain other.name is_other.name) e
 
 -- Objects of a net or a variable
 
@@ -123,7 +132,8 @@ IsOfPart (SignalPart signal) held = SpansPlaces signal held.object
 IsOfPart (MemoryPart memory) held = held.object.kind ≡ Word
 IsOfPart _ held = ⊥
 
-signal-of : (signals : List Signal) (nodes : List WalkedNode) (signal : Signal) (unjoined : Bool) → AllHold (λ (held : HeldObject). SpansPlaces signal held.object) (signal_objects signals nodes unjoined signal)
+signal-of : (signals : List Signal) (nodes : List WalkedNode) (signal : Signal) (unjoined : Bool) →
+    AllHold (λ (held : HeldObject). SpansPlaces signal held.object) (signal_objects signals nodes unjoined signal)
 signal-of signals nodes signal false = tt
 signal-of signals nodes signal true = by_driving (object_drives signals nodes signal.name) (driving_variables signals nodes signal.name)
   where
@@ -131,13 +141,15 @@ signal-of signals nodes signal true = by_driving (object_drives signals nodes si
     by_driving drives [] =
         let pieces = pieces_of (range_width signal.range) (map run_of drives) in
         AllHold-map (λ (held : HeldObject). SpansPlaces signal held.object) (piece_object signal drives) pieces
-        (AllHold-each (λ (piece : CutPiece). (1 ≤ piece.width) × (piece.low + piece.width ≤ range_width signal.range)) (λ (piece : CutPiece). SpansPlaces signal (piece_object signal drives piece).object) pieces
+        (AllHold-each (λ (piece : CutPiece). (1 ≤ piece.width) × (piece.low + piece.width ≤ range_width signal.range))
+        (λ (piece : CutPiece). SpansPlaces signal (piece_object signal drives piece).object) pieces
         (λ piece h. piece-spans signal drives piece h.1) (pieces-within (range_width signal.range) (map run_of drives)))
     by_driving drives (first ∷ rest) = (variable-spans signal first, tt)
 
 part-of : (signals : List Signal) (nodes : List WalkedNode) (part : Part) → AllHold (IsOfPart part) (part_objects signals nodes part)
 part-of signals nodes (SignalPart signal) = signal-of signals nodes signal (is_unjoined signal)
-part-of signals nodes (MemoryPart memory) = AllHold-map (λ (held : HeldObject). held.object.kind ≡ Word) (word_object memory) _ (AllHold-all (λ address. (word_object memory address).object.kind ≡ Word) _ (λ address. refl))
+part-of signals nodes (MemoryPart memory) = AllHold-map (λ (held : HeldObject). held.object.kind ≡ Word) (word_object memory) _
+    (AllHold-all (λ address. (word_object memory address).object.kind ≡ Word) _ (λ address. refl))
 part-of signals nodes (AssignPart drives value) = tt
 part-of signals nodes (GatePart name kind drives path terminals) = tt
 part-of signals nodes (ProcessPart process) = tt
@@ -154,14 +166,18 @@ word-bitless Net e has_bits = absurd (cc)
 tile-behind : (from to : ℕ) (pieces : List CutPiece) → Tile from to pieces → AllHold (λ (piece : CutPiece). from ≤ piece.low) pieces
 tile-behind from to [] h = tt
 tile-behind from to (piece ∷ pieces) h =
-    let low = h.0 in
-    (omega (arith, low), AllHold-each (λ (later : CutPiece). from + piece.width ≤ later.low) (λ (later : CutPiece). from ≤ later.low) pieces (λ later k. omega (arith, k)) (tile-behind (from + piece.width) to pieces h.2))
+    let low = h.0 in (
+      omega (arith, low),
+      AllHold-each (λ (later : CutPiece). from + piece.width ≤ later.low) (λ (later : CutPiece). from ≤ later.low) pieces (λ later k. omega (arith, k))
+          (tile-behind (from + piece.width) to pieces h.2),
+    )
 
 tile-apart : (from to : ℕ) (pieces : List CutPiece) → Tile from to pieces → AllApart (λ (one other : CutPiece). one.low + one.width ≤ other.low) pieces
 tile-apart from to [] h = tt
 tile-apart from to (piece ∷ pieces) h =
     let low = h.0 in (
-      AllHold-each (λ (later : CutPiece). from + piece.width ≤ later.low) (λ (later : CutPiece). piece.low + piece.width ≤ later.low) pieces (λ later k. omega (arith, k, low)) (tile-behind (from + piece.width) to pieces h.2),
+      AllHold-each (λ (later : CutPiece). from + piece.width ≤ later.low) (λ (later : CutPiece). piece.low + piece.width ≤ later.low) pieces (λ later k. omega (arith, k, low))
+          (tile-behind (from + piece.width) to pieces h.2),
       tile-apart (from + piece.width) to pieces h.2,
     )
 
@@ -182,14 +198,16 @@ signal-apart signals nodes signal is true = by_driving (object_drives signals no
         (λ i j one other at_one at_other less.
         let h = piece-spans signal drives one (AllHold-slice_get Within pieces i one (pieces-within width runs) at_one).1 in
         let k = piece-spans signal drives other (AllHold-slice_get Within pieces j other (pieces-within width runs) at_other).1 in
-        spans-apart signal is (piece_object signal drives one).object (piece_object signal drives other).object h k (apart-at (λ (p q : CutPiece). p.low + p.width ≤ q.low) pieces apart i j one other at_one at_other less)))
+        spans-apart signal is (piece_object signal drives one).object (piece_object signal drives other).object h k
+        (apart-at (λ (p q : CutPiece). p.low + p.width ≤ q.low) pieces apart i j one other at_one at_other less)))
     by_driving drives (first ∷ rest) = (tt, tt)
 
 part-apart : (signals : List Signal) (nodes : List WalkedNode) (part : Part) → IsNamedPart part → AllApart HeldApart (part_objects signals nodes part)
 part-apart signals nodes (SignalPart signal) is = signal-apart signals nodes signal is (is_unjoined signal)
 part-apart signals nodes (MemoryPart memory) is =
     apart-from HeldApart (word_objects memory)
-    (λ i j one other at_one at_other less has_one. absurd (word-bitless one.object.kind (AllHold-slice_get (λ (held : HeldObject). held.object.kind ≡ Word) (word_objects memory) i one (part-of signals nodes (MemoryPart memory)) at_one) has_one))
+    (λ i j one other at_one at_other less has_one. absurd (word-bitless one.object.kind (AllHold-slice_get (λ (held : HeldObject). held.object.kind ≡ Word) (word_objects memory) i one
+    (part-of signals nodes (MemoryPart memory)) at_one) has_one))
 part-apart signals nodes (AssignPart drives value) is = tt
 part-apart signals nodes (GatePart name kind drives path terminals) is = tt
 part-apart signals nodes (ProcessPart process) is = tt
@@ -198,7 +216,8 @@ part-apart signals nodes InstancePart is = tt
 -- Across parts
 
 -- objects of parts whose names differ
-held-apart : (part next : Part) → IsNamedPart part → IsNamedPart next → ((name : Identifier) → part_name part ≡ Some name → part_name next ≡ Some name → ⊥) → (one other : HeldObject) → IsOfPart part one → IsOfPart next other → HeldApart one other
+held-apart : (part next : Part) → IsNamedPart part → IsNamedPart next → ((name : Identifier) → part_name part ≡ Some name → part_name next ≡ Some name → ⊥) → (one other : HeldObject) →
+    IsOfPart part one → IsOfPart next other → HeldApart one other
 held-apart (SignalPart signal) (SignalPart next) is is_next differ one other h k has_one has_other bit place low high e =
     let same = places-named signal next is is_next (h.start + bit) (k.start + place) (sym (h.bits bit low) ∙ e ∙ k.bits place high) in
     differ next.name (ap Some same) refl
@@ -222,7 +241,8 @@ NamesOnce parts = (i j : ℕ) (one other : Part) (name : Identifier) → slice_g
 objects-apart : (parts : List Part) (nodes : List WalkedNode) → AllHold (λ part. IsNamedPart part) parts → NamesOnce parts → AllApart HeldApart (objects_of_parts parts nodes)
 objects-apart parts nodes named once =
     let signals = signals_of parts in
-    apart-flat_map HeldApart (part_objects signals nodes) parts (AllHold-each (λ part. IsNamedPart part) (λ part. AllApart HeldApart (part_objects signals nodes part)) parts (part-apart signals nodes) named)
+    apart-flat_map HeldApart (part_objects signals nodes) parts (AllHold-each (λ part. IsNamedPart part) (λ part. AllApart HeldApart (part_objects signals nodes part)) parts
+    (part-apart signals nodes) named)
     (apart-from (λ part next. Across HeldApart (part_objects signals nodes part) (part_objects signals nodes next)) parts
     (λ i j part next at_part at_next less.
     across-from HeldApart (part_objects signals nodes part) (part_objects signals nodes next)
@@ -240,7 +260,8 @@ part-own (GatePart name kind drives path terminals) is held h = absurd h
 part-own (ProcessPart process) is held h = absurd h
 part-own InstancePart is held h = absurd h
 
-objects-own : (parts : List Part) (nodes : List WalkedNode) → AllHold (λ part. IsNamedPart part) parts → AllHold (λ (held : HeldObject). OwnBitsDiffer held.object × BitsAreNamed held.object) (objects_of_parts parts nodes)
+objects-own : (parts : List Part) (nodes : List WalkedNode) → AllHold (λ part. IsNamedPart part) parts →
+    AllHold (λ (held : HeldObject). OwnBitsDiffer held.object × BitsAreNamed held.object) (objects_of_parts parts nodes)
 objects-own parts nodes named =
     let signals = signals_of parts in
     let Own : HeldObject → Type 0 = λ held. OwnBitsDiffer held.object × BitsAreNamed held.object in
@@ -253,7 +274,8 @@ pub record TellsBits (design : FlatDesign) : Type 0 where
   pub apart : AllApart BitsDiffer design.objects
   pub own : AllHold (λ (object : FlatObject). OwnBitsDiffer object × BitsAreNamed object) design.objects
 
-pub parts-tell-bits : (parts : List Part) (nodes : List WalkedNode) (design : FlatDesign) → map (λ (held : HeldObject). held.object) (objects_of_parts parts nodes) ≡ design.objects → AllHold (λ part. IsNamedPart part) parts → NamesOnce parts → TellsBits design
+pub parts-tell-bits : (parts : List Part) (nodes : List WalkedNode) (design : FlatDesign) → map (λ (held : HeldObject). held.object) (objects_of_parts parts nodes) ≡ design.objects →
+    AllHold (λ part. IsNamedPart part) parts → NamesOnce parts → TellsBits design
 parts-tell-bits parts nodes design is named once =
     let objects = objects_of_parts parts nodes in
     let Own : FlatObject → Type 0 = λ object. OwnBitsDiffer object × BitsAreNamed object in

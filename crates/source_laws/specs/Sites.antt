@@ -13,7 +13,8 @@ use Rattle.v_design.specs.declared.logic.ObjectKind.TheVariants.{Var, Word, Net}
 use Rattle.graph_order.specs.ListLaws.{AllHold-slice_get}
 use Rattle.flat_laws.specs.Lists.{same_some, AllHold-from, at-filter}
 use Rattle.flat_laws.specs.Numbered.{AllHold-each, AllHold-append, AllHold-filter, AllHold-map}
-use Rattle.source_laws.specs.SitesApart.{AllApart, Across, apart-from, apart-at, apart-map, apart-append, AllHold-joined, apart-joined, apart-numbered, AllHold-numbered, AllHold-upwards, apart-upwards, differ-from}
+use Rattle.source_laws.specs.SitesApart.{AllApart, Across, apart-from, apart-at, apart-map, apart-append, AllHold-joined, apart-joined, apart-numbered, AllHold-numbered, AllHold-upwards}
+use Rattle.source_laws.specs.SitesApart.{apart-upwards, differ-from}
 use Rattle.source_laws.specs.GateNames.{GatesDiffer}
 use Rattle.source_laws.specs.ObjectBits.{HasBits, object_bit, BitsDiffer, OwnBitsDiffer, BitsAreNamed, TellsBits}
 use Rattle.source_laws.specs.Spelling.{bit-no-terminal, same-terminal}
@@ -50,7 +51,8 @@ numbers-behind test number (object ∷ objects) =
 numbers-ascend : (test : FlatObject → Bool) (number : ℕ) (objects : List FlatObject) → AllApart (λ m n. m < n) (numbers_of test number objects)
 numbers-ascend test number [] = tt
 numbers-ascend test number (object ∷ objects) =
-    by_test (test object) (AllHold-each (λ n. number + 1 ≤ n) (λ n. number < n) (numbers_of test (number + 1) objects) (λ n h. omega (arith, h)) (numbers-behind test (number + 1) objects)) (numbers-ascend test (number + 1) objects)
+    by_test (test object) (AllHold-each (λ n. number + 1 ≤ n) (λ n. number < n) (numbers_of test (number + 1) objects) (λ n h. omega (arith, h)) (numbers-behind test (number + 1) objects))
+    (numbers-ascend test (number + 1) objects)
   where
     by_test : (passes : Bool) → AllHold (λ n. number < n) (numbers_of test (number + 1) objects) → AllApart (λ m n. m < n) (numbers_of test (number + 1) objects) →
         AllApart (λ m n. m < n) (elim passes as (λ b. List ℕ) [ true ↦ number ∷ numbers_of test (number + 1) objects | false ↦ numbers_of test (number + 1) objects ])
@@ -103,7 +105,8 @@ net-no-variable Word v n = absurd (cc)
 net-no-variable Net v n = absurd (cc)
 
 -- bits of two objects have two names
-objects-differ : (design : FlatDesign) → TellsBits design → (i j : ℕ) (one other : FlatObject) → slice_get design.objects i ≡ Some one → slice_get design.objects j ≡ Some other → (i ≡ j → ⊥) → BitsDiffer one other
+objects-differ : (design : FlatDesign) → TellsBits design → (i j : ℕ) (one other : FlatObject) → slice_get design.objects i ≡ Some one → slice_get design.objects j ≡ Some other → (i ≡ j → ⊥) →
+    BitsDiffer one other
 objects-differ design tells i j one other at_one at_other differ has_one has_other bit place low high e =
     elim (cases_lt i j) [
       | inl less ↦ apart-at BitsDiffer design.objects tells.apart i j one other at_one at_other less has_one has_other bit place low high e
@@ -122,7 +125,8 @@ record NamesBit (design : FlatDesign) (test : ObjectKind → Bool) (number : ℕ
   is : object_bit object bit ≡ text
 
 -- bits of objects of two numbers have two names
-bits-differ : (design : FlatDesign) → TellsBits design → (test tests : ObjectKind → Bool) (i j : ℕ) → (i ≡ j → ⊥) → (one other : List ℕ) → NamesBit design test i one → NamesBit design tests j other → one ≢ other
+bits-differ : (design : FlatDesign) → TellsBits design → (test tests : ObjectKind → Bool) (i j : ℕ) → (i ≡ j → ⊥) → (one other : List ℕ) → NamesBit design test i one →
+    NamesBit design tests j other → one ≢ other
 bits-differ design tells test tests i j differ one other h k e = objects-differ design tells i j h.object k.object h.at k.at differ h.has_bits k.has_bits h.bit k.bit h.low k.low (h.is ∙ e ∙ sym k.is)
 
 -- a variable is no net piece
@@ -191,14 +195,17 @@ variables-apart design tells =
     apart-numbered (SiteApart design) variable_sites design.objects (λ i object at. by_test i object at (is_variable object.kind) refl)
     (λ i j one other at_one at_other less.
     across-all (SiteOfVariable design i) (SiteOfVariable design j) (SiteApart design) (variable_sites i one) (variable_sites j other)
-    (λ site next. bits-differ design tells is_variable is_variable i j (λ same. omega (arith, same, less)) (site_name design site) (site_name design next)) (variable-names design i one at_one) (variable-names design j other at_other))
+    (λ site next. bits-differ design tells is_variable is_variable i j (λ same. omega (arith, same, less)) (site_name design site) (site_name design next)) (variable-names design i one at_one)
+    (variable-names design j other at_other))
   where
-    by_test : (i : ℕ) (object : FlatObject) → slice_get design.objects i ≡ Some object → (test : Bool) → is_variable object.kind ≡ test → AllApart (SiteApart design) (bits_if test (VariableBit i) object.width)
+    by_test : (i : ℕ) (object : FlatObject) → slice_get design.objects i ≡ Some object → (test : Bool) → is_variable object.kind ≡ test →
+        AllApart (SiteApart design) (bits_if test (VariableBit i) object.width)
     by_test i object at true kind =
         let own = AllHold-slice_get (λ (o : FlatObject). OwnBitsDiffer o × BitsAreNamed o) design.objects i object tells.own at in
         apart-map (SiteApart design) (VariableBit i) (up_from 0 object.width)
         (apart-upwards (λ bit place. SiteApart design (VariableBit i bit) (VariableBit i place)) 0 object.width
-        (λ bit place low less high e. own.0 (variable-bits object.kind kind) bit place less (omega (arith, high)) (object-site design i object at bit ∙ e ∙ sym (object-site design i object at place))))
+        (λ bit place low less high e. own.0 (variable-bits object.kind kind) bit place less (omega (arith, high))
+        (object-site design i object at bit ∙ e ∙ sym (object-site design i object at place))))
     by_test i object at false kind = tt
 
 -- Bits of outputs
@@ -215,7 +222,8 @@ outputs-of design node =
     AllHold-from (IsOutput design node) (filter (has node.outputs) (net_pieces design))
     (λ i number at.
     let r = at-filter (has node.outputs) (net_pieces design) i number at in
-    let h = AllHold-slice_get (NumberOf (λ (object : FlatObject). is_net object.kind) design.objects 0) (net_pieces design) r.0 number (numbers-at (λ (object : FlatObject). is_net object.kind) 0 design.objects) r.1 in
+    let h = AllHold-slice_get (NumberOf (λ (object : FlatObject). is_net object.kind) design.objects 0) (net_pieces design) r.0 number
+    (numbers-at (λ (object : FlatObject). is_net object.kind) 0 design.objects) r.1 in
     let is = h.is in
     let same : h.place ≡ number = omega (arith, is) in
     record { object = h.object; at = ap (slice_get design.objects) (sym same) ∙ h.at; kind = h.passes; written = r.2 })
@@ -236,7 +244,15 @@ output-names design i number node h =
     let width = width-there design.objects number h.object h.at in
     AllHold-map (SiteOfNet design number) (OutputBit i number) (up_from 0 (width_in design number))
     (AllHold-upwards (λ bit. SiteOfNet design number (OutputBit i number bit)) 0 (width_in design number)
-    (λ bit low high. record { object = h.object; at = h.at; kind = h.kind; has_bits = net-bits h.object.kind h.kind; bit = bit; low = omega (arith, high, width); is = object-site design number h.object h.at bit }))
+    (λ bit low high. record {
+      object = h.object;
+      at = h.at;
+      kind = h.kind;
+      has_bits = net-bits h.object.kind h.kind;
+      bit = bit;
+      low = omega (arith, high, width);
+      is = object-site design number h.object h.at bit;
+    }))
 
 output-apart : (design : FlatDesign) → TellsBits design → (i number : ℕ) (node : FlatNode) → IsOutput design node number → AllApart (SiteApart design) (bits_of_output design i number)
 output-apart design tells i number node h =
@@ -244,7 +260,8 @@ output-apart design tells i number node h =
     let own = AllHold-slice_get (λ (o : FlatObject). OwnBitsDiffer o × BitsAreNamed o) design.objects number h.object tells.own h.at in
     apart-map (SiteApart design) (OutputBit i number) (up_from 0 (width_in design number))
     (apart-upwards (λ bit place. SiteApart design (OutputBit i number bit) (OutputBit i number place)) 0 (width_in design number)
-    (λ bit place low less high e. own.0 (net-bits h.object.kind h.kind) bit place less (omega (arith, high, width)) (object-site design number h.object h.at bit ∙ e ∙ sym (object-site design number h.object h.at place))))
+    (λ bit place low less high e. own.0 (net-bits h.object.kind h.kind) bit place less (omega (arith, high, width))
+    (object-site design number h.object h.at bit ∙ e ∙ sym (object-site design number h.object h.at place))))
 
 -- the outputs of a node
 node-apart : (design : FlatDesign) → TellsBits design → (i : ℕ) (node : FlatNode) → AllApart (SiteApart design) (output_sites design i node)
@@ -254,14 +271,16 @@ node-apart design tells i node =
     let outputs = outputs-of design node in
     let ascending = apart-filter (λ m n. m < n) (has node.outputs) (net_pieces design) (numbers-ascend (λ (object : FlatObject). is_net object.kind) 0 design.objects) in
     apart-joined (SiteApart design) (map bits numbers)
-    (AllHold-map (AllApart (SiteApart design)) bits numbers (AllHold-each (IsOutput design node) (λ number. AllApart (SiteApart design) (bits number)) numbers (λ number h. output-apart design tells i number node h) outputs))
+    (AllHold-map (AllApart (SiteApart design)) bits numbers (AllHold-each (IsOutput design node) (λ number. AllApart (SiteApart design) (bits number)) numbers
+    (λ number h. output-apart design tells i number node h) outputs))
     (apart-map (Across (SiteApart design)) bits numbers
     (apart-from (λ m n. Across (SiteApart design) (bits m) (bits n)) numbers
     (λ a b m n at_m at_n less.
     let order = apart-at (λ x y. x < y) numbers ascending a b m n at_m at_n less in
     across-all (SiteOfNet design m) (SiteOfNet design n) (SiteApart design) (bits m) (bits n)
     (λ site next. bits-differ design tells is_net is_net m n (λ same. omega (arith, same, order)) (site_name design site) (site_name design next))
-    (output-names design i m node (AllHold-slice_get (IsOutput design node) numbers a m outputs at_m)) (output-names design i n node (AllHold-slice_get (IsOutput design node) numbers b n outputs at_n)))))
+    (output-names design i m node (AllHold-slice_get (IsOutput design node) numbers a m outputs at_m))
+    (output-names design i n node (AllHold-slice_get (IsOutput design node) numbers b n outputs at_n)))))
 
 -- a site at an output of a node
 abbrev SiteOfOutput : FlatDesign → FlatNode → FaultSite → Type 0
@@ -293,7 +312,8 @@ outputs-apart design tells =
 abbrev SiteOfGate : FlatDesign → ℕ → FaultSite → Type 0
 SiteOfGate design i site = NamesTerminal design i (site_name design site)
 
-node-site : (design : FlatDesign) (i : ℕ) (node : FlatNode) → slice_get design.nodes i ≡ Some node → (terminal : ℕ) → node.name ++ 46 ∷ decimal terminal ≡ terminal_name (slice_get design.nodes i) terminal
+node-site : (design : FlatDesign) (i : ℕ) (node : FlatNode) → slice_get design.nodes i ≡ Some node → (terminal : ℕ) →
+    node.name ++ 46 ∷ decimal terminal ≡ terminal_name (slice_get design.nodes i) terminal
 node-site design i node at terminal = ap (λ n. terminal_name n terminal) (sym at)
 
 gate-names : (design : FlatDesign) (i : ℕ) (node : FlatNode) → slice_get design.nodes i ≡ Some node → AllHold (SiteOfGate design i) (terminal_sites i node)
@@ -308,7 +328,8 @@ gate-apart design tells i node at =
     apart-map (SiteApart design) (GateTerminal i) (up_from 1 (terminal_count node.kind))
     (apart-upwards (λ terminal number. SiteApart design (GateTerminal i terminal) (GateTerminal i number)) 1 (terminal_count node.kind)
     (λ terminal number low less high e.
-    let same = same-terminal node.name node.name terminal number (omega (arith, most, less, high)) (omega (arith, most, high)) (node-site design i node at terminal ∙ e ∙ sym (node-site design i node at number)) in
+    let same = same-terminal node.name node.name terminal number (omega (arith, most, less, high)) (omega (arith, most, high))
+    (node-site design i node at terminal ∙ e ∙ sym (node-site design i node at number)) in
     omega (arith, same.1, less)))
 
 terminals-apart : (design : FlatDesign) → TellsSites design → AllApart (SiteApart design) (joined (map_numbered terminal_sites 0 design.nodes))
@@ -336,18 +357,25 @@ sites-differ design tells =
     let outputs = joined (map_numbered (output_sites design) 0 design.nodes) in
     let terminals = joined (map_numbered terminal_sites 0 design.nodes) in
     let of_variables : AllHold (OfSomeVariable design) variables =
-    AllHold-numbered (OfSomeVariable design) variable_sites design.objects (λ i object at. AllHold-each (SiteOfVariable design i) (OfSomeVariable design) (variable_sites i object) (λ site h. (i, h)) (variable-names design i object at)) in
+    AllHold-numbered (OfSomeVariable design) variable_sites design.objects (λ i object at.
+    AllHold-each (SiteOfVariable design i) (OfSomeVariable design) (variable_sites i object) (λ site h. (i, h)) (variable-names design i object at)) in
     let of_nets : AllHold (OfSomeNet design) outputs =
-    AllHold-numbered (OfSomeNet design) (output_sites design) design.nodes (λ i node at. AllHold-each (SiteOfOutput design node) (OfSomeNet design) (output_sites design i node) (λ site h. (h.0, h.2)) (node-names design i node)) in
+    AllHold-numbered (OfSomeNet design) (output_sites design) design.nodes (λ i node at. AllHold-each (SiteOfOutput design node) (OfSomeNet design) (output_sites design i node)
+    (λ site h. (h.0, h.2)) (node-names design i node)) in
     let of_gates : AllHold (OfSomeGate design) terminals =
-    AllHold-numbered (OfSomeGate design) terminal_sites design.nodes (λ i node at. AllHold-each (SiteOfGate design i) (OfSomeGate design) (terminal_sites i node) (λ site h. (i, h)) (gate-names design i node at)) in
+    AllHold-numbered (OfSomeGate design) terminal_sites design.nodes (λ i node at. AllHold-each (SiteOfGate design i) (OfSomeGate design) (terminal_sites i node) (λ site h. (i, h))
+    (gate-names design i node at)) in
     let nets_gates : Across (SiteApart design) outputs terminals =
-    across-all (OfSomeNet design) (OfSomeGate design) (SiteApart design) outputs terminals (λ site next h k. bit-not-terminal design tells is_net h.0 k.0 (site_name design site) (site_name design next) h.1 k.1) of_nets of_gates in
+    across-all (OfSomeNet design) (OfSomeGate design) (SiteApart design) outputs terminals
+    (λ site next h k. bit-not-terminal design tells is_net h.0 k.0 (site_name design site) (site_name design next) h.1 k.1) of_nets of_gates in
     let variables_nets : Across (SiteApart design) variables outputs =
-    across-all (OfSomeVariable design) (OfSomeNet design) (SiteApart design) variables outputs (λ site next h k. variable-no-net design tells.bits h.0 k.0 (site_name design site) (site_name design next) h.1 k.1) of_variables of_nets in
+    across-all (OfSomeVariable design) (OfSomeNet design) (SiteApart design) variables outputs
+    (λ site next h k. variable-no-net design tells.bits h.0 k.0 (site_name design site) (site_name design next) h.1 k.1) of_variables of_nets in
     let variables_gates : Across (SiteApart design) variables terminals =
-    across-all (OfSomeVariable design) (OfSomeGate design) (SiteApart design) variables terminals (λ site next h k. bit-not-terminal design tells is_variable h.0 k.0 (site_name design site) (site_name design next) h.1 k.1) of_variables of_gates in
+    across-all (OfSomeVariable design) (OfSomeGate design) (SiteApart design) variables terminals
+    (λ site next h k. bit-not-terminal design tells is_variable h.0 k.0 (site_name design site) (site_name design next) h.1 k.1) of_variables of_gates in
     differ-from (map (site_name design) (sites_of design))
     (apart-map (λ one other. one ≢ other) (site_name design) (sites_of design)
     (apart-append (SiteApart design) variables (outputs ++ terminals) (variables-apart design tells.bits)
-    (apart-append (SiteApart design) outputs terminals (outputs-apart design tells) (terminals-apart design tells) nets_gates) (across-append (SiteApart design) variables outputs terminals variables_nets variables_gates)))
+    (apart-append (SiteApart design) outputs terminals (outputs-apart design tells) (terminals-apart design tells) nets_gates)
+    (across-append (SiteApart design) variables outputs terminals variables_nets variables_gates)))

@@ -40,7 +40,8 @@ before_bracket (byte ∷ rest) = bracket_or (nat_eq byte 91) byte (before_bracke
 before-index : (name : List ℕ) (ranged : Bool) (index : ℕ) → IsPlainName name → before_bracket (name ++ index_text ranged index) ≡ name
 before-index [] true index h = refl
 before-index [] false index h = refl
-before-index (byte ∷ name) ranged index h = ap (λ b. bracket_or b byte (before_bracket (name ++ index_text ranged index))) (ne_eqb byte 91 h.0) ∙ ap (λ (l : List ℕ). byte ∷ l) (before-index name ranged index h.1)
+before-index (byte ∷ name) ranged index h = ap (λ b. bracket_or b byte (before_bracket (name ++ index_text ranged index))) (ne_eqb byte 91 h.0)
+    ∙ ap (λ (l : List ℕ). byte ∷ l) (before-index name ranged index h.1)
 
 -- names of bits that are the same have the same name before their index
 pub same-front : (one other : List ℕ) (ranged ranges : Bool) (index number : ℕ) → IsPlainName one → IsPlainName other → one ++ index_text ranged index ≡ other ++ index_text ranges number → one ≡ other
@@ -109,7 +110,8 @@ some-dot (byte ∷ front) back = by_test (nat_eq byte 46) (some-dot front back)
 
 pub behind-none : (bytes : List ℕ) → HasNoDot bytes → behind_dot bytes ≡ bytes
 behind-none [] h = refl
-behind-none (byte ∷ rest) h = ap (λ later. dot_here later (nat_eq byte 46) byte rest (behind_dot rest)) (no-dot rest h.1) ∙ ap (λ here. dot_here false here byte rest (behind_dot rest)) (ne_eqb byte 46 h.0)
+behind-none (byte ∷ rest) h = ap (λ later. dot_here later (nat_eq byte 46) byte rest (behind_dot rest)) (no-dot rest h.1)
+    ∙ ap (λ here. dot_here false here byte rest (behind_dot rest)) (ne_eqb byte 46 h.0)
 
 pub behind-last : (front back : List ℕ) → HasNoDot back → behind_dot (front ++ 46 ∷ back) ≡ back
 behind-last [] back h = ap (λ later. dot_here later true 46 back (behind_dot back)) (no-dot back h)
@@ -150,7 +152,11 @@ digits-dotless digits h = AllHold-each (λ (byte : ℕ). (48 ≤ byte) × (byte 
 
 index-dotless : (ranged : Bool) (index : ℕ) → index < 2 ^ 64 → HasNoDot (index_text ranged index)
 index-dotless false index small = tt
-index-dotless true index small = (λ e. omega (arith, e), AllHold-append (λ (byte : ℕ). byte ≡ 46 → ⊥) (decimal index) (93 ∷ []) (digits-dotless (decimal index) (decimal-digits index small)) (λ e. omega (arith, e), tt))
+index-dotless true index small = (
+  λ e. omega (arith, e),
+  AllHold-append (λ (byte : ℕ). byte ≡ 46 → ⊥) (decimal index) (93 ∷ []) (digits-dotless (decimal index) (decimal-digits index small))
+      (λ e. omega (arith, e), tt),
+)
 
 behind-path : (path back : List ℕ) → EndsInDot path → HasNoDot back → behind_dot (path ++ back) ≡ back
 behind-path path back (inl none) h = ap (λ (p : List ℕ). behind_dot (p ++ back)) none ∙ behind-none back h
@@ -162,7 +168,8 @@ not-digits (first ∷ own) back [] h k e = absurd (cc)
 not-digits (first ∷ own) back (digit ∷ digits) h k e = let same : first ≡ digit = cc in omega (arith, same, h.0, k.0.1)
 
 -- a bit doesn't have the name of a terminal
-pub bit-no-terminal : (name gate : List ℕ) → IsObjectName name → (ranged : Bool) (index terminal : ℕ) → index < 2 ^ 64 → terminal < 2 ^ 64 → name ++ index_text ranged index ≡ gate ++ 46 ∷ decimal terminal → ⊥
+pub bit-no-terminal : (name gate : List ℕ) → IsObjectName name → (ranged : Bool) (index terminal : ℕ) → index < 2 ^ 64 → terminal < 2 ^ 64 →
+    name ++ index_text ranged index ≡ gate ++ 46 ∷ decimal terminal → ⊥
 bit-no-terminal name gate h ranged index terminal small few e =
     let back = h.own ++ index_text ranged index in
     let dotless : HasNoDot back = AllHold-append (λ (byte : ℕ). byte ≡ 46 → ⊥) h.own (index_text ranged index) (own-dotless h.own h.spelled) (index-dotless ranged index small) in

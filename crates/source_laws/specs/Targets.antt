@@ -2,7 +2,9 @@
 use Rattle.std.proofs.Common.{◌≡◌, ℕ, suc, ◌+◌, ◌<◌, ◌≤◌, List, [], ◌∷◌, ◌++◌, length, ap, length-append, arith}
 use Rattle.vf_base.specs.Lists.{AllHold}
 use Rattle.v_tree.specs.Tokens.{SourceToken}
-use Rattle.v_tree.specs.Trees.{SourceTarget, OneSelect, JoinedSelects, SourceStatement, NullStatement, BlockStatement, IfStatement, IfElseStatement, CaseStatement, ForStatement, WhileStatement, RepeatStatement, ForeverStatement, WaitStatement, EventStatement, DelayStatement, BlockingStatement, NonblockingStatement, IgnoredTask, FinishTask, SourceStatements, no_source_statements, more_source_statements, SourceCaseItems, no_source_items, labelled, otherwise}
+use Rattle.v_tree.specs.Trees.{SourceTarget, OneSelect, JoinedSelects, SourceStatement, NullStatement, BlockStatement, IfStatement, IfElseStatement, CaseStatement, ForStatement, WhileStatement}
+use Rattle.v_tree.specs.Trees.{RepeatStatement, ForeverStatement, WaitStatement, EventStatement, DelayStatement, BlockingStatement, NonblockingStatement, IgnoredTask, FinishTask, SourceStatements}
+use Rattle.v_tree.specs.Trees.{no_source_statements, more_source_statements, SourceCaseItems, no_source_items, labelled, otherwise}
 use Rattle.v_readers.specs.declared.class.Class.{Class}
 use Rattle.v_readers.specs.declared.class.Class.TheVariants as classes
 use Rattle.v_readers.specs.Separated.{SpellsList, SpellsBehind}
@@ -50,7 +52,8 @@ mutual
 -- Lists
 
 -- a fact of each element, where it follows from its spelling, its height and how many tokens it takes
-behind-hold : {A : Type 0} (L : A → List SourceToken → Type 0) (separator : Class) (height : A → ℕ) (most few : ℕ) (P : A → Type 0) → ((x : A) (ts : List SourceToken) → L x ts → height x ≤ most → length ts < few → P x) →
+behind-hold : {A : Type 0} (L : A → List SourceToken → Type 0) (separator : Class) (height : A → ℕ) (most few : ℕ) (P : A → Type 0) →
+    ((x : A) (ts : List SourceToken) → L x ts → height x ≤ most → length ts < few → P x) →
     (xs : List A) (ts : List SourceToken) → SpellsBehind L separator xs ts → greatest height xs ≤ most → length ts < few → AllHold P xs
 behind-hold L separator height most few P each [] ts h low short = tt
 behind-hold L separator height most few P each (x ∷ xs) ts h low short =
@@ -58,7 +61,8 @@ behind-hold L separator height most few P each (x ∷ xs) ts h low short =
     let both = length-append h.1 h.2 in
     (each x h.1 h.3 (omega (arith, low)) (omega (arith, long, both, short)), behind-hold L separator height most few P each xs h.2 h.4 (omega (arith, low)) (omega (arith, long, both, short)))
 
-pub list-hold : {A : Type 0} (L : A → List SourceToken → Type 0) (separator : Class) (height : A → ℕ) (most few : ℕ) (P : A → Type 0) → ((x : A) (ts : List SourceToken) → L x ts → height x ≤ most → length ts < few → P x) →
+pub list-hold : {A : Type 0} (L : A → List SourceToken → Type 0) (separator : Class) (height : A → ℕ) (most few : ℕ) (P : A → Type 0) →
+    ((x : A) (ts : List SourceToken) → L x ts → height x ≤ most → length ts < few → P x) →
     (xs : List A) (ts : List SourceToken) → SpellsList L separator xs ts → greatest height xs ≤ most → length ts < few → AllHold P xs
 list-hold L separator height most few P each [] ts h low short = absurd h
 list-hold L separator height most few P each (x ∷ xs) ts h low short =

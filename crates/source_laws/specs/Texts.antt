@@ -52,7 +52,8 @@ text-named text tokens u are spelled = record {
     token-at : (ds : List Declaration) (k : ℕ) (d : Declaration) → slice_get ds k ≡ Some d → slice_get (map declared_token ds) k ≡ Some (declared_token d)
     token-at ds k d at = slice_get-map declared_token ds k ∙ ap (option_map declared_token) at
 
-    apart : (ds : List Declaration) → IsInOrder ComesBefore (map declared_token ds) → (k l : ℕ) (one other : Declaration) → slice_get ds k ≡ Some one → slice_get ds l ≡ Some other → one.place ≡ other.place → k ≡ l
+    apart : (ds : List Declaration) → IsInOrder ComesBefore (map declared_token ds) → (k l : ℕ) (one other : Declaration) → slice_get ds k ≡ Some one → slice_get ds l ≡ Some other →
+        one.place ≡ other.place → k ≡ l
     apart ds order k l one other at_one at_other same =
         let places : (declared_token one).place ≡ (declared_token other).place = ap (λ (p : SourcePlace). record { line = p.line; column = p.column }) same in
         elim (cases_order k l) [

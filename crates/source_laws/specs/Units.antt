@@ -58,14 +58,17 @@ module _ (P : SourceItem → Type 0) (of_parameters : (group : SourceParameters)
       let front = token_of classes.Module h.1 ∷ name_token m.name m.place ∷ [] in
       let inside : StandsIn h.6 ts =
       subst (StandsIn h.6) (sym h.10)
-      (back-stands h.6 front (h.4 ++ (h.5 ++ behind)) (back-stands h.6 h.4 (h.5 ++ behind) (back-stands h.6 h.5 behind (back-stands h.6 (token_of classes.Semicolon h.2 ∷ []) (h.6 ++ end) (front-stands h.6 h.6 end (all-stand h.6)))))) in
-      AllHold-append P (map ParameterItem m.parameters) (head_items m.heads ++ m.items) (AllHold-map P ParameterItem m.parameters (AllHold-all (λ group. P (ParameterItem group)) m.parameters of_parameters))
+      (back-stands h.6 front (h.4 ++ (h.5 ++ behind)) (back-stands h.6 h.4 (h.5 ++ behind)
+      (back-stands h.6 h.5 behind (back-stands h.6 (token_of classes.Semicolon h.2 ∷ []) (h.6 ++ end) (front-stands h.6 h.6 end (all-stand h.6)))))) in
+      AllHold-append P (map ParameterItem m.parameters) (head_items m.heads ++ m.items) (AllHold-map P ParameterItem m.parameters
+      (AllHold-all (λ group. P (ParameterItem group)) m.parameters of_parameters))
       (AllHold-append P (head_items m.heads) m.items (heads-hold m.heads) (AllHold-from P m.items (λ i item at.
       let r = each-part SpellsItem m.items h.6 h.9 i item at in
       each item r.part r.spelled (stand-trans r.part h.6 ts r.stands inside) (greatest-at item_height m.items i item at))))
 
   -- what each item keeps that is spelled among the tokens, each item of a module of the unit keeps
-  pub unit-items : (u : SourceUnit) (tokens : List SourceToken) → SpellsUnit u tokens → ((item : SourceItem) (part : List SourceToken) → SpellsItem item part → StandsIn part tokens → item_height item ≤ unit_height u → P item) →
+  pub unit-items : (u : SourceUnit) (tokens : List SourceToken) → SpellsUnit u tokens → ((item : SourceItem) (part : List SourceToken) → SpellsItem item part → StandsIn part tokens →
+      item_height item ≤ unit_height u → P item) →
       (i : ℕ) (m : SourceModule) → slice_get u.modules i ≡ Some m → (item : SourceItem) → IsOf m item → P item
   unit-items u tokens spelled each i m at item of =
       let r = unit-module u tokens spelled i m at in

@@ -6,7 +6,8 @@ use Rattle.four_value.specs.declared.operator.GateKind.{GateKind}
 use Rattle.vf_base.specs.Lists.{AllHold}
 use Rattle.v_tree.specs.declared.item.Direction.{Direction}
 use Rattle.v_tree.specs.declared.item.Direction.TheVariants.{Input, Output}
-use Rattle.v_tree.specs.Trees.{Identifier, SourceExpression, SourceTarget, SourceStatement, SourceWire, SourceAssignment, SourceGate, SourceConnection, SourceItem, ParameterItem, PortItem, WireItem, RegItem, IntegerItem, AssignItem, GateItem, InstanceItem, InitialItem, AlwaysItem, SourceModule}
+use Rattle.v_tree.specs.Trees.{Identifier, SourceExpression, SourceTarget, SourceStatement, SourceWire, SourceAssignment, SourceGate, SourceConnection, SourceItem, ParameterItem, PortItem, WireItem}
+use Rattle.v_tree.specs.Trees.{RegItem, IntegerItem, AssignItem, GateItem, InstanceItem, InitialItem, AlwaysItem, SourceModule}
 use Rattle.v_names.specs.Faults.{same_place}
 use Rattle.v_names.specs.Scopes.{ScopeEntry, ParameterEntry, RefusedParameter, WaitingParameter, NetEntry, RegEntry, MemoryEntry, GateEntry, InstanceEntry, looked_up}
 use Rattle.v_names.specs.Names.{Declaration, names_declared, of_name, item_declarations}
@@ -45,8 +46,10 @@ module _ (Q : SourceStatement → Type 0) where
       AllHold-flat_map P (parts_of_own here (names_declared here.instance.inner)) (item_declarations item)
       (AllHold-all (λ d. AllHold P (parts_of_own here (names_declared here.instance.inner) d)) (item_declarations item)
       (λ d.
-      AllHold-flat_map P (λ (own : Declaration). part_by_entry here own (looked_up here.scope own.name)) (filter (λ (own : Declaration). same_place own.place d.place) (of_name d.name (names_declared here.instance.inner)))
-      (AllHold-all (λ (own : Declaration). AllHold P (part_by_entry here own (looked_up here.scope own.name))) (filter (λ (own : Declaration). same_place own.place d.place) (of_name d.name (names_declared here.instance.inner)))
+      AllHold-flat_map P (λ (own : Declaration). part_by_entry here own (looked_up here.scope own.name))
+      (filter (λ (own : Declaration). same_place own.place d.place) (of_name d.name (names_declared here.instance.inner)))
+      (AllHold-all (λ (own : Declaration). AllHold P (part_by_entry here own (looked_up here.scope own.name)))
+      (filter (λ (own : Declaration). same_place own.place d.place) (of_name d.name (names_declared here.instance.inner)))
       (λ own. entry-of here own (looked_up here.scope own.name)))))
 
   wire-of : (here : Here) (wire : SourceWire) (value : Option SourceExpression) → AllHold P (wire_parts here (record wire { value = value }))
@@ -61,7 +64,8 @@ module _ (Q : SourceStatement → Type 0) where
   port-of child paths port e None = tt
   port-of child paths port e (Some target) = (tt, tt)
 
-  actual-of : (child : Child) (paths : Paths) (port : Identifier) (e : SourceExpression) (joined : Option Identifier) (direction : Option Direction) → AllHold P (actual_parts child paths port e joined direction)
+  actual-of : (child : Child) (paths : Paths) (port : Identifier) (e : SourceExpression) (joined : Option Identifier) (direction : Option Direction) →
+      AllHold P (actual_parts child paths port e joined direction)
   actual-of child paths port e (Some joined) direction = tt
   actual-of child paths port e None (Some Input) = (tt, tt)
   actual-of child paths port e None (Some Output) = port-of child paths port e (target_of e)
@@ -78,7 +82,8 @@ module _ (Q : SourceStatement → Type 0) where
       AllHold-append P (connection_parts child paths (connected_name (head_names child.inner.heads) position connection.name) connection.actual) (connections_parts child paths (position + 1) rest)
       (connection-of child paths (connected_name (head_names child.inner.heads) position connection.name) connection.actual) (connections-of child paths (position + 1) rest)
 
-  item-of : (modules : List SourceModule) → HoldsOfBodies Q modules → (mode : Mode) (here : Here) → IsHere (IsModule modules) modules mode here → (gates : ℕ) (item : SourceItem) → IsOf here.instance.inner item → AllHold P (item_parts here gates item)
+  item-of : (modules : List SourceModule) → HoldsOfBodies Q modules → (mode : Mode) (here : Here) → IsHere (IsModule modules) modules mode here → (gates : ℕ) (item : SourceItem) →
+      IsOf here.instance.inner item → AllHold P (item_parts here gates item)
   item-of modules holds mode here is gates (ParameterItem group) of = tt
   item-of modules holds mode here is gates (PortItem group) of = declared-of here (PortItem group)
   item-of modules holds mode here is gates (WireItem place signed range wires) of =
@@ -94,7 +99,8 @@ module _ (Q : SourceStatement → Type 0) where
   item-of modules holds mode here is gates (AlwaysItem place body) of = (holds.of_always is.entered.0 here.instance.inner is.entered.1 place body of, tt)
 
   -- it holds of each process of a walk
-  pub walked-bodies : (modules : List SourceModule) → HoldsOfBodies Q modules → (mode : Mode) (top : SourceModule) → (i : ℕ) → slice_get modules i ≡ Some top → (parts : List Part) → walked_from modules mode top ≡ Ok parts → AllHold (OfPart (λ (process : WalkedProcess). Q process.body)) parts
+  pub walked-bodies : (modules : List SourceModule) → HoldsOfBodies Q modules → (mode : Mode) (top : SourceModule) → (i : ℕ) → slice_get modules i ≡ Some top → (parts : List Part) →
+      walked_from modules mode top ≡ Ok parts → AllHold (OfPart (λ (process : WalkedProcess). Q process.body)) parts
   walked-bodies modules holds mode top i at parts e =
       walk-holds P (IsModule modules) modules mode
       (record {

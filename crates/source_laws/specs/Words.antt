@@ -99,13 +99,30 @@ tokens-few-from place leading [] rest h = omega arith
 tokens-few-from place leading (Blank b ∷ pieces) rest h =
     omega (arith, tokens-few-from (place_behind place (piece_bytes (Blank b))) (leads_behind leading (Blank b)) pieces rest h.1, length-append (piece_bytes (Blank b)) (spelled pieces))
 tokens-few-from place leading (LineComment body ∷ pieces) rest h =
-    omega (arith, tokens-few-from (place_behind place (piece_bytes (LineComment body))) (leads_behind leading (LineComment body)) pieces rest h.1, length-append (piece_bytes (LineComment body)) (spelled pieces))
+    omega (
+      arith,
+      tokens-few-from (place_behind place (piece_bytes (LineComment body))) (leads_behind leading (LineComment body)) pieces rest h.1,
+      length-append (piece_bytes (LineComment body)) (spelled pieces),
+    )
 tokens-few-from place leading (BlockComment body ∷ pieces) rest h =
-    omega (arith, tokens-few-from (place_behind place (piece_bytes (BlockComment body))) (leads_behind leading (BlockComment body)) pieces rest h.1, length-append (piece_bytes (BlockComment body)) (spelled pieces))
+    omega (
+      arith,
+      tokens-few-from (place_behind place (piece_bytes (BlockComment body))) (leads_behind leading (BlockComment body)) pieces rest h.1,
+      length-append (piece_bytes (BlockComment body)) (spelled pieces),
+    )
 tokens-few-from place leading (Timescale body ∷ pieces) rest h =
-    omega (arith, tokens-few-from (place_behind place (piece_bytes (Timescale body))) (leads_behind leading (Timescale body)) pieces rest h.1, length-append (piece_bytes (Timescale body)) (spelled pieces))
+    omega (
+      arith,
+      tokens-few-from (place_behind place (piece_bytes (Timescale body))) (leads_behind leading (Timescale body)) pieces rest h.1,
+      length-append (piece_bytes (Timescale body)) (spelled pieces),
+    )
 tokens-few-from place leading (Token word kind ∷ pieces) rest h =
-    omega (arith, tokens-few-from (place_behind place (word_bytes word)) (leads_behind leading (Token word kind)) pieces rest h.1, length-append (word_bytes word) (spelled pieces), word-some word h.0.0)
+    omega (
+      arith,
+      tokens-few-from (place_behind place (word_bytes word)) (leads_behind leading (Token word kind)) pieces rest h.1,
+      length-append (word_bytes word) (spelled pieces),
+      word-some word h.0.0,
+    )
 
 -- no more than a text may have bytes
 pub tokens-few : (text : List ℕ) (tokens : List SourceToken) → AreTokens text tokens → length tokens ≤ MAX_DESIGN_BYTES

@@ -29,5 +29,6 @@ or-false true = refl
 or-false false = refl
 
 -- what is known where one list is at its end
-pub hard-through : (good faulty : List Bit) (i : ℕ) (hard : Bool) → min (length good) (length faulty) ≤ i → (hard || some_sample is_hard (drop i good) (drop i faulty)) ≡ some_sample is_hard good faulty → hard ≡ some_sample is_hard good faulty
+pub hard-through : (good faulty : List Bit) (i : ℕ) (hard : Bool) → min (length good) (length faulty) ≤ i →
+    (hard || some_sample is_hard (drop i good) (drop i faulty)) ≡ some_sample is_hard good faulty → hard ≡ some_sample is_hard good faulty
 hard-through good faulty i hard h so = sym (or-false hard) ∙ ap (λ b. hard || b) (sym (hard-past good faulty i h)) ∙ so

@@ -28,7 +28,8 @@ words-last text none =
     ap (λ pieces. filter is_word pieces) (slice_split_none is_space text all) ∙ (filter-kept text [] ∙ append-none (kept text))
 
 -- one word more is read
-pub words-more : (before now whole : List (List ℕ)) (text word rest : List ℕ) (b : ℕ) → before ++ pieces_of text ≡ whole → now ≡ before ++ kept word → text ≡ word ++ b ∷ rest → AllByRecursion (λ c. is_space c ≡ false) word → is_space b ≡ true → now ++ pieces_of rest ≡ whole
+pub words-more : (before now whole : List (List ℕ)) (text word rest : List ℕ) (b : ℕ) → before ++ pieces_of text ≡ whole → now ≡ before ++ kept word → text ≡ word ++ b ∷ rest →
+    AllByRecursion (λ c. is_space c ≡ false) word → is_space b ≡ true → now ++ pieces_of rest ≡ whole
 words-more before now whole text word rest b inv is e none space =
     ap (λ l. l ++ pieces_of rest) is ∙ (append_assoc before (kept word) (pieces_of rest) ∙ (ap (λ l. before ++ l) (sym (words-cut text word rest b e none space)) ∙ inv))
 
@@ -47,7 +48,8 @@ first-of (first ∷ more) some = (first, more, refl)
 split-first : (text : List ℕ) → (first : List ℕ) × (more : List (List ℕ)) × (slice_split is_line_feed text ≡ first ∷ more)
 split-first text = first-of (slice_split is_line_feed text) (rw (length-slice_split is_line_feed text) (omega arith))
 
-lines-cut : (text line rest : List ℕ) (b : ℕ) → text ≡ line ++ b ∷ rest → AllByRecursion (λ c. is_line_feed c ≡ false) line → is_line_feed b ≡ true → lines_of text ≡ without_return line ∷ lines_of rest
+lines-cut : (text line rest : List ℕ) (b : ℕ) → text ≡ line ++ b ∷ rest → AllByRecursion (λ c. is_line_feed c ≡ false) line → is_line_feed b ≡ true →
+    lines_of text ≡ without_return line ∷ lines_of rest
 lines-cut text line rest b e none ends =
     let all : All (λ c. is_line_feed c ≡ false) line = All-from_recursion (λ c. is_line_feed c ≡ false) line none in
     let first = split-first rest in
@@ -59,7 +61,8 @@ lines-last text none =
     ap lines_of_pieces (slice_split_none is_line_feed text all)
 
 -- one line more is read
-pub lines-more : (before now whole : List (List ℕ)) (text line rest : List ℕ) (b : ℕ) → before ++ lines_of text ≡ whole → now ≡ before ++ without_return line ∷ [] → text ≡ line ++ b ∷ rest → AllByRecursion (λ c. is_line_feed c ≡ false) line → is_line_feed b ≡ true → now ++ lines_of rest ≡ whole
+pub lines-more : (before now whole : List (List ℕ)) (text line rest : List ℕ) (b : ℕ) → before ++ lines_of text ≡ whole → now ≡ before ++ without_return line ∷ [] → text ≡ line ++ b ∷ rest →
+    AllByRecursion (λ c. is_line_feed c ≡ false) line → is_line_feed b ≡ true → now ++ lines_of rest ≡ whole
 lines-more before now whole text line rest b inv is e none ends =
     ap (λ l. l ++ lines_of rest) is ∙ (append_assoc before (without_return line ∷ []) (lines_of rest) ∙ (ap (λ l. before ++ l) (sym (lines-cut text line rest b e none ends)) ∙ inv))
 

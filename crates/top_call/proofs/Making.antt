@@ -33,12 +33,14 @@ use Rattle.vf_status.specs.declared.status.Status.{Status}
 use Rattle.vf_status.specs.declared.status.Status.TheVariants.{Done, Refused, Usage, ReadFault, WriteFault, NoMemory, GoodLoop, TooLong}
 use Rattle.top_call.specs.Answers.{Answer, Outputs, Refuses, Lacks, Exceeds, Loops, status_of, most_of, IsFile, HoldDesign, AfterSource, refusal_of, by_workers, IsAnswer, IsTheAnswer}
 use Rattle.std.specs.Prelude.{IfSome, IfErr}
-use Rattle.top_call.specs.Outside.{Answers, IsOutput, IfTold, ShelfCounts, reads_to, refused_file, IsReason, ComesTo, ReadFailed, ToldLong, PutGives, PutsInFew, Keeps, Names, MakesDictionary, CanRefuse, CanEnd, files_of, files_named, files_for, as_answered, no_memory, no_read, no_put}
+use Rattle.top_call.specs.Outside.{Answers, IsOutput, IfTold, ShelfCounts, reads_to, refused_file, IsReason, ComesTo, ReadFailed, ToldLong, PutGives, PutsInFew, Keeps, Names, MakesDictionary}
+use Rattle.top_call.specs.Outside.{CanRefuse, CanEnd, files_of, files_named, files_for, as_answered, no_memory, no_read, no_put}
 use Rattle.top_call.specs.Making.{IsLongFile, FileGives, TextFails, HoldRefused, DesignGives, status_if, design_status, report_status, soak_status, OutputGives}
 use Rattle.top_call.proofs.OneAnswer.{The, source-lacks, source-exceeds, source-refused, plan-lacks, plan-exceeds, plan-tells, check-tells, faults-tell, soak-tells}
 
 -- what is handed on
-pub err-gives : (form : Form) (held : Option Files) (old new : ShelfCounts) (r : Result (Vec ℕ Global) Status) (status : Status) → IsErrAnd r (λ e. e ≡ status) → OutputGives form held old new (Err status) → OutputGives form held old new r
+pub err-gives : (form : Form) (held : Option Files) (old new : ShelfCounts) (r : Result (Vec ℕ Global) Status) (status : Status) → IsErrAnd r (λ e. e ≡ status) →
+    OutputGives form held old new (Err status) → OutputGives form held old new r
 err-gives form held old new (Ok text) status same h = absurd same
 err-gives form held old new (Err found) status same h = subst (λ s. OutputGives form held old new (Err s)) (sym same) h
 
@@ -48,7 +50,8 @@ pub err-ends : (form : Form) (r : Result (Vec ℕ Global) Status) (status : Stat
 err-ends form (Ok text) status same h = absurd same
 err-ends form (Err found) status same h = subst (CanEnd form) (sym same) h
 
-pub file-ends : (form : Form) (held : Option Files) (name : List ℕ) (which : Which) (old new : ShelfCounts) (status : Status) → Names form which → FileGives held name which old new (Err status) → CanEnd form status
+pub file-ends : (form : Form) (held : Option Files) (name : List ℕ) (which : Which) (old new : ShelfCounts) (status : Status) → Names form which → FileGives held name which old new (Err status) →
+    CanEnd form status
 file-ends form held name which old new Done names h = absurd h
 file-ends form held name which old new (Refused why) names h = absurd h
 file-ends form held name which old new Usage names h = absurd h
@@ -77,15 +80,18 @@ text-ends form held name which refuses old new NoMemory names makes h = tt
 text-ends form held name which refuses old new (GoodLoop time) names makes h = absurd h
 text-ends form held name which refuses old new (TooLong file) names makes h = subst (Names form) (sym h.0) names
 
-pub source-ends : (form : Form) (held : Option Files) (source : Source) (old new : ShelfCounts) (status : Status) → Names form whiches.Design → DesignGives held source old new (Err status) → CanEnd form status
+pub source-ends : (form : Form) (held : Option Files) (source : Source) (old new : ShelfCounts) (status : Status) → Names form whiches.Design → DesignGives held source old new (Err status) →
+    CanEnd form status
 source-ends form held source old new status names h = text-ends form held source.design whiches.Design (λ files why. HoldRefused files source why) old new status names (λ e. absurd (cc)) h
 
 -- a plan's text that was read isn't too long
-pub plan-reason : (design : FlatDesign) (text : List ℕ) (fault : PlanFault) → length text ≤ most_of whiches.Plan → plans.Refuses design text fault → fault ≢ plan_faults.NoMemory → IsReason (refusals.Plan fault)
+pub plan-reason : (design : FlatDesign) (text : List ℕ) (fault : PlanFault) → length text ≤ most_of whiches.Plan → plans.Refuses design text fault → fault ≢ plan_faults.NoMemory →
+    IsReason (refusals.Plan fault)
 plan-reason design text fault short refuses other =
     ((λ e. let long : most_of whiches.Plan < length text = subst (plans.Refuses design text) e refuses in absurd (omega (arith, short, long))), other)
 
-pub report-ends : (source : Source) (plan : List ℕ) (workers : ℕ) (design : FlatDesign) (bytes text : List ℕ) (fault : ReportFault) (status : Status) → length bytes ≤ most_of whiches.Plan → text ≡ bytes →
+pub report-ends : (source : Source) (plan : List ℕ) (workers : ℕ) (design : FlatDesign) (bytes text : List ℕ) (fault : ReportFault) (status : Status) → length bytes ≤ most_of whiches.Plan →
+    text ≡ bytes →
     (fault ≡ reported.NoMemory) ⊎ reports.IsTheMeaning Lines design text (Err fault) → status ≡ report_status fault → CanEnd (Grade source plan workers) status
 report-ends source plan workers design bytes text fault status short same is e = subst (CanEnd (Grade source plan workers)) (sym e) (by fault is)
   where
@@ -134,13 +140,15 @@ module _ (held : Option Files) (source : Source) (old new : ShelfCounts) (bytes 
       its-reason : (why : Refusal) → refusal_of fault ≡ Some why → (refused_file why ≡ whiches.Design) × IsReason why
       its-reason why e = design-reason text top source (subst (λ t. length t ≤ most_of whiches.Design) (sym same_text) short) fault why e is.means
 
-      by : (told : Option Files) → IfTold told (λ files. IsFile files source.design whiches.Design bytes) → (reason : Option Refusal) → refusal_of fault ≡ reason → DesignGives told source old new (Err (status_if reason))
+      by : (told : Option Files) → IfTold told (λ files. IsFile files source.design whiches.Design bytes) → (reason : Option Refusal) → refusal_of fault ≡ reason →
+          DesignGives told source old new (Err (status_if reason))
       by None f None e = tt
       by None f (Some why) e = let r = its-reason why e in (r.0, r.1, tt)
       by (Some files) f None e = tt
       by (Some files) f (Some why) e = let r = its-reason why e in (r.0, r.1, record { bytes = bytes; file = f; fault = fault; meaning = means-here (Err fault) is; told = e })
 
-  pub design-faulty : (fault : DesignFault) (status : Status) → (fault ≡ designs.NoMemory) ⊎ texts.IsTheMeaning text top source.mode (Err fault) → status ≡ design_status fault → DesignGives held source old new (Err status)
+  pub design-faulty : (fault : DesignFault) (status : Status) → (fault ≡ designs.NoMemory) ⊎ texts.IsTheMeaning text top source.mode (Err fault) → status ≡ design_status fault →
+      DesignGives held source old new (Err status)
   design-faulty fault status is told = subst (λ s. DesignGives held source old new (Err s)) (sym told) (faulty fault is)
 
   pub design-made : (design : FlatDesign) → texts.IsTheMeaning text top source.mode (Ok design) → IfTold held (λ files. HoldDesign files source design)
@@ -175,7 +183,8 @@ module _ (form : Form) (name : List ℕ) (which : Which) (refuses : Files → Re
   abbrev Long : Option Files → Which → Type 0
   Long held file = ToldLong held file old new ⊎ ((files : Files) × (held ≡ Some files) × IsTheAnswer form files (Exceeds file))
 
-  pub text-not-read : (held : Option Files) (status : Status) → IfTold held (Decides form name which refuses) → TextFails held name which refuses mid new status → OutputGives form held old new (Err status)
+  pub text-not-read : (held : Option Files) (status : Status) → IfTold held (Decides form name which refuses) → TextFails held name which refuses mid new status →
+      OutputGives form held old new (Err status)
   text-not-read held Done d h = absurd h
   text-not-read None (Refused why) d h = tt
   text-not-read (Some files) (Refused why) d h = d.refused why h.2
@@ -205,7 +214,8 @@ file-fails held name which refuses old new (TooLong file) h = h
 
 -- the design of a form
 
-module _ (form : Form) (source : Source) (next : Files → FlatDesign → Answer → Type 0) (as_form : (files : Files) (answer : Answer) → The (AfterSource source files (next files)) answer → IsTheAnswer form files answer) where
+module _ (form : Form) (source : Source) (next : Files → FlatDesign → Answer → Type 0) (as_form : (files : Files) (answer : Answer) → The (AfterSource source files (next files)) answer →
+    IsTheAnswer form files answer) where
   source-decides : (held : Option Files) → IfTold held (Decides form source.design whiches.Design (λ files why. HoldRefused files source why))
   source-decides None = tt
   source-decides (Some files) = record {
@@ -215,7 +225,8 @@ module _ (form : Form) (source : Source) (next : Files → FlatDesign → Answer
     refused = λ why r. as_form files (Refuses why) (source-refused source (next files) files why r);
   }
 
-  pub not-read : (held : Option Files) (old new : ShelfCounts) (status : Status) → new.reads ≡ raised old.reads → DesignGives held source old new (Err status) → OutputGives form held old new (Err status)
+  pub not-read : (held : Option Files) (old new : ShelfCounts) (status : Status) → new.reads ≡ raised old.reads → DesignGives held source old new (Err status) →
+      OutputGives form held old new (Err status)
   not-read held old new status reads h =
       text-not-read form source.design whiches.Design (λ files why. HoldRefused files source why) old old new (omega arith) (omega arith) reads held status (source-decides held) h
 
@@ -234,14 +245,17 @@ module _ (source : Source) (plan : List ℕ) (workers : ℕ) (design : FlatDesig
     refused = λ why r. absurd r;
   }
 
-  pub plan-not-read : (held : Option Files) (old mid new : ShelfCounts) (status : Status) → old.faults ≤ mid.faults → old.long_answers ≤ mid.long_answers → mid.reads ≡ raised old.reads → new.reads ≡ raised mid.reads →
+  pub plan-not-read : (held : Option Files) (old mid new : ShelfCounts) (status : Status) → old.faults ≤ mid.faults → old.long_answers ≤ mid.long_answers → mid.reads ≡ raised old.reads →
+      new.reads ≡ raised mid.reads →
       IfTold held (λ files. HoldDesign files source design) → FileGives held plan whiches.Plan mid new (Err status) → OutputGives (Grade source plan workers) held old new (Err status)
   plan-not-read held old mid new status faults longs one two d h =
-      text-not-read (Grade source plan workers) plan whiches.Plan NoRefusal old mid new faults longs (two ∙ ap raised one) held status (plan-decides held d) (file-fails held plan whiches.Plan NoRefusal mid new status h)
+      text-not-read (Grade source plan workers) plan whiches.Plan NoRefusal old mid new faults longs (two ∙ ap raised one) held status (plan-decides held d)
+      (file-fails held plan whiches.Plan NoRefusal mid new status h)
 
   -- Where both are read
 
-  faulty-report : (held : Option Files) (old new : ShelfCounts) (bytes : List ℕ) (fault : ReportFault) → IfTold held (λ files. HoldDesign files source design) → IfTold held (λ files. IsFile files plan whiches.Plan bytes) →
+  faulty-report : (held : Option Files) (old new : ShelfCounts) (bytes : List ℕ) (fault : ReportFault) → IfTold held (λ files. HoldDesign files source design) →
+      IfTold held (λ files. IsFile files plan whiches.Plan bytes) →
       (fault ≡ reported.NoMemory) ⊎ reports.IsTheMeaning Lines design bytes (Err fault) → OutputGives (Grade source plan workers) held old new (Err (report_status fault))
   faulty-report held old new bytes fault d f (inl e) = subst (λ w. OutputGives (Grade source plan workers) held old new (Err (report_status w))) (sym e) tt
   faulty-report None old new bytes (reported.Plan fault) d f (inr is) = tt
@@ -251,13 +265,15 @@ module _ (source : Source) (plan : List ℕ) (workers : ℕ) (design : FlatDesig
       plan-tells source plan workers files design bytes (Err (reported.Plan fault)) (Refuses (refusals.Plan fault)) d f is refl
   faulty-report (Some files) old new bytes (reported.GoodLoop time) d f (inr is) = plan-tells source plan workers files design bytes (Err (reported.GoodLoop time)) (Loops time) d f is refl
 
-  pub report-faulty : (held : Option Files) (old new : ShelfCounts) (bytes text : List ℕ) (fault : ReportFault) (status : Status) → IfTold held (λ files. HoldDesign files source design) → IfTold held (λ files. IsFile files plan whiches.Plan bytes) →
+  pub report-faulty : (held : Option Files) (old new : ShelfCounts) (bytes text : List ℕ) (fault : ReportFault) (status : Status) → IfTold held (λ files. HoldDesign files source design) →
+      IfTold held (λ files. IsFile files plan whiches.Plan bytes) →
       text ≡ bytes → (fault ≡ reported.NoMemory) ⊎ reports.IsTheMeaning Lines design text (Err fault) → status ≡ report_status fault → OutputGives (Grade source plan workers) held old new (Err status)
   report-faulty held old new bytes text fault status d f same is told =
       subst (λ s. OutputGives (Grade source plan workers) held old new (Err s)) (sym told)
       (faulty-report held old new bytes fault d f (subst (λ t. (fault ≡ reported.NoMemory) ⊎ reports.IsTheMeaning Lines design t (Err fault)) same is))
 
-  made-report : (held : Option Files) (old new : ShelfCounts) (bytes report : List ℕ) → IfTold held (λ files. HoldDesign files source design) → IfTold held (λ files. IsFile files plan whiches.Plan bytes) →
+  made-report : (held : Option Files) (old new : ShelfCounts) (bytes report : List ℕ) → IfTold held (λ files. HoldDesign files source design) →
+      IfTold held (λ files. IsFile files plan whiches.Plan bytes) →
       reports.IsTheMeaning Lines design bytes (Ok report) → reports.HoldsInEveryOrder Lines design bytes report → IfTold held (λ files. IsOutput (Grade source plan workers) files report)
   made-report None old new bytes report d f is holds = tt
   made-report (Some files) old new bytes report d f is holds = record {
@@ -265,7 +281,8 @@ module _ (source : Source) (plan : List ℕ) (workers : ℕ) (design : FlatDesig
     every_order = record { design_text = d.bytes; design_held = d.file.held; design = design; is_design = d.meaning.means; plan_text = bytes; plan_held = f.held; holds = holds };
   }
 
-  pub report-made : (held : Option Files) (old new : ShelfCounts) (bytes text report : List ℕ) → IfTold held (λ files. HoldDesign files source design) → IfTold held (λ files. IsFile files plan whiches.Plan bytes) →
+  pub report-made : (held : Option Files) (old new : ShelfCounts) (bytes text report : List ℕ) → IfTold held (λ files. HoldDesign files source design) →
+      IfTold held (λ files. IsFile files plan whiches.Plan bytes) →
       text ≡ bytes → reports.IsTheMeaning Lines design text (Ok report) → reports.HoldsInEveryOrder Lines design text report → IfTold held (λ files. IsOutput (Grade source plan workers) files report)
   report-made held old new bytes text report d f same is holds =
       made-report held old new bytes report d f (subst (λ t. reports.IsTheMeaning Lines design t (Ok report)) same is) (subst (λ t. reports.HoldsInEveryOrder Lines design t report) same holds)
@@ -283,13 +300,15 @@ faults-made (Some files) source design text d e = record { answers = faults-tell
 -- A generated design
 
 module _ (number size workers : ℕ) (design : FlatDesign) (is : texts.IsTheMeaning (soaks.design_text number size) (codes "top") Usual (Ok design)) (old new : ShelfCounts) where
-  soak-at : (fault : ReportFault) → (fault ≡ reported.NoMemory) ⊎ reports.IsTheMeaning Totals design (soaks.plan_text size) (Err fault) → OutputGives (Soak number size workers) (Some []) old new (Err (soak_status fault))
+  soak-at : (fault : ReportFault) → (fault ≡ reported.NoMemory) ⊎ reports.IsTheMeaning Totals design (soaks.plan_text size) (Err fault) →
+      OutputGives (Soak number size workers) (Some []) old new (Err (soak_status fault))
   soak-at (reported.Plan fault) h = tt
   soak-at (reported.GoodLoop time) (inl e) = absurd (cc)
   soak-at (reported.GoodLoop time) (inr m) = soak-tells number size workers [] design (Err (reported.GoodLoop time)) (Loops time) is m refl
   soak-at reported.NoMemory h = tt
 
-  pub soak-faulty : (text : List ℕ) (fault : ReportFault) (status : Status) → text ≡ soaks.plan_text size → (fault ≡ reported.NoMemory) ⊎ reports.IsTheMeaning Totals design text (Err fault) → status ≡ soak_status fault →
+  pub soak-faulty : (text : List ℕ) (fault : ReportFault) (status : Status) → text ≡ soaks.plan_text size → (fault ≡ reported.NoMemory) ⊎ reports.IsTheMeaning Totals design text (Err fault) →
+      status ≡ soak_status fault →
       OutputGives (Soak number size workers) (Some []) old new (Err status)
   soak-faulty text fault status same h told =
       subst (λ s. OutputGives (Soak number size workers) (Some []) old new (Err s)) (sym told)
@@ -358,7 +377,8 @@ module _ (asked : Option Form) (form : Form) (is_form : Some form ≡ asked) (he
   as-told-for : (other : Form) (files : Files) → asked ≡ Some other → files_for other held ≡ Some files → files_for form held ≡ Some files
   as-told-for other files e told = subst (λ f. files_for f held ≡ Some files) (same-form other e) told
 
-  pub keeps-at-err : (sink_old sink_new : ℕ) (status : Status) → OutputGives form (files_for form held) old new (Err status) → (other : Form) (files : Files) (answer : Answer) → asked ≡ Some other → files_for other held ≡ Some files →
+  pub keeps-at-err : (sink_old sink_new : ℕ) (status : Status) → OutputGives form (files_for form held) old new (Err status) → (other : Form) (files : Files) (answer : Answer) → asked ≡ Some other →
+      files_for other held ≡ Some files →
       IsAnswer other files answer → Keeps other files answer old new sink_old sink_new status
   keeps-at-err sink_old sink_new status h other files answer e told is =
       subst (λ f. Keeps f files answer old new sink_old sink_new status) (sym (same-form other e))
@@ -394,7 +414,8 @@ module _ (asked : Option Form) (form : Form) (is_form : Some form ≡ asked) (he
   -- What a sink gained is the one output
 
   abbrev pub SameBytes : Option Form → Option (List ℕ) → Option (List ℕ) → Type 0
-  SameBytes found before after = IfSome found (λ (f : Form). IfTold (files_for f held) (λ files. IfTold before (λ had. (workers : ℕ) (other : List ℕ) → IsAnswer (by_workers workers f) files (Outputs other) → after ≡ Some (had ++ other))))
+  SameBytes found before after = IfSome found (λ (f : Form). IfTold (files_for f held) (λ files.
+      IfTold before (λ had. (workers : ℕ) (other : List ℕ) → IsAnswer (by_workers workers f) files (Outputs other) → after ≡ Some (had ++ other))))
 
   pub same-at-end : (text : List ℕ) → IfTold (files_for form held) (λ files. IsOutput form files text) → (before after : Option (List ℕ)) (faults_before faults_after : ℕ) (status : Status) →
       PutGives before text after faults_before faults_after status → status ≡ Done → SameBytes asked before after

@@ -29,7 +29,9 @@ use Rattle.vf_status.specs.declared.status.Which.{Which}
 use Rattle.vf_status.specs.declared.status.Which.TheVariants as whiches
 use Rattle.vf_status.specs.declared.status.Refusal.{Refusal}
 use Rattle.vf_status.specs.declared.status.Refusal.TheVariants as refusals
-use Rattle.top_call.specs.Answers.{Answer, Outputs, Refuses, Lacks, Exceeds, most_of, IsFile, HoldDesign, HoldPlan, HoldResponse, AfterFile, refusal_of, IsRefusal, GoesOn, AfterDesign, AfterSource, IsReported, AfterPlan, PlanMeans, AfterRoom, PlanGoesOn, AfterPlanText, AfterTest, ResponseMeans, ResponseGoesOn, AfterResponse, IsMade, AfterOutput, AfterObserved, IsCounted, IsSoaked, IsTheAnswer}
+use Rattle.top_call.specs.Answers.{Answer, Outputs, Refuses, Lacks, Exceeds, most_of, IsFile, HoldDesign, HoldPlan, HoldResponse, AfterFile, refusal_of, IsRefusal, GoesOn, AfterDesign, AfterSource}
+use Rattle.top_call.specs.Answers.{IsReported, AfterPlan, PlanMeans, AfterRoom, PlanGoesOn, AfterPlanText, AfterTest, ResponseMeans, ResponseGoesOn, AfterResponse, IsMade, AfterOutput}
+use Rattle.top_call.specs.Answers.{AfterObserved, IsCounted, IsSoaked, IsTheAnswer}
 use Rattle.top_call.specs.Outside.{ComesTo, Names, MakesDictionary, RunsGood}
 use Rattle.top_call.specs.Making.{IsLongFile, HoldRefused, RefusesText, HoldRefusedPlan, RefusesObserved, HoldRefusedResponse}
 
@@ -38,7 +40,8 @@ abbrev pub The : (Answer → Type 0) → Answer → Type 0
 The P answer = P answer × ((other : Answer) → P other → other ≡ answer)
 
 -- what a text means decides, where it means one thing
-the-meaning : {M : Type 0} (means : M → Type 0) (goes : M → Answer → Type 0) (meaning : M) (answer : Answer) → means meaning → ((other : M) → means other → other ≡ meaning) → The (goes meaning) answer →
+the-meaning : {M : Type 0} (means : M → Type 0) (goes : M → Answer → Type 0) (meaning : M) (answer : Answer) → means meaning → ((other : M) → means other → other ≡ meaning) →
+    The (goes meaning) answer →
     The (λ a. (m : M) × means m × goes m a) answer
 the-meaning means goes meaning answer is only t = ((meaning, is, t.0), λ other h. t.1 other (subst (λ m. goes m other) (only h.0 h.1) h.2))
 
@@ -60,9 +63,13 @@ module _ (which : Which) (next : List ℕ → Answer → Type 0) where
       only other (inl h) = h.1
       only other (inr h) = let same = ap length (some-is found bytes e) in absurd (omega (arith, h.0, long, same))
 
-  pub the-file : (content : Option (List ℕ)) (bytes : List ℕ) (answer : Answer) → content ≡ Some bytes → length bytes ≤ most_of which → The (next bytes) answer → The (AfterFile which content next) answer
+  pub the-file : (content : Option (List ℕ)) (bytes : List ℕ) (answer : Answer) → content ≡ Some bytes → length bytes ≤ most_of which → The (next bytes) answer →
+      The (AfterFile which content next) answer
   the-file None bytes answer e short t = absurd (cc)
-  the-file (Some found) bytes answer e short t = (inr (subst (λ bs. length bs ≤ most_of which) (sym (some-is found bytes e)) short, subst (λ bs. next bs answer) (sym (some-is found bytes e)) t.0), only)
+  the-file (Some found) bytes answer e short t = (
+    inr (subst (λ bs. length bs ≤ most_of which) (sym (some-is found bytes e)) short, subst (λ bs. next bs answer) (sym (some-is found bytes e)) t.0),
+    only,
+  )
     where
       only : (other : Answer) → AfterFile which (Some found) next other → other ≡ answer
       only other (inl h) = let same = ap length (some-is found bytes e) in absurd (omega (arith, h.0, short, same))
@@ -71,7 +78,8 @@ module _ (which : Which) (next : List ℕ → Answer → Type 0) where
 -- Designs
 
 module _ (source : Source) (next : FlatDesign → Answer → Type 0) where
-  goes-on : (bytes : List ℕ) (meaning : Result FlatDesign DesignFault) (answer : Answer) → texts.IsTheMeaning bytes source.top source.mode meaning → The (GoesOn next meaning) answer → The (AfterDesign source next bytes) answer
+  goes-on : (bytes : List ℕ) (meaning : Result FlatDesign DesignFault) (answer : Answer) → texts.IsTheMeaning bytes source.top source.mode meaning → The (GoesOn next meaning) answer →
+      The (AfterDesign source next bytes) answer
   goes-on bytes meaning answer is t = the-meaning (texts.Means bytes source.top source.mode) (GoesOn next) meaning answer is.means is.only t
 
   refused : (reason : Option Refusal) (why : Refusal) → reason ≡ Some why → The (IsRefusal reason) (Refuses why)
@@ -101,7 +109,8 @@ reported-one (Err (reported.Plan fault)) one other h d = d ∙ sym h
 reported-one (Err (reported.GoodLoop time)) one other h d = d ∙ sym h
 reported-one (Err reported.NoMemory) one other h d = absurd h
 
-pub the-plan : (design : FlatDesign) (bytes : List ℕ) (meaning : Result (List ℕ) ReportFault) (answer : Answer) → reports.IsTheMeaning Lines design bytes meaning → IsReported meaning answer → The (AfterPlan design bytes) answer
+pub the-plan : (design : FlatDesign) (bytes : List ℕ) (meaning : Result (List ℕ) ReportFault) (answer : Answer) → reports.IsTheMeaning Lines design bytes meaning → IsReported meaning answer →
+    The (AfterPlan design bytes) answer
 the-plan design bytes meaning answer is told = the-meaning (reports.Means Lines design bytes) IsReported meaning answer is.means is.only (told, λ other h. reported-one meaning answer other told h)
 
 -- a plan's text means one thing
@@ -136,7 +145,8 @@ module _ (design : FlatDesign) (next : TestPlan → Answer → Type 0) (bytes : 
 
   text-spells : (plan : TestPlan) (answer : Answer) → plans.Spells design bytes plan → too_large plan ≡ None → The (next plan) answer → The (AfterPlanText design next bytes) answer
   text-spells plan answer spelled roomy t =
-      the-meaning (PlanMeans design bytes) (PlanGoesOn next) (Ok plan) answer spelled (λ other d. plan-meaning design bytes (Ok plan) other spelled d) (room-left (too_large plan) (next plan) answer roomy t)
+      the-meaning (PlanMeans design bytes) (PlanGoesOn next) (Ok plan) answer spelled (λ other d. plan-meaning design bytes (Ok plan) other spelled d)
+      (room-left (too_large plan) (next plan) answer roomy t)
 
 -- Responses
 
@@ -189,7 +199,8 @@ made-one (Ok text) one other h d = d ∙ sym h
 made-one (Err (output_faults.GoodLoop time)) one other h d = d ∙ sym h
 made-one (Err output_faults.NoMemory) one other h d = absurd h
 
-pub the-output : (output : outputs.Output) (design : FlatDesign) (plan : TestPlan) (meaning : Result (List ℕ) OutputFault) (answer : Answer) → outputs.IsTheMeaning output design plan meaning → IsMade meaning answer →
+pub the-output : (output : outputs.Output) (design : FlatDesign) (plan : TestPlan) (meaning : Result (List ℕ) OutputFault) (answer : Answer) → outputs.IsTheMeaning output design plan meaning →
+    IsMade meaning answer →
     The (AfterOutput output design plan) answer
 the-output output design plan meaning answer is told = the-meaning (outputs.Means output design plan) IsMade meaning answer is.means is.only (told, λ other h. made-one meaning answer other told h)
 
@@ -205,12 +216,14 @@ module _ (source : Source) (plan : List ℕ) (workers : ℕ) (files : Files) whe
 
   pub plan-exceeds : (design : FlatDesign) → HoldDesign files source design → IsLongFile files plan whiches.Plan → IsTheAnswer (Grade source plan workers) files (Exceeds whiches.Plan)
   plan-exceeds design h l =
-      let t = source-design source over_design files design (Exceeds whiches.Plan) h (the-exceeds whiches.Plan (AfterPlan design) (content_of files plan) l.bytes l.held l.long) in record { is = t.0; only = t.1 }
+      let t = source-design source over_design files design (Exceeds whiches.Plan) h (the-exceeds whiches.Plan (AfterPlan design) (content_of files plan) l.bytes l.held l.long) in
+      record { is = t.0; only = t.1 }
 
   pub plan-tells : (design : FlatDesign) (bytes : List ℕ) (meaning : Result (List ℕ) ReportFault) (answer : Answer) → HoldDesign files source design → IsFile files plan whiches.Plan bytes →
       reports.IsTheMeaning Lines design bytes meaning → IsReported meaning answer → IsTheAnswer (Grade source plan workers) files answer
   plan-tells design bytes meaning answer h f is told =
-      let t = source-design source over_design files design answer h (the-file whiches.Plan (AfterPlan design) (content_of files plan) bytes answer f.held f.short (the-plan design bytes meaning answer is told)) in
+      let t = source-design source over_design files design answer h (the-file whiches.Plan (AfterPlan design) (content_of files plan) bytes answer f.held f.short
+      (the-plan design bytes meaning answer is told)) in
       record { is = t.0; only = t.1 }
 
   pub grade-form : (answer : Answer) → The (AfterSource source files over_design) answer → IsTheAnswer (Grade source plan workers) files answer
@@ -246,7 +259,8 @@ module _ (source : Source) (plan : List ℕ) (files : Files) (next : FlatDesign 
 
   pub test-exceeds : (design : FlatDesign) → HoldDesign files source design → IsLongFile files plan whiches.Plan → The OverTest (Exceeds whiches.Plan)
   test-exceeds design h l =
-      source-design source (AfterTest files plan next) files design (Exceeds whiches.Plan) h (the-exceeds whiches.Plan (AfterPlanText design (next design)) (content_of files plan) l.bytes l.held l.long)
+      source-design source (AfterTest files plan next) files design (Exceeds whiches.Plan) h
+      (the-exceeds whiches.Plan (AfterPlanText design (next design)) (content_of files plan) l.bytes l.held l.long)
 
   pub test-refused : (design : FlatDesign) (why : Refusal) → HoldDesign files source design → HoldRefusedPlan files plan design why → The OverTest (Refuses why)
   test-refused design why h r =
@@ -256,7 +270,8 @@ module _ (source : Source) (plan : List ℕ) (files : Files) (next : FlatDesign 
   pub test-spelled : (design : FlatDesign) (test : TestPlan) (answer : Answer) → HoldDesign files source design → HoldPlan files plan design test → The (next design test) answer → The OverTest answer
   test-spelled design test answer h p t =
       source-design source (AfterTest files plan next) files design answer h
-      (the-file whiches.Plan (AfterPlanText design (next design)) (content_of files plan) p.bytes answer p.file.held p.file.short (text-spells design (next design) p.bytes test answer p.spelled p.roomy t))
+      (the-file whiches.Plan (AfterPlanText design (next design)) (content_of files plan) p.bytes answer p.file.held p.file.short
+      (text-spells design (next design) p.bytes test answer p.spelled p.roomy t))
 
 -- what was observed decides a diagnosis
 module _ (files : Files) (response : List ℕ) (design : FlatDesign) (test : TestPlan) where
@@ -273,9 +288,11 @@ module _ (files : Files) (response : List ℕ) (design : FlatDesign) (test : Tes
   observed-refused why r =
       the-file whiches.Response (AfterResponse test ByObserved) (content_of files response) r.bytes (Refuses why) r.file.held r.file.short (response-refused test ByObserved r.bytes why r.refused)
 
-  pub observed-spelled : (observed : List Sample) (answer : Answer) → HoldResponse files response test observed → The (ByObserved observed) answer → The (AfterObserved files response design test) answer
+  pub observed-spelled : (observed : List Sample) (answer : Answer) → HoldResponse files response test observed → The (ByObserved observed) answer →
+      The (AfterObserved files response design test) answer
   observed-spelled observed answer h t =
-      the-file whiches.Response (AfterResponse test ByObserved) (content_of files response) h.bytes answer h.file.held h.file.short (response-spells test ByObserved h.bytes observed answer h.spelled t)
+      the-file whiches.Response (AfterResponse test ByObserved) (content_of files response) h.bytes answer h.file.held h.file.short
+      (response-spells test ByObserved h.bytes observed answer h.spelled t)
 
 -- a form over the dictionary of a design and a plan: what comes next decides its answer
 pub record IsOver (form : Form) (source : Source) (plan : List ℕ) (next : Files → FlatDesign → TestPlan → Answer → Type 0) : Type 0 where

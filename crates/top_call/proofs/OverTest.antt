@@ -26,10 +26,13 @@ use Rattle.vf_status.specs.declared.status.Refusal.{Refusal}
 use Rattle.vf_status.specs.declared.status.Refusal.TheVariants as refusals
 use Rattle.vf_status.specs.declared.status.Status.{Status}
 use Rattle.vf_status.specs.declared.status.Status.TheVariants.{Done, Refused, Usage, ReadFault, WriteFault, NoMemory, GoodLoop, TooLong}
-use Rattle.top_call.specs.Answers.{Answer, Outputs, Refuses, Lacks, Exceeds, Loops, most_of, IsFile, HoldDesign, HoldPlan, HoldResponse, AfterTest, AfterOutput, AfterObserved, IsTheAnswer, TellsInEveryOrder, Stands}
+use Rattle.top_call.specs.Answers.{Answer, Outputs, Refuses, Lacks, Exceeds, Loops, most_of, IsFile, HoldDesign, HoldPlan, HoldResponse, AfterTest, AfterOutput, AfterObserved, IsTheAnswer}
+use Rattle.top_call.specs.Answers.{TellsInEveryOrder, Stands}
 use Rattle.top_call.specs.Outside.{IsOutput, IfTold, ShelfCounts, reads_to, refused_file, IsReason, CanEnd}
-use Rattle.top_call.specs.Making.{DesignGives, plan_status, RefusesText, PlanTextGives, HoldRefusedPlan, PlanGives, response_status, RefusesObserved, HoldRefusedResponse, ResponseGives, output_status, OutputGives}
-use Rattle.top_call.proofs.OneAnswer.{The, IsOver, diagnose-over, test-lacks, test-exceeds, test-refused, test-spelled, observed-lacks, observed-exceeds, observed-refused, observed-spelled, the-output}
+use Rattle.top_call.specs.Making.{DesignGives, plan_status, RefusesText, PlanTextGives, HoldRefusedPlan, PlanGives, response_status, RefusesObserved, HoldRefusedResponse, ResponseGives}
+use Rattle.top_call.specs.Making.{output_status, OutputGives}
+use Rattle.top_call.proofs.OneAnswer.{The, IsOver, diagnose-over, test-lacks, test-exceeds, test-refused, test-spelled, observed-lacks, observed-exceeds, observed-refused, observed-spelled}
+use Rattle.top_call.proofs.OneAnswer.{the-output}
 use Rattle.top_call.proofs.Making.{plan-reason, text-ends, source-ends, Decides, text-not-read, not-read}
 
 -- a fact about any files, of those that are told
@@ -80,7 +83,8 @@ module _ (held : Option Files) (name : List ℕ) (design : FlatDesign) (old new 
   plan-held None f plan s roomy = tt
   plan-held (Some files) f plan s roomy = record { bytes = bytes; file = f; spelled = s; roomy = roomy }
 
-  refused-held : (told : Option Files) → IfTold told (λ files. IsFile files name whiches.Plan bytes) → (why : Refusal) → RefusesText design bytes why → IfTold told (λ files. HoldRefusedPlan files name design why)
+  refused-held : (told : Option Files) → IfTold told (λ files. IsFile files name whiches.Plan bytes) → (why : Refusal) → RefusesText design bytes why →
+      IfTold told (λ files. HoldRefusedPlan files name design why)
   refused-held None f why r = tt
   refused-held (Some files) f why r = record { bytes = bytes; file = f; refused = r }
 
@@ -140,7 +144,8 @@ module _ (form : Form) (source : Source) (plan : List ℕ) (next : Files → Fla
       by output_faults.NoMemory = tt
 
   -- where the design isn't read
-  pub design-not-read : (held : Option Files) (old new : ShelfCounts) (status : Status) → new.reads ≡ raised old.reads → DesignGives held source old new (Err status) → OutputGives form held old new (Err status)
+  pub design-not-read : (held : Option Files) (old new : ShelfCounts) (status : Status) → new.reads ≡ raised old.reads → DesignGives held source old new (Err status) →
+      OutputGives form held old new (Err status)
   design-not-read held old new status reads h = not-read form source (λ files. AfterTest files plan (next files)) over.as_form held old new status reads h
 
   module _ (design : FlatDesign) where
@@ -154,7 +159,8 @@ module _ (form : Form) (source : Source) (plan : List ℕ) (next : Files → Fla
       refused = λ why r. over.as_form files (Refuses why) (test-refused source plan files (next files) design why d r);
     }
 
-    pub test-not-read : (held : Option Files) (old mid new : ShelfCounts) (status : Status) → old.faults ≤ mid.faults → old.long_answers ≤ mid.long_answers → mid.reads ≡ raised old.reads → new.reads ≡ raised mid.reads →
+    pub test-not-read : (held : Option Files) (old mid new : ShelfCounts) (status : Status) → old.faults ≤ mid.faults → old.long_answers ≤ mid.long_answers → mid.reads ≡ raised old.reads →
+        new.reads ≡ raised mid.reads →
         IfTold held (λ files. HoldDesign files source design) → PlanGives held plan design mid new (Err status) → OutputGives form held old new (Err status)
     test-not-read held old mid new status faults longs one two d h =
         text-not-read form plan whiches.Plan (λ files why. HoldRefusedPlan files plan design why) old mid new faults longs (two ∙ ap raised one) held status (test-decides held d) h
@@ -165,7 +171,8 @@ module _ (form : Form) (source : Source) (plan : List ℕ) (next : Files → Fla
     is-answer None test answer d p t = tt
     is-answer (Some files) test answer d p t = over.as_form files answer (test-spelled source plan files (next files) design test answer d p t)
 
-    is-output : (held : Option Files) (text : List ℕ) → IfTold held (λ files. IsTheAnswer form files (Outputs text)) → IfTold held (λ files. Stands form files text) → IfTold held (λ files. IsOutput form files text)
+    is-output : (held : Option Files) (text : List ℕ) → IfTold held (λ files. IsTheAnswer form files (Outputs text)) → IfTold held (λ files. Stands form files text) →
+        IfTold held (λ files. IsOutput form files text)
     is-output None text is stands = tt
     is-output (Some files) text is stands = record { answers = is; every_order = stands }
 
@@ -175,15 +182,18 @@ module _ (form : Form) (source : Source) (plan : List ℕ) (next : Files → Fla
 
     pub output-faulty : (held : Option Files) (old new : ShelfCounts) (test : TestPlan) (fault : OutputFault) (status : Status) →
         IfTold held (λ files. HoldDesign files source design) → IfTold held (λ files. HoldPlan files plan design test) →
-        ((time : ℕ) → fault ≡ output_faults.GoodLoop time → IfTold held (λ files. The (next files design test) (Loops time))) → status ≡ output_status fault → OutputGives form held old new (Err status)
+        ((time : ℕ) → fault ≡ output_faults.GoodLoop time → IfTold held (λ files. The (next files design test) (Loops time))) → status ≡ output_status fault →
+        OutputGives form held old new (Err status)
     output-faulty held old new test fault status d p loops told = subst (λ s. OutputGives form held old new (Err s)) (sym told) (by fault loops)
       where
-        by : (f : OutputFault) → ((time : ℕ) → f ≡ output_faults.GoodLoop time → IfTold held (λ files. The (next files design test) (Loops time))) → OutputGives form held old new (Err (output_status f))
+        by : (f : OutputFault) → ((time : ℕ) → f ≡ output_faults.GoodLoop time → IfTold held (λ files. The (next files design test) (Loops time))) →
+            OutputGives form held old new (Err (output_status f))
         by (output_faults.GoodLoop time) loops = is-answer held test (Loops time) d p (loops time refl)
         by output_faults.NoMemory loops = tt
 
 -- a loop of the good machine, as the answer of an output
-loop-told : (output : outputs.Output) (design : FlatDesign) (test : TestPlan) (fault : OutputFault) (time : ℕ) → (fault ≡ output_faults.NoMemory) ⊎ outputs.IsTheMeaning output design test (Err fault) →
+loop-told : (output : outputs.Output) (design : FlatDesign) (test : TestPlan) (fault : OutputFault) (time : ℕ) →
+    (fault ≡ output_faults.NoMemory) ⊎ outputs.IsTheMeaning output design test (Err fault) →
     fault ≡ output_faults.GoodLoop time → The (AfterOutput output design test) (Loops time)
 loop-told output design test fault time (inl none) e = absurd (cc)
 loop-told output design test fault time (inr m) e =
@@ -203,7 +213,8 @@ module _ (form : Form) (output : outputs.Output) (source : Source) (plan : List 
       output-made form source plan (λ files. AfterOutput output) over design held test text d p
       (told-all held (λ files. The (AfterOutput output design test) (Outputs text)) (λ files. the-output output design test (Ok text) (Outputs text) is refl)) (stands-told held test text d p holds)
 
-  pub told-faulty : (old new : ShelfCounts) (test : TestPlan) (fault : OutputFault) (status : Status) → IfTold held (λ files. HoldDesign files source design) → IfTold held (λ files. HoldPlan files plan design test) →
+  pub told-faulty : (old new : ShelfCounts) (test : TestPlan) (fault : OutputFault) (status : Status) → IfTold held (λ files. HoldDesign files source design) →
+      IfTold held (λ files. HoldPlan files plan design test) →
       (fault ≡ output_faults.NoMemory) ⊎ outputs.IsTheMeaning output design test (Err fault) → status ≡ output_status fault → OutputGives form held old new (Err status)
   told-faulty old new test fault status d p is told =
       output-faulty form source plan (λ files. AfterOutput output) over design held old new test fault status d p
@@ -219,7 +230,8 @@ module _ (source : Source) (plan response : List ℕ) (design : FlatDesign) (tes
   next files = AfterObserved files response
 
   -- what is decided by the response is the answer
-  by-response : (files : Files) (answer : Answer) → HoldDesign files source design → HoldPlan files plan design test → The (AfterObserved files response design test) answer → IsTheAnswer form files answer
+  by-response : (files : Files) (answer : Answer) → HoldDesign files source design → HoldPlan files plan design test → The (AfterObserved files response design test) answer →
+      IsTheAnswer form files answer
   by-response files answer own its t = (diagnose-over source plan response).as_form files answer (test-spelled source plan files (AfterObserved files response) design test answer own its t)
 
   observed-decides : (told : Option Files) → IfTold told (λ files. HoldDesign files source design) → IfTold told (λ files. HoldPlan files plan design test) →

@@ -25,7 +25,8 @@ pub(crate) fn diagnosis_output<S: Shelf, L: Ledger>(
     response: &str,
     steps: &mut Steps<L>,
 ) -> Result<Vec<u8>, Status>
-    ensures gives { making.OutputGives (Diagnose (plain_source source.entry) plan.now response.now) (S.held shelf.old) (counts_of ⟦<S as Shelf>⟧ shelf.old) (counts_of ⟦<S as Shelf>⟧ shelf.new) result }
+    ensures gives { making.OutputGives (Diagnose (plain_source source.entry) plan.now response.now) (S.held shelf.old)
+        (counts_of ⟦<S as Shelf>⟧ shelf.old) (counts_of ⟦<S as Shelf>⟧ shelf.new) result }
     ensures ends { IfErr result (CanEnd (Diagnose (plain_source source.entry) plan.now response.now)) }
     ensures kept { S.held shelf.new ≡ S.held shelf.old }
     ensures reads { (S.reads shelf.old ≤ S.reads shelf.new) × (S.reads shelf.new ≤ S.reads shelf.old + 3) }

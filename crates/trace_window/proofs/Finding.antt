@@ -23,7 +23,8 @@ own-moments : (object : ℕ) (changes : List Change) → moments_of (map at_mome
 own-moments object [] = refl
 own-moments object (c ∷ changes) = go (nat_eq (object_number c.object) object) (own-moments object changes)
   where
-    go : (b : Bool) → moments_of (map at_moment changes) object ≡ map change_moment (own_changes object changes) → map moment_of (cond b (at_moment c ∷ filter (is_of object) (map at_moment changes)) (filter (is_of object) (map at_moment changes)))
+    go : (b : Bool) → moments_of (map at_moment changes) object ≡ map change_moment (own_changes object changes) →
+        map moment_of (cond b (at_moment c ∷ filter (is_of object) (map at_moment changes)) (filter (is_of object) (map at_moment changes)))
         ≡ map change_moment (cond b (c ∷ own_changes object changes) (own_changes object changes))
     go true rest = ap (λ l. c.moment ∷ l) rest
     go false rest = rest
@@ -66,22 +67,26 @@ own-places object place (c ∷ changes) k within = go (nat_eq (object_number c.o
         first zero lower = record {
           low = subst (λ l. place ≤ get_or l 0 0) (sym places-are) (omega arith);
           high = subst (λ l. get_or l 0 0 < place + length (c ∷ changes)) (sym places-are) (omega arith);
-          is = λ d. (λ i. get_or (c ∷ changes) (get_or (places-are i) 0 0 - place) d) ∙ (let e : place - place ≡ 0 = omega arith in ap (λ n. get_or (c ∷ changes) n d) e) ∙ sym (ap (λ l. get_or l 0 d) grown);
+          is = λ d. (λ i. get_or (c ∷ changes) (get_or (places-are i) 0 0 - place) d) ∙ (let e : place - place ≡ 0 = omega arith in ap (λ n. get_or (c ∷ changes) n d) e)
+              ∙ sym (ap (λ l. get_or l 0 d) grown);
         }
         first (suc j) lower =
             let less : suc j < length (c ∷ own_changes object changes) = subst (λ l. suc j < length l) grown lower in
             let had = more j (omega arith) in
             record {
               low = subst (λ l. place ≤ get_or l (suc j) 0) (sym places-are) (let h : place + 1 ≤ get_or (moments_of (at_places (place + 1) changes) object) j 0 = had.low in omega arith);
-              high = subst (λ l. get_or l (suc j) 0 < place + length (c ∷ changes)) (sym places-are) (let h : get_or (moments_of (at_places (place + 1) changes) object) j 0 < place + 1 + length changes = had.high in omega arith);
-              is = λ d. (λ i. get_or (c ∷ changes) (get_or (places-are i) (suc j) 0 - place) d) ∙ behind c d changes (get_or (moments_of (at_places (place + 1) changes) object) j 0) place had.low ∙ had.is d
+              high = subst (λ l. get_or l (suc j) 0 < place + length (c ∷ changes)) (sym places-are)
+                  (let h : get_or (moments_of (at_places (place + 1) changes) object) j 0 < place + 1 + length changes = had.high in omega arith);
+              is = λ d. (λ i. get_or (c ∷ changes) (get_or (places-are i) (suc j) 0 - place) d) ∙ behind c d changes (get_or (moments_of (at_places (place + 1) changes) object) j 0) place had.low
+                  ∙ had.is d
                   ∙ sym (ap (λ l. get_or l (suc j) d) grown);
             }
     go false e more =
         let had = more k (subst (λ l. k < length l) grown within) in
         record {
           low = subst (λ l. place ≤ get_or l k 0) (sym places-are) (let h : place + 1 ≤ get_or (moments_of (at_places (place + 1) changes) object) k 0 = had.low in omega arith);
-          high = subst (λ l. get_or l k 0 < place + length (c ∷ changes)) (sym places-are) (let h : get_or (moments_of (at_places (place + 1) changes) object) k 0 < place + 1 + length changes = had.high in omega arith);
+          high = subst (λ l. get_or l k 0 < place + length (c ∷ changes)) (sym places-are)
+              (let h : get_or (moments_of (at_places (place + 1) changes) object) k 0 < place + 1 + length changes = had.high in omega arith);
           is = λ d. (λ i. get_or (c ∷ changes) (get_or (places-are i) k 0 - place) d) ∙ behind c d changes (get_or (moments_of (at_places (place + 1) changes) object) k 0) place had.low ∙ had.is d
               ∙ sym (ap (λ l. get_or l k d) grown);
         }
@@ -94,12 +99,15 @@ own-places object place (c ∷ changes) k within = go (nat_eq (object_number c.o
 
 -- The latest write of an object is among its own
 
-latest-own : (value : LogicValue) (object moment : ℕ) (changes : List Change) → latest value object moment (map written_of changes) ≡ latest value object moment (map written_of (own_changes object changes))
+latest-own : (value : LogicValue) (object moment : ℕ) (changes : List Change) → latest value object moment (map written_of changes) ≡ latest value object moment
+    (map written_of (own_changes object changes))
 latest-own value object moment [] = refl
 latest-own value object moment (c ∷ changes) = go (nat_eq (object_number c.object) object) refl (λ v. latest-own v object moment changes)
   where
-    go : (b : Bool) → nat_eq (object_number c.object) object ≡ b → ((v : LogicValue) → latest v object moment (map written_of changes) ≡ latest v object moment (map written_of (own_changes object changes))) →
-        latest (value_or value object moment (written_of c)) object moment (map written_of changes) ≡ latest value object moment (map written_of (cond b (c ∷ own_changes object changes) (own_changes object changes)))
+    go : (b : Bool) → nat_eq (object_number c.object) object ≡ b → ((v : LogicValue) → latest v object moment (map written_of changes) ≡ latest v object moment
+        (map written_of (own_changes object changes))) →
+        latest (value_or value object moment (written_of c)) object moment (map written_of changes) ≡ latest value object moment
+        (map written_of (cond b (c ∷ own_changes object changes) (own_changes object changes)))
     go true e rest = rest (value_or value object moment (written_of c))
     go false e rest = ap (λ b. latest (cond (b && nat_lt c.moment moment) c.value value) object moment (map written_of changes)) e ∙ rest value
 
@@ -134,16 +142,19 @@ latest-at value object moment (c ∷ changes) (suc k) d own within less last =
 -- What the search answers
 
 -- the moments of an object in the index
-moments-at : (changes : List Change) (moments places : List (List ℕ)) (object : ℕ) → AreChanges changes moments places → object < length moments → get_or moments object [] ≡ map change_moment (own_changes object changes)
+moments-at : (changes : List Change) (moments places : List (List ℕ)) (object : ℕ) → AreChanges changes moments places → object < length moments →
+    get_or moments object [] ≡ map change_moment (own_changes object changes)
 moments-at changes moments places object had low = had.moments_are.moments object low ∙ own-moments object changes
 
-pub found-none : (value : LogicValue) (changes : List Change) (moments places : List (List ℕ)) (object moment : ℕ) → AreChanges changes moments places → object < length moments → IsLastBefore (get_or moments object []) moment None →
+pub found-none : (value : LogicValue) (changes : List Change) (moments places : List (List ℕ)) (object moment : ℕ) → AreChanges changes moments places → object < length moments →
+    IsLastBefore (get_or moments object []) moment None →
     value ≡ latest value object moment (map written_of changes)
 found-none value changes moments places object moment had low none =
     let at = moments-at changes moments places object had low in
     let all = subst (λ l. IsLastBefore l moment None) at none in
     let long : length (map change_moment (own_changes object changes)) ≡ length (own_changes object changes) = length-map (own_changes object changes) change_moment in
-    sym (latest-own value object moment changes ∙ latest-later value object moment (map written_of (own_changes object changes)) (come-all moment (own_changes object changes) (λ k below. all k 0 (omega arith))))
+    sym (latest-own value object moment changes ∙ latest-later value object moment (map written_of (own_changes object changes))
+    (come-all moment (own_changes object changes) (λ k below. all k 0 (omega arith))))
 
 -- the place of the last change of an object before a moment
 pub record IsFound (value : LogicValue) (changes : List Change) (places : List (List ℕ)) (object moment own : ℕ) : Type 0 where
@@ -151,7 +162,8 @@ pub record IsFound (value : LogicValue) (changes : List Change) (places : List (
   pub place_low : get_or (get_or places object []) own 0 < length changes
   pub value_is : (d : Change) → (get_or changes (get_or (get_or places object []) own 0) d).value ≡ latest value object moment (map written_of changes)
 
-pub found-some : (value : LogicValue) (changes : List Change) (moments places : List (List ℕ)) (object moment own : ℕ) → AreChanges changes moments places → object < length moments → IsLastBefore (get_or moments object []) moment (Some own) →
+pub found-some : (value : LogicValue) (changes : List Change) (moments places : List (List ℕ)) (object moment own : ℕ) → AreChanges changes moments places → object < length moments →
+    IsLastBefore (get_or moments object []) moment (Some own) →
     IsFound value changes places object moment own
 found-some value changes moments places object moment own had low some =
     let at = moments-at changes moments places object had low in
@@ -177,7 +189,8 @@ found-some value changes moments places object moment own had low some =
 map_numbered-push : (place : ℕ) (changes : List Change) (c : Change) → at_places place (changes ++ c ∷ []) ≡ at_places place changes ++ at_place (place + length changes) c ∷ []
 map_numbered-push place [] c = let e : place ≡ place + 0 = omega arith in ap (λ n. at_place n c ∷ []) e
 map_numbered-push place (x ∷ changes) c =
-    ap (λ l. at_place place x ∷ l) (map_numbered-push (place + 1) changes c ∙ (let e : place + 1 + length changes ≡ place + suc (length changes) = omega arith in ap (λ n. at_places (place + 1) changes ++ at_place n c ∷ []) e))
+    ap (λ l. at_place place x ∷ l) (map_numbered-push (place + 1) changes c ∙ (let e : place + 1 + length changes ≡ place + suc (length changes) = omega arith in
+    ap (λ n. at_places (place + 1) changes ++ at_place n c ∷ []) e))
 
 -- the moments of changes ascend where theirs do
 pub moments-ascend : (changes : List Change) → IsNonDecreasingBy change_moment changes → IsNonDecreasingBy moment_of (map at_moment changes)
@@ -199,36 +212,43 @@ pub places-ascend : (changes : List Change) → IsNonDecreasingBy moment_of (at_
 places-ascend changes = rises-by moment_of 0 (at_places 0 changes) (places-rise 0 changes)
 
 -- what is left out isn't asked for
-pub index-within : (count : ℕ) (occurrences : List Occurrence) (index : List (List ℕ)) → IsIndexOf count (filter (λ (o : Occurrence). nat_lt o.number count) occurrences) index → IsIndexOf count occurrences index
+pub index-within : (count : ℕ) (occurrences : List Occurrence) (index : List (List ℕ)) → IsIndexOf count (filter (λ (o : Occurrence). nat_lt o.number count) occurrences) index →
+    IsIndexOf count occurrences index
 index-within count occurrences index had = record { numbers = had.numbers; moments = λ number low. had.moments number low ∙ within number low occurrences }
   where
     within : (number : ℕ) → number < count → (xs : List Occurrence) → moments_of (filter (λ (o : Occurrence). nat_lt o.number count) xs) number ≡ moments_of xs number
     within number low [] = refl
     within number low (x ∷ xs) = go (nat_lt x.number count) (nat_eq x.number number) refl refl (within number low xs)
       where
-        go : (in_count own : Bool) → nat_lt x.number count ≡ in_count → nat_eq x.number number ≡ own → moments_of (filter (λ (o : Occurrence). nat_lt o.number count) xs) number ≡ moments_of xs number →
+        go : (in_count own : Bool) → nat_lt x.number count ≡ in_count → nat_eq x.number number ≡ own →
+            moments_of (filter (λ (o : Occurrence). nat_lt o.number count) xs) number ≡ moments_of xs number →
             moments_of (cond in_count (x ∷ filter (λ (o : Occurrence). nat_lt o.number count) xs) (filter (λ (o : Occurrence). nat_lt o.number count) xs)) number
             ≡ map moment_of (cond own (x ∷ filter (is_of number) xs) (filter (is_of number) xs))
         go true true a b rest =
-            ap (λ t. map moment_of (cond t (x ∷ filter (is_of number) (filter (λ (o : Occurrence). nat_lt o.number count) xs)) (filter (is_of number) (filter (λ (o : Occurrence). nat_lt o.number count) xs)))) b
+            ap (λ t. map moment_of (cond t (x ∷ filter (is_of number) (filter (λ (o : Occurrence). nat_lt o.number count) xs))
+            (filter (is_of number) (filter (λ (o : Occurrence). nat_lt o.number count) xs)))) b
             ∙ ap (λ l. x.moment ∷ l) rest
         go true false a b rest =
-            ap (λ t. map moment_of (cond t (x ∷ filter (is_of number) (filter (λ (o : Occurrence). nat_lt o.number count) xs)) (filter (is_of number) (filter (λ (o : Occurrence). nat_lt o.number count) xs)))) b
+            ap (λ t. map moment_of (cond t (x ∷ filter (is_of number) (filter (λ (o : Occurrence). nat_lt o.number count) xs))
+            (filter (is_of number) (filter (λ (o : Occurrence). nat_lt o.number count) xs)))) b
             ∙ rest
         go false true a b rest = let same : x.number ≡ number = eqb-true x.number number b in let past : count ≤ x.number = ltb-false x.number count a in absurd (omega arith)
         go false false a b rest = rest
 
 -- one more
-pub at_moment-more : (changes : List Change) (i : ℕ) (c : Change) → i < length changes → c ≡ get_or changes i c → map at_moment (take (i + 1) changes) ≡ map at_moment (take i changes) ++ at_moment c ∷ []
+pub at_moment-more : (changes : List Change) (i : ℕ) (c : Change) → i < length changes → c ≡ get_or changes i c →
+    map at_moment (take (i + 1) changes) ≡ map at_moment (take i changes) ++ at_moment c ∷ []
 at_moment-more changes i c low read = ap (map at_moment) (take_more changes i c low ∙ ap (λ x. take i changes ++ x ∷ []) (sym read)) ∙ map_push at_moment (take i changes) c
 
 pub at_places-more : (changes : List Change) (i : ℕ) (c : Change) → i < length changes → c ≡ get_or changes i c → at_places 0 (take (i + 1) changes) ≡ at_places 0 (take i changes) ++ at_place i c ∷ []
 at_places-more changes i c low read =
     ap (at_places 0) (take_more changes i c low ∙ ap (λ x. take i changes ++ x ∷ []) (sym read)) ∙ map_numbered-push 0 (take i changes) c
-    ∙ ap (λ n. at_places 0 (take i changes) ++ at_place n c ∷ []) (let long : length (take i changes) ≡ i = length-take-le i changes (omega arith) in let e : 0 + length (take i changes) ≡ i = omega arith in e)
+    ∙ ap (λ n. at_places 0 (take i changes) ++ at_place n c ∷ []) (let long : length (take i changes) ≡ i = length-take-le i changes (omega arith) in
+    let e : 0 + length (take i changes) ≡ i = omega arith in e)
 
 -- both indexes
-pub AreChanges-made : (changes : List Change) (count : ℕ) (list others : List Occurrence) (moments places : List (List ℕ)) → list ≡ map at_moment changes → others ≡ at_places 0 changes → IsIndexOf count list moments →
+pub AreChanges-made : (changes : List Change) (count : ℕ) (list others : List Occurrence) (moments places : List (List ℕ)) → list ≡ map at_moment changes → others ≡ at_places 0 changes →
+    IsIndexOf count list moments →
     IsIndexOf count others places → AreChanges changes moments places
 AreChanges-made changes count list others moments places same also first second =
     let long : length moments ≡ count = first.numbers in

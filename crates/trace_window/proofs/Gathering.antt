@@ -55,7 +55,8 @@ write-none moment object Held old new entry e = refl
 write-none moment object Settle old new entry e = refl
 
 -- an access that touches nothing, and one that does
-pub touch-is : (moment object : ℕ) (kind : AccessKind) (old new : Option LogicValue) (entry : Entry) → is_touch kind ≡ true → touch_before moment object (act_of kind old new entry) [] ≡ record { number = object; moment = moment } ∷ []
+pub touch-is : (moment object : ℕ) (kind : AccessKind) (old new : Option LogicValue) (entry : Entry) → is_touch kind ≡ true →
+    touch_before moment object (act_of kind old new entry) [] ≡ record { number = object; moment = moment } ∷ []
 touch-is moment object Read old new entry e = refl
 touch-is moment object Write old new entry e = refl
 touch-is moment object Await old new entry e = cc
@@ -81,7 +82,8 @@ touch-append moment object Settling xs ys = refl
 
 pub touches_in-append : (moment : ℕ) (xs ys : List ObjectAccess) → touches_in moment (xs ++ ys) ≡ touches_in moment xs ++ touches_in moment ys
 touches_in-append moment [] ys = refl
-touches_in-append moment (x ∷ xs) ys = ap (λ l. touch_before moment x.object x.act l) (touches_in-append moment xs ys) ∙ touch-append moment x.object x.act (touches_in moment xs) (touches_in moment ys)
+touches_in-append moment (x ∷ xs) ys = ap (λ l. touch_before moment x.object x.act l) (touches_in-append moment xs ys)
+    ∙ touch-append moment x.object x.act (touches_in moment xs) (touches_in moment ys)
 
 before-append : (moment object : ℕ) (act : AccessAct) (xs ys : List Written) → write_before moment object act (xs ++ ys) ≡ write_before moment object act xs ++ ys
 before-append moment object Reading xs ys = refl
@@ -110,7 +112,8 @@ noted-write moment noted value e h = write-is moment (object_number noted.access
 pub noted-none : (moment : ℕ) (noted : Noted) → is_write noted.access.kind ≡ false → writes_in moment (noted_access noted ∷ []) ≡ []
 noted-none moment noted e = write-none moment (object_number noted.access.object) noted.access.kind noted.old noted.new (entry_on (object_number noted.access.object) noted.entry) e
 
-pub noted-touch : (moment : ℕ) (noted : Noted) → is_touch noted.access.kind ≡ true → touches_in moment (noted_access noted ∷ []) ≡ record { number = object_number noted.access.object; moment = moment } ∷ []
+pub noted-touch : (moment : ℕ) (noted : Noted) → is_touch noted.access.kind ≡ true → touches_in moment
+    (noted_access noted ∷ []) ≡ record { number = object_number noted.access.object; moment = moment } ∷ []
 noted-touch moment noted e = touch-is moment (object_number noted.access.object) noted.access.kind noted.old noted.new (entry_on (object_number noted.access.object) noted.entry) e
 
 pub noted-untouched : (moment : ℕ) (noted : Noted) → is_touch noted.access.kind ≡ false → touches_in moment (noted_access noted ∷ []) ≡ []
@@ -135,7 +138,8 @@ grown-more start now next one taken more had grown all = grown ∙ ap (λ l. l +
 -- Events
 
 -- one event
-pub Gathers-event : (accesses : List ObjectAccess) (old new : EventList) → new.moment ≡ old.moment + 1 → map written_of new.changes.items ≡ map written_of old.changes.items ++ writes_in old.moment accesses →
+pub Gathers-event : (accesses : List ObjectAccess) (old new : EventList) → new.moment ≡ old.moment + 1 →
+    map written_of new.changes.items ≡ map written_of old.changes.items ++ writes_in old.moment accesses →
     new.touches.items ≡ old.touches.items ++ touches_in old.moment accesses → Gathers (accesses ∷ []) old new
 Gathers-event accesses old new next more touched = record {
   moment = next;
@@ -156,11 +160,14 @@ slot_accesses-more phases i phase low read =
     ∙ ap (λ l. joined (map phase_accesses (take i phases)) ++ l) (append-nil (phase_accesses phase))
 
 -- one event more of a phase
-pub phase_accesses-more : (phase : PhaseOfSlot) (event : ℕ) → event < length phase.log.events → take (event + 1) (phase_accesses phase) ≡ take event (phase_accesses phase) ++ accesses_at phase.log event ∷ []
+pub phase_accesses-more : (phase : PhaseOfSlot) (event : ℕ) → event < length phase.log.events →
+    take (event + 1) (phase_accesses phase) ≡ take event (phase_accesses phase) ++ accesses_at phase.log event ∷ []
 phase_accesses-more phase event low =
     let long : length (phase_accesses phase) ≡ length phase.log.events = length-map phase.log.events (λ (e : LoggedEvent). e.accesses) in
-    take_more (phase_accesses phase) event [] (omega arith) ∙ ap (λ a. take event (phase_accesses phase) ++ a ∷ []) (sym (ap (found_or []) (slice_get-get_or (phase_accesses phase) event [] (omega arith))))
+    take_more (phase_accesses phase) event [] (omega arith) ∙ ap (λ a. take event (phase_accesses phase) ++ a ∷ [])
+    (sym (ap (found_or []) (slice_get-get_or (phase_accesses phase) event [] (omega arith))))
 
 -- all of them
 pub phase_accesses-all : (phase : PhaseOfSlot) (event : ℕ) → length phase.log.events ≤ event → take event (phase_accesses phase) ≡ phase_accesses phase
-phase_accesses-all phase event past = take_all event (phase_accesses phase) (let long : length (phase_accesses phase) ≡ length phase.log.events = length-map phase.log.events (λ (e : LoggedEvent). e.accesses) in omega arith)
+phase_accesses-all phase event past = take_all event (phase_accesses phase)
+    (let long : length (phase_accesses phase) ≡ length phase.log.events = length-map phase.log.events (λ (e : LoggedEvent). e.accesses) in omega arith)

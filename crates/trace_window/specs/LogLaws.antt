@@ -69,7 +69,8 @@ phases-listed machine number (phase ∷ rest) =
     (joined (map phase_accesses (logged_phases machine (number + 1) rest))) (phase-listed machine number phase) (phases-listed machine (number + 1) rest)
 
 -- the log of a slot
-pub slot-listed : (machine : Machine) (first : Turn) (slot : FirstSlot) (log : SlotLog) → IsSlotLog machine first (phases machine slot) log → AreListed machine (slot_seen machine slot) (log_accesses log)
+pub slot-listed : (machine : Machine) (first : Turn) (slot : FirstSlot) (log : SlotLog) → IsSlotLog machine first (phases machine slot) log →
+    AreListed machine (slot_seen machine slot) (log_accesses log)
 slot-listed machine first slot log is =
     subst (λ (l : List PhaseOfSlot). AreListed machine (slot_seen machine slot) (joined (map phase_accesses l))) (sym is.phases_are) (phases-listed machine 1 (phases machine slot))
 
@@ -79,15 +80,18 @@ pub record IsLoggedSlot (machine : Machine) (slot : FirstSlot) (log : SlotLog) :
   pub is : IsSlotLog machine first (phases machine slot) log
 
 -- the logs of some slots
-pub slots-listed : (machine : Machine) (slots : List FirstSlot) (logs : List SlotLog) → AllZip (IsLoggedSlot machine) slots logs → AreListed machine (slots_seen machine slots) (joined (map log_accesses logs))
+pub slots-listed : (machine : Machine) (slots : List FirstSlot) (logs : List SlotLog) → AllZip (IsLoggedSlot machine) slots logs →
+    AreListed machine (slots_seen machine slots) (joined (map log_accesses logs))
 slots-listed machine [] [] h = tt
 slots-listed machine [] (log ∷ logs) h = absurd h
 slots-listed machine (slot ∷ slots) [] h = absurd h
 slots-listed machine (slot ∷ slots) (log ∷ logs) h =
-    all_zip-append (AreAccessesOf machine) (slot_seen machine slot) (log_accesses log) (slots_seen machine slots) (joined (map log_accesses logs)) (slot-listed machine h.0.first slot log h.0.is) (slots-listed machine slots logs h.1)
+    all_zip-append (AreAccessesOf machine) (slot_seen machine slot) (log_accesses log) (slots_seen machine slots) (joined (map log_accesses logs)) (slot-listed machine h.0.first slot log h.0.is)
+    (slots-listed machine slots logs h.1)
 
 -- lists with a fact at each place
-pub all_zip-at : {A B : Type 0} (R : A → B → Type 0) (xs : List A) (ys : List B) → length xs ≡ length ys → ((place : ℕ) (x : A) (y : B) → slice_get xs place ≡ Some x → slice_get ys place ≡ Some y → R x y) → AllZip R xs ys
+pub all_zip-at : {A B : Type 0} (R : A → B → Type 0) (xs : List A) (ys : List B) → length xs ≡ length ys →
+    ((place : ℕ) (x : A) (y : B) → slice_get xs place ≡ Some x → slice_get ys place ≡ Some y → R x y) → AllZip R xs ys
 all_zip-at R [] [] long each = tt
 all_zip-at R [] (y ∷ ys) long each = absurd (omega (arith, long))
 all_zip-at R (x ∷ xs) [] long each = absurd (omega (arith, long))
@@ -109,15 +113,18 @@ get-take (x ∷ xs) (suc n) (suc place) low = get-take xs n place (omega arith)
 pub window-listed : (design : FlatDesign) (plan : TestPlan) (begins ends : ℕ) (logs : List SlotLog) → begins + length logs ≡ ends → ends ≤ length (good_slots design plan) →
     ((place : ℕ) (slot : FirstSlot) (log : SlotLog) → slice_get (good_slots design plan) (begins + place) ≡ Some slot → slice_get logs place ≡ Some log → IsLoggedSlot (good_machine design) slot log) →
     AreListed (good_machine design) (window_events design plan begins ends) (joined (map log_accesses logs))
-window-listed design plan begins ends logs held fits each = slots-listed (good_machine design) (window_slots design plan begins ends) logs (all_zip-at (IsLoggedSlot (good_machine design)) (window_slots design plan begins ends) logs long at)
+window-listed design plan begins ends logs held fits each = slots-listed (good_machine design) (window_slots design plan begins ends) logs
+    (all_zip-at (IsLoggedSlot (good_machine design)) (window_slots design plan begins ends) logs long at)
   where
     cut : length (take ends (good_slots design plan)) ≡ ends
     cut = length-take-le ends (good_slots design plan) fits
 
     long : length (window_slots design plan begins ends) ≡ length logs
-    long = let rest : length (drop begins (take ends (good_slots design plan))) ≡ length (take ends (good_slots design plan)) - begins = length-drop begins (take ends (good_slots design plan)) in omega (arith, rest, cut, held)
+    long = let rest : length (drop begins (take ends (good_slots design plan))) ≡ length (take ends (good_slots design plan)) - begins = length-drop begins (take ends (good_slots design plan)) in
+        omega (arith, rest, cut, held)
 
-    at : (place : ℕ) (slot : FirstSlot) (log : SlotLog) → slice_get (window_slots design plan begins ends) place ≡ Some slot → slice_get logs place ≡ Some log → IsLoggedSlot (good_machine design) slot log
+    at : (place : ℕ) (slot : FirstSlot) (log : SlotLog) → slice_get (window_slots design plan begins ends) place ≡ Some slot → slice_get logs place ≡ Some log →
+        IsLoggedSlot (good_machine design) slot log
     at place slot log is here =
         let low : place < length logs = slice_get_within logs place log here in
         each place slot log

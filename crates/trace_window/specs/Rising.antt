@@ -37,7 +37,8 @@ writes-rise : (number : ℕ) (accesses : List ObjectAccess) (rest : List Written
 writes-rise number [] rest h = h
 writes-rise number (access ∷ accesses) rest h = go access.act (writes-rise number accesses rest h)
   where
-    go : (act : AccessAct) → RisesBy written_moment number (writes_in number accesses ++ rest) → RisesBy written_moment number (write_before number access.object act (writes_in number accesses) ++ rest)
+    go : (act : AccessAct) → RisesBy written_moment number (writes_in number accesses ++ rest) →
+        RisesBy written_moment number (write_before number access.object act (writes_in number accesses) ++ rest)
     go Reading more = more
     go (Writing old new) more = (omega arith, more)
     go (Awaiting entry) more = more

@@ -43,14 +43,16 @@ write-touches object process line state next piece = go (same_value (value_at st
     go true = refl
     go false = refl
 
-writes-touch : (object process line : ℕ) (state next : State) (pieces : List ℕ) → touches object (joined (map (net_write process line state next) pieces)) ≡ touches object (joined (map (net_write 0 0 state next) pieces))
+writes-touch : (object process line : ℕ) (state next : State) (pieces : List ℕ) → touches object (joined (map (net_write process line state next) pieces)) ≡ touches object
+    (joined (map (net_write 0 0 state next) pieces))
 writes-touch object process line state next [] = refl
 writes-touch object process line state next (piece ∷ pieces) =
     any-append (λ (a : ObjectAccess). is_touching a.act && nat_eq a.object object) (net_write process line state next piece) (joined (map (net_write process line state next) pieces))
     ∙ (λ i. write-touches object process line state next piece i || writes-touch object process line state next pieces i)
     ∙ sym (any-append (λ (a : ObjectAccess). is_touching a.act && nat_eq a.object object) (net_write 0 0 state next piece) (joined (map (net_write 0 0 state next) pieces)))
 
-net-touches : (object process line : ℕ) (design : FlatDesign) (node : Option FlatNode) (state next : State) → touches object (net_accesses design process line node state next) ≡ touches object (net_accesses design 0 0 node state next)
+net-touches : (object process line : ℕ) (design : FlatDesign) (node : Option FlatNode) (state next : State) →
+    touches object (net_accesses design process line node state next) ≡ touches object (net_accesses design 0 0 node state next)
 net-touches object process line design None state next = refl
 net-touches object process line design (Some node) state next =
     any-append test (joined (map (net_write process line state next) pieces)) ended ∙ (λ i. writes-touch object process line state next pieces i || list_any test ended)
@@ -65,11 +67,13 @@ net-touches object process line design (Some node) state next =
     ended : List ObjectAccess
     ended = joined (map_numbered (net_ended_by state next node.outputs) 0 state.processes)
 
-accesses-touch : (machine : Machine) (object process line : ℕ) (state : State) (event : Event) → touches object (accesses_of machine process line state event) ≡ touches object (accesses_of machine 0 0 state event)
+accesses-touch : (machine : Machine) (object process line : ℕ) (state : State) (event : Event) →
+    touches object (accesses_of machine process line state event) ≡ touches object (accesses_of machine 0 0 state event)
 accesses-touch machine object process line state (Step number) = refl
 accesses-touch machine object process line state (LaneStep number) = refl
 accesses-touch machine object process line state (Evaluation number) = refl
-accesses-touch machine object process line state (NetUpdate number) = net-touches object process line machine.design (slice_get machine.design.nodes number) state (after machine state (NetUpdate number))
+accesses-touch machine object process line state (NetUpdate number) = net-touches object process line machine.design (slice_get machine.design.nodes number) state
+    (after machine state (NetUpdate number))
 
 -- The events that touch an object, by their accesses
 
@@ -77,7 +81,8 @@ accesses-touch machine object process line state (NetUpdate number) = net-touche
 abbrev pub touched_in : List (List ObjectAccess) → ℕ → ℕ → Bool
 touched_in lists object number = elim (slice_get lists number) [ None ↦ false | Some accesses ↦ touches object accesses ]
 
-listed-touch : (machine : Machine) (seen : List Seen) (lists : List (List ObjectAccess)) → AreListed machine seen lists → (object number : ℕ) → touched_in lists object number ≡ touched_at machine seen object number
+listed-touch : (machine : Machine) (seen : List Seen) (lists : List (List ObjectAccess)) → AreListed machine seen lists → (object number : ℕ) →
+    touched_in lists object number ≡ touched_at machine seen object number
 listed-touch machine [] [] listed object number = refl
 listed-touch machine [] (a ∷ lists) listed object number = absurd listed
 listed-touch machine (s ∷ seen) [] listed object number = absurd listed
@@ -120,7 +125,8 @@ one-first : (object moment other : ℕ) (rest : List Occurrence) → nat_eq othe
 one-first object moment other rest e =
     subst (λ b. Contains (map moment_of (cond b (record { number = other; moment = moment } ∷ filter (is_of object) rest) (filter (is_of object) rest))) moment) (sym e) (0, omega arith, refl)
 
-one-later : (object moment other : ℕ) (rest : List Occurrence) (number : ℕ) → Contains (moments_of rest object) number → Contains (moments_of (record { number = other; moment = moment } ∷ rest) object) number
+one-later : (object moment other : ℕ) (rest : List Occurrence) (number : ℕ) → Contains (moments_of rest object) number →
+    Contains (moments_of (record { number = other; moment = moment } ∷ rest) object) number
 one-later object moment other rest number found = go (nat_eq other object)
   where
     go : (b : Bool) → Contains (map moment_of (cond b (record { number = other; moment = moment } ∷ filter (is_of object) rest) (filter (is_of object) rest))) number
@@ -137,11 +143,13 @@ or-right false b e = e
 
 -- an access that touches, before others
 touching-more : (object moment other : ℕ) (accesses : List ObjectAccess) → OneEvent object moment accesses →
-    ((number : ℕ) → Contains (moments_of (record { number = other; moment = moment } ∷ touches_in moment accesses) object) number → (number ≡ moment) × ((nat_eq other object || touches object accesses) ≡ true))
+    ((number : ℕ) → Contains (moments_of (record { number = other; moment = moment } ∷ touches_in moment accesses) object) number →
+    (number ≡ moment) × ((nat_eq other object || touches object accesses) ≡ true))
     × ((nat_eq other object || touches object accesses) ≡ true → Contains (moments_of (record { number = other; moment = moment } ∷ touches_in moment accesses) object) moment)
 touching-more object moment other accesses rest = (forth, back)
   where
-    forth : (number : ℕ) → Contains (moments_of (record { number = other; moment = moment } ∷ touches_in moment accesses) object) number → (number ≡ moment) × ((nat_eq other object || touches object accesses) ≡ true)
+    forth : (number : ℕ) → Contains (moments_of (record { number = other; moment = moment } ∷ touches_in moment accesses) object) number →
+        (number ≡ moment) × ((nat_eq other object || touches object accesses) ≡ true)
     forth number has = elim (one-more object moment other (touches_in moment accesses) number has) [
       | inl own ↦ (own.1, ap (λ b. b || touches object accesses) own.0)
       | inr later ↦ (let h = rest.0 number later in (h.0, or-right (nat_eq other object) (touches object accesses) h.1))
@@ -160,7 +168,8 @@ one-event object moment (access ∷ accesses) = go access.act (one-event object 
     go : (act : AccessAct) → OneEvent object moment accesses →
         ((number : ℕ) → Contains (moments_of (touch_before moment access.object act (touches_in moment accesses)) object) number →
         (number ≡ moment) × (((is_touching act && nat_eq access.object object) || touches object accesses) ≡ true))
-        × (((is_touching act && nat_eq access.object object) || touches object accesses) ≡ true → Contains (moments_of (touch_before moment access.object act (touches_in moment accesses)) object) moment)
+        × (((is_touching act && nat_eq access.object object) || touches object accesses) ≡ true →
+        Contains (moments_of (touch_before moment access.object act (touches_in moment accesses)) object) moment)
     go Reading rest = touching-more object moment access.object accesses rest
     go (Writing old new) rest = touching-more object moment access.object accesses rest
     go (Awaiting entry) rest = rest
@@ -185,19 +194,20 @@ touches-more object number accesses lists later = (forth, back)
 
     forth : (moment : ℕ) → Contains (moments_of (touches_from number (accesses ∷ lists)) object) moment →
         (number ≤ moment) × (moment < number + length (accesses ∷ lists)) × (touched_in (accesses ∷ lists) object (moment - number) ≡ true)
-    forth moment has = elim (Contains-append_cases (moments_of (touches_in number accesses) object) (moments_of (touches_from (number + 1) lists) object) moment (subst (λ l. Contains l moment) both has)) [
-      | inl own ↦
-          (let h = here.0 moment own in
-          let same : moment ≡ number = h.0 in
-          let none : moment - number ≡ 0 = omega arith in
-          (omega arith, omega arith, ap (λ n. touched_in (accesses ∷ lists) object n) none ∙ h.1))
-      | inr more ↦
-          (let h = later.0 moment more in
-          let low : number + 1 ≤ moment = h.0 in
-          let high : moment < number + 1 + length lists = h.1 in
-          let next : moment - number ≡ suc (moment - (number + 1)) = omega arith in
-          (omega arith, omega arith, ap (λ n. touched_in (accesses ∷ lists) object n) next ∙ h.2))
-    ]
+    forth moment has = elim (Contains-append_cases (moments_of (touches_in number accesses) object) (moments_of (touches_from (number + 1) lists) object) moment
+        (subst (λ l. Contains l moment) both has)) [
+          | inl own ↦
+              (let h = here.0 moment own in
+              let same : moment ≡ number = h.0 in
+              let none : moment - number ≡ 0 = omega arith in
+              (omega arith, omega arith, ap (λ n. touched_in (accesses ∷ lists) object n) none ∙ h.1))
+          | inr more ↦
+              (let h = later.0 moment more in
+              let low : number + 1 ≤ moment = h.0 in
+              let high : moment < number + 1 + length lists = h.1 in
+              let next : moment - number ≡ suc (moment - (number + 1)) = omega arith in
+              (omega arith, omega arith, ap (λ n. touched_in (accesses ∷ lists) object n) next ∙ h.2))
+        ]
 
     back : (k : ℕ) → touched_in (accesses ∷ lists) object k ≡ true → Contains (moments_of (touches_from number (accesses ∷ lists)) object) (number + k)
     back zero e =
@@ -235,7 +245,8 @@ first-touch machine seen lists object moment (Some first) listed found =
     touched : touched_at machine seen object first ≡ true
     touched = let same : first ≡ first - 0 = omega arith in sym (listed-touch machine seen lists listed object first) ∙ ap (λ n. touched_in lists object n) same ∙ is.2
 
-    untouched : (number : ℕ) → (touched_at machine seen object number ≡ true) ⊎ (touched_at machine seen object number ≡ false) → moment ≤ number → number < first → touched_at machine seen object number ≡ false
+    untouched : (number : ℕ) → (touched_at machine seen object number ≡ true) ⊎ (touched_at machine seen object number ≡ false) → moment ≤ number → number < first →
+        touched_at machine seen object number ≡ false
     untouched number (inr e) from below = e
     untouched number (inl e) from below =
         let also = (touch-moments object 0 lists).1 number (listed-touch machine seen lists listed object number ∙ e) in

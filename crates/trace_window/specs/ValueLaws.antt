@@ -65,10 +65,12 @@ in-come number (access ∷ rest) = before-come number access.object access.act (
 from-come : (number : ℕ) (lists : List (List ObjectAccess)) → ComeFrom number (writes_from number lists)
 from-come number [] = tt
 from-come number (accesses ∷ rest) =
-    come-append number (writes_in number accesses) (writes_from (number + 1) rest) (in-come number accesses) (come-later number (number + 1) (writes_from (number + 1) rest) (omega arith) (from-come (number + 1) rest))
+    come-append number (writes_in number accesses) (writes_from (number + 1) rest) (in-come number accesses)
+    (come-later number (number + 1) (writes_from (number + 1) rest) (omega arith) (from-come (number + 1) rest))
 
 -- the writes of an event before a moment are what its accesses write
-in-latest : (value : LogicValue) (object moment number : ℕ) (accesses : List ObjectAccess) → number < moment → latest value object moment (writes_in number accesses) ≡ last_written object accesses value
+in-latest : (value : LogicValue) (object moment number : ℕ) (accesses : List ObjectAccess) → number < moment →
+    latest value object moment (writes_in number accesses) ≡ last_written object accesses value
 in-latest value object moment number [] low = refl
 in-latest value object moment number (access ∷ rest) low = go access.act (λ v. in-latest v object moment number rest low)
   where
@@ -94,7 +96,8 @@ abbrev pub ValuesFollow : Machine → List LogicValue → List Seen → List Log
 ValuesFollow machine values [] last = values ≡ last
 ValuesFollow machine values (seen ∷ rest) last = (seen.before.values ≡ values) × ValuesFollow machine (after machine seen.before seen.event).values rest last
 
-pub follow-append : (machine : Machine) (values : List LogicValue) (xs : List Seen) (between : List LogicValue) (ys : List Seen) (last : List LogicValue) → ValuesFollow machine values xs between → ValuesFollow machine between ys last →
+pub follow-append : (machine : Machine) (values : List LogicValue) (xs : List Seen) (between : List LogicValue) (ys : List Seen) (last : List LogicValue) → ValuesFollow machine values xs between →
+    ValuesFollow machine between ys last →
     ValuesFollow machine values (xs ++ ys) last
 follow-append machine values [] between ys last h k = subst (λ v. ValuesFollow machine v ys last) (sym h) k
 follow-append machine values (x ∷ xs) between ys last h k = (h.0, follow-append machine (after machine x.before x.event).values xs between ys last h.1 k)
@@ -117,14 +120,16 @@ turned-values (Some (TimeTurn time)) state = refl
 cut-follow : (machine : Machine) (turn : Option TurnKind) (begins : State) (events : List Event) (state : State) (moves : List Move) → state ≡ happened machine begins events →
     ValuesFollow machine begins.values (joined (map (phase_seen machine) (cut machine turn begins events state moves))) (all_made machine state moves).values
 cut-follow machine turn begins events state [] is =
-    follow-append machine begins.values (seen_from machine begins events) (happened machine begins events).values [] state.values (seen-follow machine begins events) (sym (ap (λ (s : State). s.values) is))
+    follow-append machine begins.values (seen_from machine begins events) (happened machine begins events).values [] state.values (seen-follow machine begins events)
+    (sym (ap (λ (s : State). s.values) is))
 cut-follow machine turn begins events state (Happens event ∷ moves) is =
     cut-follow machine turn begins (events ++ event ∷ []) (after machine state event) moves (ap (λ s. after machine s event) is ∙ sym (happened-more machine begins events event))
 cut-follow machine turn begins events state (Turns ∷ moves) is =
     follow-append machine begins.values (seen_from machine begins events) (happened machine begins events).values
     (joined (map (phase_seen machine) (cut machine (turn_of state) (made machine state Turns) [] (made machine state Turns) moves))) (all_made machine (made machine state Turns) moves).values
     (seen-follow machine begins events)
-    (subst (λ v. ValuesFollow machine v (joined (map (phase_seen machine) (cut machine (turn_of state) (made machine state Turns) [] (made machine state Turns) moves))) (all_made machine (made machine state Turns) moves).values)
+    (subst (λ v. ValuesFollow machine v (joined (map (phase_seen machine) (cut machine (turn_of state) (made machine state Turns) [] (made machine state Turns) moves)))
+    (all_made machine (made machine state Turns) moves).values)
     (turned-values (turn_of state) state ∙ ap (λ (s : State). s.values) is)
     (cut-follow machine (turn_of state) (made machine state Turns) [] (made machine state Turns) moves refl))
 
@@ -144,7 +149,8 @@ abbrev pub end_values : Machine → List LogicValue → List FirstSlot → List 
 end_values machine values [] = values
 end_values machine values (slot ∷ rest) = end_values machine (slot_end machine slot).values rest
 
-chained-follow : (machine : Machine) (values : List LogicValue) (slots : List FirstSlot) → AreChained machine values slots → ValuesFollow machine values (slots_seen machine slots) (end_values machine values slots)
+chained-follow : (machine : Machine) (values : List LogicValue) (slots : List FirstSlot) → AreChained machine values slots →
+    ValuesFollow machine values (slots_seen machine slots) (end_values machine values slots)
 chained-follow machine values [] h = refl
 chained-follow machine values (slot ∷ rest) h =
     follow-append machine values (slot_seen machine slot) (slot_end machine slot).values (slots_seen machine rest) (end_values machine (slot_end machine slot).values rest)
@@ -161,7 +167,8 @@ next-values machine time slot next e = go (is_hyper slot) (turn_of (slot_end mac
     timed true later f = ap (λ (s : State). s.values) (sym (some_is (time_turn later (slot_end machine slot)) next f))
     timed false later f = cc
 
-    go : (hyper : Bool) (turn : Option TurnKind) → elim hyper as (λ _. Option State) [ true ↦ None | false ↦ next_slot_at time (slot_end machine slot) turn ] ≡ Some next → next.values ≡ (slot_end machine slot).values
+    go : (hyper : Bool) (turn : Option TurnKind) → elim hyper as (λ _. Option State) [ true ↦ None | false ↦ next_slot_at time (slot_end machine slot) turn ] ≡ Some next →
+        next.values ≡ (slot_end machine slot).values
     go true turn f = cc
     go false None f = cc
     go false (Some PostponedTurn) f = cc
@@ -208,26 +215,30 @@ after-rest : (machine : Machine) (values : List LogicValue) (slot : FirstSlot) (
 after-rest machine values slot slots zero = refl
 after-rest machine values slot slots (suc number) = refl
 
-drop-chained : (machine : Machine) (values : List LogicValue) (slots : List FirstSlot) (count : ℕ) → count ≤ length slots → AreChained machine values slots → AreChained machine (values_after_slots machine values slots count) (drop count slots)
+drop-chained : (machine : Machine) (values : List LogicValue) (slots : List FirstSlot) (count : ℕ) → count ≤ length slots → AreChained machine values slots →
+    AreChained machine (values_after_slots machine values slots count) (drop count slots)
 drop-chained machine values slots zero low h = h
 drop-chained machine values [] (suc count) low h = absurd (omega arith)
 drop-chained machine values (slot ∷ slots) (suc count) low h =
     subst (λ v. AreChained machine v (drop count slots)) (sym (after-rest machine values slot slots count)) (drop-chained machine (slot_end machine slot).values slots count (omega arith) h.1)
 
 -- the values at the end of the first so many
-end-take : (machine : Machine) (values : List LogicValue) (slots : List FirstSlot) (count : ℕ) → count ≤ length slots → end_values machine values (take count slots) ≡ values_after_slots machine values slots count
+end-take : (machine : Machine) (values : List LogicValue) (slots : List FirstSlot) (count : ℕ) → count ≤ length slots →
+    end_values machine values (take count slots) ≡ values_after_slots machine values slots count
 end-take machine values slots zero low = refl
 end-take machine values [] (suc count) low = absurd (omega arith)
 end-take machine values (slot ∷ slots) (suc count) low = end-take machine (slot_end machine slot).values slots count (omega arith) ∙ sym (after-rest machine values slot slots count)
 
-end-drop : (machine : Machine) (values : List LogicValue) (slots : List FirstSlot) (count : ℕ) → count ≤ length slots → end_values machine (values_after_slots machine values slots count) (drop count slots) ≡ end_values machine values slots
+end-drop : (machine : Machine) (values : List LogicValue) (slots : List FirstSlot) (count : ℕ) → count ≤ length slots →
+    end_values machine (values_after_slots machine values slots count) (drop count slots) ≡ end_values machine values slots
 end-drop machine values slots zero low = refl
 end-drop machine values [] (suc count) low = absurd (omega arith)
 end-drop machine values (slot ∷ slots) (suc count) low =
     ap (λ v. end_values machine v (drop count slots)) (after-rest machine values slot slots count) ∙ end-drop machine (slot_end machine slot).values slots count (omega arith)
 
 -- the first so many of the first so many
-after-take : (machine : Machine) (values : List LogicValue) (slots : List FirstSlot) (number count : ℕ) → number ≤ count → values_after_slots machine values (take count slots) number ≡ values_after_slots machine values slots number
+after-take : (machine : Machine) (values : List LogicValue) (slots : List FirstSlot) (number count : ℕ) → number ≤ count →
+    values_after_slots machine values (take count slots) number ≡ values_after_slots machine values slots number
 after-take machine values slots zero count low = refl
 after-take machine values slots (suc number) zero low = absurd (omega arith)
 after-take machine values [] (suc number) (suc count) low = refl
@@ -240,7 +251,8 @@ pub window-follow : (design : FlatDesign) (plan : TestPlan) (begins ends : ℕ) 
 window-follow design plan begins ends low high = go (good_slots design plan) (good-chained design plan) high
   where
     go : (slots : List FirstSlot) → AreChained (good_machine design) (first_values (good_machine design)) slots → ends ≤ length slots →
-        ValuesFollow (good_machine design) (values_after_slots (good_machine design) (first_values (good_machine design)) slots begins) (slots_seen (good_machine design) (drop begins (take ends slots)))
+        ValuesFollow (good_machine design) (values_after_slots (good_machine design) (first_values (good_machine design)) slots begins)
+        (slots_seen (good_machine design) (drop begins (take ends slots)))
         (values_after_slots (good_machine design) (first_values (good_machine design)) slots ends)
     go slots chained fits =
         let machine = good_machine design in
@@ -269,14 +281,17 @@ values_before-end (s ∷ seen) last = values_before-end seen last
 -- The law
 
 -- what an object holds before a moment of some events is what the writes before it leave
-pub values-are : (machine : Machine) → KeepsRules machine.design → (seen : List Seen) (accesses : List (List ObjectAccess)) → AreListed machine seen accesses → (values last : List LogicValue) → ValuesFollow machine values seen last →
-    (object : ℕ) → object < length values → (number moment : ℕ) → value_at (values_before seen last moment) object ≡ latest (value_at values object) object (number + moment) (writes_from number accesses)
+pub values-are : (machine : Machine) → KeepsRules machine.design → (seen : List Seen) (accesses : List (List ObjectAccess)) → AreListed machine seen accesses → (values last : List LogicValue) →
+    ValuesFollow machine values seen last →
+    (object : ℕ) → object < length values → (number moment : ℕ) → value_at (values_before seen last moment) object ≡ latest (value_at values object) object (number + moment)
+    (writes_from number accesses)
 values-are machine rules [] [] listed values last follow object low number moment = ap (λ v. value_at v object) (sym follow)
 values-are machine rules [] (first ∷ accesses) listed values last follow object low number moment = absurd listed
 values-are machine rules (s ∷ seen) [] listed values last follow object low number moment = absurd listed
 values-are machine rules (s ∷ seen) (first ∷ accesses) listed values last follow object low number zero =
     ap (λ v. value_at v object) follow.0
-    ∙ sym (ap (λ n. latest (value_at values object) object n (writes_from number (first ∷ accesses))) (plus-none number) ∙ latest-later (value_at values object) object number (writes_from number (first ∷ accesses)) (from-come number (first ∷ accesses)))
+    ∙ sym (ap (λ n. latest (value_at values object) object n (writes_from number (first ∷ accesses))) (plus-none number)
+    ∙ latest-later (value_at values object) object number (writes_from number (first ∷ accesses)) (from-come number (first ∷ accesses)))
   where
     plus-none : (n : ℕ) → n + 0 ≡ n
     plus-none n = omega arith

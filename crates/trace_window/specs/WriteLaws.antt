@@ -10,8 +10,10 @@ use Rattle.v_design.specs.Paths.{net_pieces}
 use Rattle.v_design.specs.Designs.{FlatNode, FlatDesign, Machine}
 use Rattle.v_design.specs.Assignments.{ValueUpdate, value_at}
 use Rattle.v_design.specs.Processes.{Action, ReadsObject, WritesObject, AppendsUpdate, TouchesNothing}
-use Rattle.v_design.specs.States.{State, ProcessState, Event, Step, LaneStep, Evaluation, NetUpdate, after, step_of, process_at, node_at, write_of, first_update, value_written, with_value, with_values, with_process, with_node, written_if, after_step, after_lane_step, evaluated, nets_updated, lane_stepped, some_entry, entry_matches}
-use Rattle.v_design.specs.Accesses.{AccessAct, Reading, Writing, Awaiting, Ending, Holding, Settling, ObjectAccess, waiting_entries, waiting_line, without_first, ended_of, ended_by, update_accesses, await_accesses, action_accesses, lane_accesses, net_write, net_ended_by, net_accesses, some_change_matches, accesses_of}
+use Rattle.v_design.specs.States.{State, ProcessState, Event, Step, LaneStep, Evaluation, NetUpdate, after, step_of, process_at, node_at, write_of, first_update, value_written, with_value}
+use Rattle.v_design.specs.States.{with_values, with_process, with_node, written_if, after_step, after_lane_step, evaluated, nets_updated, lane_stepped, some_entry, entry_matches}
+use Rattle.v_design.specs.Accesses.{AccessAct, Reading, Writing, Awaiting, Ending, Holding, Settling, ObjectAccess, waiting_entries, waiting_line, without_first, ended_of, ended_by, update_accesses}
+use Rattle.v_design.specs.Accesses.{await_accesses, action_accesses, lane_accesses, net_write, net_ended_by, net_accesses, some_change_matches, accesses_of}
 use Rattle.v_design.specs.WellFormed.{KeepsRules, IsNodeOf}
 use Rattle.value_change.specs.ChangeLaws.{has-filter}
 
@@ -45,7 +47,8 @@ ends-nothing : (object process line : ℕ) (entries : List Entry) (value : Logic
 ends-nothing object process line [] value = refl
 ends-nothing object process line (entry ∷ entries) value = ends-nothing object process line entries value
 
-ended_of-nothing : (object : ℕ) (b : Bool) (test : Entry → Bool) (process line : ℕ) (entries : List Entry) (value : LogicValue) → last_written object (ended_of b test process line entries) value ≡ value
+ended_of-nothing : (object : ℕ) (b : Bool) (test : Entry → Bool) (process line : ℕ) (entries : List Entry) (value : LogicValue) →
+    last_written object (ended_of b test process line entries) value ≡ value
 ended_of-nothing object false test process line entries value = refl
 ended_of-nothing object true test process line entries value = ends-nothing object process line (without_first test entries) value
 
@@ -59,7 +62,8 @@ ended-nothing object f each number (state ∷ processes) value =
 -- A write of a variable
 
 -- a value put into one object
-pub value_at-put : (values : List LogicValue) (object : ℕ) (new : LogicValue) (x : ℕ) → x < length values → value_at (change_at values object (λ old. new)) x ≡ cond (nat_eq object x) new (value_at values x)
+pub value_at-put : (values : List LogicValue) (object : ℕ) (new : LogicValue) (x : ℕ) → x < length values →
+    value_at (change_at values object (λ old. new)) x ≡ cond (nat_eq object x) new (value_at values x)
 value_at-put [] object new x low = absurd (omega arith)
 value_at-put (v ∷ values) zero new zero low = sym (ap (λ b. cond b new v) (eq-eqb 0 0 refl))
 value_at-put (v ∷ values) zero new (suc x) low = sym (ap (λ b. cond b new (value_at values x)) (ne_eqb 0 (suc x) (λ e. omega (arith, e))))
@@ -106,7 +110,12 @@ write_if true access = []
 write_if false access = access ∷ []
 
 net_write-is : (process line : ℕ) (state next : State) (object : ℕ) → net_write process line state next object
-    ≡ write_if (same_value (value_at state.values object) (value_at next.values object)) (record { act = Writing (value_at state.values object) (value_at next.values object); object = object; process = process; line = line })
+    ≡ write_if (same_value (value_at state.values object) (value_at next.values object)) (record {
+      act = Writing (value_at state.values object) (value_at next.values object);
+      object = object;
+      process = process;
+      line = line;
+    })
 net_write-is process line state next object = go (same_value (value_at state.values object) (value_at next.values object))
   where
     access : ObjectAccess
@@ -117,7 +126,8 @@ net_write-is process line state next object = go (same_value (value_at state.val
     go false = refl
 
 -- the write of a piece leaves what the piece holds afterwards
-stays-next : (process line : ℕ) (state next : State) (x object : ℕ) (value : LogicValue) → value ≡ value_at next.values x → last_written x (net_write process line state next object) value ≡ value_at next.values x
+stays-next : (process line : ℕ) (state next : State) (x object : ℕ) (value : LogicValue) → value ≡ value_at next.values x →
+    last_written x (net_write process line state next object) value ≡ value_at next.values x
 stays-next process line state next x object value e =
     ap (λ l. last_written x l value) (net_write-is process line state next object) ∙ go (same_value (value_at state.values object) (value_at next.values object)) (cases_eq object x)
   where
@@ -160,7 +170,8 @@ other-write process line state next x object value ne =
     go true = refl
     go false = ap (λ t. cond t (value_at next.values object) value) ne
 
-none-written : (process line : ℕ) (state next : State) (x : ℕ) (objects : List ℕ) (value : LogicValue) → has objects x ≡ false → last_written x (joined (map (net_write process line state next) objects)) value ≡ value
+none-written : (process line : ℕ) (state next : State) (x : ℕ) (objects : List ℕ) (value : LogicValue) → has objects x ≡ false →
+    last_written x (joined (map (net_write process line state next) objects)) value ≡ value
 none-written process line state next x [] value h = refl
 none-written process line state next x (object ∷ objects) value h =
     let parts = or-none (nat_eq object x) (has objects x) h in
@@ -172,10 +183,12 @@ none-written process line state next x (object ∷ objects) value h =
     or-none true c e = cc
     or-none false c e = (refl, e)
 
-pieces-written : (process line : ℕ) (state next : State) (x : ℕ) (objects : List ℕ) → has objects x ≡ true → last_written x (joined (map (net_write process line state next) objects)) (value_at state.values x) ≡ value_at next.values x
+pieces-written : (process line : ℕ) (state next : State) (x : ℕ) (objects : List ℕ) → has objects x ≡ true →
+    last_written x (joined (map (net_write process line state next) objects)) (value_at state.values x) ≡ value_at next.values x
 pieces-written process line state next x [] h = cc
 pieces-written process line state next x (object ∷ objects) h =
-    last_written-append x (net_write process line state next object) (joined (map (net_write process line state next) objects)) (value_at state.values x) ∙ go (cases_eq object x) (pieces-written process line state next x objects)
+    last_written-append x (net_write process line state next object) (joined (map (net_write process line state next) objects)) (value_at state.values x)
+    ∙ go (cases_eq object x) (pieces-written process line state next x objects)
   where
     go : (object ≡ x) ⊎ (object ≡ x → ⊥) → (has objects x ≡ true → last_written x (joined (map (net_write process line state next) objects)) (value_at state.values x) ≡ value_at next.values x) →
         last_written x (joined (map (net_write process line state next) objects)) (last_written x (net_write process line state next object) (value_at state.values x)) ≡ value_at next.values x
@@ -187,7 +200,8 @@ pieces-written process line state next x (object ∷ objects) h =
         ∙ rest (subst (λ b. (b || has objects x) ≡ true) (ne_eqb object x other) h)
 
 -- values put into other objects
-unchanged : (machine : Machine) (objects : List ℕ) (values : List LogicValue) (state : State) (x : ℕ) → has objects x ≡ false → x < length state.values → value_at (with_values machine objects values state).values x ≡ value_at state.values x
+unchanged : (machine : Machine) (objects : List ℕ) (values : List LogicValue) (state : State) (x : ℕ) → has objects x ≡ false → x < length state.values →
+    value_at (with_values machine objects values state).values x ≡ value_at state.values x
 unchanged machine [] values state x h low = refl
 unchanged machine (object ∷ objects) [] state x h low = refl
 unchanged machine (object ∷ objects) (value ∷ values) state x h low =
@@ -201,11 +215,13 @@ unchanged machine (object ∷ objects) (value ∷ values) state x h low =
 
 -- an update of a node whose outputs are net pieces
 net-writes : (design : FlatDesign) (process line : ℕ) (node : FlatNode) (state next : State) (x : ℕ) → ((object : ℕ) → has node.outputs object ≡ true → has (net_pieces design) object ≡ true) →
-    (has node.outputs x ≡ false → value_at next.values x ≡ value_at state.values x) → value_at next.values x ≡ last_written x (net_accesses design process line (Some node) state next) (value_at state.values x)
+    (has node.outputs x ≡ false → value_at next.values x ≡ value_at state.values x) → value_at next.values x ≡ last_written x (net_accesses design process line (Some node) state next)
+    (value_at state.values x)
 net-writes design process line node state next x nets same =
     sym (last_written-append x (joined (map (net_write process line state next) pieces)) (joined (map_numbered (net_ended_by state next node.outputs) 0 state.processes)) (value_at state.values x)
     ∙ ended-nothing x (net_ended_by state next node.outputs)
-    (λ p s v. ended_of-nothing x (some_entry (some_change_matches state next node.outputs) (waiting_entries s.activity)) (some_change_matches state next node.outputs) p (waiting_line s.activity) (waiting_entries s.activity) v)
+    (λ p s v. ended_of-nothing x (some_entry (some_change_matches state next node.outputs) (waiting_entries s.activity)) (some_change_matches state next node.outputs) p (waiting_line s.activity)
+    (waiting_entries s.activity) v)
     0 state.processes (last_written x (joined (map (net_write process line state next) pieces)) (value_at state.values x))
     ∙ written (cases_Bool (has node.outputs x)))
   where
@@ -225,10 +241,12 @@ net-writes design process line node state next x nets same =
         none-written process line state next x pieces (value_at state.values x) (member ∙ ap (λ b. has (net_pieces design) x && b) h ∙ and-false (has (net_pieces design) x)) ∙ sym (same h)
 
 -- the outputs of a node are net pieces
-outputs-nets : (design : FlatDesign) (nodes : List FlatNode) → AllHold (IsNodeOf design) nodes → (number : ℕ) (node : FlatNode) → slice_get nodes number ≡ Some node → (object : ℕ) → has node.outputs object ≡ true →
+outputs-nets : (design : FlatDesign) (nodes : List FlatNode) → AllHold (IsNodeOf design) nodes → (number : ℕ) (node : FlatNode) → slice_get nodes number ≡ Some node → (object : ℕ) →
+    has node.outputs object ≡ true →
     has (net_pieces design) object ≡ true
 outputs-nets design [] all number node at object h = cc
-outputs-nets design (first ∷ nodes) all zero node at object h = listed node.outputs (subst (λ (n : FlatNode). AllHold (λ o. IsTrue (has (net_pieces design) o)) n.outputs) (some_is first node at) all.0.outputs_nets) h
+outputs-nets design (first ∷ nodes) all zero node at object h = listed node.outputs (subst (λ (n : FlatNode). AllHold (λ o. IsTrue (has (net_pieces design) o)) n.outputs)
+    (some_is first node at) all.0.outputs_nets) h
   where
     some_is : (a b : FlatNode) → Some a ≡ Some b → a ≡ b
     some_is a b e = cc
@@ -278,7 +296,8 @@ pub writes-are : (machine : Machine) → KeepsRules machine.design → (process 
     value_at (after machine state event).values object ≡ last_written object (accesses_of machine process line state event) (value_at state.values object)
 writes-are machine rules process line state (Step number) object low =
     action-writes machine number (step_of machine state number).line (step_of machine state number).action (after_step state (step_of machine state number)) state object low
-    ∙ sym (last_written-append object (action_accesses machine number (step_of machine state number).line (step_of machine state number).action state) (await_accesses number (step_of machine state number).line (step_of machine state number).next) (value_at state.values object)
+    ∙ sym (last_written-append object (action_accesses machine number (step_of machine state number).line (step_of machine state number).action state)
+    (await_accesses number (step_of machine state number).line (step_of machine state number).next) (value_at state.values object)
     ∙ awaits-nothing object number (step_of machine state number).line (waiting_entries (step_of machine state number).next)
     (last_written object (action_accesses machine number (step_of machine state number).line (step_of machine state number).action state) (value_at state.values object)))
 writes-are machine rules process line state (LaneStep number) object low = lane-writes machine number (process_at state number).lane state object low

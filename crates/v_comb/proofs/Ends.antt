@@ -19,7 +19,8 @@ assigned-set body targets e = ap (ends_set body) e ∙ flags-are-assigned (each_
 pub not-assigned : (body : Stmt) (waits : BlockWaits) (targets : List Identifier) (assigned : Bool) → targets ≡ each_once [] (assigned_names_of body)
     → assigned ≡ all_set (flags_after targets (replicate (length targets) false) (statement_of body)) → assigned ≡ false → ProcessForm ≡ block_form (statement_of body) waits
 not-assigned body waits targets assigned e s fails =
-    ap (λ b. form_if (b && waits_for waits (each_once (each_once [] (assigned_names_of body)) (names_read_of body))) (each_once [] (assigned_names_of body)) (each_once (each_once [] (assigned_names_of body)) (names_read_of body)))
+    ap (λ b. form_if (b && waits_for waits (each_once (each_once [] (assigned_names_of body)) (names_read_of body))) (each_once [] (assigned_names_of body))
+    (each_once (each_once [] (assigned_names_of body)) (names_read_of body)))
     (sym fails ∙ s ∙ assigned-set body targets e)
 
 both-true : (b c : Bool) → b ≡ true → c ≡ true → (b && c) ≡ true
@@ -34,15 +35,18 @@ pub not-waited : (body : Stmt) (waits : BlockWaits) (targets reads : List Identi
     → reads ≡ each_once targets (names_read_of body) → waited ≡ waits_for waits reads → waited ≡ false → ProcessForm ≡ block_form (statement_of body) waits
 not-waited body waits targets reads waited e r w fails =
     ap (λ b. form_if b (each_once [] (assigned_names_of body)) (each_once (each_once [] (assigned_names_of body)) (names_read_of body)))
-    (sym (one-false (all_assigned (each_once [] (assigned_names_of body)) (assigned_after (each_once [] (assigned_names_of body)) [] (statement_of body))) (waits_for waits (each_once (each_once [] (assigned_names_of body)) (names_read_of body)))
+    (sym (one-false (all_assigned (each_once [] (assigned_names_of body)) (assigned_after (each_once [] (assigned_names_of body)) [] (statement_of body)))
+    (waits_for waits (each_once (each_once [] (assigned_names_of body)) (names_read_of body)))
     (sym (w ∙ ap (waits_for waits) (r ∙ ap (λ t. each_once t (names_read_of body)) e)) ∙ fails)))
 
 pub is-node : (body : Stmt) (waits : BlockWaits) (targets reads targets' reads' : List Identifier) (assigned waited : Bool) → targets ≡ each_once [] (assigned_names_of body)
     → assigned ≡ all_set (flags_after targets (replicate (length targets) false) (statement_of body)) → assigned ≡ true
-    → reads ≡ each_once targets (names_read_of body) → waited ≡ waits_for waits reads → waited ≡ true → targets' ≡ targets → reads' ≡ reads → NetForm targets' reads' ≡ block_form (statement_of body) waits
+    → reads ≡ each_once targets (names_read_of body) → waited ≡ waits_for waits reads → waited ≡ true → targets' ≡ targets → reads' ≡ reads →
+    NetForm targets' reads' ≡ block_form (statement_of body) waits
 is-node body waits targets reads targets' reads' assigned waited e s holds r w met t u =
     let read : reads ≡ each_once (each_once [] (assigned_names_of body)) (names_read_of body) = r ∙ ap (λ t. each_once t (names_read_of body)) e in
     ap₂ NetForm (t ∙ e) (u ∙ read)
     ∙ ap (λ b. form_if b (each_once [] (assigned_names_of body)) (each_once (each_once [] (assigned_names_of body)) (names_read_of body)))
-    (sym (both-true (all_assigned (each_once [] (assigned_names_of body)) (assigned_after (each_once [] (assigned_names_of body)) [] (statement_of body))) (waits_for waits (each_once (each_once [] (assigned_names_of body)) (names_read_of body)))
+    (sym (both-true (all_assigned (each_once [] (assigned_names_of body)) (assigned_after (each_once [] (assigned_names_of body)) [] (statement_of body)))
+    (waits_for waits (each_once (each_once [] (assigned_names_of body)) (names_read_of body)))
     (sym (s ∙ assigned-set body targets e) ∙ holds) (sym (w ∙ ap (waits_for waits) read) ∙ met)))

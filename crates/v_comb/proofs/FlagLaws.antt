@@ -1,10 +1,15 @@
 -- The flags of targets are those that are assigned.
-use Rattle.std.proofs.Common.{◌≡◌, ℕ, zero, suc, ◌+◌, ◌-◌, ◌<◌, ◌≤◌, Bool, true, false, cond, not, ◌&&◌, ◌||◌, List, [], ◌∷◌, ◌++◌, map, filter, length, replicate, get_or, set, Option, Some, None, option_map, option_and_then, is_none, refl, sym, ap, ap₂, ◌∙◌, arith, fold, add-one}
+use Rattle.std.proofs.Common.{◌≡◌, ℕ, zero, suc, ◌+◌, ◌-◌, ◌<◌, ◌≤◌, Bool, true, false, cond, not, ◌&&◌, ◌||◌, List, [], ◌∷◌, ◌++◌, map, filter, length, replicate, get_or, set, Option, Some, None}
+use Rattle.std.proofs.Common.{option_map, option_and_then, is_none, refl, sym, ap, ap₂, ◌∙◌, arith, fold, add-one}
 use Rattle.std.specs.List.{list_all, slice_set}
-use Rattle.v_tree.specs.Trees.{Identifier, same_name, has_name, SourceStatement, NullStatement, BlockStatement, IfStatement, IfElseStatement, CaseStatement, ForStatement, WhileStatement, RepeatStatement, ForeverStatement, WaitStatement, EventStatement, DelayStatement, BlockingStatement, NonblockingStatement, IgnoredTask, FinishTask, SourceStatements, no_source_statements, more_source_statements, SourceCaseItems, no_source_items, labelled, otherwise, names_in}
-use Rattle.v_comb.specs.CombinationalForm.{reads_assigned, assigned_where, on_both_paths, unmatched_path, path_with, paths_or, assigned_after, all_assigned_after, items_assigned_after, all_assigned, names_needed, whole_names, labels_names}
+use Rattle.v_tree.specs.Trees.{Identifier, same_name, has_name, SourceStatement, NullStatement, BlockStatement, IfStatement, IfElseStatement, CaseStatement, ForStatement, WhileStatement}
+use Rattle.v_tree.specs.Trees.{RepeatStatement, ForeverStatement, WaitStatement, EventStatement, DelayStatement, BlockingStatement, NonblockingStatement, IgnoredTask, FinishTask, SourceStatements}
+use Rattle.v_tree.specs.Trees.{no_source_statements, more_source_statements, SourceCaseItems, no_source_items, labelled, otherwise, names_in}
+use Rattle.v_comb.specs.CombinationalForm.{reads_assigned, assigned_where, on_both_paths, unmatched_path, path_with, paths_or, assigned_after, all_assigned_after, items_assigned_after, all_assigned}
+use Rattle.v_comb.specs.CombinationalForm.{names_needed, whole_names, labels_names}
 use Rattle.v_comb.specs.NameTables.{place_of_name}
-use Rattle.v_comb.specs.Flags.{flag_at, all_flagged, flag_set, flag_name, flag_names, flags_met, flags_where, flags_on_both, has_default, unmatched_flags, flags_after, all_flags_after, items_flags_after, all_set}
+use Rattle.v_comb.specs.Flags.{flag_at, all_flagged, flag_set, flag_name, flag_names, flags_met, flags_where, flags_on_both, has_default, unmatched_flags, flags_after, all_flags_after}
+use Rattle.v_comb.specs.Flags.{items_flags_after, all_set}
 use Rattle.v_comb.proofs.Tables.{same-equal, equal-same, same-tests, same-turned}
 use Rattle.std.proofs.lemmas.Bool.{or_parts}
 
@@ -27,7 +32,8 @@ later-flag flag flags (Some p) = rw add-one refl
 
 read-by : (assigned targets : List Identifier) (target name : Identifier) (b : Bool) → same_name target name ≡ b
     → flag_at (flags_of targets assigned) (place_of_name targets name) ≡ (not (has_name targets name) || has_name assigned name)
-    → flag_at (has_name assigned target ∷ flags_of targets assigned) (cond b (Some 0) (option_map (λ p. p + 1) (place_of_name targets name))) ≡ (not (b || has_name targets name) || has_name assigned name)
+    → flag_at (has_name assigned target ∷ flags_of targets assigned) (cond b (Some 0) (option_map (λ p. p + 1) (place_of_name targets name))) ≡
+    (not (b || has_name targets name) || has_name assigned name)
 read-by assigned targets target name true e more = ap (has_name assigned) (same-equal target name e)
 read-by assigned targets target name false e more = later-flag (has_name assigned target) (flags_of targets assigned) (place_of_name targets name) ∙ more
 
@@ -133,7 +139,8 @@ met-flags targets one other =
     same-maps (has_name (filter (has_name other) one)) (λ name. has_name one name && has_name other name) targets (kept-both one other)
     ∙ sym (met-maps (has_name one) (has_name other) targets)
 
-both-flags : (targets : List Identifier) (one other : Option (List Identifier)) → flags_on_both (option_map (flags_of targets) one) (option_map (flags_of targets) other) ≡ option_map (flags_of targets) (on_both_paths one other)
+both-flags : (targets : List Identifier) (one other : Option (List Identifier)) → flags_on_both (option_map (flags_of targets) one) (option_map (flags_of targets) other) ≡ option_map
+    (flags_of targets) (on_both_paths one other)
 both-flags targets None other = refl
 both-flags targets (Some one) None = refl
 both-flags targets (Some one) (Some other) = ap (λ (flags : List Bool). Some flags) (sym (met-flags targets one other))
@@ -191,7 +198,8 @@ one-path targets met rest (Some one) (Some (Some other)) more =
     more (flags_met met (flags_of targets one))
     ∙ ap (λ (flags : List Bool). Some flags) (met-grouped met (flags_of targets one) (flags_of targets other) ∙ ap (flags_met met) (sym (met-flags targets one other)))
 
-unmatched-is : (assigned : List Identifier) (items : SourceCaseItems) (paths : Option (List Identifier)) → unmatched_path assigned items paths ≡ cond (has_default items) paths (on_both_paths (Some assigned) paths)
+unmatched-is : (assigned : List Identifier) (items : SourceCaseItems) (paths : Option (List Identifier)) →
+    unmatched_path assigned items paths ≡ cond (has_default items) paths (on_both_paths (Some assigned) paths)
 unmatched-is assigned no_source_items paths = refl
 unmatched-is assigned (labelled labels statement rest) paths = unmatched-is assigned rest paths
 unmatched-is assigned (otherwise statement rest) paths = refl
@@ -206,7 +214,8 @@ itemless targets assigned (labelled labels statement rest) e = absurd (pathless 
 itemless targets assigned (otherwise statement rest) e = absurd (pathless (assigned_after targets assigned statement) (items_assigned_after targets assigned rest) e)
 
 case-by : (targets assigned : List Identifier) (default : Bool) (paths : Option (Option (List Identifier))) → (paths ≡ None → default ≡ false)
-    → met_paths targets (unmatched_flags default (flags_of targets assigned)) paths ≡ option_map (flags_of targets) (cond default (paths_or assigned paths) (on_both_paths (Some assigned) (paths_or assigned paths)))
+    → met_paths targets (unmatched_flags default (flags_of targets assigned)) paths ≡ option_map (flags_of targets)
+    (cond default (paths_or assigned paths) (on_both_paths (Some assigned) (paths_or assigned paths)))
 case-by targets assigned true None some = cc (some refl)
 case-by targets assigned false None some = ap (λ (flags : List Bool). Some flags) (sym (met-flags targets assigned assigned ∙ met-same (flags_of targets assigned)))
 case-by targets assigned true (Some None) some = refl
@@ -221,16 +230,20 @@ next-flags targets rest None then more = refl
 next-flags targets rest (Some now) then more = more now
 
 mutual
-  pub flags-agree : (targets assigned : List Identifier) (statement : SourceStatement) → AreApart targets → flags_after targets (flags_of targets assigned) statement ≡ option_map (flags_of targets) (assigned_after targets assigned statement)
+  pub flags-agree : (targets assigned : List Identifier) (statement : SourceStatement) → AreApart targets →
+      flags_after targets (flags_of targets assigned) statement ≡ option_map (flags_of targets) (assigned_after targets assigned statement)
   flags-agree targets assigned (NullStatement place) apart = refl
   flags-agree targets assigned (IgnoredTask place) apart = refl
   flags-agree targets assigned (BlockStatement place statements) apart = all-flags-agree targets assigned statements apart
   flags-agree targets assigned (IfStatement place condition first) apart =
-      where-flags targets (all_flagged targets (flags_of targets assigned) (names_in condition)) (reads_assigned targets assigned (names_in condition)) _ (on_both_paths (Some assigned) (assigned_after targets assigned first)) (reads-flags assigned targets (names_in condition))
+      where-flags targets (all_flagged targets (flags_of targets assigned) (names_in condition)) (reads_assigned targets assigned (names_in condition)) _
+      (on_both_paths (Some assigned) (assigned_after targets assigned first)) (reads-flags assigned targets (names_in condition))
       (ap (flags_on_both (Some (flags_of targets assigned))) (flags-agree targets assigned first apart) ∙ both-flags targets (Some assigned) (assigned_after targets assigned first))
   flags-agree targets assigned (IfElseStatement place condition first second) apart =
-      where-flags targets (all_flagged targets (flags_of targets assigned) (names_in condition)) (reads_assigned targets assigned (names_in condition)) _ (on_both_paths (assigned_after targets assigned first) (assigned_after targets assigned second)) (reads-flags assigned targets (names_in condition))
-      (ap₂ flags_on_both (flags-agree targets assigned first apart) (flags-agree targets assigned second apart) ∙ both-flags targets (assigned_after targets assigned first) (assigned_after targets assigned second))
+      where-flags targets (all_flagged targets (flags_of targets assigned) (names_in condition)) (reads_assigned targets assigned (names_in condition)) _
+      (on_both_paths (assigned_after targets assigned first) (assigned_after targets assigned second)) (reads-flags assigned targets (names_in condition))
+      (ap₂ flags_on_both (flags-agree targets assigned first apart) (flags-agree targets assigned second apart)
+      ∙ both-flags targets (assigned_after targets assigned first) (assigned_after targets assigned second))
   flags-agree targets assigned (CaseStatement place kind value items) apart =
       where-flags targets (all_flagged targets (flags_of targets assigned) (names_in value ++ labels_names items)) (reads_assigned targets assigned (names_in value ++ labels_names items)) _
       (unmatched_path assigned items (paths_or assigned (items_assigned_after targets assigned items))) (reads-flags assigned targets (names_in value ++ labels_names items))
@@ -238,7 +251,8 @@ mutual
       ∙ case-by targets assigned (has_default items) (items_assigned_after targets assigned items) (itemless targets assigned items)
       ∙ ap (option_map (flags_of targets)) (sym (unmatched-is assigned items (paths_or assigned (items_assigned_after targets assigned items)))))
   flags-agree targets assigned (BlockingStatement place target delay value) apart =
-      where-flags targets (is_none delay && all_flagged targets (flags_of targets assigned) (names_needed target value)) (is_none delay && reads_assigned targets assigned (names_needed target value)) _ (Some (whole_names target ++ assigned))
+      where-flags targets (is_none delay && all_flagged targets (flags_of targets assigned) (names_needed target value))
+      (is_none delay && reads_assigned targets assigned (names_needed target value)) _ (Some (whole_names target ++ assigned))
       (ap (λ b. is_none delay && b) (reads-flags assigned targets (names_needed target value)))
       (ap (λ (flags : List Bool). Some flags) (write-flags (whole_names target) assigned targets apart))
   flags-agree targets assigned (ForStatement place first_target first condition next_target next body) apart = refl
@@ -251,20 +265,25 @@ mutual
   flags-agree targets assigned (NonblockingStatement place target delay value) apart = refl
   flags-agree targets assigned (FinishTask place) apart = refl
 
-  pub all-flags-agree : (targets assigned : List Identifier) (statements : SourceStatements) → AreApart targets → all_flags_after targets (flags_of targets assigned) statements ≡ option_map (flags_of targets) (all_assigned_after targets assigned statements)
+  pub all-flags-agree : (targets assigned : List Identifier) (statements : SourceStatements) → AreApart targets →
+      all_flags_after targets (flags_of targets assigned) statements ≡ option_map (flags_of targets) (all_assigned_after targets assigned statements)
   all-flags-agree targets assigned no_source_statements apart = refl
   all-flags-agree targets assigned (more_source_statements first rest) apart =
       ap (option_and_then (λ now. all_flags_after targets now rest)) (flags-agree targets assigned first apart)
-      ∙ next-flags targets (λ now. all_flags_after targets now rest) (assigned_after targets assigned first) (λ now. all_assigned_after targets now rest) (λ now. all-flags-agree targets now rest apart)
+      ∙ next-flags targets (λ now. all_flags_after targets now rest) (assigned_after targets assigned first) (λ now. all_assigned_after targets now rest)
+      (λ now. all-flags-agree targets now rest apart)
 
-  pub items-flags-agree : (targets assigned : List Identifier) (met : List Bool) (items : SourceCaseItems) → AreApart targets → items_flags_after targets (flags_of targets assigned) met items ≡ met_paths targets met (items_assigned_after targets assigned items)
+  pub items-flags-agree : (targets assigned : List Identifier) (met : List Bool) (items : SourceCaseItems) → AreApart targets →
+      items_flags_after targets (flags_of targets assigned) met items ≡ met_paths targets met (items_assigned_after targets assigned items)
   items-flags-agree targets assigned met no_source_items apart = refl
   items-flags-agree targets assigned met (labelled labels statement rest) apart =
       ap (option_and_then (λ after. items_flags_after targets (flags_of targets assigned) (flags_met met after) rest)) (flags-agree targets assigned statement apart)
-      ∙ one-path targets met (λ now. items_flags_after targets (flags_of targets assigned) now rest) (assigned_after targets assigned statement) (items_assigned_after targets assigned rest) (λ now. items-flags-agree targets assigned now rest apart)
+      ∙ one-path targets met (λ now. items_flags_after targets (flags_of targets assigned) now rest) (assigned_after targets assigned statement) (items_assigned_after targets assigned rest)
+      (λ now. items-flags-agree targets assigned now rest apart)
   items-flags-agree targets assigned met (otherwise statement rest) apart =
       ap (option_and_then (λ after. items_flags_after targets (flags_of targets assigned) (flags_met met after) rest)) (flags-agree targets assigned statement apart)
-      ∙ one-path targets met (λ now. items_flags_after targets (flags_of targets assigned) now rest) (assigned_after targets assigned statement) (items_assigned_after targets assigned rest) (λ now. items-flags-agree targets assigned now rest apart)
+      ∙ one-path targets met (λ now. items_flags_after targets (flags_of targets assigned) now rest) (assigned_after targets assigned statement) (items_assigned_after targets assigned rest)
+      (λ now. items-flags-agree targets assigned now rest apart)
 
 -- The end
 

@@ -11,9 +11,11 @@ use Rattle.v_tree.specs.declared.statement.CaseItem.{CaseItem}
 use Rattle.v_tree.specs.declared.statement.CaseItem.TheVariants.{Labelled, Default}
 use Rattle.v_tree.specs.Trees.{selects_of}
 use Rattle.v_tree.specs.declared.expression.Target.{Target}
-use Rattle.v_comb.specs.CombinationalForm.{target_names, target_index_names, whole_names, part_names, is_whole_select, assigned_names, all_assigned_names, items_assigned_names, names_read, all_names_read, items_names_read, labels_names, each_once, fresh_name}
+use Rattle.v_comb.specs.CombinationalForm.{target_names, target_index_names, whole_names, part_names, is_whole_select, assigned_names, all_assigned_names, items_assigned_names, names_read}
+use Rattle.v_comb.specs.CombinationalForm.{all_names_read, items_names_read, labels_names, each_once, fresh_name}
 use Rattle.v_comb.specs.Flags.{has_default, items_flags_after}
-use Rattle.v_comb.specs.Occurrences.{names_of_expr, index_names_of_select, select_name, only_names, name_where, whole_names_of, part_names_of, assigned_names_of, assigned_names_of_item, names_read_of, names_read_of_item, label_names_of_item}
+use Rattle.v_comb.specs.Occurrences.{names_of_expr, index_names_of_select, select_name, only_names, name_where, whole_names_of, part_names_of, assigned_names_of, assigned_names_of_item}
+use Rattle.v_comb.specs.Occurrences.{names_read_of, names_read_of_item, label_names_of_item}
 
 -- the names in some expressions
 pub part-names-listed : (parts : List Expr) → names_in_parts (expressions_of parts) ≡ flat_map names_of_expr parts
@@ -22,7 +24,8 @@ part-names-listed (part ∷ parts) =
     map-append (λ (n : NamedPlace). n.name) (named_in (expression_of part)) (named_in_parts (expressions_of parts)) ∙ ap (λ rest. names_of_expr part ++ rest) (part-names-listed parts)
 
 -- the names that some selects are of
-pub select-names-listed : (selects : List Select) → map (λ (n : NamedPlace). n.name) (map (λ (s : SourceSelect). record { name = s.name; place = s.place }) (map select_of selects)) ≡ flat_map select_name selects
+pub select-names-listed : (selects : List Select) → map (λ (n : NamedPlace). n.name) (map (λ (s : SourceSelect). record { name = s.name; place = s.place }) (map select_of selects)) ≡ flat_map
+    select_name selects
 select-names-listed [] = refl
 select-names-listed (select ∷ selects) = ap (λ rest. select.name ∷ rest) (select-names-listed selects)
 

@@ -1,5 +1,6 @@
 -- Names in a table are those that its keys refer to.
-use Rattle.std.proofs.Common.{◌≡◌, ℕ, ◌+◌, suc, Bool, true, false, cond, ◌&&◌, ◌||◌, not, List, [], ◌∷◌, ◌++◌, map, length, Option, Some, None, option_map, refl, sym, ap, ap₂, ◌∙◌, arith, nat_eq, nat_lt}
+use Rattle.std.proofs.Common.{◌≡◌, ℕ, ◌+◌, suc, Bool, true, false, cond, ◌&&◌, ◌||◌, not, List, [], ◌∷◌, ◌++◌, map, length, Option, Some, None, option_map, refl, sym, ap, ap₂, ◌∙◌, arith, nat_eq}
+use Rattle.std.proofs.Common.{nat_lt}
 use Rattle.std.specs.Borrow.{Bor}
 use Rattle.std.specs.Str.{bytes_eq}
 use Rattle.std.specs.List.{list_any, list_all, position, position_or_len}
@@ -45,14 +46,16 @@ put-by true keys key = refl
 put-by false keys key = map-append (λ k. k.now) keys (key ∷ [])
 
 -- the names after a key is put in
-pub put-names : (keys : List (Bor (List ℕ))) (key : Bor (List ℕ)) → map (λ k. k.now) (cond (list_any (λ k. bytes_eq key.now k.now) keys) keys (keys ++ key ∷ [])) ≡ with_name (map (λ k. k.now) keys) key.now
+pub put-names : (keys : List (Bor (List ℕ))) (key : Bor (List ℕ)) → map (λ k. k.now) (cond (list_any (λ k. bytes_eq key.now k.now) keys) keys (keys ++ key ∷ [])) ≡ with_name
+    (map (λ k. k.now) keys) key.now
 put-names keys key = ap (λ b. map (λ k. k.now) (cond b keys (keys ++ key ∷ []))) (has-keys key.now keys) ∙ put-by (has_name (map (λ k. k.now) keys) key.now) keys key
 
 later-place : (b : Bool) (n m k : ℕ) → nat_lt n m ≡ b → k ≡ m + 1 → cond (nat_lt (1 + n) k) (Some (1 + n)) None ≡ option_map (λ place. place + 1) (cond b (Some n) None)
 later-place true n m k e s = rw (lt-ltb (1 + n) k (omega (arith, ltb-true n m e))) (ap (λ (i : ℕ). Some i) (omega arith))
 later-place false n m k e s = rw (le-ltb (1 + n) k (omega (arith, ltb-false n m e))) refl
 
-first-place : (b : Bool) (n m k : ℕ) → k ≡ m + 1 → cond (nat_lt (cond (not b) (1 + n) 0) k) (Some (cond (not b) (1 + n) 0)) None ≡ cond b (Some 0) (option_map (λ place. place + 1) (cond (nat_lt n m) (Some n) None))
+first-place : (b : Bool) (n m k : ℕ) → k ≡ m + 1 → cond (nat_lt (cond (not b) (1 + n) 0) k) (Some (cond (not b) (1 + n) 0)) None ≡ cond b (Some 0)
+    (option_map (λ place. place + 1) (cond (nat_lt n m) (Some n) None))
 first-place true n m k s = rw (lt-ltb 0 k (omega arith)) refl
 first-place false n m k s = later-place (nat_lt n m) n m k refl s
 

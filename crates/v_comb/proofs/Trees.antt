@@ -19,8 +19,10 @@ use Rattle.v_tree.specs.declared.statement.Stmt.TheVariants as statements
 use Rattle.v_tree.specs.declared.statement.CaseItem.{CaseItem}
 use Rattle.v_comb.specs.CombinationalForm.{assigned_names, names_read, names_needed, whole_names, is_whole_select}
 use Rattle.v_comb.specs.Flags.{all_flagged, flags_where, has_default, unmatched_flags, flags_after, all_flags_after, items_flags_after}
-use Rattle.v_comb.specs.Occurrences.{names_of_expr, only_names, assigned_names_of, assigned_names_of_item, names_read_of, names_read_of_item, flags_after_case, index_names_of_select, part_names_of, whole_names_of, label_names_of_item}
-use Rattle.v_comb.proofs.Lists.{part-names-listed, all-assigned-listed, items-assigned-listed, all-read-listed, items-read-listed, labels-listed, index-names-listed, part-select-names-listed, whole-names-listed}
+use Rattle.v_comb.specs.Occurrences.{names_of_expr, only_names, assigned_names_of, assigned_names_of_item, names_read_of, names_read_of_item, flags_after_case, index_names_of_select, part_names_of}
+use Rattle.v_comb.specs.Occurrences.{whole_names_of, label_names_of_item}
+use Rattle.v_comb.proofs.Lists.{part-names-listed, all-assigned-listed, items-assigned-listed, all-read-listed, items-read-listed, labels-listed, index-names-listed, part-select-names-listed}
+use Rattle.v_comb.proofs.Lists.{whole-names-listed}
 
 pub concat-names : (place : Place) (parts : Vec Expr Global) → names_of_expr (code.Concat place parts) ≡ flat_map names_of_expr parts.items
 concat-names place parts = ap names_in_parts (expressions-hidden parts) ∙ part-names-listed parts.items
@@ -33,16 +35,19 @@ repeat-names place count parts =
 pub block-assigned : (place : Place) (body : Vec Stmt Global) → assigned_names_of (statements.Block place body) ≡ flat_map assigned_names_of body.items
 block-assigned place body = ap (λ s. only_names (assigned_names s)) (statement_of-Block place body) ∙ all-assigned-listed body.items
 
-pub case-assigned : (place : Place) (kind : CaseKind) (value : Expr) (items : Vec CaseItem Global) → assigned_names_of (statements.Case place kind value items) ≡ flat_map assigned_names_of_item items.items
+pub case-assigned : (place : Place) (kind : CaseKind) (value : Expr) (items : Vec CaseItem Global) →
+    assigned_names_of (statements.Case place kind value items) ≡ flat_map assigned_names_of_item items.items
 case-assigned place kind value items = ap (λ s. only_names (assigned_names s)) (statement_of-Case place kind value items) ∙ items-assigned-listed items.items
 
 pub block-read : (place : Place) (body : Vec Stmt Global) → names_read_of (statements.Block place body) ≡ flat_map names_read_of body.items
 block-read place body = ap names_read (statement_of-Block place body) ∙ all-read-listed body.items
 
-pub case-read : (place : Place) (kind : CaseKind) (value : Expr) (items : Vec CaseItem Global) → names_read_of (statements.Case place kind value items) ≡ names_of_expr value ++ flat_map names_read_of_item items.items
+pub case-read : (place : Place) (kind : CaseKind) (value : Expr) (items : Vec CaseItem Global) →
+    names_read_of (statements.Case place kind value items) ≡ names_of_expr value ++ flat_map names_read_of_item items.items
 case-read place kind value items = ap names_read (statement_of-Case place kind value items) ∙ ap (λ names. names_of_expr value ++ names) (items-read-listed items.items)
 
-pub if-read-none : (place : Place) (condition : Expr) (first : Box Stmt Global) (second : Option (Box Stmt Global)) → second ≡ None → names_read_of (statements.If place condition first second) ≡ names_of_expr condition ++ names_read_of first.value
+pub if-read-none : (place : Place) (condition : Expr) (first : Box Stmt Global) (second : Option (Box Stmt Global)) → second ≡ None →
+    names_read_of (statements.If place condition first second) ≡ names_of_expr condition ++ names_read_of first.value
 if-read-none place condition first second e = ap (λ (other : Option (Box Stmt Global)). names_read_of (statements.If place condition first other)) e
 
 pub if-read-some : (place : Place) (condition : Expr) (first other : Box Stmt Global) (second : Option (Box Stmt Global)) → second ≡ Some other
@@ -55,14 +60,16 @@ if-assigned-some place condition first other second e =
     ap (λ (o : Option (Box Stmt Global)). assigned_names_of (statements.If place condition first o)) e
     ∙ map-append (λ (n : NamedPlace). n.name) (assigned_names (statement_of first.value)) (assigned_names (statement_of other.value))
 
-pub block-flags : (targets : List Identifier) (flags : List Bool) (place : Place) (body : Vec Stmt Global) → flags_after targets flags (statement_of (statements.Block place body)) ≡ all_flags_after targets flags (statements_of body.items)
+pub block-flags : (targets : List Identifier) (flags : List Bool) (place : Place) (body : Vec Stmt Global) →
+    flags_after targets flags (statement_of (statements.Block place body)) ≡ all_flags_after targets flags (statements_of body.items)
 block-flags targets flags place body = ap (flags_after targets flags) (statement_of-Block place body)
 
 pub case-flags : (targets : List Identifier) (flags : List Bool) (place : Place) (kind : CaseKind) (value : Expr) (items : Vec CaseItem Global)
     → flags_after targets flags (statement_of (statements.Case place kind value items)) ≡ flags_after_case targets flags value items.items
 case-flags targets flags place kind value items =
     ap (flags_after targets flags) (statement_of-Case place kind value items)
-    ∙ ap (λ names. flags_where (all_flagged targets flags (names_of_expr value ++ names)) (items_flags_after targets flags (unmatched_flags (has_default (case_items_of items.items)) flags) (case_items_of items.items))) (labels-listed items.items)
+    ∙ ap (λ names. flags_where (all_flagged targets flags (names_of_expr value ++ names)) (items_flags_after targets flags (unmatched_flags (has_default (case_items_of items.items)) flags)
+    (case_items_of items.items))) (labels-listed items.items)
 
 -- the names that an assignment needs, by the selects of its target
 pub needed-listed : (target : Target) (value : Expr) (selects : List Select) → map select_of selects ≡ selects_of (target_of target)
@@ -84,20 +91,24 @@ where-false true flags e = cc
 where-false false flags e = refl
 
 -- a case on whose paths a target is read before it is assigned
-pub case-refused : (targets : List Identifier) (flags : List Bool) (place : Place) (kind : CaseKind) (value : Expr) (items : Vec CaseItem Global) (test : Bool) (flags' : List Bool) (items' : List CaseItem)
+pub case-refused : (targets : List Identifier) (flags : List Bool) (place : Place) (kind : CaseKind) (value : Expr) (items : Vec CaseItem Global) (test : Bool) (flags' : List Bool)
+    (items' : List CaseItem)
     → test ≡ all_flagged targets flags' (names_of_expr value ++ flat_map label_names_of_item items') → flags' ≡ flags → items' ≡ items.items → test ≡ false
     → None ≡ flags_after targets flags (statement_of (statements.Case place kind value items))
 case-refused targets flags place kind value items test flags' items' e f i fails =
     sym (case-flags targets flags place kind value items
-    ∙ where-false (all_flagged targets flags (names_of_expr value ++ flat_map label_names_of_item items.items)) (items_flags_after targets flags (unmatched_flags (has_default (case_items_of items.items)) flags) (case_items_of items.items))
+    ∙ where-false (all_flagged targets flags (names_of_expr value ++ flat_map label_names_of_item items.items))
+    (items_flags_after targets flags (unmatched_flags (has_default (case_items_of items.items)) flags) (case_items_of items.items))
     (sym (e ∙ ap₂ (λ fs is. all_flagged targets fs (names_of_expr value ++ flat_map label_names_of_item is)) f i) ∙ fails))
 
-pub case-followed : (targets : List Identifier) (flags : List Bool) (place : Place) (kind : CaseKind) (value : Expr) (items : Vec CaseItem Global) (test : Bool) (flags' : List Bool) (items' : List CaseItem) (met : List Bool) (after : Option (List Bool))
+pub case-followed : (targets : List Identifier) (flags : List Bool) (place : Place) (kind : CaseKind) (value : Expr) (items : Vec CaseItem Global) (test : Bool) (flags' : List Bool)
+    (items' : List CaseItem) (met : List Bool) (after : Option (List Bool))
     → test ≡ all_flagged targets flags' (names_of_expr value ++ flat_map label_names_of_item items') → flags' ≡ flags → items' ≡ items.items → test ≡ true
     → met ≡ unmatched_flags (has_default (case_items_of items.items)) flags → after ≡ items_flags_after targets flags met (case_items_of items.items)
     → after ≡ flags_after targets flags (statement_of (statements.Case place kind value items))
 case-followed targets flags place kind value items test flags' items' met after e f i holds m n =
     n ∙ ap (λ now. items_flags_after targets flags now (case_items_of items.items)) m
     ∙ sym (case-flags targets flags place kind value items
-    ∙ where-true (all_flagged targets flags (names_of_expr value ++ flat_map label_names_of_item items.items)) (items_flags_after targets flags (unmatched_flags (has_default (case_items_of items.items)) flags) (case_items_of items.items))
+    ∙ where-true (all_flagged targets flags (names_of_expr value ++ flat_map label_names_of_item items.items))
+    (items_flags_after targets flags (unmatched_flags (has_default (case_items_of items.items)) flags) (case_items_of items.items))
     (sym (e ∙ ap₂ (λ fs is. all_flagged targets fs (names_of_expr value ++ flat_map label_names_of_item is)) f i) ∙ holds))

@@ -1,5 +1,6 @@
 -- Turns of loops over lists.
-use Rattle.std.proofs.Common.{◌≡◌, ℕ, zero, suc, ◌+◌, ◌<◌, ◌≤◌, Bool, true, false, cond, ◌&&◌, ◌||◌, List, [], ◌∷◌, ◌++◌, drop, take, length, get_or, set, refl, sym, ap, ap₂, ◌∙◌, append_assoc, arith, add-one}
+use Rattle.std.proofs.Common.{◌≡◌, ℕ, zero, suc, ◌+◌, ◌<◌, ◌≤◌, Bool, true, false, cond, ◌&&◌, ◌||◌, List, [], ◌∷◌, ◌++◌, drop, take, length, get_or, set, refl, sym, ap, ap₂, ◌∙◌, append_assoc}
+use Rattle.std.proofs.Common.{arith, add-one}
 use Rattle.std.proofs.Math.Seq.{drop-cons, drop-length}
 use Rattle.std.proofs.lemmas.List.{take_more}
 use Rattle.v_tree.specs.Trees.{Identifier, same_name, has_name}
@@ -26,7 +27,8 @@ met_first (suc n) [] other = []
 met_first (suc n) (flag ∷ flags) [] = false ∷ met_first n flags []
 met_first (suc n) (flag ∷ flags) (two ∷ other) = (flag && two) ∷ met_first n flags other
 
-pub met-step : (i : ℕ) (flags other : List Bool) (d : Bool) → i < length flags → met_first (suc i) flags other ≡ set (met_first i flags other) i (get_or (met_first i flags other) i d && get_or other i false)
+pub met-step : (i : ℕ) (flags other : List Bool) (d : Bool) → i < length flags → met_first (suc i) flags other ≡ set (met_first i flags other) i
+    (get_or (met_first i flags other) i d && get_or other i false)
 met-step i [] other d below = absurd (omega arith)
 met-step zero (flag ∷ flags) [] d below = ap (λ b. b ∷ flags) (and-none flag)
   where
@@ -44,7 +46,8 @@ met-whole zero (flag ∷ flags) other e = absurd (omega arith)
 met-whole (suc n) (flag ∷ flags) [] e = ap (λ rest. false ∷ rest) (met-whole n flags [] (omega arith))
 met-whole (suc n) (flag ∷ flags) (two ∷ other) e = ap (λ rest. (flag && two) ∷ rest) (met-whole n flags other (omega arith))
 
-pub met-turn : (i : ℕ) (flags other now : List Bool) (flag : Bool) → i < length flags → now ≡ met_first i flags other → flag ≡ (get_or now i false && get_or other i false) → set now i flag ≡ met_first (i + 1) flags other
+pub met-turn : (i : ℕ) (flags other now : List Bool) (flag : Bool) → i < length flags → now ≡ met_first i flags other → flag ≡ (get_or now i false && get_or other i false) →
+    set now i flag ≡ met_first (i + 1) flags other
 met-turn i flags other now flag below e s =
     rw add-one (ap₂ (λ n b. set n i b) e (s ∙ ap (λ n. get_or n i false && get_or other i false) e) ∙ sym (met-step i flags other false below))
 
@@ -52,7 +55,8 @@ or-false : (b : Bool) → (b || false) ≡ b
 or-false true = refl
 or-false false = refl
 
-with-by : (names : List Identifier) (x name : Identifier) (b c : Bool) → has_name names x ≡ b → same_name x name ≡ c → has_name (cond b names (names ++ x ∷ [])) name ≡ (has_name names name || (c || false))
+with-by : (names : List Identifier) (x name : Identifier) (b c : Bool) → has_name names x ≡ b → same_name x name ≡ c →
+    has_name (cond b names (names ++ x ∷ [])) name ≡ (has_name names name || (c || false))
 with-by names x name true true e s = let there : has_name names name ≡ true = ap (has_name names) (sym (same-equal x name s)) ∙ e in rw there refl
 with-by names x name true false e s = sym (or-false (has_name names name))
 with-by names x name false c e s = has-append names (x ∷ []) name ∙ ap (λ b. has_name names name || (b || false)) s
@@ -74,6 +78,7 @@ pub two-more : {A : Type 0} (old middle new : List A) {x y x' y' all : List A} �
 two-more old middle new {x} {y} {x'} {y'} {all} e f s t u =
     f ∙ ap₂ (λ a b. a ++ b) (e ∙ ap (λ names. old ++ names) s) t ∙ append_assoc old x' y' ∙ ap (λ names. old ++ names) (sym u)
 
-pub three-more : {A : Type 0} (old one two new : List A) {x y z x' y' z' all : List A} → one ≡ old ++ x → two ≡ one ++ y → new ≡ two ++ z → x ≡ x' → y ≡ y' → z ≡ z' → all ≡ x' ++ (y' ++ z') → new ≡ old ++ all
+pub three-more : {A : Type 0} (old one two new : List A) {x y z x' y' z' all : List A} → one ≡ old ++ x → two ≡ one ++ y → new ≡ two ++ z → x ≡ x' → y ≡ y' → z ≡ z' → all ≡ x' ++ (y' ++ z') →
+    new ≡ old ++ all
 three-more old one two new {x} {y} {z} {x'} {y'} {z'} {all} e f g s t u v =
     two-more old one new e (g ∙ ap (λ names. names ++ z) f ∙ append_assoc one y z) s (ap₂ (λ a b. a ++ b) t u) v

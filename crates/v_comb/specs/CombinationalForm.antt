@@ -1,7 +1,10 @@
 -- Combinational form of an `always` block, over names (IEEE 1364-2001, clause 9.7.5 for `@*`, clause 9.2.1 for blocking assignments; that such a block is a node is own).
 use Rattle.std.specs.Prelude.{Bool, true, false, not, ◌&&◌, ◌||◌, List, [], ◌∷◌, ◌++◌, map, filter, flat_map, Option, Some, None, is_none, option_and_then}
 use Rattle.std.specs.List.{list_all}
-use Rattle.v_tree.specs.Trees.{Identifier, SourceExpression, SourceIndex, NoIndex, SourceSelect, SourceTarget, selects_of, SourceStatement, NullStatement, BlockStatement, IfStatement, IfElseStatement, CaseStatement, ForStatement, WhileStatement, RepeatStatement, ForeverStatement, WaitStatement, EventStatement, DelayStatement, BlockingStatement, NonblockingStatement, IgnoredTask, FinishTask, SourceStatements, no_source_statements, more_source_statements, SourceCaseItems, no_source_items, labelled, otherwise, NamedPlace, names_in, names_in_index, names_in_parts, has_name}
+use Rattle.v_tree.specs.Trees.{Identifier, SourceExpression, SourceIndex, NoIndex, SourceSelect, SourceTarget, selects_of, SourceStatement, NullStatement, BlockStatement, IfStatement}
+use Rattle.v_tree.specs.Trees.{IfElseStatement, CaseStatement, ForStatement, WhileStatement, RepeatStatement, ForeverStatement, WaitStatement, EventStatement, DelayStatement, BlockingStatement}
+use Rattle.v_tree.specs.Trees.{NonblockingStatement, IgnoredTask, FinishTask, SourceStatements, no_source_statements, more_source_statements, SourceCaseItems, no_source_items, labelled, otherwise}
+use Rattle.v_tree.specs.Trees.{NamedPlace, names_in, names_in_index, names_in_parts, has_name}
 
 -- what a block waits for: all that it reads, or some names
 pub data BlockWaits : Type 0 where

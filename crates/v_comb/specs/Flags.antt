@@ -1,7 +1,8 @@
 -- What is assigned on every path, as a flag for each target (nothing of the language).
 use Rattle.std.specs.Prelude.{ℕ, Bool, true, false, ◌&&◌, ◌||◌, List, [], ◌∷◌, ◌++◌, replicate, length, Option, Some, None, is_none, option_and_then, get_or, slice_set, fold}
 use Rattle.std.specs.List.{list_all}
-use Rattle.v_tree.specs.Trees.{Identifier, SourceStatement, NullStatement, BlockStatement, IfStatement, IfElseStatement, CaseStatement, BlockingStatement, IgnoredTask, SourceStatements, no_source_statements, more_source_statements, SourceCaseItems, no_source_items, labelled, otherwise, names_in}
+use Rattle.v_tree.specs.Trees.{Identifier, SourceStatement, NullStatement, BlockStatement, IfStatement, IfElseStatement, CaseStatement, BlockingStatement, IgnoredTask, SourceStatements}
+use Rattle.v_tree.specs.Trees.{no_source_statements, more_source_statements, SourceCaseItems, no_source_items, labelled, otherwise, names_in}
 use Rattle.v_comb.specs.CombinationalForm.{names_needed, labels_names, whole_names}
 use Rattle.v_comb.specs.NameTables.{place_of_name}
 

@@ -5,7 +5,8 @@ ghost use Rattle.std.specs.List.{list_all};
 ghost use Rattle.v_tree.specs.Views.{statement_of, statements_of, case_items_of, select_of, target_of, expression_of};
 ghost use Rattle.v_comb.specs.CombinationalForm.{names_needed, whole_names, is_whole_select};
 ghost use Rattle.v_comb.specs.NameTables.{place_of_name};
-ghost use Rattle.v_comb.specs.Flags.{flag_at, all_flagged, flag_name, flag_names, flags_met, flags_where, flags_on_both, flags_after, all_flags_after, items_flags_after, has_default, unmatched_flags, all_set};
+ghost use Rattle.v_comb.specs.Flags.{flag_at, all_flagged, flag_name, flag_names, flags_met, flags_where};
+ghost use Rattle.v_comb.specs.Flags.{flags_on_both, flags_after, all_flags_after, items_flags_after, has_default, unmatched_flags, all_set};
 ghost use Rattle.v_comb.specs.Forms.{flags_in};
 ghost use Rattle.v_comb.specs.Occurrences.{listed, names_of_expr, label_names_of_item, whole_names_of, part_names_of, flags_after_item};
 

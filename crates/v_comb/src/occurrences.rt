@@ -4,7 +4,8 @@ ghost use Rattle.std.specs.Prelude.{◌≡◌, ◌++◌, OnOk, flat_map, map};
 ghost use Rattle.v_tree.specs.Views.{select_of, target_of};
 ghost use Rattle.v_tree.specs.Trees.{selects_of};
 ghost use Rattle.v_comb.specs.CombinationalForm.{target_index_names};
-ghost use Rattle.v_comb.specs.Occurrences.{listed, names_of_expr, target_names_of, index_names_of_select, select_name, assigned_names_of, assigned_names_of_item, names_read_of, names_read_of_item, label_names_of_item};
+ghost use Rattle.v_comb.specs.Occurrences.{listed, names_of_expr, target_names_of, index_names_of_select, select_name};
+ghost use Rattle.v_comb.specs.Occurrences.{assigned_names_of, assigned_names_of_item, names_read_of, names_read_of_item, label_names_of_item};
 
 use std::slice::from_ref;
 use v_tree::{CaseItem, Expr, Index, Select, Stmt, Target};

@@ -4,7 +4,8 @@ use Rattle.vf_base.specs.Lists.{zip_with, change_at, map_numbered}
 use Rattle.four_value.specs.Bits.{and_bit, or_bit, xor_bit, not_bit}
 use Rattle.four_value.specs.Values.{LogicValue, bit_at, natural_number, is_true, part_of, with_part, reduced}
 use Rattle.four_value.specs.Operators.{label_matches}
-use Rattle.v_design.specs.Trees.{Expression, Expressions, no_expressions, more_expressions, Target, WholeTarget, BitTarget, PartTarget, WordTarget, Statement, Null, Block, If, Case, For, While, Repeat, Forever, Delay, EventControl, Wait, Blocking, Nonblocking, Finish, Statements, no_statements, more_statements, CaseItems, no_items, more_items}
+use Rattle.v_design.specs.Trees.{Expression, Expressions, no_expressions, more_expressions, Target, WholeTarget, BitTarget, PartTarget, WordTarget, Statement, Null, Block, If, Case, For, While}
+use Rattle.v_design.specs.Trees.{Repeat, Forever, Delay, EventControl, Wait, Blocking, Nonblocking, Finish, Statements, no_statements, more_statements, CaseItems, no_items, more_items}
 use Rattle.v_design.specs.Expressions.{sign_of, index_number, place_of_number, part_indexes, part_places, word_at, value_of, Progress, Has, then_with, read_expression}
 use Rattle.v_design.specs.Designs.{FlatNode, FlatNodeKind, AssignNode, GateNode, BlockNode, Machine, width_in, forced_variable, forced_output, forced_terminal}
 use Rattle.four_value.specs.declared.logic.Bit.{Bit}

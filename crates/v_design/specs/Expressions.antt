@@ -2,7 +2,8 @@
 use Rattle.std.specs.Prelude.{ℕ, zero, suc, ◌+◌, ◌-◌, min, Bool, true, false, ◌&&◌, ◌||◌, List, [], ◌∷◌, ◌++◌, map, Option, Some, None, nat_lt, nat_le, if◌then◌else◌, slice_get}
 use Rattle.four_value.specs.Values.{LogicValue, unknown, resized, bit_at, natural_number, truth_of, chosen_value}
 use Rattle.four_value.specs.Operators.{unary_value, binary_value}
-use Rattle.v_design.specs.Trees.{Piece, Vector, Memory, Expression, Constant, Name, BitSelect, PartSelect, WordSelect, Unary, Binary, Conditional, Concatenation, Replication, Expressions, no_expressions, more_expressions}
+use Rattle.v_design.specs.Trees.{Piece, Vector, Memory, Expression, Constant, Name, BitSelect, PartSelect, WordSelect, Unary, Binary, Conditional, Concatenation, Replication, Expressions}
+use Rattle.v_design.specs.Trees.{no_expressions, more_expressions}
 use Rattle.four_value.specs.declared.logic.Bit.{Bit}
 use Rattle.four_value.specs.declared.logic.Bit.TheVariants.{X}
 

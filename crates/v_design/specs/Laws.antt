@@ -10,13 +10,15 @@ use Rattle.v_design.specs.WellFormed.{IsPlan, KeepsRules}
 use Rattle.v_design.specs.Sites.{AreOneClass}
 use Rattle.v_design.specs.Assignments.{AreSettled, value_at, node_outputs, with_outputs}
 use Rattle.v_design.specs.States.{is_process_event, State, Event, Step, LaneStep, Evaluation, NetUpdate, TurnKind, start, possible, after, turned, has_work, some_in, is_quiescent, turn_of}
-use Rattle.v_design.specs.Runs.{Move, Turns, Leads, IsLegal, IsPhase, all_possible, happened, turn_in_slot, all_made, counted_steps, most_steps, first_moves, FirstSlot, first_run, slot_end, is_hyper, ends_by}
+use Rattle.v_design.specs.Runs.{Move, Turns, Leads, IsLegal, IsPhase, all_possible, happened, turn_in_slot, all_made, counted_steps, most_steps, first_moves, FirstSlot, first_run, slot_end}
+use Rattle.v_design.specs.Runs.{is_hyper, ends_by}
 use Rattle.v_design.specs.Paths.{Clean, net_class, paths}
 use Rattle.v_design.specs.Accesses.{ObjectAccess, accesses_of}
 use Rattle.v_design.specs.Logs.{LoggedEvent, LoggedPhase, PhaseAccess, phase_changes, counted_accesses, log_accesses, orders, conflict}
 use Rattle.v_design.specs.PhaseLogs.{NotedEvent, cause_of, note_of, noted_events, log_of, phase_race}
 use Rattle.vf_base.specs.Base.{ReportedPair}
-use Rattle.v_design.specs.Grades.{Samples, Phase, cut, race_of, Fine, Hyper, slot_outcome, samples, state_after_slots, Verdict, Detected, Possible, Undetected, verdict, FaultGrade, Judged, Raced, Looped, grade}
+use Rattle.v_design.specs.Grades.{Samples, Phase, cut, race_of, Fine, Hyper, slot_outcome, samples, state_after_slots, Verdict, Detected, Possible, Undetected, verdict, FaultGrade, Judged, Raced}
+use Rattle.v_design.specs.Grades.{Looped, grade}
 use Rattle.vf_base.specs.declared.finding.Side.{Side}
 use Rattle.vf_base.specs.declared.finding.Side.TheVariants.{Good, Faulty}
 

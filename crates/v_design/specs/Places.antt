@@ -2,7 +2,8 @@
 use Rattle.std.specs.Prelude.{Bool, ◌&&◌, List, [], ◌∷◌, ◌++◌, nat_eq}
 use Rattle.std.specs.List.{IsDistinct}
 use Rattle.vf_base.specs.Base.{SourcePlace}
-use Rattle.v_design.specs.Trees.{Statement, Null, Block, If, Case, For, While, Repeat, Forever, Delay, EventControl, Wait, Blocking, Nonblocking, Finish, Statements, no_statements, more_statements, CaseItems, no_items, more_items}
+use Rattle.v_design.specs.Trees.{Statement, Null, Block, If, Case, For, While, Repeat, Forever, Delay, EventControl, Wait, Blocking, Nonblocking, Finish, Statements, no_statements, more_statements}
+use Rattle.v_design.specs.Trees.{CaseItems, no_items, more_items}
 
 -- two places are one
 abbrev pub same_place : SourcePlace → SourcePlace → Bool

@@ -11,7 +11,8 @@ use Rattle.four_value.specs.declared.operator.CaseKind.{CaseKind}
 use Rattle.v_design.specs.declared.tree.FlatExpr.{FlatExpr, Row_of-FlatExpr, end_of-FlatExpr, more_of-FlatExpr, items-the_row-FlatExpr, items_hidden-the_row-FlatExpr-0}
 use Rattle.v_design.specs.declared.tree.FlatExpr.TheBlock.{hidden-the_row-FlatExpr-0}
 use Rattle.v_design.specs.declared.tree.FlatExpr.TheVariants.{Concatenation, Replication}
-use Rattle.v_design.specs.declared.tree.FlatStmt.{FlatStmt, Row_of-FlatStmt, end_of-FlatStmt, more_of-FlatStmt, items-the_row-FlatStmt, items_hidden-the_row-FlatStmt-0, Row_of-CaseItem, end_of-CaseItem, more_of-CaseItem, items-the_row-CaseItem, items_hidden-the_row-CaseItem-1}
+use Rattle.v_design.specs.declared.tree.FlatStmt.{FlatStmt, Row_of-FlatStmt, end_of-FlatStmt, more_of-FlatStmt, items-the_row-FlatStmt, items_hidden-the_row-FlatStmt-0, Row_of-CaseItem}
+use Rattle.v_design.specs.declared.tree.FlatStmt.{end_of-CaseItem, more_of-CaseItem, items-the_row-CaseItem, items_hidden-the_row-CaseItem-1}
 use Rattle.v_design.specs.declared.tree.CaseItem.{CaseItem}
 use Rattle.std.specs.declared.boxed.Box.{Box}
 use Rattle.v_design.specs.declared.tree.FlatStmt.TheBlock.{hidden-the_row-FlatStmt-0, hidden-the_row-CaseItem-1}

@@ -3,7 +3,8 @@ use Rattle.std.specs.Prelude.{ℕ, zero, suc, ◌+◌, Bool, true, false, List, 
 use Rattle.vf_base.specs.Lists.{has}
 use Rattle.vf_base.specs.Base.{SourcePlace}
 use Rattle.four_value.specs.Values.{LogicValue, natural_number, is_true}
-use Rattle.v_design.specs.Trees.{Piece, Expression, Target, Entry, Statement, Null, Block, If, Case, For, While, Repeat, Forever, Delay, EventControl, Wait, Blocking, Nonblocking, Finish, Statements, no_statements, more_statements, CaseItems, no_items, more_items}
+use Rattle.v_design.specs.Trees.{Piece, Expression, Target, Entry, Statement, Null, Block, If, Case, For, While, Repeat, Forever, Delay, EventControl, Wait, Blocking, Nonblocking, Finish}
+use Rattle.v_design.specs.Trees.{Statements, no_statements, more_statements, CaseItems, no_items, more_items}
 use Rattle.v_design.specs.Expressions.{sign_of, Progress, Needs, Has, then_with, read_expression, read_each, pieces_read}
 use Rattle.v_design.specs.Designs.{FlatProcess}
 use Rattle.v_design.specs.Assignments.{ValueUpdate, read_assignment, some_label_matches}

@@ -5,7 +5,9 @@ use Rattle.std.specs.List.{AllZip, IsDistinct-prop}
 use Rattle.std.proofs.Math.Logic.{∥∥₁_elim}
 use Rattle.std.proofs.Props.{props}
 use Rattle.vf_base.specs.Lists.{has, AllHold}
-use Rattle.v_design.specs.Trees.{Expression, Constant, Name, BitSelect, PartSelect, WordSelect, Unary, Binary, Conditional, Concatenation, Replication, Expressions, no_expressions, more_expressions, Target, WholeTarget, BitTarget, PartTarget, WordTarget, Statement, Null, Block, If, Case, For, While, Repeat, Forever, Delay, EventControl, Wait, Blocking, Nonblocking, Finish, Statements, no_statements, more_statements, CaseItems, no_items, more_items}
+use Rattle.v_design.specs.Trees.{Expression, Constant, Name, BitSelect, PartSelect, WordSelect, Unary, Binary, Conditional, Concatenation, Replication, Expressions, no_expressions, more_expressions}
+use Rattle.v_design.specs.Trees.{Target, WholeTarget, BitTarget, PartTarget, WordTarget, Statement, Null, Block, If, Case, For, While, Repeat, Forever, Delay, EventControl, Wait, Blocking}
+use Rattle.v_design.specs.Trees.{Nonblocking, Finish, Statements, no_statements, more_statements, CaseItems, no_items, more_items}
 use Rattle.v_design.specs.Expressions.{width_of, sign_of}
 use Rattle.v_design.specs.Designs.{FlatObject, NameJoined, FlatNodeKind, AssignNode, GateNode, BlockNode, FlatNode, FlatProcess, FlatDesign, width_in, TestPlan}
 use Rattle.v_design.specs.Paths.{net_pieces}
@@ -13,10 +15,12 @@ use Rattle.v_design.specs.Places.{same_place, places_in, PlacesDiffer}
 use Rattle.v_design.specs.Reads.{written_objects, entries_in}
 use Rattle.v_design.specs.CombinationalForm.{WritesOutputs}
 use Rattle.v_design.specs.Sites.{AllDiffer, expressions_count, site_name, sites_of}
-use Rattle.v_design.specs.WellFormed.{TerminalsFit, AreTerminals, IsSizedNode, IsSizedObject, IsSizedName, IsEntryOf, ends_word, IsOneWord, HasNamesOfOneWord, IsNodeOf, IsProcessOf, KeepsRules, IsAscending, IsPlan}
+use Rattle.v_design.specs.WellFormed.{TerminalsFit, AreTerminals, IsSizedNode, IsSizedObject, IsSizedName, IsEntryOf, ends_word, IsOneWord, HasNamesOfOneWord, IsNodeOf, IsProcessOf, KeepsRules}
+use Rattle.v_design.specs.WellFormed.{IsAscending, IsPlan}
 use Rattle.four_value.specs.declared.operator.GateKind.{GateKind}
 use Rattle.four_value.specs.declared.operator.GateKind.TheVariants.{And, Nand, Or, Nor, Xor, Xnor, Buf, Not}
-use Rattle.v_design.specs.Sized.{UnarySizing, OperandWithWhole, OperandAlone, UnaryAgrees, BinarySizing, BothWithWhole, LeftWithWhole, BothTogether, EachAlone, BinaryAgrees, IsSized, AreSizedAlone, IsSizedTarget, IsSizedAssignment, IsSizedEntry, AreLabels, IsDelayIf, IsSizedStatement, AreSizedStatements, AreSizedItems}
+use Rattle.v_design.specs.Sized.{UnarySizing, OperandWithWhole, OperandAlone, UnaryAgrees, BinarySizing, BothWithWhole, LeftWithWhole, BothTogether, EachAlone, BinaryAgrees, IsSized, AreSizedAlone}
+use Rattle.v_design.specs.Sized.{IsSizedTarget, IsSizedAssignment, IsSizedEntry, AreLabels, IsDelayIf, IsSizedStatement, AreSizedStatements, AreSizedItems}
 
 -- a fact of each element
 pub AllHold-prop : {A : Type 0} (P : A → Type 0) (xs : List A) → ((x : A) → IsProp (P x)) → IsProp (AllHold P xs)

@@ -5,7 +5,8 @@ use Rattle.vf_base.specs.declared.limits.TheConstants.{MAX_DEPTH}
 use Rattle.four_value.specs.declared.logic.Bit.TheVariants.{Zero}
 use Rattle.v_tree.specs.declared.item.Direction.{Direction}
 use Rattle.v_tree.specs.declared.item.Direction.TheVariants.{Input, Output}
-use Rattle.v_tree.specs.Trees.{Identifier, SourceExpression, Selected, NoIndex, SourceSelect, SourceTarget, selects_of, NamedPlace, SourcePorts, SourceConnection, SourceInstance, SourceHeads, PlainHeads, DeclaredHeads, SourceModule, place_of_expression, has_name}
+use Rattle.v_tree.specs.Trees.{Identifier, SourceExpression, Selected, NoIndex, SourceSelect, SourceTarget, selects_of, NamedPlace, SourcePorts, SourceConnection, SourceInstance, SourceHeads}
+use Rattle.v_tree.specs.Trees.{PlainHeads, DeclaredHeads, SourceModule, place_of_expression, has_name}
 use Rattle.v_names.specs.Faults.{UnknownName, DeclaredTwice, BadConnection, TooDeep, Fault, fault_at, fault_if}
 use Rattle.v_names.specs.Scopes.{SignedValue, Scope, looked_up, declared_width, is_vector}
 use Rattle.v_names.specs.Readings.{reading_of, tree_in, constant_of}

@@ -1,4 +1,5 @@
--- Which names are one object, who drives it, and into which pieces a net is cut (IEEE 1364-2001, clause 3.7 and clause 6.1; that a net has one driver for each bit, and that names that are joined are one object, is own).
+-- Which names are one object, who drives it, and into which pieces a net is cut (IEEE 1364-2001, clause 3.7 and clause 6.1; that a net has one driver for each bit, and that names that are joined
+-- are one object, is own).
 use Rattle.std.specs.Prelude.{ℕ, zero, suc, ◌+◌, Bool, true, false, not, ◌&&◌, ◌||◌, List, [], ◌∷◌, ◌++◌, map, filter, flat_map, length, Option, Some, None, nat_eq, nat_le}
 use Rattle.std.specs.List.{list_all, list_any}
 use Rattle.vf_base.specs.Base.{SourcePlace}

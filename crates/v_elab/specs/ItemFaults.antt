@@ -1,7 +1,12 @@
 -- What is wrong with the sizes and the kinds of names of an item (IEEE 1364-2001, clause 4.4 for sizes, clause 6.1 for assignments, clause 7.1 for gates, clause 9 for statements).
 use Rattle.std.specs.Prelude.{ℕ, Bool, true, false, not, ◌&&◌, ◌||◌, List, [], ◌∷◌, ◌++◌, map, filter, flat_map, Option, Some, None, nat_eq, nat_lt}
 use Rattle.v_design.specs.Sized.{span, most_bits}
-use Rattle.v_tree.specs.Trees.{SourceExpression, NoIndex, SourceExpressions, no_parts, more_parts, SourceSelect, SourceTarget, OneSelect, SourceEntry, SourceWaits, OnAnyRead, OnEntries, SourceStatement, NullStatement, BlockStatement, IfStatement, IfElseStatement, CaseStatement, ForStatement, WhileStatement, RepeatStatement, ForeverStatement, WaitStatement, EventStatement, DelayStatement, BlockingStatement, NonblockingStatement, IgnoredTask, FinishTask, SourceStatements, no_source_statements, more_source_statements, SourceCaseItems, no_source_items, labelled, otherwise, NamedPlace, SourceRange, SourceParameter, SourceWire, SourceContent, NoContent, FirstContent, MemoryBounds, SourceReg, SourceAssignment, SourceGate, SourceItem, ParameterItem, PortItem, WireItem, RegItem, IntegerItem, AssignItem, GateItem, InstanceItem, InitialItem, AlwaysItem, place_of_expression, place_of_target, named_in}
+use Rattle.v_tree.specs.Trees.{SourceExpression, NoIndex, SourceExpressions, no_parts, more_parts, SourceSelect, SourceTarget, OneSelect, SourceEntry, SourceWaits, OnAnyRead, OnEntries}
+use Rattle.v_tree.specs.Trees.{SourceStatement, NullStatement, BlockStatement, IfStatement, IfElseStatement, CaseStatement, ForStatement, WhileStatement, RepeatStatement, ForeverStatement}
+use Rattle.v_tree.specs.Trees.{WaitStatement, EventStatement, DelayStatement, BlockingStatement, NonblockingStatement, IgnoredTask, FinishTask, SourceStatements, no_source_statements}
+use Rattle.v_tree.specs.Trees.{more_source_statements, SourceCaseItems, no_source_items, labelled, otherwise, NamedPlace, SourceRange, SourceParameter, SourceWire, SourceContent, NoContent}
+use Rattle.v_tree.specs.Trees.{FirstContent, MemoryBounds, SourceReg, SourceAssignment, SourceGate, SourceItem, ParameterItem, PortItem, WireItem, RegItem, IntegerItem, AssignItem, GateItem}
+use Rattle.v_tree.specs.Trees.{InstanceItem, InitialItem, AlwaysItem, place_of_expression, place_of_target, named_in}
 use Rattle.v_names.specs.Faults.{BadWidth, BadConnection, WrongKind, Fault, fault_at, fault_if}
 use Rattle.v_names.specs.Scopes.{Scope, looked_up, is_parameter, is_memory}
 use Rattle.v_names.specs.Readings.{Reading, alone_faults, group_faults, reading_of, select_reading, number_of_constant, number_or, is_empty}

@@ -3,7 +3,9 @@ use Rattle.std.specs.Prelude.{ℕ, zero, suc, ◌+◌, Bool, true, false, List, 
 use Rattle.vf_base.specs.Base.{SourcePlace}
 use Rattle.four_value.specs.Values.{LogicValue, resized}
 use Rattle.four_value.specs.declared.operator.GateKind.{GateKind}
-use Rattle.v_tree.specs.Trees.{Identifier, SourceExpression, SourceTarget, SourceStatement, NamedPlace, SourceWire, SourceAssignment, SourceGate, SourceConnection, SourceInstance, SourceItem, ParameterItem, PortItem, WireItem, RegItem, IntegerItem, AssignItem, GateItem, InstanceItem, InitialItem, AlwaysItem, SourceHeads, PlainHeads, DeclaredHeads, SourceModule, same_name}
+use Rattle.v_tree.specs.Trees.{Identifier, SourceExpression, SourceTarget, SourceStatement, NamedPlace, SourceWire, SourceAssignment, SourceGate, SourceConnection, SourceInstance, SourceItem}
+use Rattle.v_tree.specs.Trees.{ParameterItem, PortItem, WireItem, RegItem, IntegerItem, AssignItem, GateItem, InstanceItem, InitialItem, AlwaysItem, SourceHeads, PlainHeads, DeclaredHeads}
+use Rattle.v_tree.specs.Trees.{SourceModule, same_name}
 use Rattle.v_elab.specs.declared.Mode.{Mode}
 use Rattle.v_elab.specs.declared.Mode.TheVariants.{Usual, Strict}
 use Rattle.v_names.specs.Faults.{UnknownName, WrongKind, Fault, fault_at, fault_if, same_place}
@@ -77,7 +79,8 @@ part_by_entry here d (Some (MemoryEntry range first last signed)) = MemoryPart (
 part_by_entry here d _ = []
 
 abbrev pub parts_of_own : Here → List Declaration → Declaration → List Part
-parts_of_own here declared d = flat_map (λ (own : Declaration). part_by_entry here own (looked_up here.scope own.name)) (filter (λ (own : Declaration). same_place own.place d.place) (of_name d.name declared))
+parts_of_own here declared d = flat_map (λ (own : Declaration). part_by_entry here own (looked_up here.scope own.name))
+    (filter (λ (own : Declaration). same_place own.place d.place) (of_name d.name declared))
 
 -- the nets, variables and memories that an item declares first
 abbrev pub declared_parts : Here → SourceItem → List Part

@@ -60,7 +60,8 @@ constant-is scope width e = by-known scope width e (all_known scope e) refl
 pub constant-none : (scope : Scope) (width : ℕ) (e : SourceExpression) → known_size scope e ≡ None → None ≡ constant_of scope width e
 constant-none scope width e h = sym (constant-is scope width e ∙ ap (λ z. constant_at width z (value_at scope e)) h)
 
-pub constant-known : (scope : Scope) (width : ℕ) (e : SourceExpression) (known : Known) (value : LogicValue) → IsKnown scope e known → value ≡ term_value known.term (max width known.size.width) known.size.signed
+pub constant-known : (scope : Scope) (width : ℕ) (e : SourceExpression) (known : Known) (value : LogicValue) → IsKnown scope e known →
+    value ≡ term_value known.term (max width known.size.width) known.size.signed
     → Some (record { value = value; signed = known.size.signed }) ≡ constant_of scope width e
 constant-known scope width e known value h v =
     ap (λ (x : LogicValue). Some (record { value = x; signed = known.size.signed })) (v ∙ h.value_is (max width known.size.width) known.size.signed)

@@ -31,9 +31,11 @@ equal-same : (a b : Identifier) → a ≡ b → same_name a b ≡ true
 equal-same a b e = same-pointwise a b ∙ (bytes_eq-Decides a b).1 e
 
 bytes-same : (name key : Identifier) → bytes_eq name key ≡ same_name key name
-bytes-same name key = sym (same-pointwise name key) ∙ same-tests (same_name name key) (same_name key name) (λ h. equal-same key name (sym (same-equal name key h))) (λ h. equal-same name key (sym (same-equal key name h)))
+bytes-same name key = sym (same-pointwise name key) ∙ same-tests (same_name name key) (same_name key name) (λ h. equal-same key name (sym (same-equal name key h)))
+    (λ h. equal-same name key (sym (same-equal key name h)))
 
-found-by : (test same : Bool) (e : Entry) (found : Option Entry) (rest : Option ScopeEntry) → test ≡ same → option_map entry_of found ≡ rest → option_map entry_of (cond test (Some e) found) ≡ entry_if same (entry_of e) rest
+found-by : (test same : Bool) (e : Entry) (found : Option Entry) (rest : Option ScopeEntry) → test ≡ same → option_map entry_of found ≡ rest →
+    option_map entry_of (cond test (Some e) found) ≡ entry_if same (entry_of e) rest
 found-by true true e found rest s h = refl
 found-by true false e found rest s h = cc
 found-by false true e found rest s h = cc
@@ -54,7 +56,8 @@ pub not-there : (name : Identifier) (pairs : List (Bor (List ℕ) × Entry)) →
 not-there name pairs e = none-of (lookup (λ key. bytes_eq name key.now) pairs) (looked-up name pairs ∙ e)
 
 -- one name more
-pub listed-more : (pairs : List (Bor (List ℕ) × Entry)) (key : Bor (List ℕ)) (entry : Entry) → names_listed (pairs ++ (key, entry) ∷ []) ≡ names_listed pairs ++ record { name = key.now; entry = entry_of entry } ∷ []
+pub listed-more : (pairs : List (Bor (List ℕ) × Entry)) (key : Bor (List ℕ)) (entry : Entry) →
+    names_listed (pairs ++ (key, entry) ∷ []) ≡ names_listed pairs ++ record { name = key.now; entry = entry_of entry } ∷ []
 listed-more pairs key entry = map-append (λ (p : Bor (List ℕ) × Entry). record { name = p.0.now; entry = entry_of p.1 }) pairs ((key, entry) ∷ [])
 
 entry-by : (test same : Bool) (e : Entry) (found : Option Entry) → test ≡ same → option_map entry_of (cond test (Some e) found) ≡ entry_if same (entry_of e) (option_map entry_of found)

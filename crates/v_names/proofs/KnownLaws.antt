@@ -1,5 +1,6 @@
 -- What is known of a constant from what is known of its parts.
-use Rattle.std.proofs.Common.{◌≡◌, ℕ, zero, suc, ◌+◌, ◌-◌, ◌*◌, ◌<◌, ◌≤◌, cond, Bool, true, false, ◌&&◌, ◌⊎◌, inl, inr, List, [], ◌∷◌, ◌++◌, length, nat_le, Option, Some, None, refl, sym, ap, ap₂, subst, ◌∙◌, arith, Global}
+use Rattle.std.proofs.Common.{◌≡◌, ℕ, zero, suc, ◌+◌, ◌-◌, ◌*◌, ◌<◌, ◌≤◌, cond, Bool, true, false, ◌&&◌, ◌⊎◌, inl, inr, List, [], ◌∷◌, ◌++◌, length, nat_le, Option, Some, None, refl, sym, ap, ap₂}
+use Rattle.std.proofs.Common.{subst, ◌∙◌, arith, Global}
 use Rattle.std.proofs.lemmas.Bool.{le-leb, leb-false, lt-leb}
 use Rattle.std.specs.declared.vec.Vec.{Vec}
 use Rattle.std.specs.declared.boxed.Box.{Box}
@@ -12,7 +13,8 @@ use Rattle.four_value.specs.declared.operator.UnaryOperator.{UnaryOperator}
 use Rattle.four_value.specs.declared.operator.BinaryOperator.{BinaryOperator}
 use Rattle.v_design.specs.Expressions.{repeated}
 use Rattle.v_design.specs.Sized.{most_bits, UnarySizing, OperandWithWhole, OperandAlone, unary_sizing, BinarySizing, BothWithWhole, LeftWithWhole, BothTogether, EachAlone, binary_sizing}
-use Rattle.v_tree.specs.Trees.{Identifier, NamedPlace, SourceExpression, Number, Selected, Prefixed, Infixed, Chosen, Concatenated, Replicated, NoIndex, IndexAt, IndexRange, SourceExpressions, named_in, named_in_parts}
+use Rattle.v_tree.specs.Trees.{Identifier, NamedPlace, SourceExpression, Number, Selected, Prefixed, Infixed, Chosen, Concatenated, Replicated, NoIndex, IndexAt, IndexRange, SourceExpressions}
+use Rattle.v_tree.specs.Trees.{named_in, named_in_parts}
 use Rattle.v_tree.specs.Views.{expression_of, expressions_of}
 use Rattle.v_tree.specs.ViewLaws.{expressions-hidden}
 use Rattle.v_tree.specs.declared.expression.Expr.{Expr}
@@ -186,7 +188,8 @@ known-append scope [] ys = refl
 known-append scope (x ∷ xs) ys =
     ap (λ b. is_known (looked_up scope x.name) && b) (known-append scope xs ys) ∙ and-groups (is_known (looked_up scope x.name)) (are_known scope xs) (are_known scope ys)
 
-name-by : (scope : Scope) (place : SourcePlace) (name : Identifier) (entry : Option ScopeEntry) (known : Option Known) → looked_up scope name ≡ entry → IsKnownName entry known → IsRead scope (Selected place name NoIndex) known
+name-by : (scope : Scope) (place : SourcePlace) (name : Identifier) (entry : Option ScopeEntry) (known : Option Known) → looked_up scope name ≡ entry → IsKnownName entry known →
+    IsRead scope (Selected place name NoIndex) known
 name-by scope place name None None e h = ap (λ x. cond (is_known x && true) (entry_size x) None) e
 name-by scope place name (Some RefusedParameter) None e h = ap (λ x. cond (is_known x && true) (entry_size x) None) e
 name-by scope place name (Some WaitingParameter) None e h = ap (λ x. cond (is_known x && true) (entry_size x) None) e
@@ -255,7 +258,8 @@ number-read scope place form value signed known s k w = record {
   wide = let e : known.size.width ≡ length value = ap (λ (n : Known). n.size.width) k in (omega (arith, e, w.0), omega (arith, e, w.1));
 }
 
-pub unary-read : (scope : Scope) (place : SourcePlace) (operator : UnaryOperator) (a : SourceExpression) (sizing : UnarySizing) (operand whole : Known) → sizing ≡ unary_sizing operator → IsKnown scope a operand
+pub unary-read : (scope : Scope) (place : SourcePlace) (operator : UnaryOperator) (a : SourceExpression) (sizing : UnarySizing) (operand whole : Known) → sizing ≡ unary_sizing operator →
+    IsKnown scope a operand
     → IsUnary sizing operator operand whole → IsKnown scope (Prefixed place operator a) whole
 unary-read scope place operator a sizing operand whole s h u = record {
   size_is =
@@ -283,7 +287,8 @@ binary-read scope place operator a b sizing left right whole s h k u =
     let m = own-known scope a (size_of left.size) h.size_is in
     let n = own-known scope b (size_of right.size) k.size_is in
     record {
-      size_is = size-infixed scope place operator a b ∙ ap₂ (binary_size (binary_sizing operator)) h.size_is k.size_is ∙ ap (λ x. binary_size x (Some (size_of left.size)) (Some (size_of right.size))) (sym s) ∙ u.size_is;
+      size_is = size-infixed scope place operator a b ∙ ap₂ (binary_size (binary_sizing operator)) h.size_is k.size_is
+          ∙ ap (λ x. binary_size x (Some (size_of left.size)) (Some (size_of right.size))) (sym s) ∙ u.size_is;
       value_is = λ width signed.
           let x = left_size sizing (record { width = width; signed = signed }) (Some (size_of left.size)) (Some (size_of right.size)) in
           let y = right_size sizing (record { width = width; signed = signed }) (Some (size_of left.size)) (Some (size_of right.size)) in
@@ -330,7 +335,8 @@ first-unread scope place c a b h = size-chosen scope place c a b ∙ ap (λ o. s
 
 pub second-unread : (scope : Scope) (place : SourcePlace) (c a b : SourceExpression) → known_size scope b ≡ None → known_size scope (Chosen place c a b) ≡ None
 second-unread scope place c a b h =
-    size-chosen scope place c a b ∙ ap (λ o. size_after (known_size scope c) (larger_size (known_size scope a) o)) h ∙ ap (size_after (known_size scope c)) (none-larger (known_size scope a)) ∙ none-after (known_size scope c)
+    size-chosen scope place c a b ∙ ap (λ o. size_after (known_size scope c) (larger_size (known_size scope a) o)) h ∙ ap (size_after (known_size scope c)) (none-larger (known_size scope a))
+    ∙ none-after (known_size scope c)
 
 -- Concatenations
 

@@ -1,5 +1,6 @@
 -- Turns over the parts of a concatenation, from the left.
-use Rattle.std.proofs.Common.{◌≡◌, ℕ, ◌+◌, ◌<◌, ◌≤◌, cond, Bool, true, false, ◌&&◌, ◌⊎◌, inl, inr, List, [], ◌∷◌, ◌++◌, length, drop, get_or, Option, Some, None, refl, sym, ap, ap₂, ◌∙◌, arith, append_assoc, length-append}
+use Rattle.std.proofs.Common.{◌≡◌, ℕ, ◌+◌, ◌<◌, ◌≤◌, cond, Bool, true, false, ◌&&◌, ◌⊎◌, inl, inr, List, [], ◌∷◌, ◌++◌, length, drop, get_or, Option, Some, None, refl, sym, ap, ap₂, ◌∙◌, arith}
+use Rattle.std.proofs.Common.{append_assoc, length-append}
 use Rattle.std.proofs.lemmas.List.{drop_more, drop_all, append-nil}
 use Rattle.expr_eval.specs.Operands.{bits_so_far}
 use Rattle.four_value.specs.Values.{LogicValue}
@@ -48,7 +49,8 @@ width-start scope parts = plus-start (parts_width scope (expressions_of parts))
 
 width-left : (scope : Scope) (parts : List Expr) (i : ℕ) (part : Expr) (total : ℕ) → i < length parts → part ≡ get_or parts i part
     → parts_width scope (expressions_of parts) ≡ plus_width total (parts_width scope (expressions_of (drop i parts)))
-    → parts_width scope (expressions_of parts) ≡ plus_width total (part_and_rest (is_unsized_number (expression_of part)) (own_size scope (expression_of part)) (parts_width scope (expressions_of (drop (i + 1) parts))))
+    → parts_width scope (expressions_of parts) ≡ plus_width total (part_and_rest (is_unsized_number (expression_of part)) (own_size scope (expression_of part))
+    (parts_width scope (expressions_of (drop (i + 1) parts))))
 width-left scope parts i part total below at h = h ∙ ap (λ l. plus_width total (parts_width scope (expressions_of l))) (drop-step parts i part below at)
 
 part-none : (u : Bool) (o : Option Size) (rest : Option ℕ) → (u ≡ true) ⊎ (o ≡ None) → part_and_rest u o rest ≡ None
@@ -104,7 +106,8 @@ size-part false true false None p = refl
 size-part false true false (Some z) p = refl
 size-part false false l o p = refl
 
-width-of-more : (scope : Scope) (first : SourceExpression) (rest : SourceExpressions) → known_width scope (more_parts first rest) ≡ part_and_rest (is_unsized_number first) (known_size scope first) (known_width scope rest)
+width-of-more : (scope : Scope) (first : SourceExpression) (rest : SourceExpressions) → known_width scope (more_parts first rest) ≡ part_and_rest (is_unsized_number first) (known_size scope first)
+    (known_width scope rest)
 width-of-more scope first rest =
     ap (λ k. cond k (part_and_rest (is_unsized_number first) (own_size scope first) (parts_width scope rest)) None) (known-append scope (named_in first) (named_in_parts rest))
     ∙ size-part (is_unsized_number first) (all_known scope first) (are_known scope (named_in_parts rest)) (own_size scope first) (parts_width scope rest)
@@ -135,7 +138,8 @@ long-alone : (known : Known) (value : LogicValue) → value ≡ value_alone know
 long-alone known value e = ap length e ∙ length-term known.term known.size.width known.size.signed
 
 -- a part with a value
-pub joined-more : (scope : Scope) (parts : List Expr) (i : ℕ) (part : Expr) (bits value longer : LogicValue) (known : Known) → i < length parts → part ≡ get_or parts i part → JoinedSo scope parts i bits
+pub joined-more : (scope : Scope) (parts : List Expr) (i : ℕ) (part : Expr) (bits value longer : LogicValue) (known : Known) → i < length parts → part ≡ get_or parts i part →
+    JoinedSo scope parts i bits
     → is_unsized_number (expression_of part) ≡ false → IsKnown scope (expression_of part) known → value ≡ value_alone known → longer ≡ value ++ bits → JoinedSo scope parts (i + 1) longer
 joined-more scope parts i part bits value longer known below at h u k v e =
     let rest = expressions_of (drop (i + 1) parts) in
@@ -152,7 +156,8 @@ joined-more scope parts i part bits value longer known below at h u k v e =
     }
 
 pub joined-wide : (scope : Scope) (parts : List Expr) (i : ℕ) (part : Expr) (bits value : LogicValue) (known : Known) → i < length parts → part ≡ get_or parts i part → JoinedSo scope parts i bits
-    → is_unsized_number (expression_of part) ≡ false → IsKnown scope (expression_of part) known → value ≡ value_alone known → most_bits < length bits + length value → AreJoined scope (expressions_of parts) None
+    → is_unsized_number (expression_of part) ≡ false → IsKnown scope (expression_of part) known → value ≡ value_alone known → most_bits < length bits + length value →
+    AreJoined scope (expressions_of parts) None
 joined-wide scope parts i part bits value known below at h u k v w =
     let long = long-alone known value v in
     ap fitting (known-more scope parts i part bits known below at h u k)

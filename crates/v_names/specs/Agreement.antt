@@ -1,13 +1,17 @@
 -- Scopes that agree on the parameters that a constant names give it one value (IEEE 1364-2001, clause 4 for constants, clause 12.2 for parameters).
 use Rattle.std.proofs.Common.{◌≡◌, ℕ, Bool, true, false, ◌&&◌, ◌||◌, List, [], ◌∷◌, ◌++◌, map, Option, Some, None, refl, sym, ap, ap₂, ◌∙◌}
 use Rattle.std.specs.List.{list_any}
-use Rattle.v_tree.specs.Trees.{Identifier, SourceExpression, Number, Selected, Parenthesised, Prefixed, Infixed, Chosen, Concatenated, Replicated, SourceIndex, NoIndex, IndexAt, IndexRange, SourceExpressions, no_parts, more_parts, NamedPlace, named_in, named_in_index, named_in_parts, place_of_expression}
+use Rattle.v_tree.specs.Trees.{Identifier, SourceExpression, Number, Selected, Parenthesised, Prefixed, Infixed, Chosen, Concatenated, Replicated, SourceIndex, NoIndex, IndexAt, IndexRange}
+use Rattle.v_tree.specs.Trees.{SourceExpressions, no_parts, more_parts, NamedPlace, named_in, named_in_index, named_in_parts, place_of_expression}
 use Rattle.vf_base.specs.Base.{SourcePlace}
 use Rattle.v_design.specs.Sized.{unary_sizing, binary_sizing}
-use Rattle.v_names.specs.Scopes.{SignedValue, ScopeEntry, ParameterEntry, RefusedParameter, WaitingParameter, NetEntry, RegEntry, MemoryEntry, GateEntry, InstanceEntry, Scope, looked_up, is_known, is_waiting}
+use Rattle.v_names.specs.Scopes.{SignedValue, ScopeEntry, ParameterEntry, RefusedParameter, WaitingParameter, NetEntry, RegEntry, MemoryEntry, GateEntry, InstanceEntry, Scope, looked_up, is_known}
+use Rattle.v_names.specs.Scopes.{is_waiting}
 use Rattle.v_names.specs.SizedLaws.{and-left, and-right}
 use Rattle.v_names.specs.ConstantLaws.{are_known}
-use Rattle.v_names.specs.Readings.{Reading, PartsReading, size_or_bit, tree_in, value_if, is_empty, alone_faults, constant_reading, all_known, natural_constant, constant_of, number_of_constant, unary_reading, binary_reading, choice_reading, name_reading, indexed_reading, ranged_reading, concatenation_reading, replication_reading, part_before, is_unsized_number, reading_of, select_reading, parts_reading}
+use Rattle.v_names.specs.Readings.{Reading, PartsReading, size_or_bit, tree_in, value_if, is_empty, alone_faults, constant_reading, all_known, natural_constant, constant_of, number_of_constant}
+use Rattle.v_names.specs.Readings.{unary_reading, binary_reading, choice_reading, name_reading, indexed_reading, ranged_reading, concatenation_reading, replication_reading, part_before}
+use Rattle.v_names.specs.Readings.{is_unsized_number, reading_of, select_reading, parts_reading}
 
 -- what a constant sees of an entry
 abbrev pub constant_part : Option ScopeEntry → ScopeEntry
@@ -113,7 +117,8 @@ mutual
   same-reading s t (Parenthesised place inner) h = same-reading s t inner h
   same-reading s t (Prefixed place operator operand) h = ap (unary_reading (unary_sizing operator) operator) (same-reading s t operand h)
   same-reading s t (Infixed place operator left right) h =
-      ap₂ (binary_reading (binary_sizing operator) operator) (same-reading s t left (same-left s t (named_in left) (named_in right) h)) (same-reading s t right (same-right s t (named_in left) (named_in right) h))
+      ap₂ (binary_reading (binary_sizing operator) operator) (same-reading s t left (same-left s t (named_in left) (named_in right) h))
+      (same-reading s t right (same-right s t (named_in left) (named_in right) h))
   same-reading s t (Chosen place condition first second) h =
       let rest = same-right s t (named_in condition) (named_in first ++ named_in second) h in
       ap₂ (λ c a. choice_reading c a (reading_of s second)) (same-reading s t condition (same-left s t (named_in condition) (named_in first ++ named_in second) h))
@@ -127,9 +132,11 @@ mutual
       let read = same-parts s t parts (same-right s t (named_in count) (named_in_parts parts) h) in
       ap₂ (λ (r : PartsReading) (c : Option SignedValue). replication_reading place (natural_constant c) r.width r.complete (r.inside ++ alone_faults (reading_of s count)) r.trees) read
       (same-value s t 0 count (reading_of s count) (reading_of t count) counted times)
-      ∙ ap (λ (r : Reading). replication_reading place (natural_constant (constant_reading t 0 count (reading_of t count))) (parts_reading t parts).width (parts_reading t parts).complete ((parts_reading t parts).inside ++ alone_faults r) (parts_reading t parts).trees) times
+      ∙ ap (λ (r : Reading). replication_reading place (natural_constant (constant_reading t 0 count (reading_of t count))) (parts_reading t parts).width (parts_reading t parts).complete
+      ((parts_reading t parts).inside ++ alone_faults r) (parts_reading t parts).trees) times
 
-  same-select : (s t : Scope) (place : SourcePlace) (name : Identifier) (index : SourceIndex) → looked_up s name ≡ looked_up t name → Same s t (named_in_index index) → select_reading s place name index ≡ select_reading t place name index
+  same-select : (s t : Scope) (place : SourcePlace) (name : Identifier) (index : SourceIndex) → looked_up s name ≡ looked_up t name → Same s t (named_in_index index) →
+      select_reading s place name index ≡ select_reading t place name index
   same-select s t place name NoIndex e h = ap (λ (entry : Option ScopeEntry). name_reading entry place name) e
   same-select s t place name (IndexAt index) e h = ap₂ (λ (entry : Option ScopeEntry) (r : Reading). indexed_reading entry place name r) e (same-reading s t index h)
   same-select s t place name (IndexRange from to) e h =
@@ -137,14 +144,18 @@ mutual
       let other = same-right s t (named_in from) (named_in to) h in
       let first = same-reading s t from one in
       let second = same-reading s t to other in
-      ap₂ (λ (entry : Option ScopeEntry) (r : Reading). ranged_reading entry place name (alone_faults r ++ alone_faults (reading_of s to)) (natural_constant (constant_reading s 0 from (reading_of s from))) (natural_constant (constant_reading s 0 to (reading_of s to)))) e first
-      ∙ ap₂ (λ (r : Reading) (c : Option SignedValue). ranged_reading (looked_up t name) place name (alone_faults (reading_of t from) ++ alone_faults r) (natural_constant c) (natural_constant (constant_reading s 0 to (reading_of s to)))) second (same-value s t 0 from (reading_of s from) (reading_of t from) one first)
-      ∙ ap (λ (c : Option SignedValue). ranged_reading (looked_up t name) place name (alone_faults (reading_of t from) ++ alone_faults (reading_of t to)) (natural_constant (constant_reading t 0 from (reading_of t from))) (natural_constant c)) (same-value s t 0 to (reading_of s to) (reading_of t to) other second)
+      ap₂ (λ (entry : Option ScopeEntry) (r : Reading). ranged_reading entry place name (alone_faults r ++ alone_faults (reading_of s to))
+      (natural_constant (constant_reading s 0 from (reading_of s from))) (natural_constant (constant_reading s 0 to (reading_of s to)))) e first
+      ∙ ap₂ (λ (r : Reading) (c : Option SignedValue). ranged_reading (looked_up t name) place name (alone_faults (reading_of t from) ++ alone_faults r) (natural_constant c)
+      (natural_constant (constant_reading s 0 to (reading_of s to)))) second (same-value s t 0 from (reading_of s from) (reading_of t from) one first)
+      ∙ ap (λ (c : Option SignedValue). ranged_reading (looked_up t name) place name (alone_faults (reading_of t from) ++ alone_faults (reading_of t to))
+      (natural_constant (constant_reading t 0 from (reading_of t from))) (natural_constant c)) (same-value s t 0 to (reading_of s to) (reading_of t to) other second)
 
   same-parts : (s t : Scope) (parts : SourceExpressions) → Same s t (named_in_parts parts) → parts_reading s parts ≡ parts_reading t parts
   same-parts s t no_parts h = refl
   same-parts s t (more_parts first rest) h =
-      ap₂ (part_before (is_unsized_number first) (place_of_expression first)) (same-reading s t first (same-left s t (named_in first) (named_in_parts rest) h)) (same-parts s t rest (same-right s t (named_in first) (named_in_parts rest) h))
+      ap₂ (part_before (is_unsized_number first) (place_of_expression first)) (same-reading s t first (same-left s t (named_in first) (named_in_parts rest) h))
+      (same-parts s t rest (same-right s t (named_in first) (named_in_parts rest) h))
 
 -- a constant has one value in scopes that agree on its names
 constant-by : (s t : Scope) (width : ℕ) (e : SourceExpression) (known : Bool) → all_known s e ≡ known → Agree s t (named_in e) → constant_of s width e ≡ constant_of t width e

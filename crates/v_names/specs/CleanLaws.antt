@@ -4,11 +4,15 @@ use Rattle.vf_base.specs.Base.{SourcePlace}
 use Rattle.four_value.specs.declared.operator.UnaryOperator.{UnaryOperator}
 use Rattle.four_value.specs.declared.operator.BinaryOperator.{BinaryOperator}
 use Rattle.v_design.specs.Sized.{span, most_bits, UnarySizing, OperandWithWhole, OperandAlone, unary_sizing, BinarySizing, BothWithWhole, LeftWithWhole, BothTogether, EachAlone, binary_sizing}
-use Rattle.v_tree.specs.Trees.{Identifier, SourceExpression, Number, Selected, Parenthesised, Prefixed, Infixed, Chosen, Concatenated, Replicated, SourceIndex, NoIndex, IndexAt, IndexRange, SourceExpressions, no_parts, more_parts, place_of_expression}
+use Rattle.v_tree.specs.Trees.{Identifier, SourceExpression, Number, Selected, Parenthesised, Prefixed, Infixed, Chosen, Concatenated, Replicated, SourceIndex, NoIndex, IndexAt, IndexRange}
+use Rattle.v_tree.specs.Trees.{SourceExpressions, no_parts, more_parts, place_of_expression}
 use Rattle.v_names.specs.Faults.{Fault}
-use Rattle.v_names.specs.Scopes.{DeclaredRange, ScopeEntry, ParameterEntry, RefusedParameter, WaitingParameter, NetEntry, RegEntry, MemoryEntry, GateEntry, InstanceEntry, Scope, looked_up, range_width}
+use Rattle.v_names.specs.Scopes.{DeclaredRange, ScopeEntry, ParameterEntry, RefusedParameter, WaitingParameter, NetEntry, RegEntry, MemoryEntry, GateEntry, InstanceEntry, Scope, looked_up}
+use Rattle.v_names.specs.Scopes.{range_width}
 use Rattle.v_names.specs.SizedTrees.{SizedExpression, SizedConstant, SizedExpressions}
-use Rattle.v_names.specs.Readings.{Size, Reading, size_or_bit, group_faults, alone_faults, sized_if, sized_reading, is_signed_number, is_empty, value_if, all_known, tree_in, name_reading, bit_reading, indexed_reading, runs_alike, part_if, part_between, part_reading, ranged_reading, unary_reading, binary_reading, choice_reading, PartsReading, is_unsized_number, part_before, concatenation_reading, replication_reading, reading_of, select_reading, parts_reading, constant_reading, natural_constant}
+use Rattle.v_names.specs.Readings.{Size, Reading, size_or_bit, group_faults, alone_faults, sized_if, sized_reading, is_signed_number, is_empty, value_if, all_known, tree_in, name_reading}
+use Rattle.v_names.specs.Readings.{bit_reading, indexed_reading, runs_alike, part_if, part_between, part_reading, ranged_reading, unary_reading, binary_reading, choice_reading, PartsReading}
+use Rattle.v_names.specs.Readings.{is_unsized_number, part_before, concatenation_reading, replication_reading, reading_of, select_reading, parts_reading, constant_reading, natural_constant}
 use Rattle.v_names.specs.SizedLaws.{and-left, and-right}
 
 pub record HasNoFaults (reading : Reading) : Type 0 where
@@ -31,11 +35,13 @@ none-in-group here inside e f = ap₂ group_faults e f
 pub none-alone : (reading : Reading) → HasNoFaults reading → alone_faults reading ≡ []
 none-alone reading h = none-in-group reading.here reading.inside h.here_is h.inside_is
 
-sized-by : (test : Bool) (place : SourcePlace) (size : Size) (complete : Bool) (inside : List Fault) (tree : ℕ → Bool → SizedExpression) → (complete ≡ true → inside ≡ []) → IsClean (sized_if test place size complete inside tree)
+sized-by : (test : Bool) (place : SourcePlace) (size : Size) (complete : Bool) (inside : List Fault) (tree : ℕ → Bool → SizedExpression) → (complete ≡ true → inside ≡ []) →
+    IsClean (sized_if test place size complete inside tree)
 sized-by true place size complete inside tree h = λ c. record { here_is = refl; inside_is = h c }
 sized-by false place size complete inside tree h = λ e. refused e
 
-sized-clean : (place : SourcePlace) (width : ℕ) (signed complete : Bool) (inside : List Fault) (tree : ℕ → Bool → SizedExpression) → (complete ≡ true → inside ≡ []) → IsClean (sized_reading place width signed complete inside tree)
+sized-clean : (place : SourcePlace) (width : ℕ) (signed complete : Bool) (inside : List Fault) (tree : ℕ → Bool → SizedExpression) → (complete ≡ true → inside ≡ []) →
+    IsClean (sized_reading place width signed complete inside tree)
 sized-clean place width signed complete inside tree h = sized-by (nat_le 1 width && nat_le width most_bits) place (record { width = width; signed = signed }) complete inside tree h
 
 -- Names
@@ -93,16 +99,19 @@ part-if-clean : (alike : Bool) (place : SourcePlace) (name : Identifier) (inside
 part-if-clean true place name inside from to h = sized-clean place (span from to) false true inside _ (λ c. h)
 part-if-clean false place name inside from to h = λ e. refused e
 
-part-between-clean : (range : DeclaredRange) (place : SourcePlace) (name : Identifier) (inside : List Fault) (from to : Option ℕ) → BoundsClean from to inside → IsClean (part_between range place name inside from to)
+part-between-clean : (range : DeclaredRange) (place : SourcePlace) (name : Identifier) (inside : List Fault) (from to : Option ℕ) → BoundsClean from to inside →
+    IsClean (part_between range place name inside from to)
 part-between-clean range place name inside None to h = λ e. refused e
 part-between-clean range place name inside (Some from) None h = λ e. refused e
 part-between-clean range place name inside (Some from) (Some to) h = part-if-clean (runs_alike range from to) place name inside from to (h from to refl refl)
 
-part-clean : (ranged : Bool) (range : DeclaredRange) (place : SourcePlace) (name : Identifier) (inside : List Fault) (from to : Option ℕ) → BoundsClean from to inside → IsClean (part_reading ranged range place name inside from to)
+part-clean : (ranged : Bool) (range : DeclaredRange) (place : SourcePlace) (name : Identifier) (inside : List Fault) (from to : Option ℕ) → BoundsClean from to inside →
+    IsClean (part_reading ranged range place name inside from to)
 part-clean true range place name inside from to h = part-between-clean range place name inside from to h
 part-clean false range place name inside from to h = λ e. refused e
 
-ranged-clean : (entry : Option ScopeEntry) (place : SourcePlace) (name : Identifier) (inside : List Fault) (from to : Option ℕ) → BoundsClean from to inside → IsClean (ranged_reading entry place name inside from to)
+ranged-clean : (entry : Option ScopeEntry) (place : SourcePlace) (name : Identifier) (inside : List Fault) (from to : Option ℕ) → BoundsClean from to inside →
+    IsClean (ranged_reading entry place name inside from to)
 ranged-clean None place name inside from to h = λ e. refused e
 ranged-clean (Some (NetEntry range signed)) place name inside from to h = part-clean range.ranged range place name inside from to h
 ranged-clean (Some (RegEntry range signed)) place name inside from to h = part-clean range.ranged range place name inside from to h
@@ -159,7 +168,8 @@ part-clean-before true place reading rest h k = λ e. refused e
 part-clean-before false place reading rest h k = λ c.
     none-together (alone_faults reading) rest.inside (none-alone reading (h (and-left reading.complete rest.complete c))) (k (and-right reading.complete rest.complete c))
 
-concatenation-clean : (place : SourcePlace) (width : Option ℕ) (complete : Bool) (inside : List Fault) (trees : SizedExpressions) → (complete ≡ true → inside ≡ []) → IsClean (concatenation_reading place width complete inside trees)
+concatenation-clean : (place : SourcePlace) (width : Option ℕ) (complete : Bool) (inside : List Fault) (trees : SizedExpressions) → (complete ≡ true → inside ≡ []) →
+    IsClean (concatenation_reading place width complete inside trees)
 concatenation-clean place None complete inside trees h = λ e. refused e
 concatenation-clean place (Some total) complete inside trees h = sized-clean place total false complete inside _ h
 
@@ -196,7 +206,8 @@ mutual
   select-clean scope place name (IndexRange from to) =
       let first = reading_of scope from in
       let second = reading_of scope to in
-      ranged-clean (looked_up scope name) place name (alone_faults first ++ alone_faults second) (natural_constant (constant_reading scope 0 from first)) (natural_constant (constant_reading scope 0 to second))
+      ranged-clean (looked_up scope name) place name (alone_faults first ++ alone_faults second) (natural_constant (constant_reading scope 0 from first))
+      (natural_constant (constant_reading scope 0 to second))
       (λ n m h k. none-together (alone_faults first) (alone_faults second) (numbered-clean scope 0 from first n h) (numbered-clean scope 0 to second m k))
 
   parts-clean : (scope : Scope) (parts : SourceExpressions) → PartsClean (parts_reading scope parts)

@@ -2,7 +2,8 @@
 use Rattle.std.proofs.Common.{◌≡◌, ℕ, max, ◌≤◌, Bool, true, ◌&&◌, List, [], ◌∷◌, ◌++◌, map, Option, Some, None, refl, sym, ap, subst, ◌∙◌, arith}
 use Rattle.std.specs.List.{list_all}
 use Rattle.v_design.specs.Sized.{most_bits, IsSized}
-use Rattle.v_tree.specs.Trees.{Identifier, SourceExpression, Number, Selected, Parenthesised, Prefixed, Infixed, Chosen, Concatenated, Replicated, SourceIndex, NoIndex, IndexAt, IndexRange, SourceExpressions, no_parts, more_parts, NamedPlace, named_in, named_in_index, named_in_parts}
+use Rattle.v_tree.specs.Trees.{Identifier, SourceExpression, Number, Selected, Parenthesised, Prefixed, Infixed, Chosen, Concatenated, Replicated, SourceIndex, NoIndex, IndexAt, IndexRange}
+use Rattle.v_tree.specs.Trees.{SourceExpressions, no_parts, more_parts, NamedPlace, named_in, named_in_index, named_in_parts}
 use Rattle.v_names.specs.Scopes.{ScopeEntry, ParameterEntry, RefusedParameter, WaitingParameter, NetEntry, RegEntry, MemoryEntry, GateEntry, InstanceEntry, Scope, looked_up, is_known}
 use Rattle.v_names.specs.SizedTrees.{Holders, over_objects}
 use Rattle.v_names.specs.Readings.{Size, size_or_bit, tree_in, no_holders, all_known, reading_of}
@@ -38,8 +39,10 @@ mutual
   pub constants-held : (holders : Holders) (scope : Scope) (e : SourceExpression) → are_known scope (named_in e) ≡ true → AreHeld holders scope e
   constants-held holders scope (Number place form value) k = tt
   constants-held holders scope (Selected place name index) k =
-      let here = is_known (looked_up scope name) in
-      (known-held holders name (looked_up scope name) (and-left here (are_known scope (named_in_index index)) k), index-held holders scope index (and-right here (are_known scope (named_in_index index)) k))
+      let here = is_known (looked_up scope name) in (
+        known-held holders name (looked_up scope name) (and-left here (are_known scope (named_in_index index)) k),
+        index-held holders scope index (and-right here (are_known scope (named_in_index index)) k),
+      )
   constants-held holders scope (Parenthesised place inner) k = constants-held holders scope inner k
   constants-held holders scope (Prefixed place operator operand) k = constants-held holders scope operand k
   constants-held holders scope (Infixed place operator left right) k =

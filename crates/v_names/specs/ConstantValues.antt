@@ -8,14 +8,17 @@ use Rattle.four_value.specs.declared.operator.BinaryOperator.{BinaryOperator}
 use Rattle.four_value.specs.declared.logic.Bit.TheVariants.{Zero}
 use Rattle.v_design.specs.Expressions.{value_of, parts_value, repeated, no_values, sign_of}
 use Rattle.v_design.specs.Sized.{most_bits, UnarySizing, OperandWithWhole, OperandAlone, unary_sizing, BinarySizing, BothWithWhole, LeftWithWhole, BothTogether, EachAlone, binary_sizing}
-use Rattle.v_tree.specs.Trees.{Identifier, SourceExpression, Number, Selected, Parenthesised, Prefixed, Infixed, Chosen, Concatenated, Replicated, SourceIndex, NoIndex, IndexAt, IndexRange, SourceExpressions, no_parts, more_parts, place_of_expression, named_in, named_in_parts}
+use Rattle.v_tree.specs.Trees.{Identifier, SourceExpression, Number, Selected, Parenthesised, Prefixed, Infixed, Chosen, Concatenated, Replicated, SourceIndex, NoIndex, IndexAt, IndexRange}
+use Rattle.v_tree.specs.Trees.{SourceExpressions, no_parts, more_parts, place_of_expression, named_in, named_in_parts}
 use Rattle.v_names.specs.Faults.{Fault}
 use Rattle.v_names.specs.Scopes.{ScopeEntry, ParameterEntry, RefusedParameter, WaitingParameter, NetEntry, RegEntry, MemoryEntry, GateEntry, InstanceEntry, Scope, looked_up, is_known}
 use Rattle.v_names.specs.SizedLaws.{and-left, and-right}
 use Rattle.v_names.specs.CleanLaws.{both-complete}
 use Rattle.v_names.specs.ConstantLaws.{are_known, known-left, known-right}
 use Rattle.v_names.specs.SizedTrees.{SizedExpression, SizedConstant, SizedExpressions, over_objects, all_over_objects}
-use Rattle.v_names.specs.Readings.{Size, Reading, size_or_bit, larger_size, tree_at, no_holders, number_of_constant, number_or, is_signed_number, is_unsized_number, alone_faults, sized_if, sized_reading, name_reading, indexed_reading, ranged_reading, unary_reading, binary_reading, choice_reading, PartsReading, part_before, concatenation_reading, replication_reading, reading_of, parts_reading}
+use Rattle.v_names.specs.Readings.{Size, Reading, size_or_bit, larger_size, tree_at, no_holders, number_of_constant, number_or, is_signed_number, is_unsized_number, alone_faults, sized_if}
+use Rattle.v_names.specs.Readings.{sized_reading, name_reading, indexed_reading, ranged_reading, unary_reading, binary_reading, choice_reading, PartsReading, part_before, concatenation_reading}
+use Rattle.v_names.specs.Readings.{replication_reading, reading_of, parts_reading}
 use Rattle.v_names.specs.OwnSizes.{own_size, own-size-is}
 
 -- The sizes of operands
@@ -92,19 +95,22 @@ own-of scope e c = let reading = reading_of scope e in ap (λ b. cond b reading.
 -- Sizes that are looked at
 
 valued-by : (test : Bool) (place : SourcePlace) (size : Size) (complete : Bool) (inside : List Fault) (tree : ℕ → Bool → SizedExpression) (value : ℕ → Bool → LogicValue)
-    → (complete ≡ true → (width : ℕ) (whole : Bool) → value_of_tree (tree width whole) ≡ value width whole) → ((width : ℕ) (whole : Bool) → sign_of (over_objects no_holders (tree width whole)) ≡ whole)
+    → (complete ≡ true → (width : ℕ) (whole : Bool) → value_of_tree (tree width whole) ≡ value width whole) →
+    ((width : ℕ) (whole : Bool) → sign_of (over_objects no_holders (tree width whole)) ≡ whole)
     → IsValued (sized_if test place size complete inside tree) value
 valued-by true place size complete inside tree value h k = λ c. record { value_is = h c; sign_is = k }
 valued-by false place size complete inside tree value h k = λ e. refused e
 
 sized-valued : (place : SourcePlace) (width : ℕ) (signed complete : Bool) (inside : List Fault) (tree : ℕ → Bool → SizedExpression) (value : ℕ → Bool → LogicValue)
-    → (complete ≡ true → (width : ℕ) (whole : Bool) → value_of_tree (tree width whole) ≡ value width whole) → ((width : ℕ) (whole : Bool) → sign_of (over_objects no_holders (tree width whole)) ≡ whole)
+    → (complete ≡ true → (width : ℕ) (whole : Bool) → value_of_tree (tree width whole) ≡ value width whole) →
+    ((width : ℕ) (whole : Bool) → sign_of (over_objects no_holders (tree width whole)) ≡ whole)
     → IsValued (sized_reading place width signed complete inside tree) value
 sized-valued place width signed complete inside tree value h k = valued-by (nat_le 1 width && nat_le width most_bits) place (record { width = width; signed = signed }) complete inside tree value h k
 
 -- Parameters
 
-name-valued : (entry : Option ScopeEntry) (place : SourcePlace) (name : Identifier) → is_known entry ≡ true → IsValued (name_reading entry place name) (λ width whole. resized whole width (entry_value entry NoIndex))
+name-valued : (entry : Option ScopeEntry) (place : SourcePlace) (name : Identifier) → is_known entry ≡ true →
+    IsValued (name_reading entry place name) (λ width whole. resized whole width (entry_value entry NoIndex))
 name-valued None place name k = refused k
 name-valued (Some (ParameterEntry value signed)) place name k =
     sized-valued place (length value) signed true [] (λ width whole. SizedConstant width whole value) (λ width whole. resized whole width value) (λ c width whole. refl) (λ width whole. refl)
@@ -116,7 +122,8 @@ name-valued (Some (MemoryEntry range first last signed)) place name k = refused 
 name-valued (Some GateEntry) place name k = refused k
 name-valued (Some InstanceEntry) place name k = refused k
 
-indexed-valued : (entry : Option ScopeEntry) (place : SourcePlace) (name : Identifier) (index : Reading) (value : ℕ → Bool → LogicValue) → is_known entry ≡ true → IsValued (indexed_reading entry place name index) value
+indexed-valued : (entry : Option ScopeEntry) (place : SourcePlace) (name : Identifier) (index : Reading) (value : ℕ → Bool → LogicValue) → is_known entry ≡ true →
+    IsValued (indexed_reading entry place name index) value
 indexed-valued None place name index value k = refused k
 indexed-valued (Some (ParameterEntry v signed)) place name index value k = λ e. refused e
 indexed-valued (Some RefusedParameter) place name index value k = refused k
@@ -142,10 +149,12 @@ ranged-valued (Some InstanceEntry) place name inside from to value k = refused k
 -- Operators
 
 -- the value of a reading that is sized alone, or in a group of a size
-at-size : (reading : Reading) (value : ℕ → Bool → LogicValue) (one other : Option Size) → HasValue reading value → one ≡ other → value_of_tree (tree_at reading one) ≡ value (size_or_bit other).width (size_or_bit other).signed
+at-size : (reading : Reading) (value : ℕ → Bool → LogicValue) (one other : Option Size) → HasValue reading value → one ≡ other →
+    value_of_tree (tree_at reading one) ≡ value (size_or_bit other).width (size_or_bit other).signed
 at-size reading value one other h e = h.value_is (size_or_bit one).width (size_or_bit one).signed ∙ ap (λ z. value (size_or_bit z).width (size_or_bit z).signed) e
 
-sign-at : (reading : Reading) (value : ℕ → Bool → LogicValue) (one other : Option Size) → HasValue reading value → one ≡ other → sign_of (over_objects no_holders (tree_at reading one)) ≡ (size_or_bit other).signed
+sign-at : (reading : Reading) (value : ℕ → Bool → LogicValue) (one other : Option Size) → HasValue reading value → one ≡ other →
+    sign_of (over_objects no_holders (tree_at reading one)) ≡ (size_or_bit other).signed
 sign-at reading value one other h e = h.sign_is (size_or_bit one).width (size_or_bit one).signed ∙ ap (λ z. (size_or_bit z).signed) e
 
 unary-valued : (sizing : UnarySizing) (operator : UnaryOperator) (a : Reading) (size : Option Size) (value : ℕ → Bool → LogicValue) → IsOfSize a size → IsValued a value
@@ -162,10 +171,12 @@ binary_at sizing operator s t value other width whole =
     let y = right_size sizing (record { width = width; signed = whole }) s t in
     resized whole width (binary_value operator x.signed (value x.width x.signed) (other y.width y.signed))
 
-three-alike : (operator : BinaryOperator) (width : ℕ) (whole : Bool) (g h : Bool) (v w x y : LogicValue) → g ≡ h → v ≡ w → x ≡ y → resized whole width (binary_value operator g v x) ≡ resized whole width (binary_value operator h w y)
+three-alike : (operator : BinaryOperator) (width : ℕ) (whole : Bool) (g h : Bool) (v w x y : LogicValue) → g ≡ h → v ≡ w → x ≡ y →
+    resized whole width (binary_value operator g v x) ≡ resized whole width (binary_value operator h w y)
 three-alike operator width whole g h v w x y e f k = ap₂ (λ s a. resized whole width (binary_value operator s a x)) e f ∙ ap (λ b. resized whole width (binary_value operator h w b)) k
 
-binary-with : (sizing : BinarySizing) (operator : BinaryOperator) (a b : Reading) (s t : Option Size) (value other : ℕ → Bool → LogicValue) → a.size ≡ s → b.size ≡ t → HasValue a value → HasValue b other
+binary-with : (sizing : BinarySizing) (operator : BinaryOperator) (a b : Reading) (s t : Option Size) (value other : ℕ → Bool → LogicValue) → a.size ≡ s → b.size ≡ t → HasValue a value →
+    HasValue b other
     → HasValue (binary_reading sizing operator a b) (binary_at sizing operator s t value other)
 binary-with BothWithWhole operator a b s t value other e f h k = record {
   value_is = λ width whole. three-alike operator width whole _ _ _ _ _ _ (h.sign_is width whole) (h.value_is width whole) (k.value_is width whole);
@@ -188,7 +199,8 @@ binary-with EachAlone operator a b s t value other e f h k = record {
   sign_is = λ width whole. refl;
 }
 
-binary-valued : (sizing : BinarySizing) (operator : BinaryOperator) (a b : Reading) (s t : Option Size) (value other : ℕ → Bool → LogicValue) → IsOfSize a s → IsOfSize b t → IsValued a value → IsValued b other
+binary-valued : (sizing : BinarySizing) (operator : BinaryOperator) (a b : Reading) (s t : Option Size) (value other : ℕ → Bool → LogicValue) → IsOfSize a s → IsOfSize b t → IsValued a value →
+    IsValued b other
     → IsValued (binary_reading sizing operator a b) (binary_at sizing operator s t value other)
 binary-valued sizing operator a b s t value other e f h k = λ c.
     let all = both-complete sizing operator a b c in
@@ -217,14 +229,16 @@ choice-valued c a b size condition first second e g h k = λ all.
 abbrev PartsValued : PartsReading → LogicValue → Type 0
 PartsValued read value = read.complete ≡ true → parts_value no_values (all_over_objects no_holders read.trees) ≡ value
 
-before-valued : (unsized : Bool) (place : SourcePlace) (reading : Reading) (rest : PartsReading) (size : Option Size) (value : ℕ → Bool → LogicValue) (behind : LogicValue) → IsOfSize reading size → IsValued reading value → PartsValued rest behind
+before-valued : (unsized : Bool) (place : SourcePlace) (reading : Reading) (rest : PartsReading) (size : Option Size) (value : ℕ → Bool → LogicValue) (behind : LogicValue) → IsOfSize reading size →
+    IsValued reading value → PartsValued rest behind
     → PartsValued (part_before unsized place reading rest) (let z = size_or_bit size in behind ++ value z.width z.signed)
 before-valued true place reading rest size value behind e h k = λ c. refused c
 before-valued false place reading rest size value behind e h k = λ c.
     let x = and-left reading.complete rest.complete c in
     ap₂ (λ (m n : LogicValue). m ++ n) (k (and-right reading.complete rest.complete c)) (at-size reading value reading.size size (h x) (e x))
 
-concatenation-valued : (place : SourcePlace) (width : Option ℕ) (complete : Bool) (inside : List Fault) (trees : SizedExpressions) (value : LogicValue) → (complete ≡ true → parts_value no_values (all_over_objects no_holders trees) ≡ value)
+concatenation-valued : (place : SourcePlace) (width : Option ℕ) (complete : Bool) (inside : List Fault) (trees : SizedExpressions) (value : LogicValue) →
+    (complete ≡ true → parts_value no_values (all_over_objects no_holders trees) ≡ value)
     → IsValued (concatenation_reading place width complete inside trees) (λ width whole. resized whole width value)
 concatenation-valued place None complete inside trees value h = λ e. refused e
 concatenation-valued place (Some total) complete inside trees value h =
@@ -245,7 +259,8 @@ mutual
   -- the value of a constant whose parts all have sizes is that of its parts
   pub value-is : (scope : Scope) (e : SourceExpression) → are_known scope (named_in e) ≡ true → IsValued (reading_of scope e) (value_at scope e)
   value-is scope (Number place form value) k =
-      sized-valued place (length value) (is_signed_number form value) true [] (λ width whole. SizedConstant width whole value) (λ width whole. resized whole width value) (λ c width whole. refl) (λ width whole. refl)
+      sized-valued place (length value) (is_signed_number form value) true [] (λ width whole. SizedConstant width whole value) (λ width whole. resized whole width value) (λ c width whole. refl)
+      (λ width whole. refl)
   value-is scope (Selected place name NoIndex) k = name-valued (looked_up scope name) place name (and-left (is_known (looked_up scope name)) true k)
   value-is scope (Selected place name (IndexAt index)) k =
       indexed-valued (looked_up scope name) place name (reading_of scope index) (value_at scope (Selected place name (IndexAt index)))
@@ -262,7 +277,8 @@ mutual
   value-is scope (Chosen place condition first second) k =
       let rest = known-right scope (named_in condition) (named_in first ++ named_in second) k in
       choice-valued (reading_of scope condition) (reading_of scope first) (reading_of scope second) (own_size scope condition) (value_at scope condition) (value_at scope first) (value_at scope second)
-      (own-of scope condition) (value-is scope condition (known-left scope (named_in condition) (named_in first ++ named_in second) k)) (value-is scope first (known-left scope (named_in first) (named_in second) rest))
+      (own-of scope condition) (value-is scope condition (known-left scope (named_in condition) (named_in first ++ named_in second) k))
+      (value-is scope first (known-left scope (named_in first) (named_in second) rest))
       (value-is scope second (known-right scope (named_in first) (named_in second) rest))
   value-is scope (Concatenated place parts) k =
       let read = parts_reading scope parts in

@@ -5,7 +5,8 @@ use Rattle.vf_base.specs.Base.{SourcePlace}
 use Rattle.vf_base.specs.declared.limits.TheConstants.{MAX_BOUND, MAX_ADDRESS, MAX_DELAY}
 use Rattle.four_value.specs.Bits.{is_unknown}
 use Rattle.four_value.specs.Values.{some_bit, number_of, natural_number}
-use Rattle.v_tree.specs.Trees.{SourceExpression, Number, Selected, Parenthesised, Prefixed, Infixed, Chosen, Concatenated, Replicated, SourceIndex, NoIndex, IndexAt, IndexRange, SourceExpressions, no_parts, more_parts, SourceSelect, SourceRange, place_of_expression, names_in}
+use Rattle.v_tree.specs.Trees.{SourceExpression, Number, Selected, Parenthesised, Prefixed, Infixed, Chosen, Concatenated, Replicated, SourceIndex, NoIndex, IndexAt, IndexRange, SourceExpressions}
+use Rattle.v_tree.specs.Trees.{no_parts, more_parts, SourceSelect, SourceRange, place_of_expression, names_in}
 use Rattle.v_names.specs.Faults.{UnknownName, NoConstant, Fault, fault_at, fault_if}
 use Rattle.v_names.specs.Scopes.{SignedValue, ScopeEntry, Scope, looked_up, is_parameter, is_waiting}
 use Rattle.v_names.specs.Readings.{constant_of}

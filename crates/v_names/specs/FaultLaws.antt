@@ -52,11 +52,13 @@ regrouped true e c f r = refl
 regrouped false true c f r = refl
 regrouped false false c f r = refl
 
-before-lines : (one other : Fault) → comes_before one other ≡ in_order one.place.line other.place.line (in_order one.place.column other.place.column (in_order (rank_of_wrong one.wrong) (rank_of_wrong other.wrong) false))
+before-lines : (one other : Fault) → comes_before one other ≡ in_order one.place.line other.place.line
+    (in_order one.place.column other.place.column (in_order (rank_of_wrong one.wrong) (rank_of_wrong other.wrong) false))
 before-lines one other =
     regrouped (nat_lt one.place.line other.place.line) (nat_eq one.place.line other.place.line) (nat_lt one.place.column other.place.column) (nat_eq one.place.column other.place.column)
     (nat_lt (rank_of_wrong one.wrong) (rank_of_wrong other.wrong))
-    ∙ ap (λ r. in_order one.place.line other.place.line (in_order one.place.column other.place.column r)) (last (nat_lt (rank_of_wrong one.wrong) (rank_of_wrong other.wrong)) (nat_eq (rank_of_wrong one.wrong) (rank_of_wrong other.wrong)))
+    ∙ ap (λ r. in_order one.place.line other.place.line (in_order one.place.column other.place.column r))
+    (last (nat_lt (rank_of_wrong one.wrong) (rank_of_wrong other.wrong)) (nat_eq (rank_of_wrong one.wrong) (rank_of_wrong other.wrong)))
   where
     last : (r e : Bool) → r ≡ (r || (e && false))
     last true e = refl
@@ -88,12 +90,14 @@ earlier-groups a b c = by (comes_before c b) (comes_before b a) refl refl
   where
     by : (t u : Bool) → comes_before c b ≡ t → comes_before b a ≡ u → earlier_of a (Some (earlier_of b (Some c))) ≡ earlier_of (earlier_of a (Some b)) (Some c)
     by true true h k =
-        ap (λ m. earlier_of a (Some m)) (earlier-where b c true h) ∙ earlier-where a c true (before-joins c b a h k) ∙ sym (earlier-where b c true h) ∙ ap (λ n. earlier_of n (Some c)) (sym (earlier-where a b true k))
+        ap (λ m. earlier_of a (Some m)) (earlier-where b c true h) ∙ earlier-where a c true (before-joins c b a h k) ∙ sym (earlier-where b c true h)
+        ∙ ap (λ n. earlier_of n (Some c)) (sym (earlier-where a b true k))
     by true false h k = ap (λ m. earlier_of a (Some m)) (earlier-where b c true h) ∙ ap (λ n. earlier_of n (Some c)) (sym (earlier-where a b false k))
     by false true h k =
         ap (λ m. earlier_of a (Some m)) (earlier-where b c false h) ∙ earlier-where a b true k ∙ sym (earlier-where b c false h) ∙ ap (λ n. earlier_of n (Some c)) (sym (earlier-where a b true k))
     by false false h k =
-        ap (λ m. earlier_of a (Some m)) (earlier-where b c false h) ∙ earlier-where a b false k ∙ sym (earlier-where a c false (before-parts c b a h k)) ∙ ap (λ n. earlier_of n (Some c)) (sym (earlier-where a b false k))
+        ap (λ m. earlier_of a (Some m)) (earlier-where b c false h) ∙ earlier-where a b false k ∙ sym (earlier-where a c false (before-parts c b a h k))
+        ∙ ap (λ n. earlier_of n (Some c)) (sym (earlier-where a b false k))
 
 groups : (a : Fault) (b c : Option Fault) → first_of (Some a) (first_of b c) ≡ first_of (first_of (Some a) b) c
 groups a None c = refl
@@ -159,7 +163,8 @@ same-faults a b h k =
 
 never-both : (a b : Fault) → comes_before a b ≡ true → comes_before b a ≡ true → ⊥
 never-both a b h k =
-    order-once a.place.line b.place.line _ _ (order-once a.place.column b.place.column _ _ (order-once (rank_of_wrong a.wrong) (rank_of_wrong b.wrong) false false (λ e f. cc))) (sym (before-lines a b) ∙ h)
+    order-once a.place.line b.place.line _ _ (order-once a.place.column b.place.column _ _ (order-once (rank_of_wrong a.wrong) (rank_of_wrong b.wrong) false false (λ e f. cc)))
+    (sym (before-lines a b) ∙ h)
     (sym (before-lines b a) ∙ k)
 
 earlier-turned : (a b : Fault) → earlier_of a (Some b) ≡ earlier_of b (Some a)

@@ -4,7 +4,9 @@ use Rattle.v_tree.specs.Trees.{Identifier, SourceExpression, NamedPlace, named_i
 use Rattle.v_names.specs.Scopes.{SignedValue, DeclaredRange, ScopeEntry, RefusedParameter, ScopeName, Scope, entry_if, looked_up, is_waiting}
 use Rattle.v_names.specs.Readings.{number_or, constant_of}
 use Rattle.v_names.specs.Constants.{some_waiting}
-use Rattle.v_names.specs.Names.{Bounds, Unbounded, IntegerBounds, RangeBounds, Declared, DeclaredParameter, DeclaredPort, DeclaredNet, DeclaredReg, DeclaredMemory, DeclaredGate, DeclaredInstance, Declaration, GivenParameter, given_of, bound_number, range_of, bounds_wait, parameter_entry, waiting_or, context_width, parameter_of, vector_entry, memory_entry, meaning_of, meanings, is_parameter_declared, waiting_entry, waiting_scope}
+use Rattle.v_names.specs.Names.{Bounds, Unbounded, IntegerBounds, RangeBounds, Declared, DeclaredParameter, DeclaredPort, DeclaredNet, DeclaredReg, DeclaredMemory, DeclaredGate, DeclaredInstance}
+use Rattle.v_names.specs.Names.{Declaration, GivenParameter, given_of, bound_number, range_of, bounds_wait, parameter_entry, waiting_or, context_width, parameter_of, vector_entry, memory_entry}
+use Rattle.v_names.specs.Names.{meaning_of, meanings, is_parameter_declared, waiting_entry, waiting_scope}
 use Rattle.v_names.specs.Agreement.{constant_part, part-waiting, Agree, some_wait, agree-waiting, agree-constant, agree-number}
 
 -- one scope has values that another has too
@@ -69,26 +71,31 @@ parameter-agree : (s t : Scope) (signed : Bool) (bounds : Bounds) (value : Sourc
 parameter-agree s t signed bounds value (Some c) h k = ap₂ (λ b r. waiting_or b (parameter_entry signed r (Some c))) (in-wait s t bounds h) (in-range s t bounds h)
 parameter-agree s t signed bounds value None h k =
     ap₂ (λ b r. waiting_or (b || some_waiting s value) (parameter_entry signed r (constant_of s (context_width r) value))) (in-wait s t bounds h) (in-range s t bounds h)
-    ∙ ap₂ (λ b c. waiting_or (bounds_wait t bounds || b) (parameter_entry signed (range_of t bounds) c)) (agree-waiting s t (named_in value) k) (agree-constant s t (context_width (range_of t bounds)) value k)
+    ∙ ap₂ (λ b c. waiting_or (bounds_wait t bounds || b) (parameter_entry signed (range_of t bounds) c)) (agree-waiting s t (named_in value) k)
+    (agree-constant s t (context_width (range_of t bounds)) value k)
 
 under-bounds : (s t : Scope) → Under s t → (bounds : Bounds) → bounds_wait s bounds ≡ false → AgreeIn s t bounds
 under-bounds s t u Unbounded w = tt
 under-bounds s t u IntegerBounds w = tt
-under-bounds s t u (RangeBounds range) w =
-    (under-agree s t u (named_in range.high) (or-false-left (some_waiting s range.high) (some_waiting s range.low) w), under-agree s t u (named_in range.low) (or-false-right (some_waiting s range.high) (some_waiting s range.low) w))
+under-bounds s t u (RangeBounds range) w = (
+  under-agree s t u (named_in range.high) (or-false-left (some_waiting s range.high) (some_waiting s range.low) w),
+  under-agree s t u (named_in range.low) (or-false-right (some_waiting s range.high) (some_waiting s range.low) w),
+)
 
 pub not-waiting : (b : Bool) (entry : ScopeEntry) → is_waiting (Some (waiting_or b entry)) ≡ false → b ≡ false
 not-waiting true entry w = w
 not-waiting false entry w = refl
 
 -- what a parameter means once it doesn't wait it means in each scope that has more values
-parameter-kept : (s t : Scope) → Under s t → (signed : Bool) (bounds : Bounds) (value : SourceExpression) (given : Option SignedValue) → is_waiting (Some (parameter_of s signed bounds value given)) ≡ false
+parameter-kept : (s t : Scope) → Under s t → (signed : Bool) (bounds : Bounds) (value : SourceExpression) (given : Option SignedValue) →
+    is_waiting (Some (parameter_of s signed bounds value given)) ≡ false
     → parameter_of s signed bounds value given ≡ parameter_of t signed bounds value given
 parameter-kept s t u signed bounds value (Some c) w =
     parameter-agree s t signed bounds value (Some c) (under-bounds s t u bounds (not-waiting (bounds_wait s bounds) (parameter_entry signed (range_of s bounds) (Some c)) w)) tt
 parameter-kept s t u signed bounds value None w =
     let none = not-waiting (bounds_wait s bounds || some_waiting s value) (parameter_entry signed (range_of s bounds) (constant_of s (context_width (range_of s bounds)) value)) w in
-    parameter-agree s t signed bounds value None (under-bounds s t u bounds (or-false-left (bounds_wait s bounds) (some_waiting s value) none)) (under-agree s t u (named_in value) (or-false-right (bounds_wait s bounds) (some_waiting s value) none))
+    parameter-agree s t signed bounds value None (under-bounds s t u bounds (or-false-left (bounds_wait s bounds) (some_waiting s value) none))
+    (under-agree s t u (named_in value) (or-false-right (bounds_wait s bounds) (some_waiting s value) none))
 
 -- a net, a variable, a gate or an instance is nothing to a constant
 pub no-constant : (s : Scope) (given : List GivenParameter) (name : Identifier) (d : Declared) → is_parameter_declared d ≡ false → constant_part (Some (meaning_of s given name d)) ≡ RefusedParameter
@@ -101,7 +108,8 @@ no-constant s given name (DeclaredMemory signed bounds addresses) e = refl
 no-constant s given name DeclaredGate e = refl
 no-constant s given name DeclaredInstance e = refl
 
-kept-by : (s t : Scope) → Under s t → (given : List GivenParameter) (name : Identifier) (d : Declared) (parameter : Bool) → is_parameter_declared d ≡ parameter → is_waiting (Some (meaning_of s given name d)) ≡ false
+kept-by : (s t : Scope) → Under s t → (given : List GivenParameter) (name : Identifier) (d : Declared) (parameter : Bool) → is_parameter_declared d ≡ parameter →
+    is_waiting (Some (meaning_of s given name d)) ≡ false
     → constant_part (Some (meaning_of s given name d)) ≡ constant_part (Some (meaning_of t given name d))
 kept-by s t u given name (DeclaredParameter is_local signed bounds value) true e w = ap (λ p. constant_part (Some p)) (parameter-kept s t u signed bounds value (given_of given name) w)
 kept-by s t u given name d false e w = no-constant s given name d e ∙ sym (no-constant t given name d e)
@@ -125,14 +133,16 @@ all-in s t h Unbounded = tt
 all-in s t h IntegerBounds = tt
 all-in s t h (RangeBounds range) = (all-agree s t h (named_in range.high), all-agree s t h (named_in range.low))
 
-all-value : (s t : Scope) → ((name : Identifier) → constant_part (looked_up s name) ≡ constant_part (looked_up t name)) → (value : SourceExpression) (given : Option SignedValue) → AgreeValue s t value given
+all-value : (s t : Scope) → ((name : Identifier) → constant_part (looked_up s name) ≡ constant_part (looked_up t name)) → (value : SourceExpression) (given : Option SignedValue) →
+    AgreeValue s t value given
 all-value s t h value None = all-agree s t h (named_in value)
 all-value s t h value (Some c) = tt
 
 -- a declaration means the same in scopes that are the same to a constant
 pub meaning-agree : (s t : Scope) → ((name : Identifier) → constant_part (looked_up s name) ≡ constant_part (looked_up t name)) → (given : List GivenParameter) (name : Identifier) (d : Declared)
     → meaning_of s given name d ≡ meaning_of t given name d
-meaning-agree s t h given name (DeclaredParameter is_local signed bounds value) = parameter-agree s t signed bounds value (given_of given name) (all-in s t h bounds) (all-value s t h value (given_of given name))
+meaning-agree s t h given name (DeclaredParameter is_local signed bounds value) = parameter-agree s t signed bounds value (given_of given name) (all-in s t h bounds)
+    (all-value s t h value (given_of given name))
 meaning-agree s t h given name (DeclaredPort direction is_reg signed bounds first) = ap (λ r. vector_entry is_reg r signed) (in-range s t bounds (all-in s t h bounds))
 meaning-agree s t h given name (DeclaredNet signed bounds) = ap (λ r. vector_entry false r signed) (in-range s t bounds (all-in s t h bounds))
 meaning-agree s t h given name (DeclaredReg signed bounds first) = ap (λ r. vector_entry true r signed) (in-range s t bounds (all-in s t h bounds))
@@ -144,7 +154,8 @@ meaning-agree s t h given name DeclaredInstance = refl
 
 -- Names in the scopes of the rounds
 
-found-by : (f : Declaration → ScopeEntry) (d : Declaration) (others : Option Declaration) (rest : Option ScopeEntry) (same : Bool) → rest ≡ option_map f others → entry_if same (f d) rest ≡ option_map f (cond same (Some d) others)
+found-by : (f : Declaration → ScopeEntry) (d : Declaration) (others : Option Declaration) (rest : Option ScopeEntry) (same : Bool) → rest ≡ option_map f others →
+    entry_if same (f d) rest ≡ option_map f (cond same (Some d) others)
 found-by f d others rest true e = refl
 found-by f d others rest false e = e
 
@@ -156,7 +167,8 @@ looked-up-found : (f : Declaration → ScopeEntry) (ds : List Declaration) (name
 looked-up-found f [] name = refl
 looked-up-found f (d ∷ ds) name = found-by f d (found ds name) (looked_up (named_by f ds) name) (same_name d.name name) (looked-up-found f ds name)
 
-pub in-meanings : (s : Scope) (given : List GivenParameter) (ds : List Declaration) (name : Identifier) → looked_up (meanings s given ds) name ≡ option_map (λ (d : Declaration). meaning_of s given d.name d.declared) (found ds name)
+pub in-meanings : (s : Scope) (given : List GivenParameter) (ds : List Declaration) (name : Identifier) →
+    looked_up (meanings s given ds) name ≡ option_map (λ (d : Declaration). meaning_of s given d.name d.declared) (found ds name)
 in-meanings s given ds name = looked-up-found (λ (d : Declaration). meaning_of s given d.name d.declared) ds name
 
 pub in-waiting : (ds : List Declaration) (name : Identifier) → looked_up (waiting_scope ds) name ≡ option_map (λ (d : Declaration). waiting_entry d.declared) (found ds name)

@@ -5,11 +5,18 @@ use Rattle.vf_base.specs.declared.limits.TheConstants.{MAX_KEPT_BOUND}
 use Rattle.four_value.specs.Values.{resized}
 use Rattle.v_design.specs.Sized.{span, most_bits}
 use Rattle.v_tree.specs.declared.item.Direction.{Direction}
-use Rattle.v_tree.specs.Trees.{Identifier, SourceExpression, SourceTarget, selects_of, SourceEntry, SourceWaits, OnAnyRead, OnEntries, SourceStatement, NullStatement, BlockStatement, IfStatement, IfElseStatement, CaseStatement, ForStatement, WhileStatement, RepeatStatement, ForeverStatement, WaitStatement, EventStatement, DelayStatement, BlockingStatement, NonblockingStatement, IgnoredTask, FinishTask, SourceStatements, no_source_statements, more_source_statements, SourceCaseItems, no_source_items, labelled, otherwise, NamedPlace, SourceRange, SourceParameter, SourceParameters, SourcePorts, SourceWire, SourceContent, NoContent, FirstContent, MemoryBounds, SourceReg, SourceAssignment, SourceGate, SourceConnection, SourceInstance, SourceItem, ParameterItem, PortItem, WireItem, RegItem, IntegerItem, AssignItem, GateItem, InstanceItem, InitialItem, AlwaysItem, SourceHeads, PlainHeads, DeclaredHeads, SourceModule, same_name}
+use Rattle.v_tree.specs.Trees.{Identifier, SourceExpression, SourceTarget, selects_of, SourceEntry, SourceWaits, OnAnyRead, OnEntries, SourceStatement, NullStatement, BlockStatement, IfStatement}
+use Rattle.v_tree.specs.Trees.{IfElseStatement, CaseStatement, ForStatement, WhileStatement, RepeatStatement, ForeverStatement, WaitStatement, EventStatement, DelayStatement, BlockingStatement}
+use Rattle.v_tree.specs.Trees.{NonblockingStatement, IgnoredTask, FinishTask, SourceStatements, no_source_statements, more_source_statements, SourceCaseItems, no_source_items, labelled, otherwise}
+use Rattle.v_tree.specs.Trees.{NamedPlace, SourceRange, SourceParameter, SourceParameters, SourcePorts, SourceWire, SourceContent, NoContent, FirstContent, MemoryBounds, SourceReg, SourceAssignment}
+use Rattle.v_tree.specs.Trees.{SourceGate, SourceConnection, SourceInstance, SourceItem, ParameterItem, PortItem, WireItem, RegItem, IntegerItem, AssignItem, GateItem, InstanceItem, InitialItem}
+use Rattle.v_tree.specs.Trees.{AlwaysItem, SourceHeads, PlainHeads, DeclaredHeads, SourceModule, same_name}
 use Rattle.v_names.specs.Faults.{DeclaredTwice, Fault, fault_if, unless_faulty}
-use Rattle.v_names.specs.Scopes.{SignedValue, DeclaredRange, ScopeEntry, ParameterEntry, RefusedParameter, WaitingParameter, NetEntry, RegEntry, MemoryEntry, GateEntry, InstanceEntry, Scope, looked_up}
+use Rattle.v_names.specs.Scopes.{SignedValue, DeclaredRange, ScopeEntry, ParameterEntry, RefusedParameter, WaitingParameter, NetEntry, RegEntry, MemoryEntry, GateEntry, InstanceEntry, Scope}
+use Rattle.v_names.specs.Scopes.{looked_up}
 use Rattle.v_names.specs.Readings.{number_of_constant, constant_of, number_or, is_empty}
-use Rattle.v_names.specs.Constants.{AnyValue, ParameterValue, DelayValue, most_bound, most_address, some_waiting, value_faults_within, constant_name_faults, constant_faults, name_faults, part_faults, optional_faults, bound_faults, fixed_select_faults, select_faults, known_faults}
+use Rattle.v_names.specs.Constants.{AnyValue, ParameterValue, DelayValue, most_bound, most_address, some_waiting, value_faults_within, constant_name_faults, constant_faults, name_faults}
+use Rattle.v_names.specs.Constants.{part_faults, optional_faults, bound_faults, fixed_select_faults, select_faults, known_faults}
 
 -- Declarations
 
@@ -302,7 +309,8 @@ abbrev mutual
   statement_name_faults scope (IfElseStatement place condition first second) = name_faults scope condition ++ (statement_name_faults scope first ++ statement_name_faults scope second)
   statement_name_faults scope (CaseStatement place kind value items) = name_faults scope value ++ case_name_faults scope items
   statement_name_faults scope (ForStatement place first_target first condition next_target next body) =
-      target_faults scope first_target ++ (name_faults scope first ++ (name_faults scope condition ++ (target_faults scope next_target ++ (name_faults scope next ++ statement_name_faults scope body))))
+      target_faults scope first_target ++ (name_faults scope first ++ (name_faults scope condition
+      ++ (target_faults scope next_target ++ (name_faults scope next ++ statement_name_faults scope body))))
   statement_name_faults scope (WhileStatement place condition body) = name_faults scope condition ++ statement_name_faults scope body
   statement_name_faults scope (RepeatStatement place count body) = name_faults scope count ++ statement_name_faults scope body
   statement_name_faults scope (ForeverStatement place body) = statement_name_faults scope body

@@ -13,7 +13,8 @@ use Rattle.v_names.specs.ConstantValues.{operand_size, binary_at}
 use Rattle.v_names.specs.Terms.{term_value}
 
 abbrev pub unary_at : UnarySizing → UnaryOperator → Size → (ℕ → Bool → LogicValue) → ℕ → Bool → LogicValue
-unary_at sizing operator size value width whole = let z = operand_size sizing (record { width = width; signed = whole }) (Some size) in resized whole width (unary_value operator (value z.width z.signed))
+unary_at sizing operator size value width whole = let z = operand_size sizing (record { width = width; signed = whole }) (Some size) in
+    resized whole width (unary_value operator (value z.width z.signed))
 
 -- an operator's answer is known over its operand
 pub record IsUnary (sizing : UnarySizing) (operator : UnaryOperator) (operand whole : Known) : Type 0 where

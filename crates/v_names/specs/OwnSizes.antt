@@ -4,12 +4,16 @@ use Rattle.vf_base.specs.Base.{SourcePlace}
 use Rattle.four_value.specs.declared.operator.UnaryOperator.{UnaryOperator}
 use Rattle.four_value.specs.declared.operator.BinaryOperator.{BinaryOperator}
 use Rattle.v_design.specs.Sized.{span, most_bits, UnarySizing, OperandWithWhole, OperandAlone, unary_sizing, BinarySizing, BothWithWhole, LeftWithWhole, BothTogether, EachAlone, binary_sizing}
-use Rattle.v_tree.specs.Trees.{Identifier, SourceExpression, Number, Selected, Parenthesised, Prefixed, Infixed, Chosen, Concatenated, Replicated, SourceIndex, NoIndex, IndexAt, IndexRange, SourceExpressions, no_parts, more_parts, place_of_expression}
+use Rattle.v_tree.specs.Trees.{Identifier, SourceExpression, Number, Selected, Parenthesised, Prefixed, Infixed, Chosen, Concatenated, Replicated, SourceIndex, NoIndex, IndexAt, IndexRange}
+use Rattle.v_tree.specs.Trees.{SourceExpressions, no_parts, more_parts, place_of_expression}
 use Rattle.v_names.specs.Faults.{Fault}
-use Rattle.v_names.specs.Scopes.{DeclaredRange, ScopeEntry, ParameterEntry, RefusedParameter, WaitingParameter, NetEntry, RegEntry, MemoryEntry, GateEntry, InstanceEntry, Scope, looked_up, range_width}
+use Rattle.v_names.specs.Scopes.{DeclaredRange, ScopeEntry, ParameterEntry, RefusedParameter, WaitingParameter, NetEntry, RegEntry, MemoryEntry, GateEntry, InstanceEntry, Scope, looked_up}
+use Rattle.v_names.specs.Scopes.{range_width}
 use Rattle.v_names.specs.SizedLaws.{and-left, and-right}
 use Rattle.v_names.specs.SizedTrees.{SizedExpression, SizedConstant, SizedExpressions}
-use Rattle.v_names.specs.Readings.{Size, Reading, one_bit, larger_size, sized_if, sized_reading, is_signed_number, alone_faults, name_reading, bit_reading, indexed_reading, runs_alike, part_if, part_reading, ranged_reading, unary_reading, binary_reading, choice_reading, PartsReading, width_with, is_unsized_number, part_before, concatenation_reading, replication_reading, reading_of, select_reading, parts_reading, number_of_constant}
+use Rattle.v_names.specs.Readings.{Size, Reading, one_bit, larger_size, sized_if, sized_reading, is_signed_number, alone_faults, name_reading, bit_reading, indexed_reading, runs_alike, part_if}
+use Rattle.v_names.specs.Readings.{part_reading, ranged_reading, unary_reading, binary_reading, choice_reading, PartsReading, width_with, is_unsized_number, part_before, concatenation_reading}
+use Rattle.v_names.specs.Readings.{replication_reading, reading_of, select_reading, parts_reading, number_of_constant}
 
 -- Sizes from sizes
 
@@ -130,7 +134,8 @@ after-by : (complete : Bool) (part size : Option Size) → (complete ≡ true �
 after-by true part size h = let z = h refl in ap (λ p. size_after p size) (sym z.1)
 after-by false part size h = refl
 
-sized-by : (test complete : Bool) (place : SourcePlace) (size : Size) (inside : List Fault) (tree : ℕ → Bool → SizedExpression) → HasOwnSize (sized_if test place size complete inside tree) (cond complete (cond test (Some size) None) None)
+sized-by : (test complete : Bool) (place : SourcePlace) (size : Size) (inside : List Fault) (tree : ℕ → Bool → SizedExpression) →
+    HasOwnSize (sized_if test place size complete inside tree) (cond complete (cond test (Some size) None) None)
 sized-by true complete place size inside tree = record { size_is = refl; some_size = λ c. (size, refl) }
 sized-by false true place size inside tree = record { size_is = refl; some_size = λ c. refused c }
 sized-by false false place size inside tree = record { size_is = refl; some_size = λ c. refused c }
@@ -152,12 +157,14 @@ name-own (Some (MemoryEntry range first last signed)) place name = record { size
 name-own (Some GateEntry) place name = record { size_is = refl; some_size = λ c. refused c }
 name-own (Some InstanceEntry) place name = record { size_is = refl; some_size = λ c. refused c }
 
-bit-own : (ranged : Bool) (place : SourcePlace) (name : Identifier) (index : Reading) (size : Option Size) → HasOwnSize index size → HasOwnSize (bit_reading ranged place name index) (cond ranged (size_after size one_bit) None)
+bit-own : (ranged : Bool) (place : SourcePlace) (name : Identifier) (index : Reading) (size : Option Size) → HasOwnSize index size →
+    HasOwnSize (bit_reading ranged place name index) (cond ranged (size_after size one_bit) None)
 bit-own true place name index size h =
     record { size_is = after-by index.complete index.size one_bit h.some_size ∙ ap (λ s. size_after s one_bit) h.size_is; some_size = λ c. (record { width = 1; signed = false }, refl) }
 bit-own false place name index size h = record { size_is = refl; some_size = λ c. refused c }
 
-indexed-own : (entry : Option ScopeEntry) (place : SourcePlace) (name : Identifier) (index : Reading) (size : Option Size) → HasOwnSize index size → HasOwnSize (indexed_reading entry place name index) (indexed_size entry size)
+indexed-own : (entry : Option ScopeEntry) (place : SourcePlace) (name : Identifier) (index : Reading) (size : Option Size) → HasOwnSize index size →
+    HasOwnSize (indexed_reading entry place name index) (indexed_size entry size)
 indexed-own None place name index size h = record { size_is = refl; some_size = λ c. refused c }
 indexed-own (Some (NetEntry range signed)) place name index size h = bit-own range.ranged place name index size h
 indexed-own (Some (RegEntry range signed)) place name index size h = bit-own range.ranged place name index size h
@@ -171,7 +178,8 @@ indexed-own (Some WaitingParameter) place name index size h = record { size_is =
 indexed-own (Some GateEntry) place name index size h = record { size_is = refl; some_size = λ c. refused c }
 indexed-own (Some InstanceEntry) place name index size h = record { size_is = refl; some_size = λ c. refused c }
 
-part-if-own : (alike : Bool) (place : SourcePlace) (name : Identifier) (inside : List Fault) (from to : ℕ) → HasOwnSize (part_if alike place name inside from to) (cond alike (size_within (span from to) false) None)
+part-if-own : (alike : Bool) (place : SourcePlace) (name : Identifier) (inside : List Fault) (from to : ℕ) →
+    HasOwnSize (part_if alike place name inside from to) (cond alike (size_within (span from to) false) None)
 part-if-own true place name inside from to = sized-own place (span from to) false true inside _
 part-if-own false place name inside from to = record { size_is = refl; some_size = λ c. refused c }
 
@@ -184,7 +192,8 @@ part-own false range place name inside None to = record { size_is = refl; some_s
 part-own false range place name inside (Some from) None = record { size_is = refl; some_size = λ c. refused c }
 part-own false range place name inside (Some from) (Some to) = record { size_is = refl; some_size = λ c. refused c }
 
-ranged-own : (entry : Option ScopeEntry) (place : SourcePlace) (name : Identifier) (inside : List Fault) (from to : Option ℕ) → HasOwnSize (ranged_reading entry place name inside from to) (part_size entry from to)
+ranged-own : (entry : Option ScopeEntry) (place : SourcePlace) (name : Identifier) (inside : List Fault) (from to : Option ℕ) →
+    HasOwnSize (ranged_reading entry place name inside from to) (part_size entry from to)
 ranged-own None place name inside from to = record { size_is = refl; some_size = λ c. refused c }
 ranged-own (Some (NetEntry range signed)) place name inside from to = part-own range.ranged range place name inside from to
 ranged-own (Some (RegEntry range signed)) place name inside from to = part-own range.ranged range place name inside from to
@@ -219,13 +228,15 @@ left-by true false a b k = refl
 left-by false true a b k = let z = k refl in ap (λ p. size_after p None) (sym z.1)
 left-by false false a b k = refl
 
-some-larger : (a b : Reading) → (a.complete ≡ true → (z : Size) × (a.size ≡ Some z)) → (b.complete ≡ true → (z : Size) × (b.size ≡ Some z)) → (a.complete && b.complete) ≡ true → (z : Size) × (larger_size a.size b.size ≡ Some z)
+some-larger : (a b : Reading) → (a.complete ≡ true → (z : Size) × (a.size ≡ Some z)) → (b.complete ≡ true → (z : Size) × (b.size ≡ Some z)) → (a.complete && b.complete) ≡ true →
+    (z : Size) × (larger_size a.size b.size ≡ Some z)
 some-larger a b h k c =
     let s = h (and-left a.complete b.complete c) in
     let t = k (and-right a.complete b.complete c) in
     (record { width = max s.0.width t.0.width; signed = s.0.signed && t.0.signed }, ap₂ larger_size s.1 t.1)
 
-binary-own : (sizing : BinarySizing) (operator : BinaryOperator) (a b : Reading) (s t : Option Size) → HasOwnSize a s → HasOwnSize b t → HasOwnSize (binary_reading sizing operator a b) (binary_size sizing s t)
+binary-own : (sizing : BinarySizing) (operator : BinaryOperator) (a b : Reading) (s t : Option Size) → HasOwnSize a s → HasOwnSize b t →
+    HasOwnSize (binary_reading sizing operator a b) (binary_size sizing s t)
 binary-own BothWithWhole operator a b s t h k = record {
   size_is = larger-by a.complete b.complete a.size b.size ∙ ap₂ larger_size h.size_is k.size_is;
   some_size = some-larger a b h.some_size k.some_size;
@@ -243,7 +254,8 @@ binary-own EachAlone operator a b s t h k = record {
   some_size = λ c. (record { width = 1; signed = false }, refl);
 }
 
-choice-by : (cc ca cb : Bool) (c a b : Option Size) → (cc ≡ true → (z : Size) × (c ≡ Some z)) → cond (cc && (ca && cb)) (larger_size a b) None ≡ size_after (cond cc c None) (larger_size (cond ca a None) (cond cb b None))
+choice-by : (cc ca cb : Bool) (c a b : Option Size) → (cc ≡ true → (z : Size) × (c ≡ Some z)) →
+    cond (cc && (ca && cb)) (larger_size a b) None ≡ size_after (cond cc c None) (larger_size (cond ca a None) (cond cb b None))
 choice-by true ca cb c a b h = let z = h refl in larger-by ca cb a b ∙ ap (λ p. size_after p (larger_size (cond ca a None) (cond cb b None))) (sym z.1)
 choice-by false ca cb c a b h = refl
 
@@ -270,7 +282,8 @@ before-own : (unsized : Bool) (place : SourcePlace) (reading : Reading) (rest : 
 before-own true place reading rest size width h k = record { width_is = refl }
 before-own false place reading rest size width h k = record { width_is = with-by reading.complete rest.complete reading.size rest.width ∙ ap₂ width_with h.size_is k.width_is }
 
-concatenation-own : (place : SourcePlace) (width : Option ℕ) (complete : Bool) (inside : List Fault) (trees : SizedExpressions) → HasOwnSize (concatenation_reading place width complete inside trees) (total_size (cond complete width None))
+concatenation-own : (place : SourcePlace) (width : Option ℕ) (complete : Bool) (inside : List Fault) (trees : SizedExpressions) →
+    HasOwnSize (concatenation_reading place width complete inside trees) (total_size (cond complete width None))
 concatenation-own place None true inside trees = record { size_is = refl; some_size = λ c. refused c }
 concatenation-own place None false inside trees = record { size_is = refl; some_size = λ c. refused c }
 concatenation-own place (Some total) true inside trees = sized-own place total false true inside _
@@ -318,4 +331,5 @@ mutual
   parts-own : (scope : Scope) (parts : SourceExpressions) → HaveWidth (parts_reading scope parts) (parts_width scope parts)
   parts-own scope no_parts = record { width_is = refl }
   parts-own scope (more_parts first rest) =
-      before-own (is_unsized_number first) (place_of_expression first) (reading_of scope first) (parts_reading scope rest) (own_size scope first) (parts_width scope rest) (own-size-is scope first) (parts-own scope rest)
+      before-own (is_unsized_number first) (place_of_expression first) (reading_of scope first) (parts_reading scope rest) (own_size scope first) (parts_width scope rest) (own-size-is scope first)
+      (parts-own scope rest)

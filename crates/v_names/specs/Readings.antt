@@ -11,10 +11,13 @@ use Rattle.four_value.specs.declared.operator.UnaryOperator.{UnaryOperator}
 use Rattle.four_value.specs.declared.operator.BinaryOperator.{BinaryOperator}
 use Rattle.v_tree.specs.declared.token.NumberForm.{NumberForm}
 use Rattle.v_tree.specs.declared.token.NumberForm.TheVariants.{Plain, Unsized, Sized, UnsizedSigned, SizedSigned}
-use Rattle.v_tree.specs.Trees.{Identifier, SourceExpression, Number, Selected, Parenthesised, Prefixed, Infixed, Chosen, Concatenated, Replicated, SourceIndex, NoIndex, IndexAt, IndexRange, SourceExpressions, no_parts, more_parts, place_of_expression, names_in}
+use Rattle.v_tree.specs.Trees.{Identifier, SourceExpression, Number, Selected, Parenthesised, Prefixed, Infixed, Chosen, Concatenated, Replicated, SourceIndex, NoIndex, IndexAt, IndexRange}
+use Rattle.v_tree.specs.Trees.{SourceExpressions, no_parts, more_parts, place_of_expression, names_in}
 use Rattle.v_names.specs.Faults.{Wrong, BadWidth, WrongKind, Fault, fault_at}
-use Rattle.v_names.specs.Scopes.{SignedValue, DeclaredRange, ScopeEntry, ParameterEntry, RefusedParameter, WaitingParameter, NetEntry, RegEntry, MemoryEntry, GateEntry, InstanceEntry, Scope, looked_up, range_width, is_known}
-use Rattle.v_names.specs.SizedTrees.{SizedExpression, SizedConstant, SizedName, SizedBit, SizedPart, SizedWord, SizedUnary, SizedBinary, SizedChoice, SizedConcatenation, SizedReplication, SizedExpressions, no_sized, more_sized, Holders, over_objects}
+use Rattle.v_names.specs.Scopes.{SignedValue, DeclaredRange, ScopeEntry, ParameterEntry, RefusedParameter, WaitingParameter, NetEntry, RegEntry, MemoryEntry, GateEntry, InstanceEntry, Scope}
+use Rattle.v_names.specs.Scopes.{looked_up, range_width, is_known}
+use Rattle.v_names.specs.SizedTrees.{SizedExpression, SizedConstant, SizedName, SizedBit, SizedPart, SizedWord, SizedUnary, SizedBinary, SizedChoice, SizedConcatenation, SizedReplication}
+use Rattle.v_names.specs.SizedTrees.{SizedExpressions, no_sized, more_sized, Holders, over_objects}
 
 -- the size that an expression has by itself, and whether it is signed
 pub record Size : Type 0 where
@@ -187,7 +190,8 @@ abbrev pub indexed_reading : Option ScopeEntry → SourcePlace → Identifier �
 indexed_reading None place name index = refused_reading [] (alone_faults index)
 indexed_reading (Some (NetEntry range signed)) place name index = bit_reading range.ranged place name index
 indexed_reading (Some (RegEntry range signed)) place name index = bit_reading range.ranged place name index
-indexed_reading (Some (MemoryEntry range first last signed)) place name index = sized_reading place (range_width range) signed index.complete (alone_faults index) (λ width whole. SizedWord width whole name (tree_alone index))
+indexed_reading (Some (MemoryEntry range first last signed)) place name index = sized_reading place (range_width range) signed index.complete (alone_faults index)
+    (λ width whole. SizedWord width whole name (tree_alone index))
 indexed_reading _ place name index = wrong_reading place (alone_faults index)
 
 -- whether a part's bounds run as its declaration's do; equal bounds of a part fit either way
@@ -217,7 +221,13 @@ ranged_reading _ place name inside from to = wrong_reading place inside
 -- Operators
 
 abbrev pub unary_reading : UnarySizing → UnaryOperator → Reading → Reading
-unary_reading OperandWithWhole operator a = record { size = a.size; here = a.here; inside = a.inside; complete = a.complete; tree = λ width whole. SizedUnary width whole operator (a.tree width whole) }
+unary_reading OperandWithWhole operator a = record {
+  size = a.size;
+  here = a.here;
+  inside = a.inside;
+  complete = a.complete;
+  tree = λ width whole. SizedUnary width whole operator (a.tree width whole);
+}
 unary_reading OperandAlone operator a = record { size = one_bit; here = []; inside = alone_faults a; complete = a.complete; tree = λ width whole. SizedUnary width whole operator (tree_alone a) }
 
 abbrev pub binary_reading : BinarySizing → BinaryOperator → Reading → Reading → Reading
@@ -283,7 +293,12 @@ width_with (Some size) (Some rest) = Some (size.width + rest)
 -- a part is sized alone; a number that doesn't say its size is none
 abbrev pub part_before : Bool → SourcePlace → Reading → PartsReading → PartsReading
 part_before true place reading rest = record { width = None; inside = fault_at place BadWidth ∷ rest.inside; complete = false; trees = more_sized (tree_alone reading) rest.trees }
-part_before false place reading rest = record { width = width_with reading.size rest.width; inside = alone_faults reading ++ rest.inside; complete = reading.complete && rest.complete; trees = more_sized (tree_alone reading) rest.trees }
+part_before false place reading rest = record {
+  width = width_with reading.size rest.width;
+  inside = alone_faults reading ++ rest.inside;
+  complete = reading.complete && rest.complete;
+  trees = more_sized (tree_alone reading) rest.trees;
+}
 
 abbrev pub concatenation_reading : SourcePlace → Option ℕ → Bool → List Fault → SizedExpressions → Reading
 concatenation_reading place None complete inside trees = refused_reading [] inside

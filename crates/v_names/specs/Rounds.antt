@@ -2,7 +2,8 @@
 use Rattle.std.proofs.Common.{◌≡◌, ℕ, zero, suc, ◌≤◌, Bool, true, false, List, [], ◌∷◌, filter, length, Option, Some, None, option_map, refl, sym, ap, ap₂, ◌∙◌, arith}
 use Rattle.v_tree.specs.Trees.{Identifier}
 use Rattle.v_names.specs.Scopes.{ScopeEntry, RefusedParameter, WaitingParameter, ParameterEntry, NetEntry, RegEntry, MemoryEntry, GateEntry, InstanceEntry, ScopeName, Scope, looked_up, is_waiting}
-use Rattle.v_names.specs.Names.{Declared, DeclaredParameter, DeclaredPort, DeclaredNet, DeclaredReg, DeclaredMemory, DeclaredGate, DeclaredInstance, Declaration, GivenParameter, meaning_of, meanings, is_parameter_declared, waiting_entry, waiting_scope, scope_after}
+use Rattle.v_names.specs.Names.{Declared, DeclaredParameter, DeclaredPort, DeclaredNet, DeclaredReg, DeclaredMemory, DeclaredGate, DeclaredInstance, Declaration, GivenParameter, meaning_of}
+use Rattle.v_names.specs.Names.{meanings, is_parameter_declared, waiting_entry, waiting_scope, scope_after}
 use Rattle.v_names.specs.Agreement.{constant_part}
 use Rattle.v_names.specs.Meanings.{Under, found, meaning-kept, meaning-agree, no-constant, in-meanings, in-waiting}
 
@@ -51,7 +52,8 @@ option-by : (f g : Declaration → ScopeEntry) (d : Option Declaration) → ((x 
 option-by f g None h w = refl
 option-by f g (Some d) h w = h d w
 
-grow-by : (s t : Scope) (ds : List Declaration) (f g : Declaration → ScopeEntry) → ((name : Identifier) → looked_up s name ≡ option_map f (found ds name)) → ((name : Identifier) → looked_up t name ≡ option_map g (found ds name)) →
+grow-by : (s t : Scope) (ds : List Declaration) (f g : Declaration → ScopeEntry) → ((name : Identifier) → looked_up s name ≡ option_map f (found ds name)) →
+    ((name : Identifier) → looked_up t name ≡ option_map g (found ds name)) →
     ((x : Declaration) → is_waiting (Some (f x)) ≡ false → constant_part (Some (f x)) ≡ constant_part (Some (g x))) → Under s t
 grow-by s t ds f g es et h = record {
   agrees = λ name w. ap constant_part (es name) ∙ option-by f g (found ds name) h (sym (ap is_waiting (es name)) ∙ w) ∙ sym (ap constant_part (et name));
@@ -69,7 +71,8 @@ round-grows (suc rounds) given ds =
     (λ d w. meaning-kept s t (round-grows rounds given ds) given d.name d.declared w)
 
 -- a name that waits is that of a parameter, where what other declarations mean doesn't wait
-pub waits-by : (f : Declaration → ScopeEntry) (ds : List Declaration) (name : Identifier) (d : Option Declaration) → found ds name ≡ d → ((x : Declaration) → is_waiting (Some (f x)) ≡ true → is_parameter_declared x.declared ≡ true) →
+pub waits-by : (f : Declaration → ScopeEntry) (ds : List Declaration) (name : Identifier) (d : Option Declaration) → found ds name ≡ d →
+    ((x : Declaration) → is_waiting (Some (f x)) ≡ true → is_parameter_declared x.declared ≡ true) →
     is_waiting (option_map f d) ≡ true → (x : Declaration) × (found ds name ≡ Some x) × (is_parameter_declared x.declared ≡ true)
 waits-by f ds name None e h w = absurd (let x : ⊥ = cc in x)
 waits-by f ds name (Some d) e h w = (d, e, h d w)
@@ -89,7 +92,8 @@ waiting-part (Some GateEntry) w = cc
 waiting-part (Some InstanceEntry) w = cc
 
 -- so declarations mean the same in them
-pub meanings-by : (s t : Scope) (given : List GivenParameter) (ds : List Declaration) → ((name : Identifier) → constant_part (looked_up s name) ≡ constant_part (looked_up t name)) → meanings s given ds ≡ meanings t given ds
+pub meanings-by : (s t : Scope) (given : List GivenParameter) (ds : List Declaration) → ((name : Identifier) → constant_part (looked_up s name) ≡ constant_part (looked_up t name)) →
+    meanings s given ds ≡ meanings t given ds
 meanings-by s t given [] h = refl
 meanings-by s t given (d ∷ ds) h =
     ap₂ (λ (entry : ScopeEntry) (rest : Scope). let n : ScopeName = record { name = d.name; entry = entry } in n ∷ rest) (meaning-agree s t h given d.name d.declared) (meanings-by s t given ds h)
@@ -97,7 +101,8 @@ meanings-by s t given (d ∷ ds) h =
 -- Counts
 
 -- one element more, which passes the one test only if it passes the other
-pub count-by : {A : Type 0} (p q : A → Bool) (x : A) (xs : List A) (a b : Bool) → p x ≡ a → q x ≡ b → (a ≡ true → b ≡ true) → length (filter p xs) ≤ length (filter q xs) → length (filter p (x ∷ xs)) ≤ length (filter q (x ∷ xs))
+pub count-by : {A : Type 0} (p q : A → Bool) (x : A) (xs : List A) (a b : Bool) → p x ≡ a → q x ≡ b → (a ≡ true → b ≡ true) → length (filter p xs) ≤ length (filter q xs) →
+    length (filter p (x ∷ xs)) ≤ length (filter q (x ∷ xs))
 count-by p q x xs true true e f h k = rw (e, f) (omega arith)
 count-by p q x xs true false e f h k = absurd (let n : false ≡ true = h refl in let x : ⊥ = cc in x)
 count-by p q x xs false true e f h k = rw (e, f) (omega arith)

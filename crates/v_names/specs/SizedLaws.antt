@@ -1,5 +1,6 @@
 -- Where an expression and all its parts have sizes, its tree is sized at each width and sign that it may have.
-use Rattle.std.proofs.Common.{◌≡◌, ℕ, zero, suc, ◌+◌, ◌-◌, ◌*◌, max, ◌<◌, ◌≤◌, ◌⊎◌, inl, inr, Bool, true, false, ◌&&◌, List, [], ◌∷◌, ◌++◌, length, Option, Some, None, nat_le, refl, sym, ap, ap₂, subst, ◌∙◌, arith}
+use Rattle.std.proofs.Common.{◌≡◌, ℕ, zero, suc, ◌+◌, ◌-◌, ◌*◌, max, ◌<◌, ◌≤◌, ◌⊎◌, inl, inr, Bool, true, false, ◌&&◌, List, [], ◌∷◌, ◌++◌, length, Option, Some, None, nat_le, refl, sym, ap, ap₂}
+use Rattle.std.proofs.Common.{subst, ◌∙◌, arith}
 use Rattle.std.proofs.lemmas.Bool.{leb-true}
 use Rattle.std.proofs.lemmas.Bool.Decides.{leb_tells}
 use Rattle.vf_base.specs.Base.{SourcePlace}
@@ -9,13 +10,18 @@ use Rattle.four_value.specs.declared.operator.UnaryOperator.{UnaryOperator}
 use Rattle.four_value.specs.declared.operator.BinaryOperator.{BinaryOperator}
 use Rattle.v_design.specs.Assignments.{part_width}
 use Rattle.v_design.specs.Expressions.{up_from, down_from, width_of, sign_of}
-use Rattle.v_design.specs.Sized.{span, most_bits, pieces_width, own_width, own_width_of_parts, UnarySizing, OperandWithWhole, OperandAlone, unary_sizing, unary_width, BinarySizing, BothWithWhole, LeftWithWhole, BothTogether, EachAlone, binary_sizing, binary_width, IsAlone, UnaryAgrees, BinaryAgrees, HasItsBits, HasItsWords, HasRoom, IsSized, AreSizedAlone}
+use Rattle.v_design.specs.Sized.{span, most_bits, pieces_width, own_width, own_width_of_parts, UnarySizing, OperandWithWhole, OperandAlone, unary_sizing, unary_width, BinarySizing, BothWithWhole}
+use Rattle.v_design.specs.Sized.{LeftWithWhole, BothTogether, EachAlone, binary_sizing, binary_width, IsAlone, UnaryAgrees, BinaryAgrees, HasItsBits, HasItsWords, HasRoom, IsSized, AreSizedAlone}
 use Rattle.v_design.specs.Trees.{Expression}
-use Rattle.v_tree.specs.Trees.{Identifier, SourceExpression, Number, Selected, Parenthesised, Prefixed, Infixed, Chosen, Concatenated, Replicated, SourceIndex, NoIndex, IndexAt, IndexRange, SourceExpressions, no_parts, more_parts, place_of_expression}
+use Rattle.v_tree.specs.Trees.{Identifier, SourceExpression, Number, Selected, Parenthesised, Prefixed, Infixed, Chosen, Concatenated, Replicated, SourceIndex, NoIndex, IndexAt, IndexRange}
+use Rattle.v_tree.specs.Trees.{SourceExpressions, no_parts, more_parts, place_of_expression}
 use Rattle.v_names.specs.Faults.{Fault}
-use Rattle.v_names.specs.Scopes.{DeclaredRange, ScopeEntry, ParameterEntry, RefusedParameter, WaitingParameter, NetEntry, RegEntry, MemoryEntry, GateEntry, InstanceEntry, Scope, looked_up, range_width}
+use Rattle.v_names.specs.Scopes.{DeclaredRange, ScopeEntry, ParameterEntry, RefusedParameter, WaitingParameter, NetEntry, RegEntry, MemoryEntry, GateEntry, InstanceEntry, Scope, looked_up}
+use Rattle.v_names.specs.Scopes.{range_width}
 use Rattle.v_names.specs.SizedTrees.{SizedExpression, SizedConstant, SizedExpressions, Holders, over_objects, all_over_objects}
-use Rattle.v_names.specs.Readings.{Size, Reading, size_or_bit, larger_size, tree_at, tree_alone, alone_faults, sized_if, sized_reading, is_signed_number, bit_zero_reading, name_reading, bit_reading, indexed_reading, runs_alike, part_if, part_between, part_reading, ranged_reading, unary_reading, binary_reading, choice_reading, PartsReading, width_with, is_unsized_number, part_before, concatenation_reading, replication_reading, reading_of, select_reading, parts_reading, constant_reading, natural_constant}
+use Rattle.v_names.specs.Readings.{Size, Reading, size_or_bit, larger_size, tree_at, tree_alone, alone_faults, sized_if, sized_reading, is_signed_number, bit_zero_reading, name_reading, bit_reading}
+use Rattle.v_names.specs.Readings.{indexed_reading, runs_alike, part_if, part_between, part_reading, ranged_reading, unary_reading, binary_reading, choice_reading, PartsReading, width_with}
+use Rattle.v_names.specs.Readings.{is_unsized_number, part_before, concatenation_reading, replication_reading, reading_of, select_reading, parts_reading, constant_reading, natural_constant}
 
 -- What holds the names
 
@@ -103,7 +109,8 @@ sized-sound holders place width signed complete inside tree h =
     let most : width ≤ most_bits = leb-true width most_bits (and-right (nat_le 1 width) (nat_le width most_bits) t) in
     record { size = record { width = width; signed = signed }; size_is = refl; some = some; most = most; gives = h c some most })
 
-constant-gives : (holders : Holders) (value : LogicValue) (signed : Bool) → 1 ≤ length value → GivesSized holders (record { width = length value; signed = signed }) (λ width whole. SizedConstant width whole value)
+constant-gives : (holders : Holders) (value : LogicValue) (signed : Bool) → 1 ≤ length value →
+    GivesSized holders (record { width = length value; signed = signed }) (λ width whole. SizedConstant width whole value)
 constant-gives holders value signed some width whole below most sign = record { sized = (some, below, most); own_is = refl; width_is = refl; sign_is = refl }
 
 bit_zero-sound : (holders : Holders) → IsSound holders bit_zero_reading
@@ -140,7 +147,8 @@ name-sound holders (Some (MemoryEntry range first last signed)) place name h = �
 name-sound holders (Some GateEntry) place name h = λ e. refused e
 name-sound holders (Some InstanceEntry) place name h = λ e. refused e
 
-bit-sound : (holders : Holders) (ranged : Bool) (place : SourcePlace) (name : Identifier) (index : Reading) → HasItsBits (holders.vector name) → IsSound holders index → IsSound holders (bit_reading ranged place name index)
+bit-sound : (holders : Holders) (ranged : Bool) (place : SourcePlace) (name : Identifier) (index : Reading) → HasItsBits (holders.vector name) → IsSound holders index →
+    IsSound holders (bit_reading ranged place name index)
 bit-sound holders true place name index bits h = λ c.
     let i = alone-sized holders index (h c) in
     record {
@@ -194,7 +202,8 @@ part-long from to = by (nat_le to from) refl
     by true e = let h : to ≤ from = leb-true to from e in let k : from - to + 1 ≡ span from to = omega arith in rw e (up-long (from - to + 1) to ∙ k)
     by false e = let h : from ≤ to = leb-wrong to from e in let k : to - from + 1 ≡ span from to = omega arith in rw e (down-long (to - from + 1) to ∙ k)
 
-part-if-sound : (holders : Holders) (alike : Bool) (place : SourcePlace) (name : Identifier) (inside : List Fault) (from to : ℕ) → HasItsBits (holders.vector name) → IsSound holders (part_if alike place name inside from to)
+part-if-sound : (holders : Holders) (alike : Bool) (place : SourcePlace) (name : Identifier) (inside : List Fault) (from to : ℕ) → HasItsBits (holders.vector name) →
+    IsSound holders (part_if alike place name inside from to)
 part-if-sound holders true place name inside from to bits =
     sized-sound holders place (span from to) false true inside _
     (λ c some most width whole below m sign.
@@ -227,7 +236,8 @@ ranged-sound holders (Some InstanceEntry) place name inside from to held = λ e.
 
 -- Operators
 
-unary-sound : (holders : Holders) (sizing : UnarySizing) (operator : UnaryOperator) (a : Reading) → unary_sizing operator ≡ sizing → IsSound holders a → IsSound holders (unary_reading sizing operator a)
+unary-sound : (holders : Holders) (sizing : UnarySizing) (operator : UnaryOperator) (a : Reading) → unary_sizing operator ≡ sizing → IsSound holders a →
+    IsSound holders (unary_reading sizing operator a)
 unary-sound holders OperandWithWhole operator a e h = λ c.
     let s = h c in
     record {
@@ -276,7 +286,8 @@ larger-is holders a b s t = ap₂ larger_size s.size_is t.size_is
 abbrev OperandsAgree : BinarySizing → BinaryOperator → ℕ → Bool → Expression → Expression → Type 0
 OperandsAgree sizing operator width whole a b = HasRoom width (binary_width sizing (own_width a) (own_width b)) × BinaryAgrees sizing width whole a b × IsSized a × IsSized b
 
-both-sound : (holders : Holders) (operator : BinaryOperator) (a b : Reading) → binary_sizing operator ≡ BothWithWhole → HasSize holders a → HasSize holders b → HasSize holders (binary_reading BothWithWhole operator a b)
+both-sound : (holders : Holders) (operator : BinaryOperator) (a b : Reading) → binary_sizing operator ≡ BothWithWhole → HasSize holders a → HasSize holders b →
+    HasSize holders (binary_reading BothWithWhole operator a b)
 both-sound holders operator a b e s t = record {
   size = record { width = max s.size.width t.size.width; signed = s.size.signed && t.size.signed };
   size_is = larger-is holders a b s t;
@@ -300,7 +311,8 @@ both-sound holders operator a b e s t = record {
       };
 }
 
-left-sound : (holders : Holders) (operator : BinaryOperator) (a b : Reading) → binary_sizing operator ≡ LeftWithWhole → HasSize holders a → HasSize holders b → HasSize holders (binary_reading LeftWithWhole operator a b)
+left-sound : (holders : Holders) (operator : BinaryOperator) (a b : Reading) → binary_sizing operator ≡ LeftWithWhole → HasSize holders a → HasSize holders b →
+    HasSize holders (binary_reading LeftWithWhole operator a b)
 left-sound holders operator a b e s t = record {
   size = s.size;
   size_is = s.size_is;
@@ -322,7 +334,8 @@ left-sound holders operator a b e s t = record {
       };
 }
 
-together-sound : (holders : Holders) (operator : BinaryOperator) (a b : Reading) → binary_sizing operator ≡ BothTogether → HasSize holders a → HasSize holders b → HasSize holders (binary_reading BothTogether operator a b)
+together-sound : (holders : Holders) (operator : BinaryOperator) (a b : Reading) → binary_sizing operator ≡ BothTogether → HasSize holders a → HasSize holders b →
+    HasSize holders (binary_reading BothTogether operator a b)
 together-sound holders operator a b e s t =
     let z : Size = record { width = max s.size.width t.size.width; signed = s.size.signed && t.size.signed } in
     let group = larger-is holders a b s t in
@@ -351,7 +364,8 @@ together-sound holders operator a b e s t =
           };
     }
 
-each-sound : (holders : Holders) (operator : BinaryOperator) (a b : Reading) → binary_sizing operator ≡ EachAlone → HasSize holders a → HasSize holders b → HasSize holders (binary_reading EachAlone operator a b)
+each-sound : (holders : Holders) (operator : BinaryOperator) (a b : Reading) → binary_sizing operator ≡ EachAlone → HasSize holders a → HasSize holders b →
+    HasSize holders (binary_reading EachAlone operator a b)
 each-sound holders operator a b e s t =
     let x = alone-sized holders a s in
     let y = alone-sized holders b t in
@@ -372,7 +386,8 @@ each-sound holders operator a b e s t =
           };
     }
 
-binary-sound : (holders : Holders) (sizing : BinarySizing) (operator : BinaryOperator) (a b : Reading) → binary_sizing operator ≡ sizing → IsSound holders a → IsSound holders b → IsSound holders (binary_reading sizing operator a b)
+binary-sound : (holders : Holders) (sizing : BinarySizing) (operator : BinaryOperator) (a b : Reading) → binary_sizing operator ≡ sizing → IsSound holders a → IsSound holders b →
+    IsSound holders (binary_reading sizing operator a b)
 binary-sound holders BothWithWhole operator a b e h k = λ c. both-sound holders operator a b e (h (and-left a.complete b.complete c)) (k (and-right a.complete b.complete c))
 binary-sound holders LeftWithWhole operator a b e h k = λ c. left-sound holders operator a b e (h (and-left a.complete b.complete c)) (k (and-right a.complete b.complete c))
 binary-sound holders BothTogether operator a b e h k = λ c. together-sound holders operator a b e (h (and-left a.complete b.complete c)) (k (and-right a.complete b.complete c))
@@ -416,7 +431,8 @@ record PartsSized (holders : Holders) (width : Option ℕ) (trees : SizedExpress
 abbrev PartsSound : Holders → PartsReading → Type 0
 PartsSound holders read = read.complete ≡ true → PartsSized holders read.width read.trees
 
-part-sized : (holders : Holders) (unsized : Bool) (place : SourcePlace) (reading : Reading) (rest : PartsReading) → IsSound holders reading → PartsSound holders rest → PartsSound holders (part_before unsized place reading rest)
+part-sized : (holders : Holders) (unsized : Bool) (place : SourcePlace) (reading : Reading) (rest : PartsReading) → IsSound holders reading → PartsSound holders rest →
+    PartsSound holders (part_before unsized place reading rest)
 part-sized holders true place reading rest h k = λ e. refused e
 part-sized holders false place reading rest h k = λ c.
     let s = h (and-left reading.complete rest.complete c) in
@@ -432,7 +448,8 @@ part-sized holders false place reading rest h k = λ c.
 same_number : (a b : ℕ) → Some a ≡ Some b → a ≡ b
 same_number a b e = cc
 
-concatenation-sound : (holders : Holders) (place : SourcePlace) (width : Option ℕ) (complete : Bool) (inside : List Fault) (trees : SizedExpressions) → (complete ≡ true → PartsSized holders width trees)
+concatenation-sound : (holders : Holders) (place : SourcePlace) (width : Option ℕ) (complete : Bool) (inside : List Fault) (trees : SizedExpressions) →
+    (complete ≡ true → PartsSized holders width trees)
     → IsSound holders (concatenation_reading place width complete inside trees)
 concatenation-sound holders place None complete inside trees h = λ e. refused e
 concatenation-sound holders place (Some total) complete inside trees h =
@@ -442,7 +459,8 @@ concatenation-sound holders place (Some total) complete inside trees h =
     let own : own_width_of_parts (all_over_objects holders trees) ≡ total = p.own_is ∙ sym (same_number total p.total p.total_is) in
     record { sized = ((omega (arith, own), omega (arith, own), m), not_signed whole sign, p.sized); own_is = own; width_is = refl; sign_is = refl })
 
-replication-sound : (holders : Holders) (place : SourcePlace) (count width : Option ℕ) (complete : Bool) (inside : List Fault) (trees : SizedExpressions) → (complete ≡ true → PartsSized holders width trees)
+replication-sound : (holders : Holders) (place : SourcePlace) (count width : Option ℕ) (complete : Bool) (inside : List Fault) (trees : SizedExpressions) →
+    (complete ≡ true → PartsSized holders width trees)
     → IsSound holders (replication_reading place count width complete inside trees)
 replication-sound holders place None width complete inside trees h = λ e. refused e
 replication-sound holders place (Some count) None complete inside trees h = λ e. refused e
@@ -461,7 +479,8 @@ mutual
   -- where an expression and all its parts have sizes, its tree is sized at each width and sign that it may have
   pub reading-sound : (holders : Holders) (scope : Scope) (e : SourceExpression) → AreHeld holders scope e → IsSound holders (reading_of scope e)
   reading-sound holders scope (Number place form value) held =
-      sized-sound holders place (length value) (is_signed_number form value) true [] (λ width whole. SizedConstant width whole value) (λ c some most. constant-gives holders value (is_signed_number form value) some)
+      sized-sound holders place (length value) (is_signed_number form value) true [] (λ width whole. SizedConstant width whole value)
+      (λ c some most. constant-gives holders value (is_signed_number form value) some)
   reading-sound holders scope (Selected place name index) held = select-sound holders scope place name index held.0 held.1
   reading-sound holders scope (Parenthesised place inner) held = reading-sound holders scope inner held
   reading-sound holders scope (Prefixed place operator operand) held = unary-sound holders (unary_sizing operator) operator (reading_of scope operand) refl (reading-sound holders scope operand held)
@@ -476,7 +495,8 @@ mutual
   reading-sound holders scope (Replicated place count parts) held =
       let read = parts_reading scope parts in
       let times = reading_of scope count in
-      replication-sound holders place (natural_constant (constant_reading scope 0 count times)) read.width read.complete (read.inside ++ alone_faults times) read.trees (parts-sound holders scope parts held)
+      replication-sound holders place (natural_constant (constant_reading scope 0 count times)) read.width read.complete (read.inside ++ alone_faults times) read.trees
+      (parts-sound holders scope parts held)
 
   select-sound : (holders : Holders) (scope : Scope) (place : SourcePlace) (name : Identifier) (index : SourceIndex) → IsHeld holders name (looked_up scope name) → AreHeldInIndex holders scope index
       → IsSound holders (select_reading scope place name index)
@@ -489,4 +509,5 @@ mutual
   parts-sound : (holders : Holders) (scope : Scope) (parts : SourceExpressions) → AreHeldInParts holders scope parts → PartsSound holders (parts_reading scope parts)
   parts-sound holders scope no_parts held = λ c. record { total = 0; total_is = refl; sized = tt; own_is = refl }
   parts-sound holders scope (more_parts first rest) held =
-      part-sized holders (is_unsized_number first) (place_of_expression first) (reading_of scope first) (parts_reading scope rest) (reading-sound holders scope first held.0) (parts-sound holders scope rest held.1)
+      part-sized holders (is_unsized_number first) (place_of_expression first) (reading_of scope first) (parts_reading scope rest) (reading-sound holders scope first held.0)
+      (parts-sound holders scope rest held.1)

@@ -1,7 +1,8 @@
 -- Expressions with a width and a sign at each part, over names (IEEE 1364-2001, clause 4.4 and clause 4.5).
 use Rattle.std.specs.Prelude.{ℕ, Bool}
 use Rattle.four_value.specs.Values.{LogicValue}
-use Rattle.v_design.specs.Trees.{Vector, Memory, Expression, Constant, Name, BitSelect, PartSelect, WordSelect, Unary, Binary, Conditional, Concatenation, Replication, Expressions, no_expressions, more_expressions}
+use Rattle.v_design.specs.Trees.{Vector, Memory, Expression, Constant, Name, BitSelect, PartSelect, WordSelect, Unary, Binary, Conditional, Concatenation, Replication, Expressions, no_expressions}
+use Rattle.v_design.specs.Trees.{more_expressions}
 use Rattle.four_value.specs.declared.operator.UnaryOperator.{UnaryOperator}
 use Rattle.four_value.specs.declared.operator.BinaryOperator.{BinaryOperator}
 use Rattle.v_tree.specs.Trees.{Identifier}

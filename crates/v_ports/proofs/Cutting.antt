@@ -1,5 +1,6 @@
 -- Drivers of bits that are taken one after the other, and runs of bits with one driver.
-use Rattle.std.proofs.Common.{◌≡◌, ℕ, zero, suc, ◌+◌, ◌-◌, min, ◌<◌, ◌≤◌, cond, Bool, true, false, ◌||◌, ◌⊎◌, inl, inr, List, [], ◌∷◌, ◌++◌, map, replicate, length, get_or, set, drop, Option, Some, None, is_some, nat_eq, refl, sym, ap, ap₂, subst, append_assoc, Result, Ok, Err, IfOk, IfErr, ◌∙◌, arith, add-one, zero-add}
+use Rattle.std.proofs.Common.{◌≡◌, ℕ, zero, suc, ◌+◌, ◌-◌, min, ◌<◌, ◌≤◌, cond, Bool, true, false, ◌||◌, ◌⊎◌, inl, inr, List, [], ◌∷◌, ◌++◌, map, replicate, length, get_or, set, drop, Option, Some}
+use Rattle.std.proofs.Common.{None, is_some, nat_eq, refl, sym, ap, ap₂, subst, append_assoc, Result, Ok, Err, IfOk, IfErr, ◌∙◌, arith, add-one, zero-add}
 use Rattle.std.proofs.Math.ListN.{drop_of_length-le}
 use Rattle.std.proofs.Math.Seq.{drop-cons, drop-nil}
 use Rattle.std.proofs.lemmas.Bool.{cases_eq, eq-eqb, ne_eqb}
@@ -7,7 +8,8 @@ use Rattle.std.proofs.lemmas.List.{get_or-set_same, get_or-set_other, length-set
 use Rattle.v_design.specs.Expressions.{up_from}
 use Rattle.vf_base.specs.Lists.{has}
 use Rattle.vf_base.specs.Base.{SourcePlace, source_place}
-use Rattle.v_ports.specs.Pieces.{DrivenRun, lesser_if, least_among, SecondDriver, second_if, second_driver, driver_of_bit, CutPiece, same_driver, grown_or_new, bit_before, pieces_from, pieces_of, DriveOfRun, run_of_drive, unless_second, cut_pieces}
+use Rattle.v_ports.specs.Pieces.{DrivenRun, lesser_if, least_among, SecondDriver, second_if, second_driver, driver_of_bit, CutPiece, same_driver, grown_or_new, bit_before, pieces_from, pieces_of}
+use Rattle.v_ports.specs.Pieces.{DriveOfRun, run_of_drive, unless_second, cut_pieces}
 use Rattle.v_ports.specs.declared.cut.Drive.{Drive}
 use Rattle.v_ports.specs.declared.cut.Piece.{Piece}
 use Rattle.v_ports.specs.declared.fault.PortFault.{PortFault}
@@ -45,10 +47,12 @@ first-by true false low first rest same e h = cc
 first-by false true low first rest same e h = cc
 first-by false false low first rest same e h = e
 
-pub first-least : (owners : List (Option ℕ)) (taken : List ℕ) → ((b : ℕ) → is_some (owner_at owners b) ≡ has taken b) → (n low : ℕ) → first_owned owners (up_from low n) ≡ least_among taken (up_from low n)
+pub first-least : (owners : List (Option ℕ)) (taken : List ℕ) → ((b : ℕ) → is_some (owner_at owners b) ≡ has taken b) → (n low : ℕ) →
+    first_owned owners (up_from low n) ≡ least_among taken (up_from low n)
 first-least owners taken same zero low = refl
 first-least owners taken same (suc n) low =
-    first-by (is_some (owner_at owners low)) (has taken low) low (first_owned owners (up_from (low + 1) n)) (least_among taken (up_from (low + 1) n)) (same low) (first-least owners taken same n (low + 1))
+    first-by (is_some (owner_at owners low)) (has taken low) low (first_owned owners (up_from (low + 1) n)) (least_among taken (up_from (low + 1) n)) (same low)
+    (first-least owners taken same n (low + 1))
     (λ o e. let above : low + 1 ≤ o = least-above taken n (low + 1) o e in omega arith)
 
 none-here : (here : Bool) (low : ℕ) (rest : Option ℕ) → lesser_if here low rest ≡ None → here ≡ false
@@ -82,11 +86,14 @@ one-owned : (number low b : ℕ) (owners : List (Option ℕ)) (among : Bool) →
     → cond among (Some number) (owner_at (set owners low (Some number)) b) ≡ cond (nat_eq low b || among) (Some number) (owner_at owners b)
 one-owned number low b owners true below (inl same) = rw (eq-eqb low b same) refl
 one-owned number low b owners false below (inl same) =
-    ap (λ o. owner_at (set owners low (Some number)) o) (sym same) ∙ get_or-set_same owners low (Some number) None below ∙ sym (ap (λ h. cond (h || false) (Some number) (owner_at owners b)) (eq-eqb low b same))
+    ap (λ o. owner_at (set owners low (Some number)) o) (sym same) ∙ get_or-set_same owners low (Some number) None below
+    ∙ sym (ap (λ h. cond (h || false) (Some number) (owner_at owners b)) (eq-eqb low b same))
 one-owned number low b owners among below (inr other) =
-    ap (λ o. cond among (Some number) o) (get_or-set_other owners low b (Some number) None (λ same. other (sym same))) ∙ sym (ap (λ h. cond (h || among) (Some number) (owner_at owners b)) (ne_eqb low b other))
+    ap (λ o. cond among (Some number) o) (get_or-set_other owners low b (Some number) None (λ same. other (sym same)))
+    ∙ sym (ap (λ h. cond (h || among) (Some number) (owner_at owners b)) (ne_eqb low b other))
 
-pub owned-at : (number n low b : ℕ) (owners : List (Option ℕ)) → low + n ≤ length owners → owner_at (owned_after number owners (up_from low n)) b ≡ cond (has (up_from low n) b) (Some number) (owner_at owners b)
+pub owned-at : (number n low b : ℕ) (owners : List (Option ℕ)) → low + n ≤ length owners →
+    owner_at (owned_after number owners (up_from low n)) b ≡ cond (has (up_from low n) b) (Some number) (owner_at owners b)
 owned-at number zero low b owners within = refl
 owned-at number (suc n) low b owners within =
     let long = length-set owners low (Some number) in
@@ -148,7 +155,8 @@ owned-by false number owner true e = e
 owned-by false number owner false e = e
 
 -- with the driver's number for its bits
-driver-by : (among : Bool) (number : ℕ) (owner rest all : Option ℕ) → (among ≡ true → is_some owner ≡ false) → or_owner owner (cond among (Some number) rest) ≡ all → or_owner (cond among (Some number) owner) rest ≡ all
+driver-by : (among : Bool) (number : ℕ) (owner rest all : Option ℕ) → (among ≡ true → is_some owner ≡ false) → or_owner owner (cond among (Some number) rest) ≡ all →
+    or_owner (cond among (Some number) owner) rest ≡ all
 driver-by true number None rest all free e = e
 driver-by true number (Some owner) rest all free e = let there = free refl in cc
 driver-by false number owner rest all free e = e
@@ -161,7 +169,8 @@ here-cond runs run number b = by (has run.bits b) refl
     by false e = rw e refl
 
 -- one drive more, no bit of which has a driver
-pub one-taken : (runs rest : List DrivenRun) (number width low n : ℕ) (place : SourcePlace) (owners : List (Option ℕ)) → AreTaken runs (record { bits = up_from low n; place = place } ∷ rest) number owners width
+pub one-taken : (runs rest : List DrivenRun) (number width low n : ℕ) (place : SourcePlace) (owners : List (Option ℕ)) →
+    AreTaken runs (record { bits = up_from low n; place = place } ∷ rest) number owners width
     → low + n ≤ width → first_owned owners (up_from low n) ≡ None → AreTaken runs rest (number + 1) (owned_after number owners (up_from low n)) width
 one-taken runs rest number width low n place owners t within free =
     let within' : low + n ≤ length owners = omega (arith, t.long) in
@@ -179,7 +188,8 @@ one-taken runs rest number width low n place owners t within free =
     }
 
 -- a drive with a bit that has a driver
-pub taken-twice : (runs rest : List DrivenRun) (number width low n bit : ℕ) (place : SourcePlace) (owners : List (Option ℕ)) → AreTaken runs (record { bits = up_from low n; place = place } ∷ rest) number owners width
+pub taken-twice : (runs rest : List DrivenRun) (number width low n bit : ℕ) (place : SourcePlace) (owners : List (Option ℕ)) →
+    AreTaken runs (record { bits = up_from low n; place = place } ∷ rest) number owners width
     → first_owned owners (up_from low n) ≡ Some bit → second_driver [] runs ≡ Some (record { place = place; bit = bit })
 taken-twice runs rest number width low n bit place owners t found =
     sym t.seconds ∙ ap (λ least. second_if place least (second_driver (t.taken ++ up_from low n) rest)) (sym (first-least owners t.taken t.owned n low) ∙ found)
@@ -196,7 +206,8 @@ or-none : (owner : Option ℕ) → or_owner owner None ≡ owner
 or-none None = refl
 or-none (Some owner) = refl
 
-pub all-taken : (runs : List DrivenRun) (number width : ℕ) (owners : List (Option ℕ)) → AreTaken runs [] number owners width → (second_driver [] runs ≡ None) × (owners ≡ map (driver_of_bit 0 runs) (up_from 0 width))
+pub all-taken : (runs : List DrivenRun) (number width : ℕ) (owners : List (Option ℕ)) → AreTaken runs [] number owners width →
+    (second_driver [] runs ≡ None) × (owners ≡ map (driver_of_bit 0 runs) (up_from 0 width))
 all-taken runs number width owners t = (
   sym t.seconds,
   listed-by (driver_of_bit 0 runs) owners 0 (λ b. sym (or-none (owner_at owners b)) ∙ t.drivers b ∙ ap (driver_of_bit 0 runs) (sym (zero-add b)))
@@ -248,7 +259,8 @@ new-run bit owner next owners differ e =
     ap (bit_before bit owner) e ∙ here ∙ ap (λ ps. record { low = bit; width = 1; driver = owner } ∷ ps) (sym e)
     ∙ ap (run_and_rest bit owner (next ∷ owners)) counted
 
-next-run : (same : Bool) (bit : ℕ) (owner next : Option ℕ) (owners : List (Option ℕ)) → same_driver owner next ≡ same → cut_from (bit + 1) (next ∷ owners) ≡ run_and_rest (bit + 1) next owners (leading next owners)
+next-run : (same : Bool) (bit : ℕ) (owner next : Option ℕ) (owners : List (Option ℕ)) → same_driver owner next ≡ same →
+    cut_from (bit + 1) (next ∷ owners) ≡ run_and_rest (bit + 1) next owners (leading next owners)
     → cut_from bit (owner ∷ next ∷ owners) ≡ run_and_rest bit owner (next ∷ owners) (leading owner (next ∷ owners))
 next-run true bit owner next owners h e =
     let P : Option ℕ → Type 0 = λ o. cut_from bit (o ∷ next ∷ owners) ≡ run_and_rest bit o (next ∷ owners) (leading o (next ∷ owners)) in
@@ -291,7 +303,8 @@ leading-by same driver owners bit below e =
     let begins : drop bit owners ≡ owner_at owners bit ∷ drop (bit + 1) owners = drop-cons owners bit None below ∙ ap (λ k. owner_at owners bit ∷ drop k owners) (sym (add-one bit)) in
     ap (leading driver) begins ∙ ap (λ b. cond b (suc (leading driver (drop (bit + 1) owners))) 0) e
 
-pub run-goes : (driver : Option ℕ) (owners : List (Option ℕ)) (bit : ℕ) → bit < length owners → same_driver driver (owner_at owners bit) ≡ true → bit + leading driver (drop bit owners) ≡ bit + 1 + leading driver (drop (bit + 1) owners)
+pub run-goes : (driver : Option ℕ) (owners : List (Option ℕ)) (bit : ℕ) → bit < length owners → same_driver driver (owner_at owners bit) ≡ true →
+    bit + leading driver (drop bit owners) ≡ bit + 1 + leading driver (drop (bit + 1) owners)
 run-goes driver owners bit below e =
     let more = leading driver (drop (bit + 1) owners) in
     let k : bit + suc more ≡ bit + 1 + more = omega arith in
@@ -314,7 +327,8 @@ owners-short runs width owners e = ap length e ∙ long width 0
     long (suc n) low = ap (λ k. suc k) (long n (low + 1))
 
 -- one run more
-pub one-run : (pieces new : List Piece) (piece : Piece) (owners : List (Option ℕ)) (low end : ℕ) → map piece_of pieces ++ cut_from low (drop low owners) ≡ cut_from 0 owners → new ≡ pieces ++ piece ∷ []
+pub one-run : (pieces new : List Piece) (piece : Piece) (owners : List (Option ℕ)) (low end : ℕ) → map piece_of pieces ++ cut_from low (drop low owners) ≡ cut_from 0 owners →
+    new ≡ pieces ++ piece ∷ []
     → piece_of piece ≡ record { low = low; width = end - low; driver = owner_at owners low } → low < length owners → end ≡ low + first_run (drop low owners)
     → map piece_of new ++ cut_from end (drop end owners) ≡ cut_from 0 owners
 one-run pieces new piece owners low end covered pushed same below e =
@@ -322,7 +336,8 @@ one-run pieces new piece owners low end covered pushed same below e =
     ap (λ ps. map piece_of ps ++ rest) pushed ∙ ap (λ ps. ps ++ rest) (map-append piece_of pieces (piece ∷ [])) ∙ append_assoc (map piece_of pieces) (piece_of piece ∷ []) rest
     ∙ ap (λ ps. map piece_of pieces ++ ps) (ap (λ p. p ∷ rest) same ∙ sym (run-cut owners low end below e)) ∙ covered
 
-pieces-by : (result : Result (Vec Piece Global) PortFault) (pieces : List CutPiece) → IfOk result (λ answer. map piece_of answer.items ≡ pieces) → IfErr result (λ fault. fault ≡ NoMemory) → PiecesGive (Ok pieces) result
+pieces-by : (result : Result (Vec Piece Global) PortFault) (pieces : List CutPiece) → IfOk result (λ answer. map piece_of answer.items ≡ pieces) → IfErr result (λ fault. fault ≡ NoMemory) →
+    PiecesGive (Ok pieces) result
 pieces-by (Ok answer) pieces ok err = ok
 pieces-by (Err fault) pieces ok err = let P : PortFault → Type 0 = λ f. PiecesGive (Ok pieces) (Err f) in subst P (sym err) tt
 
@@ -343,8 +358,10 @@ runs_of_drives drives = map run_of_drive (map drive_of drives)
 abbrev pub blank_drive : Drive
 blank_drive = record { low = 0; width = 0; place = record { line = 0; column = 0 } }
 
-left-here : (drives : List Drive) (place : ℕ) → place < length drives → runs_of_drives (drop place drives) ≡ run_of_drive (drive_of (get_or drives place blank_drive)) ∷ runs_of_drives (drop (place + 1) drives)
-left-here drives place below = ap runs_of_drives (drop-cons drives place blank_drive below) ∙ ap (λ k. run_of_drive (drive_of (get_or drives place blank_drive)) ∷ runs_of_drives (drop k drives)) (sym (add-one place))
+left-here : (drives : List Drive) (place : ℕ) → place < length drives → runs_of_drives (drop place drives) ≡ run_of_drive (drive_of (get_or drives place blank_drive)) ∷
+    runs_of_drives (drop (place + 1) drives)
+left-here drives place below = ap runs_of_drives (drop-cons drives place blank_drive below)
+    ∙ ap (λ k. run_of_drive (drive_of (get_or drives place blank_drive)) ∷ runs_of_drives (drop k drives)) (sym (add-one place))
 
 begins-with : (drives : List Drive) (place width : ℕ) (owners : List (Option ℕ)) → place < length drives → AreTaken (runs_of_drives drives) (runs_of_drives (drop place drives)) place owners width
     → AreTaken (runs_of_drives drives) (run_of_drive (drive_of (get_or drives place blank_drive)) ∷ runs_of_drives (drop (place + 1) drives)) place owners width

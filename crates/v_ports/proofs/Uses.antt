@@ -1,5 +1,6 @@
 -- Connections that are read one after the other, and ways along them.
-use Rattle.std.proofs.Common.{◌≡◌, ℕ, zero, suc, ◌+◌, ◌<◌, ◌≤◌, Bool, true, false, ◌||◌, ◌⊎◌, inl, inr, List, [], ◌∷◌, ◌++◌, map, replicate, length, get_or, set, drop, All, Option, Some, None, nat_eq, refl, sym, ap, ap₂, ◌∙◌, arith, add-one, zero-add}
+use Rattle.std.proofs.Common.{◌≡◌, ℕ, zero, suc, ◌+◌, ◌<◌, ◌≤◌, Bool, true, false, ◌||◌, ◌⊎◌, inl, inr, List, [], ◌∷◌, ◌++◌, map, replicate, length, get_or, set, drop, All, Option, Some, None}
+use Rattle.std.proofs.Common.{nat_eq, refl, sym, ap, ap₂, ◌∙◌, arith, add-one, zero-add}
 use Rattle.std.proofs.Math.Seq.{drop-cons}
 use Rattle.std.proofs.lemmas.Bool.{cases_eq, eq-eqb, ne_eqb}
 use Rattle.std.proofs.lemmas.List.{get_or-replicate, get_or-set_same, get_or-set_other, length-set, map-append}
@@ -71,7 +72,8 @@ one-fault : (parts rest : List PortUsed) (earlier : List ℕ) (used : PortUsed) 
     → twice_used (used.formal ∷ earlier) rest ≡ twice_used [] parts
 one-fault parts rest earlier used e free = rw free at e
 
-pub one-read : (parts rest : List PortUsed) (uses : List Use) (objects : ℕ) (used : PortUsed) → AreRead parts (used ∷ rest) uses objects → used.formal < objects → is_used (use_at uses used.formal) ≡ false
+pub one-read : (parts rest : List PortUsed) (uses : List Use) (objects : ℕ) (used : PortUsed) → AreRead parts (used ∷ rest) uses objects → used.formal < objects →
+    is_used (use_at uses used.formal) ≡ false
     → AreRead parts rest (set uses used.formal (Used used.actual)) objects
 one-read parts rest uses objects used r below free = record {
   earlier = used.formal ∷ r.earlier;
@@ -89,7 +91,8 @@ pub read-twice : (parts rest : List PortUsed) (uses : List Use) (objects : ℕ) 
     → first_fault (twice_used [] parts) ≡ Some (fault_at used.place BadConnection)
 read-twice parts rest uses objects used r there = first-twice parts rest r.earlier used r.faults (sym (r.named used.formal) ∙ there)
 
-pub all-read : (parts : List PortUsed) (uses : List Use) (objects : ℕ) → AreRead parts [] uses objects → (first_fault (twice_used [] parts) ≡ None) × ((object : ℕ) → next_of uses object ≡ actual_of parts object)
+pub all-read : (parts : List PortUsed) (uses : List Use) (objects : ℕ) → AreRead parts [] uses objects →
+    (first_fault (twice_used [] parts) ≡ None) × ((object : ℕ) → next_of uses object ≡ actual_of parts object)
 all-read parts uses objects r = (ap first_fault (sym r.faults), r.actuals)
 
 -- the way that is left leads where the whole way leads

@@ -12,7 +12,8 @@ use Rattle.v_readers.specs.declared.class.Class.{Class}
 use Rattle.v_readers.specs.declared.class.Class.TheVariants as classes
 use Rattle.v_readers.specs.Classes.{class_of, kind_of, is_fixed, same_class, token_at, token_of, name_token, number_token, IsName}
 use Rattle.v_readers.specs.ClassLaws.{same_class-true, class_of-kind_of, kind_of-class_of, name-kind, number-kind}
-use Rattle.v_readers.specs.Reading.{Why, Wrong, Deep, Reading, Reader, followed, ◌>>=◌, give, wrong, deep, place_of, next_class, by_class, pass, expect, step, down, ready, name_in, name, number_in, number, end}
+use Rattle.v_readers.specs.Reading.{Why, Wrong, Deep, Reading, Reader, followed, ◌>>=◌, give, wrong, deep, place_of, next_class, by_class, pass, expect, step, down, ready, name_in, name, number_in}
+use Rattle.v_readers.specs.Reading.{number, end}
 use Rattle.v_readers.specs.Exact.{Language, Family, SameNext, Stops, Tells, Exact, behind, both_tell, exact-bind, exact-under, exact-give}
 
 -- Languages of one token
@@ -170,7 +171,8 @@ exact-by_class {C} {A} choice {k} {L} {F} some each = record {
     next-same [] (t ∷ ts) (u ∷ us) h = ap (λ (t : SourceToken). Some (class_of t.kind)) (sym h)
     next-same (f ∷ fs) rest more h = refl
 
-    by_stop : (tokens : List SourceToken) (why : Why) (rest : List SourceToken) → Stops (λ m. choice m (next_class tokens)) k L F tokens why rest → Stops (λ m. by_class (choice m)) k L F tokens why rest
+    by_stop : (tokens : List SourceToken) (why : Why) (rest : List SourceToken) → Stops (λ m. choice m (next_class tokens)) k L F tokens why rest →
+        Stops (λ m. by_class (choice m)) k L F tokens why rest
     by_stop tokens Wrong rest p = record {
       front = p.front;
       whole = p.whole;
@@ -229,7 +231,8 @@ tells-down k low class fixed (token ∷ rest) e = at (nat_lt low k) refl
     spelled : token ∷ [] ≡ token_of class (place_of token) ∷ []
     spelled = ap (λ t. t ∷ []) (is-fixed-token class fixed token (some_class (class_of token.kind) class e))
 
-    at : (b : Bool) → nat_lt low k ≡ b → Tells (λ m. down low m) k (IsToken class) (λ place. low < k) (token ∷ rest) (followed (if b then give (tt {0}) (token ∷ rest) else deep (token ∷ rest)) (λ level. step))
+    at : (b : Bool) → nat_lt low k ≡ b → Tells (λ m. down low m) k (IsToken class) (λ place. low < k) (token ∷ rest)
+        (followed (if b then give (tt {0}) (token ∷ rest) else deep (token ∷ rest)) (λ level. step))
     at true h = record {
       front = token ∷ [];
       whole = refl;

@@ -13,7 +13,8 @@ use Rattle.v_tree.specs.declared.token.Mark.TheVariants as marks
 use Rattle.v_readers.specs.declared.class.Class.{Class}
 use Rattle.v_readers.specs.declared.class.Class.TheVariants as classes
 use Rattle.v_readers.specs.contracts.class.Class.{the_type}
-use Rattle.v_readers.specs.Classes.{same_class, grammar_words, ignored_tasks, finish_tasks, class_among, grammar_class, is_refused_word, other_class, class_or, word_class, system_class, class_of_mark, class_of, kind_of, is_fixed}
+use Rattle.v_readers.specs.Classes.{same_class, grammar_words, ignored_tasks, finish_tasks, class_among, grammar_class, is_refused_word, other_class, class_or, word_class, system_class}
+use Rattle.v_readers.specs.Classes.{class_of_mark, class_of, kind_of, is_fixed}
 use Rattle.v_readers.specs.Reading.{name_in, number_in}
 
 -- two classes that are the same are equal, and the other way round
@@ -135,7 +136,76 @@ among-word (word ∷ words) all bytes class e = at (bytes_eq bytes word.0) refl 
     at false h e later = later e
 
 grammar_words-agree : kinds_agree grammar_words
-grammar_words-agree = (refl, (refl, (refl, (refl, (refl, (refl, (refl, (refl, (refl, (refl, (refl, (refl, (refl, (refl, (refl, (refl, (refl, (refl, (refl, (refl, (refl, (refl, (refl, (refl, (refl, (refl, (refl, (refl, (refl, (refl, (refl, (refl, (refl, (refl, (refl, (refl, (refl, tt)))))))))))))))))))))))))))))))))))))
+grammar_words-agree = (
+  refl,
+  (
+    refl,
+    (
+      refl,
+      (
+        refl,
+        (
+          refl,
+          (
+            refl,
+            (
+              refl,
+              (
+                refl,
+                (
+                  refl,
+                  (
+                    refl,
+                    (
+                      refl,
+                      (
+                        refl,
+                        (
+                          refl,
+                          (
+                            refl,
+                            (
+                              refl,
+                              (
+                                refl,
+                                (
+                                  refl,
+                                  (
+                                    refl,
+                                    (
+                                      refl,
+                                      (
+                                        refl,
+                                        (
+                                          refl,
+                                          (
+                                            refl,
+                                            (
+                                              refl,
+                                              (refl, (refl, (refl, (refl, (refl, (refl, (refl, (refl, (refl, (refl, (refl, (refl, (refl, (refl, tt)))))))))))))),
+                                            ),
+                                          ),
+                                        ),
+                                      ),
+                                    ),
+                                  ),
+                                ),
+                              ),
+                            ),
+                          ),
+                        ),
+                      ),
+                    ),
+                  ),
+                ),
+              ),
+            ),
+          ),
+        ),
+      ),
+    ),
+  ),
+)
 
 -- a mark is the only kind of its class
 kind_of-class_of_mark : (mark : Mark) → kinds.Mark mark ≡ kind_of (class_of_mark mark)
@@ -235,7 +305,8 @@ kind_of-word : (bytes : List ℕ) → is_fixed (word_class bytes) ≡ true → k
 unfolding word_class grammar_class
 kind_of-word bytes h = at (class_among grammar_words bytes) refl h
   where
-    at : (o : Option Class) → class_among grammar_words bytes ≡ o → is_fixed (class_or o (other_class (is_refused_word bytes))) ≡ true → kinds.Word bytes ≡ kind_of (class_or o (other_class (is_refused_word bytes)))
+    at : (o : Option Class) → class_among grammar_words bytes ≡ o → is_fixed (class_or o (other_class (is_refused_word bytes))) ≡ true →
+        kinds.Word bytes ≡ kind_of (class_or o (other_class (is_refused_word bytes)))
     at None e h = absurd (let p : false ≡ true = sym (not_fixed-other (is_refused_word bytes)) ∙ h in cc)
     at (Some class) e h = among-word grammar_words grammar_words-agree bytes class e
 

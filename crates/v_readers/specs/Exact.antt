@@ -92,7 +92,8 @@ module _ {A B : Type 0} (P : Family A) (Q : ℕ → A → Reader B) (k : ℕ) (L
   }
   second_tells tokens x rest p some (Err stop) q = second_stops stop.why stop.rest q
     where
-      begun : {front : List SourceToken} → (front ≡ []) ⊎ ((y : B) × (ts : List SourceToken) × N y (p.front ++ (front ++ ts)) × G y) → (y : B) × (ts : List SourceToken) × N y ((p.front ++ front) ++ ts) × G y
+      begun : {front : List SourceToken} → (front ≡ []) ⊎ ((y : B) × (ts : List SourceToken) × N y (p.front ++ (front ++ ts)) × G y) →
+          (y : B) × (ts : List SourceToken) × N y ((p.front ++ front) ++ ts) × G y
       begun {front} (inl e) = (some.0, some.1, subst (λ f. N some.0 (f ++ some.1)) (sym (ap (λ f. p.front ++ f) e ∙ append-nil p.front)) some.2, some.3)
       begun {front} (inr b) = (b.0, b.1, subst (N b.0) (sym (append_assoc p.front front b.1)) b.2, b.3)
 
@@ -154,7 +155,8 @@ module _ {A B : Type 0} (P : Family A) (Q : ℕ → A → Reader B) (k : ℕ) (L
           again = λ more. ap (λ e. followed e (Q k)) (p.again more);
         }
       where
-        begins : {front : List SourceToken} → (front ≡ []) ⊎ ((x : A) × (ts : List SourceToken) × L x (front ++ ts) × F x) → (front ≡ []) ⊎ ((y : B) × (ts : List SourceToken) × N y (front ++ ts) × G y)
+        begins : {front : List SourceToken} → (front ≡ []) ⊎ ((x : A) × (ts : List SourceToken) × L x (front ++ ts) × F x) →
+            (front ≡ []) ⊎ ((y : B) × (ts : List SourceToken) × N y (front ++ ts) × G y)
         begins {front} (inl e) = inl e
         begins {front} (inr b) =
             let more = (second b.0 (front ++ b.1) b.2).some (c, b.3) in
@@ -205,7 +207,18 @@ exact-weaken {C} {A} {P} {k} {L} {M} {F} so exact = record {
 
     stopped : (tokens : List SourceToken) (why : Why) (rest : List SourceToken) → Stops P k L F tokens why rest → Stops P k M F tokens why rest
     stopped tokens Wrong rest p = record { front = p.front; whole = p.whole; value = p.value; tail = p.tail; spelled = so p.value (p.front ++ p.tail) p.spelled; fits = p.fits; again = p.again }
-    stopped tokens Deep rest p = record { front = p.front; token = p.token; after = p.after; next = p.next; whole = p.whole; value = p.value; tail = p.tail; spelled = so p.value (p.front ++ p.token ∷ p.tail) p.spelled; before = weaker p.before; again = p.again }
+    stopped tokens Deep rest p = record {
+      front = p.front;
+      token = p.token;
+      after = p.after;
+      next = p.next;
+      whole = p.whole;
+      value = p.value;
+      tail = p.tail;
+      spelled = so p.value (p.front ++ p.token ∷ p.tail) p.spelled;
+      before = weaker p.before;
+      again = p.again;
+    }
 
     told : (tokens : List SourceToken) (r : Reading A) → Tells P k L F tokens r → Tells P k M F tokens r
     told tokens (Ok x) p = record { front = p.front; whole = p.whole; spelled = so x.0 p.front p.spelled; fits = p.fits; again = p.again }

@@ -13,7 +13,8 @@ use Rattle.v_readers.specs.declared.stop.Stop.{Stop}
 use Rattle.v_readers.specs.declared.stop.Stop.TheVariants as stops
 use Rattle.v_readers.specs.Classes.{class_of, same_class, token_of, name_token, number_token, IsName}
 use Rattle.v_readers.specs.ClassLaws.{same_class-same, class_of-kind_of}
-use Rattle.v_readers.specs.Reading.{Wrong, Deep, Reader, Reading, Stopped, followed, ◌>>=◌, give, wrong, deep, turned, place_of, next_class, is_class, pass, expect, step, ready, down, name, number, repeat}
+use Rattle.v_readers.specs.Reading.{Wrong, Deep, Reader, Reading, Stopped, followed, ◌>>=◌, give, wrong, deep, turned, place_of, next_class, is_class, pass, expect, step, ready, down, name, number}
+use Rattle.v_readers.specs.Reading.{repeat}
 use Rattle.v_readers.specs.Exact.{Language}
 use Rattle.v_readers.specs.Separated.{SpellsBehind, SpellsList, element_turn, separated}
 use Rattle.v_readers.specs.SeparatedLaws.{EachFits}
@@ -49,7 +50,8 @@ down-reads low levels token rest h = ap (λ r. followed r (λ level. step)) (rea
 -- Loops
 
 -- a turn of repeat that gives another state
-pub turn-is : {S : Type 0} (turn : S → Reader (Option S)) (s t : S) (tokens rest : List SourceToken) → turn s tokens ≡ Ok (Some t, rest) → length rest < length tokens → repeat turn s tokens ≡ repeat turn t rest
+pub turn-is : {S : Type 0} (turn : S → Reader (Option S)) (s t : S) (tokens rest : List SourceToken) → turn s tokens ≡ Ok (Some t, rest) → length rest < length tokens →
+    repeat turn s tokens ≡ repeat turn t rest
 turn-is turn s t tokens rest e h = repeat-turn turn s tokens ∙ ap (λ w. followed w (turned (repeat turn) s tokens)) e
     ∙ ap (λ b. if b then repeat turn t rest else wrong rest) (lt-ltb (length rest) (length tokens) h)
 
@@ -96,7 +98,8 @@ module _ {A : Type 0} (P : Reader A) (L : Language A) (F : A → Type 0) (Ends :
       ∙ behind-reads xs (done ++ x ∷ []) h.2 rest h.4 fits.1 e other
       ∙ ap (λ w. Ok (w, rest)) (append_assoc done (x ∷ []) xs)
 
-  pub separated-reads : (xs : List A) (ts rest : List SourceToken) → SpellsList L m xs ts → EachFits F xs → Ends (next_class rest) → is_class m (next_class rest) ≡ false → separated m P (ts ++ rest) ≡ Ok (xs, rest)
+  pub separated-reads : (xs : List A) (ts rest : List SourceToken) → SpellsList L m xs ts → EachFits F xs → Ends (next_class rest) → is_class m (next_class rest) ≡ false →
+      separated m P (ts ++ rest) ≡ Ok (xs, rest)
   unfolding separated
   separated-reads [] ts rest h fits e other = absurd h
   separated-reads (x ∷ xs) ts rest h fits e other =

@@ -1,5 +1,6 @@
 -- Turns of a reader, until it gives None.
-use Rattle.std.proofs.Common.{◌≡◌, ℕ, zero, suc, ◌<◌, Bool, true, false, List, [], ◌∷◌, ◌++◌, length, Option, Some, None, Ok, Err, refl, sym, ◌∙◌, ap, subst, arith, append_assoc, length-append, ltb-true, lt-ltb, ◌⊎◌, inl, inr}
+use Rattle.std.proofs.Common.{◌≡◌, ℕ, zero, suc, ◌<◌, Bool, true, false, List, [], ◌∷◌, ◌++◌, length, Option, Some, None, Ok, Err, refl, sym, ◌∙◌, ap, subst, arith, append_assoc, length-append}
+use Rattle.std.proofs.Common.{ltb-true, lt-ltb, ◌⊎◌, inl, inr}
 use Rattle.std.specs.Prelude.{nat_lt, if◌then◌else◌}
 use Rattle.v_tree.specs.Tokens.{SourceToken}
 use Rattle.v_readers.specs.Reading.{Why, Wrong, Deep, Reading, Reader, followed, wrong, deep, turned, turns, repeat}
@@ -83,7 +84,8 @@ module _ {S : Type 0} (turn : ℕ → S → Reader (Option S)) (k : ℕ) (N : La
   }
   later s t front tokens rest p (Err stop) q = stops stop.why stop.rest q
     where
-      begun : {more : List SourceToken} → (more ≡ []) ⊎ ((y : S) × (ts : List SourceToken) × N y ((front ++ p.front) ++ (more ++ ts)) × G y) → (y : S) × (ts : List SourceToken) × N y (front ++ ((p.front ++ more) ++ ts)) × G y
+      begun : {more : List SourceToken} → (more ≡ []) ⊎ ((y : S) × (ts : List SourceToken) × N y ((front ++ p.front) ++ (more ++ ts)) × G y) →
+          (y : S) × (ts : List SourceToken) × N y (front ++ ((p.front ++ more) ++ ts)) × G y
       begun {more} (inl e) = (t, [], subst (λ f. N t (front ++ f)) (sym (append-nil (p.front ++ more) ∙ ap (λ f. p.front ++ f) e ∙ append-nil p.front)) p.spelled.0, p.fits)
       begun {more} (inr b) = (b.0, b.1, subst (N b.0) (append_assoc front p.front (more ++ b.1) ∙ ap (λ f. front ++ f) (sym (append_assoc p.front more b.1))) b.2, b.3)
 
@@ -149,7 +151,8 @@ module _ {S : Type 0} (turn : ℕ → S → Reader (Option S)) (k : ℕ) (N : La
     again = λ more. off k s (p.front ++ p.token ∷ more) (deep (p.token ∷ more)) (p.again more);
   }
     where
-      begins : {more : List SourceToken} → (more ≡ []) ⊎ ((o : Option S) × (ts : List SourceToken) × Turn N s front o (more ++ ts) × TurnFits G o) → (more ≡ []) ⊎ ((x : S) × (ts : List SourceToken) × N x (front ++ (more ++ ts)) × G x)
+      begins : {more : List SourceToken} → (more ≡ []) ⊎ ((o : Option S) × (ts : List SourceToken) × Turn N s front o (more ++ ts) × TurnFits G o) →
+          (more ≡ []) ⊎ ((x : S) × (ts : List SourceToken) × N x (front ++ (more ++ ts)) × G x)
       begins (inl e) = inl e
       begins {more} (inr b) = by b.0 b.1 b.2 b.3
         where
@@ -162,7 +165,8 @@ module _ {S : Type 0} (turn : ℕ → S → Reader (Option S)) (k : ℕ) (N : La
       done (Some t) e = (t, e.0)
 
   module _ (C : Type 0) (each : (s : S) (front : List SourceToken) → N s front → Exact (C × G s) (λ m. turn m s) k (Turn N s front) (TurnFits G)) where
-    repeat_tells : (n : ℕ) (c : C) (s : S) (front : List SourceToken) → N s front → G s → (tokens : List SourceToken) → length tokens < n → Tells (turning s) k (behind front N) G tokens (repeat (turn k) s tokens)
+    repeat_tells : (n : ℕ) (c : C) (s : S) (front : List SourceToken) → N s front → G s → (tokens : List SourceToken) → length tokens < n →
+        Tells (turning s) k (behind front N) G tokens (repeat (turn k) s tokens)
     unfolding turning
     repeat_tells zero c s front here fits tokens h = absurd (let p : length tokens < 0 = h in omega arith)
     repeat_tells (suc n) c s front here fits tokens h =

@@ -6,8 +6,10 @@ use Rattle.v_tree.specs.declared.token.TokenKind.{TokenKind}
 use Rattle.v_scan.specs.Bytes.{is_blank, is_digit, goes_in_name, goes_in_line, goes_in_directive, Stops}
 use Rattle.v_scan.specs.Numbers.{value_of, Written}
 use Rattle.v_scan.specs.Words.{Word, Named, System, Quoted, Marked, Numeral, word_bytes, IsWord, IsLongest, is_inside, number_kind, kind_of}
-use Rattle.v_scan.specs.Texts.{Piece, Blank, LineComment, BlockComment, Timescale, Token, piece_bytes, IsPiece, has_no_close, begins_comment, BeginsRefused, BeginsOpenString, BeginsUnclosed, BeginsNothing}
-use Rattle.v_scan.specs.Reading.{front_while, back_while, starts, up_to_quote, after_quote, up_to_close, after_close, word_at, Front, Stands, Refused, Open, Nothing, block_of, comment_at, goes_no_further, directive_behind, directive_at, token_if, word_front, front_at, quoted_of, sort_of, Sort, AsString, AsNumber, AsMark, word_by}
+use Rattle.v_scan.specs.Texts.{Piece, Blank, LineComment, BlockComment, Timescale, Token, piece_bytes, IsPiece, has_no_close, begins_comment, BeginsRefused, BeginsOpenString, BeginsUnclosed}
+use Rattle.v_scan.specs.Texts.{BeginsNothing}
+use Rattle.v_scan.specs.Reading.{front_while, back_while, starts, up_to_quote, after_quote, up_to_close, after_close, word_at, Front, Stands, Refused, Open, Nothing, block_of, comment_at}
+use Rattle.v_scan.specs.Reading.{goes_no_further, directive_behind, directive_at, token_if, word_front, front_at, quoted_of, sort_of, Sort, AsString, AsNumber, AsMark, word_by}
 use Rattle.v_scan.proofs.Spans.{and-true, or-true, true-false, heads, tails, none_some, starts-rest, while-whole, while-each, while-stops, while-exact}
 use Rattle.v_scan.proofs.QuoteLaws.{quote-read, quote, close-read, close-none, close}
 use Rattle.v_scan.proofs.WordLaws.{first-byte, first-of, word-stands, word-longest, word-only, StandsIn}
@@ -222,7 +224,8 @@ refused-is text (Numeral number) back w is longest e =
 word-front : (leading : Bool) (b : ℕ) (rest : List ℕ) → begins_comment (b ∷ rest) ≡ false → FrontIs leading (b ∷ rest) (word_front (b == 34) (word_at b rest))
 word-front leading b rest free = at (word_at b rest) refl (word-stands b rest)
   where
-    kind : (word : Word) (back : List ℕ) → b ∷ rest ≡ word_bytes word ++ back → IsWord word → IsLongest word back → (o : Option TokenKind) → kind_of word ≡ o → FrontIs leading (b ∷ rest) (token_if word o)
+    kind : (word : Word) (back : List ℕ) → b ∷ rest ≡ word_bytes word ++ back → IsWord word → IsLongest word back → (o : Option TokenKind) → kind_of word ≡ o →
+        FrontIs leading (b ∷ rest) (token_if word o)
     kind word back w is longest (Some k) e = (back, w, (is, longest, (ap begins_comment (sym w) ∙ free), e))
     kind word back w is longest None e = refused-is (b ∷ rest) word back w is longest e
 

@@ -1,13 +1,16 @@
 -- The number at the front of a text is the longest, and has one spelling.
-use Rattle.std.proofs.Common.{◌≡◌, ℕ, suc, ◌+◌, ◌≤◌, Bool, true, false, ◌&&◌, ◌||◌, List, [], ◌∷◌, ◌++◌, length, Option, Some, None, refl, sym, ◌∙◌, ap, subst, arith, append_assoc, length-append, inl, inr, ◌⊎◌, eqb-true, eq-eqb}
+use Rattle.std.proofs.Common.{◌≡◌, ℕ, suc, ◌+◌, ◌≤◌, Bool, true, false, ◌&&◌, ◌||◌, List, [], ◌∷◌, ◌++◌, length, Option, Some, None, refl, sym, ◌∙◌, ap, subst, arith, append_assoc, length-append}
+use Rattle.std.proofs.Common.{inl, inr, ◌⊎◌, eqb-true, eq-eqb}
 use Rattle.std.proofs.lemmas.Bool.Decides.{nat_tests}
 use Rattle.std.proofs.lemmas.List.{append-nil}
 use Rattle.std.specs.Prelude.{◌==◌, if◌then◌else◌}
 use Rattle.v_scan.specs.declared.bytes.Base.{Base}
 use Rattle.v_scan.specs.declared.bytes.Base.TheVariants.{Binary, Octal, Decimal, Hexadecimal}
 use Rattle.v_scan.specs.Bytes.{is_blank, is_digit, goes_in_decimal, each, begins_and_goes_on, Stops}
-use Rattle.v_scan.specs.Numbers.{Number, Plain_decimal, Unfinished, Based, base_of, is_digit_of, is_digits, goes_in_digits, stands_alone, is_empty, is_sign, is_unknown_digit, number_bytes, IsSize, IsNumber}
-use Rattle.v_scan.specs.Reading.{front_while, back_while, is_sign_byte, sign_at, behind_sign, digits_at, behind_digits, Tail, NoDigits, Digits, tail_with, tail_behind, tail_from, tail_at, Numbered, number_with, number_behind, number_after, number_at}
+use Rattle.v_scan.specs.Numbers.{Number, Plain_decimal, Unfinished, Based, base_of, is_digit_of, is_digits, goes_in_digits, stands_alone, is_empty, is_sign, is_unknown_digit, number_bytes, IsSize}
+use Rattle.v_scan.specs.Numbers.{IsNumber}
+use Rattle.v_scan.specs.Reading.{front_while, back_while, is_sign_byte, sign_at, behind_sign, digits_at, behind_digits, Tail, NoDigits, Digits, tail_with, tail_behind, tail_from, tail_at, Numbered}
+use Rattle.v_scan.specs.Reading.{number_with, number_behind, number_after, number_at}
 use Rattle.v_scan.proofs.Spans.{and-true, or-true, true-false, heads, tails, no_cons, while-whole, while-each, while-longest, while-exact, while-behind, while-all, while-rest}
 
 -- Bytes
@@ -52,7 +55,8 @@ module _ (base : Base) where
   digits-whole [] = refl
   digits-whole (b ∷ bs) = at (is_digit_of base b) (stands_alone base b)
     where
-      at : (d s : Bool) → b ∷ bs ≡ (if d then b ∷ front_while (goes_in_digits base) bs else (if s then b ∷ [] else [])) ++ (if d then back_while (goes_in_digits base) bs else (if s then bs else b ∷ bs))
+      at : (d s : Bool) → b ∷ bs ≡ (if d then b ∷ front_while (goes_in_digits base) bs else (if s then b ∷ [] else []))
+          ++ (if d then back_while (goes_in_digits base) bs else (if s then bs else b ∷ bs))
       at true s = ap (λ w. b ∷ w) (while-whole (goes_in_digits base) bs)
       at false true = refl
       at false false = refl
@@ -78,7 +82,8 @@ module _ (base : Base) where
   pub digits-longest : (text v more : List ℕ) → is_digits base v ≡ true → v ++ more ≡ text → length v ≤ length (digits_at base text)
   digits-longest text [] more h e = omega arith
   digits-longest [] (c ∷ v) more h e = no_cons c (v ++ more) (sym e)
-  digits-longest (b ∷ bs) (c ∷ v) more h e = subst (λ d. length (d ∷ v) ≤ length (digits_at base (b ∷ bs))) (sym same) (by (or-true (is_digit_of base c && each (goes_in_digits base) v) (stands_alone base c && is_empty v) h))
+  digits-longest (b ∷ bs) (c ∷ v) more h e = subst (λ d. length (d ∷ v) ≤ length (digits_at base (b ∷ bs))) (sym same)
+      (by (or-true (is_digit_of base c && each (goes_in_digits base) v) (stands_alone base c && is_empty v) h))
     where
       same : c ≡ b
       same = heads c b (v ++ more) bs e
@@ -185,7 +190,8 @@ tail-with tail sign letter base space [] back s l b d w = tt
 tail-with tail sign letter base space (c ∷ digits) back s l b (inl e) w = no_cons c digits (sym e)
 tail-with tail sign letter base space (c ∷ digits) back s l b (inr h) w = record { signed = s; based = l; blank = b; fine = h; whole = w }
 
-tail-behind : (tail sign : List ℕ) (letter : ℕ) (o : Option Base) (after : List ℕ) → base_of letter ≡ o → is_sign sign ≡ true → tail ≡ sign ++ letter ∷ after → TailIs tail (tail_behind sign letter o after)
+tail-behind : (tail sign : List ℕ) (letter : ℕ) (o : Option Base) (after : List ℕ) → base_of letter ≡ o → is_sign sign ≡ true → tail ≡ sign ++ letter ∷ after →
+    TailIs tail (tail_behind sign letter o after)
 tail-behind tail sign letter None after e s w = tt
 tail-behind tail sign letter (Some base) after e s w =
     let behind = back_while is_blank after in
@@ -344,11 +350,13 @@ number-longest text (Based size gap sign letter base space digits) more h e =
     let read : number_at text ≡ number_with size gap tail (tail_at tail) = ap number_at (sym e ∙ sym (based-whole size gap sign letter space digits more)) ∙ number-sized size gap tail h.0 in
     let behind = tail-read sign letter base space digits more h.1 h.2 h.3 h.4 in
     subst (λ n. length (size ++ (gap ++ 39 ∷ (sign ++ letter ∷ (space ++ digits)))) ≤ length (number_bytes n.0)) (sym (read ∙ ap (number_with size gap tail) behind))
-    (digits-length size gap tail sign letter base space digits more (digits_at base (digits ++ more)) (behind_digits base (digits ++ more)) h.4 (digits-longest base (digits ++ more) digits more h.4 refl))
+    (digits-length size gap tail sign letter base space digits more (digits_at base (digits ++ more)) (behind_digits base (digits ++ more)) h.4
+    (digits-longest base (digits ++ more) digits more h.4 refl))
 
 -- One spelling
 
-tail-with-some : (sign : List ℕ) (letter : ℕ) (base : Base) (space digits back : List ℕ) → is_digits base digits ≡ true → tail_with sign letter base space digits back ≡ Digits sign letter base space digits back
+tail-with-some : (sign : List ℕ) (letter : ℕ) (base : Base) (space digits back : List ℕ) → is_digits base digits ≡ true →
+    tail_with sign letter base space digits back ≡ Digits sign letter base space digits back
 tail-with-some sign letter base space [] back h = absurd (let q : false ≡ true = h in cc)
 tail-with-some sign letter base space (c ∷ digits) back h = refl
 

@@ -5,14 +5,16 @@ use Rattle.std.specs.Prelude.{◌==◌, if◌then◌else◌}
 use Rattle.v_scan.specs.declared.bytes.Base.{Base}
 use Rattle.v_scan.specs.Bytes.{is_blank, goes_in_decimal}
 use Rattle.v_scan.specs.Numbers.{Plain_decimal, base_of, is_empty, is_digits, form_of, width_of, value_in, written_as, Written, plain_value}
-use Rattle.v_scan.specs.Reading.{front_while, back_while, sign_at, behind_sign, digits_at, behind_digits, Digits, NoDigits, tail_with, tail_behind, tail_from, tail_at, number_with, number_behind, number_after, number_at, IsTail, TellsNumber}
+use Rattle.v_scan.specs.Reading.{front_while, back_while, sign_at, behind_sign, digits_at, behind_digits, Digits, NoDigits, tail_with, tail_behind, tail_from, tail_at, number_with, number_behind}
+use Rattle.v_scan.specs.Reading.{number_after, number_at, IsTail, TellsNumber}
 use Rattle.v_scan.specs.Classes.{IsRest}
 use Rattle.v_scan.proofs.Spans.{cancel_back}
 use Rattle.v_scan.proofs.NumberLaws.{digits-whole, TailIs, tail-found}
 
 -- Numbers
 
-read-behind : (text size after : List ℕ) → size ≡ front_while goes_in_decimal text → after ≡ back_while goes_in_decimal text → number_at text ≡ number_behind size after (front_while is_blank after) (back_while is_blank after)
+read-behind : (text size after : List ℕ) → size ≡ front_while goes_in_decimal text → after ≡ back_while goes_in_decimal text →
+    number_at text ≡ number_behind size after (front_while is_blank after) (back_while is_blank after)
 unfolding number_at
 read-behind text size after s a = ap (λ w. number_after w (back_while goes_in_decimal text)) (sym s) ∙ ap (number_after size) (sym a)
 
@@ -57,7 +59,8 @@ no-letter tail after a e = ap (tail_from (sign_at tail)) (sym a ∙ e)
 pub no-base : (tail after : List ℕ) (letter : ℕ) (rest : List ℕ) → after ≡ behind_sign tail → after ≡ letter ∷ rest → base_of letter ≡ None → tail_at tail ≡ NoDigits
 no-base tail after letter rest a e n = ap (tail_from (sign_at tail)) (sym a ∙ e) ∙ ap (λ o. tail_behind (sign_at tail) letter o rest) n
 
-with-base : (tail after : List ℕ) (letter : ℕ) (base : Base) (rest text back digits : List ℕ) → after ≡ behind_sign tail → after ≡ letter ∷ rest → base_of letter ≡ Some base → text ≡ back_while is_blank rest
+with-base : (tail after : List ℕ) (letter : ℕ) (base : Base) (rest text back digits : List ℕ) → after ≡ behind_sign tail → after ≡ letter ∷ rest → base_of letter ≡ Some base →
+    text ≡ back_while is_blank rest
     → back ≡ behind_digits base text → text ≡ digits ++ back → tail_at tail ≡ tail_with (sign_at tail) letter base (front_while is_blank rest) digits back
 with-base tail after letter base rest text back digits a e b t k w =
     let digits_is : digits ≡ digits_at base text = cancel_back digits (digits_at base text) back (sym w ∙ digits-whole base text ∙ ap (λ r. digits_at base text ++ r) (sym k)) in
@@ -66,7 +69,8 @@ with-base tail after letter base rest text back digits a e b t k w =
     ∙ ap (λ x. tail_with (sign_at tail) letter base (front_while is_blank rest) x (behind_digits base text)) (sym digits_is)
     ∙ ap (tail_with (sign_at tail) letter base (front_while is_blank rest) digits) (sym k)
 
-pub no-digits : (tail after : List ℕ) (letter : ℕ) (base : Base) (rest text back digits : List ℕ) → after ≡ behind_sign tail → after ≡ letter ∷ rest → base_of letter ≡ Some base → text ≡ back_while is_blank rest
+pub no-digits : (tail after : List ℕ) (letter : ℕ) (base : Base) (rest text back digits : List ℕ) → after ≡ behind_sign tail → after ≡ letter ∷ rest → base_of letter ≡ Some base →
+    text ≡ back_while is_blank rest
     → back ≡ behind_digits base text → text ≡ digits ++ back → digits ≡ [] → tail_at tail ≡ NoDigits
 no-digits tail after letter base rest text back digits a e b t k w n =
     with-base tail after letter base rest text back digits a e b t k w ∙ ap (λ d. tail_with (sign_at tail) letter base (front_while is_blank rest) d back) n
@@ -75,7 +79,8 @@ some-digits : (sign : List ℕ) (letter : ℕ) (base : Base) (space digits back 
 some-digits sign letter base space [] back h = absurd (h refl)
 some-digits sign letter base space (b ∷ digits) back h = refl
 
-pub is-tail : (tail after : List ℕ) (signed : Bool) (letter : ℕ) (base : Base) (rest text back digits : List ℕ) → signed ≡ not (is_empty (sign_at tail)) → after ≡ behind_sign tail → after ≡ letter ∷ rest
+pub is-tail : (tail after : List ℕ) (signed : Bool) (letter : ℕ) (base : Base) (rest text back digits : List ℕ) → signed ≡ not (is_empty (sign_at tail)) → after ≡ behind_sign tail →
+    after ≡ letter ∷ rest
     → base_of letter ≡ Some base → text ≡ back_while is_blank rest → back ≡ behind_digits base text → text ≡ digits ++ back → (digits ≡ [] → ⊥) → IsTail tail signed base digits back
 is-tail tail after signed letter base rest text back digits s a e b t k w n =
     record {

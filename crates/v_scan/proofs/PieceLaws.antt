@@ -1,5 +1,6 @@
 -- What the code reads of a piece is the piece that stands there.
-use Rattle.std.proofs.Common.{◌≡◌, ℕ, ◌<◌, ◌≤◌, Bool, true, false, ◌||◌, List, [], ◌∷◌, ◌++◌, length, drop, Some, None, refl, sym, ◌∙◌, ap, subst, arith, append_assoc, length-append, inl, inr, ◌⊎◌, eqb-true, eq-eqb}
+use Rattle.std.proofs.Common.{◌≡◌, ℕ, ◌<◌, ◌≤◌, Bool, true, false, ◌||◌, List, [], ◌∷◌, ◌++◌, length, drop, Some, None, refl, sym, ◌∙◌, ap, subst, arith, append_assoc, length-append, inl, inr, ◌⊎◌}
+use Rattle.std.proofs.Common.{eqb-true, eq-eqb}
 use Rattle.std.proofs.Math.Seq.{drop-append_seam}
 use Rattle.std.specs.Prelude.{◌==◌, codes, if◌then◌else◌}
 use Rattle.vf_base.specs.declared.ids.Place.{Place}
@@ -13,7 +14,9 @@ use Rattle.v_scan.specs.Bytes.{is_blank, is_letter, is_digit, goes_in_name, goes
 use Rattle.v_scan.specs.Numbers.{Written, value_of}
 use Rattle.v_scan.specs.Words.{Named, System, Quoted, Marked, Numeral, word_bytes, mark_bytes, number_kind, is_inside}
 use Rattle.v_scan.specs.Texts.{Blank, LineComment, BlockComment, Timescale, Token, has_no_close, begins_comment, BeginsUnclosed}
-use Rattle.v_scan.specs.Reading.{front_while, back_while, up_to_quote, after_quote, up_to_close, after_close, marks, first_mark, number_at, Sort, AsName, AsSystem, AsString, AsNumber, AsMark, sort_of, system_of, quoted_of, marked_of, word_by, word_at, Front, Stands, Nothing, comment_at, word_front, goes_no_further, directive_at, front_at, IsFront, ReadsWord, NoWord, StopsHere}
+use Rattle.v_scan.specs.Reading.{front_while, back_while, up_to_quote, after_quote, up_to_close, after_close, marks, first_mark, number_at, Sort, AsName, AsSystem, AsString, AsNumber, AsMark}
+use Rattle.v_scan.specs.Reading.{sort_of, system_of, quoted_of, marked_of, word_by, word_at, Front, Stands, Nothing, comment_at, word_front, goes_no_further, directive_at, front_at, IsFront}
+use Rattle.v_scan.specs.Reading.{ReadsWord, NoWord, StopsHere}
 use Rattle.v_scan.proofs.Spans.{or-true, some_same, none_some, while-whole, while-each, while-stops}
 use Rattle.v_scan.proofs.MarkLaws.{mark-found}
 use Rattle.v_scan.proofs.QuoteLaws.{quote, close}
@@ -65,7 +68,8 @@ dollar-name : (b : ℕ) (rest text : List ℕ) → text ≡ b ∷ rest → b ≡
     → (front_while goes_in_name text ≡ 36 ∷ front_while goes_in_name rest) × (back_while goes_in_name text ≡ back_while goes_in_name rest)
 dollar-name b rest text t e = (ap (front_while goes_in_name) (t ∙ ap (λ d. d ∷ rest) e), ap (back_while goes_in_name) (t ∙ ap (λ d. d ∷ rest) e))
 
-pub reads-system : (b : ℕ) (rest text bytes back name : List ℕ) → text ≡ b ∷ rest → b ≡ 36 → bytes ≡ front_while goes_in_name text → back ≡ back_while goes_in_name text → name ≡ bytes → 2 ≤ length bytes
+pub reads-system : (b : ℕ) (rest text bytes back name : List ℕ) → text ≡ b ∷ rest → b ≡ 36 → bytes ≡ front_while goes_in_name text → back ≡ back_while goes_in_name text → name ≡ bytes →
+    2 ≤ length bytes
     → ReadsWord b rest (kinds.System name) back
 reads-system b rest text bytes back name t e f k n long =
     let parts = dollar-name b rest text t e in
@@ -118,7 +122,8 @@ mark-word b rest s = by-sort AsMark b rest s
 pub mark-fits : (text : List ℕ) (b : ℕ) (rest : List ℕ) (m : Mark) → text ≡ b ∷ rest → first_mark marks (b ∷ rest) ≡ Some m → length (mark_bytes m) ≤ length text
 mark-fits text b rest m t e = let f = mark-found (b ∷ rest) m e in omega (arith, ap length t, ap length f.1, length-append (mark_bytes m) f.0)
 
-pub reads-mark : (text : List ℕ) (b : ℕ) (rest back : List ℕ) (m : Mark) (n : ℕ) → text ≡ b ∷ rest → sort_of b ≡ AsMark → first_mark marks (b ∷ rest) ≡ Some m → n ≡ length (mark_bytes m) → back ≡ drop n text
+pub reads-mark : (text : List ℕ) (b : ℕ) (rest back : List ℕ) (m : Mark) (n : ℕ) → text ≡ b ∷ rest → sort_of b ≡ AsMark → first_mark marks (b ∷ rest) ≡ Some m → n ≡ length (mark_bytes m) →
+    back ≡ drop n text
     → ReadsWord b rest (kinds.Mark m) back
 reads-mark text b rest back m n t s e l k =
     let f = mark-found (b ∷ rest) m e in
@@ -165,7 +170,8 @@ reads-number text b rest back written t h v k =
       kinded = ap number_kind (ap (λ w. value_of (number_at w).0) (sym t) ∙ v);
     }
 
-pub no-number : (place : Place) (text : List ℕ) (b : ℕ) (rest : List ℕ) → text ≡ b ∷ rest → (is_digit b || (b == 39)) ≡ true → value_of (number_at text).0 ≡ None → NoWord place b rest (BadNumber place)
+pub no-number : (place : Place) (text : List ℕ) (b : ℕ) (rest : List ℕ) → text ≡ b ∷ rest → (is_digit b || (b == 39)) ≡ true → value_of (number_at text).0 ≡ None →
+    NoWord place b rest (BadNumber place)
 no-number place text b rest t h v = (refl, (number_at (b ∷ rest)).0, number-word b rest (number-sort b h).0, ap (λ w. value_of (number_at w).0) (sym t) ∙ v)
 
 -- Pieces
@@ -238,7 +244,8 @@ directive-front text body back t h e =
       );
     }
 
-pub word-front-is : (leading : Bool) (text : List ℕ) (b : ℕ) (rest : List ℕ) (kind : TokenKind) (back : List ℕ) → text ≡ b ∷ rest → begins_comment text ≡ false → ReadsWord b rest kind back → IsFront leading text (parts.Token kind) back
+pub word-front-is : (leading : Bool) (text : List ℕ) (b : ℕ) (rest : List ℕ) (kind : TokenKind) (back : List ℕ) → text ≡ b ∷ rest → begins_comment text ≡ false → ReadsWord b rest kind back →
+    IsFront leading text (parts.Token kind) back
 word-front-is leading text b rest kind back t free r =
     let stands = subst (StandsIn (b ∷ rest)) r.found (word-stands b rest) in
     record {
@@ -248,7 +255,8 @@ word-front-is leading text b rest kind back t free r =
       stands = (stands.2, word-longest b rest r.word back r.found r.whole, ap begins_comment (sym (t ∙ r.whole)) ∙ free, r.kinded);
     }
 
-nothing-at : (leading : Bool) (b : ℕ) (rest : List ℕ) → is_blank b ≡ false → begins_comment (b ∷ rest) ≡ false → (b == 96) ≡ false → (b == 34) ≡ false → word_at b rest ≡ None → front_at leading b rest ≡ Nothing
+nothing-at : (leading : Bool) (b : ℕ) (rest : List ℕ) → is_blank b ≡ false → begins_comment (b ∷ rest) ≡ false → (b == 96) ≡ false → (b == 34) ≡ false → word_at b rest ≡ None →
+    front_at leading b rest ≡ Nothing
 unfolding front_at
 nothing-at leading b rest blank free tick q none = rw (blank, free, tick, q, none) refl
 
@@ -266,12 +274,14 @@ word-stops leading place text b rest NoMemory t blank free tick h = tt
 third : (x y z : Bool) (a b c d : Front) → x ≡ false → y ≡ false → z ≡ true → (if x then a else (if y then b else (if z then c else d))) ≡ c
 third x y z a b c d f g h = rw (f, g, h) refl
 
-directive-nothing : (leading : Bool) (b : ℕ) (rest : List ℕ) → is_blank b ≡ false → begins_comment (b ∷ rest) ≡ false → (b == 96) ≡ true → directive_at leading (b ∷ rest) ≡ Nothing → front_at leading b rest ≡ Nothing
+directive-nothing : (leading : Bool) (b : ℕ) (rest : List ℕ) → is_blank b ≡ false → begins_comment (b ∷ rest) ≡ false → (b == 96) ≡ true → directive_at leading (b ∷ rest) ≡ Nothing →
+    front_at leading b rest ≡ Nothing
 unfolding front_at
 directive-nothing leading b rest blank free tick none =
     third (is_blank b) (begins_comment (b ∷ rest)) (b == 96) (Stands (Blank b)) (comment_at rest) (directive_at leading (b ∷ rest)) (word_front (b == 34) (word_at b rest)) blank free tick ∙ none
 
-pub directive-stops : (leading : Bool) (place : Place) (text : List ℕ) (b : ℕ) (rest : List ℕ) (fault : ScanFault) → text ≡ b ∷ rest → is_blank b ≡ false → begins_comment text ≡ false → (b == 96) ≡ true
+pub directive-stops : (leading : Bool) (place : Place) (text : List ℕ) (b : ℕ) (rest : List ℕ) (fault : ScanFault) → text ≡ b ∷ rest → is_blank b ≡ false → begins_comment text ≡ false →
+    (b == 96) ≡ true
     → fault ≡ BadByte place → directive_at leading text ≡ Nothing → StopsHere leading place text fault
 directive-stops leading place text b rest fault t blank free tick f none =
     subst (StopsHere leading place text) (sym f)

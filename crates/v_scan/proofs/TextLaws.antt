@@ -8,7 +8,8 @@ use Rattle.v_scan.specs.declared.fault.ScanFault.TheVariants.{BadByte, BadNumber
 use Rattle.v_scan.specs.declared.pieces.Part.{Part}
 use Rattle.v_scan.specs.declared.pieces.Part.TheVariants as parts
 use Rattle.v_scan.specs.Words.{Numeral, word_bytes}
-use Rattle.v_scan.specs.Texts.{Piece, Blank, LineComment, BlockComment, Timescale, Token, piece_bytes, IsPiece, ArePieces, spelled, leads_behind, leads_after, next_place, place_behind, start, tokens_from, AreTokens, StopsAt, IsFault, BeginsNothing, BeginsRefused, BeginsUnclosed}
+use Rattle.v_scan.specs.Texts.{Piece, Blank, LineComment, BlockComment, Timescale, Token, piece_bytes, IsPiece, ArePieces, spelled, leads_behind, leads_after, next_place, place_behind, start}
+use Rattle.v_scan.specs.Texts.{tokens_from, AreTokens, StopsAt, IsFault, BeginsNothing, BeginsRefused, BeginsUnclosed}
 use Rattle.v_scan.specs.Reading.{Front, Stands, Refused, Open, Nothing, front_at, IsFront, IsRead, part_of}
 use Rattle.v_scan.proofs.Spans.{heads, tails, no_cons, cancel, cancel_back}
 use Rattle.v_scan.proofs.WordLaws.{first-byte}
@@ -191,14 +192,16 @@ module _ (text : List ℕ) (result : Result (Vec SourceToken Global) ScanFault) 
   pub every-tokens : (tokens : List SourceToken) → AreTokens text tokens → MatchResult result (λ found. found.items ≡ tokens) (λ told. told ≡ NoMemory)
   every-tokens tokens a = by result right fault
     where
-      by : (r : Result (Vec SourceToken Global) ScanFault) → IfOk r (λ found. AreTokens text found.items) → IfErr r (IsFault text) → MatchResult r (λ found. found.items ≡ tokens) (λ told. told ≡ NoMemory)
+      by : (r : Result (Vec SourceToken Global) ScanFault) → IfOk r (λ found. AreTokens text found.items) → IfErr r (IsFault text) →
+          MatchResult r (λ found. found.items ≡ tokens) (λ told. told ≡ NoMemory)
       by (Ok found) is f = tokens-one text found.items tokens is a
       by (Err told) is f = tokens-no_fault text tokens told a f
 
   pub every-fault : (known : ScanFault) → IsFault text known → (known ≡ NoMemory → ⊥) → MatchResult result (λ found. ⊥) (λ told. (told ≡ known) ⊎ (told ≡ NoMemory))
   every-fault known k some = by result right fault
     where
-      by : (r : Result (Vec SourceToken Global) ScanFault) → IfOk r (λ found. AreTokens text found.items) → IfErr r (IsFault text) → MatchResult r (λ found. ⊥) (λ told. (told ≡ known) ⊎ (told ≡ NoMemory))
+      by : (r : Result (Vec SourceToken Global) ScanFault) → IfOk r (λ found. AreTokens text found.items) → IfErr r (IsFault text) →
+          MatchResult r (λ found. ⊥) (λ told. (told ≡ known) ⊎ (told ≡ NoMemory))
       by (Ok found) is f = some (tokens-no_fault text found.items known is k)
       by (Err told) is f = fault-one text known told k f some
 
@@ -212,7 +215,8 @@ pub behind-append : (place : Place) (a b : List ℕ) → place_behind place (a +
 behind-append place [] b = refl
 behind-append place (c ∷ a) b = behind-append (next_place place c) a b
 
-pieces-append : (leading : Bool) (ps : List Piece) (p : Piece) (rest : List ℕ) → ArePieces leading ps (piece_bytes p ++ rest) → IsPiece (leads_after leading ps) p rest → ArePieces leading (ps ++ p ∷ []) rest
+pieces-append : (leading : Bool) (ps : List Piece) (p : Piece) (rest : List ℕ) → ArePieces leading ps (piece_bytes p ++ rest) → IsPiece (leads_after leading ps) p rest →
+    ArePieces leading (ps ++ p ∷ []) rest
 pieces-append leading [] p rest h g = (g, tt)
 pieces-append leading (q ∷ ps) p rest h g =
     (subst (IsPiece leading q) (sym (ap (λ w. w ++ rest) (spelled-append ps p) ∙ append_assoc (spelled ps) (piece_bytes p) rest)) h.0, pieces-append (leads_behind leading q) ps p rest h.1 g)

@@ -6,7 +6,8 @@ use Rattle.v_tree.specs.declared.token.Mark.{Mark}
 use Rattle.v_scan.specs.Bytes.{is_blank, is_letter, is_digit, goes_in_name, goes_in_decimal, each, begins_and_goes_on}
 use Rattle.v_scan.specs.Numbers.{Number, Plain_decimal, Unfinished, Based, number_bytes}
 use Rattle.v_scan.specs.Words.{Word, Named, System, Quoted, Marked, Numeral, word_bytes, IsWord, IsLongest, is_inside}
-use Rattle.v_scan.specs.Reading.{front_while, back_while, up_to_quote, after_quote, marks, first_mark, number_at, Sort, AsName, AsSystem, AsString, AsNumber, AsMark, sort_of, system_of, quoted_of, marked_of, word_by, word_at}
+use Rattle.v_scan.specs.Reading.{front_while, back_while, up_to_quote, after_quote, marks, first_mark, number_at, Sort, AsName, AsSystem, AsString, AsNumber, AsMark, sort_of, system_of, quoted_of}
+use Rattle.v_scan.specs.Reading.{marked_of, word_by, word_at}
 use Rattle.v_scan.proofs.Spans.{and-true, or-true, heads, tails, no_cons, prefix-one, while-whole, while-each, while-longest, while-all}
 use Rattle.v_scan.proofs.MarkLaws.{mark-first, mark-alone, mark-found, mark-longest}
 use Rattle.v_scan.proofs.QuoteLaws.{quote-read, quote}
@@ -199,10 +200,12 @@ word-alone (Named []) b bs h e = no_cons b bs e
 word-alone (Named (c ∷ name)) b bs h e =
     let same : name ≡ bs = tails c b name bs e in
     let each_one = (and-true (is_letter c) (each goes_in_name name) h).1 in
-    ap (λ w. Some (Named (b ∷ front_while goes_in_name w))) (sym same) ∙ ap (λ w. Some (Named (b ∷ w))) (while-all goes_in_name name each_one) ∙ ap (λ d. Some (Named (d ∷ name))) (sym (heads c b name bs e))
+    ap (λ w. Some (Named (b ∷ front_while goes_in_name w))) (sym same) ∙ ap (λ w. Some (Named (b ∷ w))) (while-all goes_in_name name each_one)
+    ∙ ap (λ d. Some (Named (d ∷ name))) (sym (heads c b name bs e))
 word-alone (System name) b bs h e =
     let same : name ≡ bs = tails 36 b name bs e in
-    ap (λ w. system_of (front_while goes_in_name w)) (sym same) ∙ ap system_of (while-all goes_in_name name (all-each goes_in_name name h)) ∙ system-some name (name-each goes_in_name goes_in_name name h)
+    ap (λ w. system_of (front_while goes_in_name w)) (sym same) ∙ ap system_of (while-all goes_in_name name (all-each goes_in_name name h))
+    ∙ system-some name (name-each goes_in_name goes_in_name name h)
 word-alone (Quoted inside) b bs h e = ap quoted_of (ap (up_to_quote false) (sym (tails 34 b (inside ++ 34 ∷ []) bs e)) ∙ quote-read false inside [] h)
 word-alone (Marked mark) b bs h e = ap marked_of (ap (first_mark marks) (sym e) ∙ mark-alone mark)
 word-alone (Numeral number) b bs h e = ap (λ n. Some (Numeral n)) (ap (λ t. (number_at t).0) (sym e) ∙ number-alone number h)

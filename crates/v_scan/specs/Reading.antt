@@ -4,7 +4,9 @@ use Rattle.std.specs.Borrow.{Bor}
 use Rattle.vf_base.specs.declared.ids.Place.{Place}
 use Rattle.v_tree.specs.declared.token.TokenKind.{TokenKind}
 use Rattle.v_tree.specs.declared.token.Mark.{Mark}
-use Rattle.v_tree.specs.declared.token.Mark.TheVariants.{CaseEqual, CaseNotEqual, ArithmeticShiftLeft, ArithmeticShiftRight, LogicalAnd, LogicalOr, Equal, NotEqual, LessEqual, GreaterEqual, ShiftLeft, ShiftRight, Nand, Nor, TildeCaret, CaretTilde, Plus, Minus, Star, Slash, Percent, Bang, Tilde, And, Or, Caret, Less, Greater, Assign, Question, Colon, Semicolon, Comma, Dot, LeftParen, RightParen, LeftBracket, RightBracket, LeftBrace, RightBrace, Hash, At}
+use Rattle.v_tree.specs.declared.token.Mark.TheVariants.{CaseEqual, CaseNotEqual, ArithmeticShiftLeft, ArithmeticShiftRight, LogicalAnd, LogicalOr, Equal, NotEqual, LessEqual, GreaterEqual}
+use Rattle.v_tree.specs.declared.token.Mark.TheVariants.{ShiftLeft, ShiftRight, Nand, Nor, TildeCaret, CaretTilde, Plus, Minus, Star, Slash, Percent, Bang, Tilde, And, Or, Caret, Less, Greater}
+use Rattle.v_tree.specs.declared.token.Mark.TheVariants.{Assign, Question, Colon, Semicolon, Comma, Dot, LeftParen, RightParen, LeftBracket, RightBracket, LeftBrace, RightBrace, Hash, At}
 use Rattle.v_tree.specs.Tokens.{SourceToken}
 use Rattle.v_scan.specs.declared.bytes.Base.{Base}
 use Rattle.v_scan.specs.declared.pieces.Part.{Part}
@@ -14,7 +16,8 @@ use Rattle.v_scan.specs.declared.fault.ScanFault.TheVariants.{BadByte, BadNumber
 use Rattle.v_scan.specs.Bytes.{is_blank, is_letter, is_digit, goes_in_name, goes_in_decimal, goes_in_line, goes_in_directive}
 use Rattle.v_scan.specs.Numbers.{Number, Plain_decimal, Unfinished, Based, base_of, is_digit_of, goes_in_digits, stands_alone, is_empty, Written, value_of}
 use Rattle.v_scan.specs.Words.{Word, Named, System, Quoted, Marked, Numeral, word_bytes, mark_bytes, kind_of}
-use Rattle.v_scan.specs.Texts.{Piece, Blank, LineComment, BlockComment, Timescale, Token, piece_bytes, IsPiece, ArePieces, spelled, leads_after, place_behind, tokens_from, closes, begins_comment, BeginsRefused, BeginsUnclosed, BeginsNothing}
+use Rattle.v_scan.specs.Texts.{Piece, Blank, LineComment, BlockComment, Timescale, Token, piece_bytes, IsPiece, ArePieces, spelled, leads_after, place_behind, tokens_from, closes, begins_comment}
+use Rattle.v_scan.specs.Texts.{BeginsRefused, BeginsUnclosed, BeginsNothing}
 
 -- the bytes at the front that pass a test
 abbrev pub front_while : (ℕ → Bool) → List ℕ → List ℕ

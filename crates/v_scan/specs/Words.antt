@@ -3,7 +3,9 @@ use Rattle.std.specs.Prelude.{◌≡◌, ℕ, ◌≤◌, ◌==◌, Bool, true, f
 use Rattle.v_tree.specs.declared.token.TokenKind.{TokenKind}
 use Rattle.v_tree.specs.declared.token.TokenKind.TheVariants as kinds
 use Rattle.v_tree.specs.declared.token.Mark.{Mark}
-use Rattle.v_tree.specs.declared.token.Mark.TheVariants.{CaseEqual, CaseNotEqual, ArithmeticShiftLeft, ArithmeticShiftRight, LogicalAnd, LogicalOr, Equal, NotEqual, LessEqual, GreaterEqual, ShiftLeft, ShiftRight, Nand, Nor, TildeCaret, CaretTilde, Plus, Minus, Star, Slash, Percent, Bang, Tilde, And, Or, Caret, Less, Greater, Assign, Question, Colon, Semicolon, Comma, Dot, LeftParen, RightParen, LeftBracket, RightBracket, LeftBrace, RightBrace, Hash, At}
+use Rattle.v_tree.specs.declared.token.Mark.TheVariants.{CaseEqual, CaseNotEqual, ArithmeticShiftLeft, ArithmeticShiftRight, LogicalAnd, LogicalOr, Equal, NotEqual, LessEqual, GreaterEqual}
+use Rattle.v_tree.specs.declared.token.Mark.TheVariants.{ShiftLeft, ShiftRight, Nand, Nor, TildeCaret, CaretTilde, Plus, Minus, Star, Slash, Percent, Bang, Tilde, And, Or, Caret, Less, Greater}
+use Rattle.v_tree.specs.declared.token.Mark.TheVariants.{Assign, Question, Colon, Semicolon, Comma, Dot, LeftParen, RightParen, LeftBracket, RightBracket, LeftBrace, RightBrace, Hash, At}
 use Rattle.v_scan.specs.Bytes.{is_letter, goes_in_name, begins_and_goes_on}
 use Rattle.v_scan.specs.Numbers.{Number, number_bytes, IsNumber, Written, value_of}
 

@@ -68,7 +68,8 @@ mutual
     IfStatement : (place : SourcePlace) (condition : SourceExpression) (first : SourceStatement) → SourceStatement
     IfElseStatement : (place : SourcePlace) (condition : SourceExpression) (first second : SourceStatement) → SourceStatement
     CaseStatement : (place : SourcePlace) (kind : CaseKind) (value : SourceExpression) (items : SourceCaseItems) → SourceStatement
-    ForStatement : (place : SourcePlace) (first_target : SourceTarget) (first condition : SourceExpression) (next_target : SourceTarget) (next : SourceExpression) (body : SourceStatement) → SourceStatement
+    ForStatement : (place : SourcePlace) (first_target : SourceTarget) (first condition : SourceExpression) (next_target : SourceTarget) (next : SourceExpression) (body : SourceStatement) →
+        SourceStatement
     WhileStatement : (place : SourcePlace) (condition : SourceExpression) (body : SourceStatement) → SourceStatement
     RepeatStatement : (place : SourcePlace) (count : SourceExpression) (body : SourceStatement) → SourceStatement
     ForeverStatement : (place : SourcePlace) (body : SourceStatement) → SourceStatement

@@ -9,7 +9,8 @@ use Rattle.v_tree.specs.Views.{expression_of, expressions_of, expressions_of_row
 use Rattle.v_tree.specs.declared.expression.Expr.{Expr, Row_of-Expr, end_of-Expr, more_of-Expr, items-the_row-Expr, items_hidden-the_row-Expr-0}
 use Rattle.v_tree.specs.declared.expression.Expr.TheBlock.{hidden-the_row-Expr-0}
 use Rattle.v_tree.specs.declared.expression.Expr.TheVariants as code
-use Rattle.v_tree.specs.declared.statement.Stmt.{Stmt, Row_of-Stmt, end_of-Stmt, more_of-Stmt, items-the_row-Stmt, items_hidden-the_row-Stmt-0, Row_of-CaseItem, end_of-CaseItem, more_of-CaseItem, items-the_row-CaseItem, items_hidden-the_row-CaseItem-1}
+use Rattle.v_tree.specs.declared.statement.Stmt.{Stmt, Row_of-Stmt, end_of-Stmt, more_of-Stmt, items-the_row-Stmt, items_hidden-the_row-Stmt-0, Row_of-CaseItem, end_of-CaseItem, more_of-CaseItem}
+use Rattle.v_tree.specs.declared.statement.Stmt.{items-the_row-CaseItem, items_hidden-the_row-CaseItem-1}
 use Rattle.v_tree.specs.declared.statement.CaseItem.{CaseItem}
 use Rattle.v_tree.specs.declared.statement.CaseItem.TheBlock.{hidden-the_row-Stmt-0, hidden-the_row-CaseItem-1}
 use Rattle.v_tree.specs.declared.statement.Stmt.TheVariants as statements

@@ -41,7 +41,8 @@ pub first-group : (here inside : List Fault) (faults : Faults) → AreFaults her
     → first_of_group faults.wrong_kind (found_fault faults.all) (found_fault faults.other) (found_fault faults.inside) ≡ first_fault (group_faults here inside)
 first-group here inside faults h = by faults.wrong_kind refl
   where
-    by : (wrong : Bool) → faults.wrong_kind ≡ wrong → first_of_group faults.wrong_kind (found_fault faults.all) (found_fault faults.other) (found_fault faults.inside) ≡ first_fault (group_faults here inside)
+    by : (wrong : Bool) → faults.wrong_kind ≡ wrong → first_of_group faults.wrong_kind (found_fault faults.all) (found_fault faults.other) (found_fault faults.inside) ≡ first_fault
+        (group_faults here inside)
     by true e =
         ap (λ w. first_of_group w (found_fault faults.all) (found_fault faults.other) (found_fault faults.inside)) e ∙ ap₂ first_of h.other_is h.inside_is
         ∙ sym (ap first_fault (group-by here inside true (sym h.wrong_is ∙ e)) ∙ first-append (others here) inside)

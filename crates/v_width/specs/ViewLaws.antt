@@ -28,7 +28,8 @@ abbrev pub sized_append : SizedExpressions → SizedExpressions → SizedExpress
 sized_append no_sized rest = rest
 sized_append (more_sized first parts) rest = more_sized first (sized_append parts rest)
 
-pub sized-one-more : (parts : List SizedExpr) (one : SizedExpr) (rest : SizedExpressions) → sized_append (all_sized_of (parts ++ one ∷ [])) rest ≡ sized_append (all_sized_of parts) (more_sized (sized_of one) rest)
+pub sized-one-more : (parts : List SizedExpr) (one : SizedExpr) (rest : SizedExpressions) →
+    sized_append (all_sized_of (parts ++ one ∷ [])) rest ≡ sized_append (all_sized_of parts) (more_sized (sized_of one) rest)
 sized-one-more [] one rest = refl
 sized-one-more (first ∷ parts) one rest = ap (more_sized (sized_of first)) (sized-one-more parts one rest)
 

@@ -115,7 +115,8 @@ wakes-by-write object old new processes =
 abbrev pub ended_by_test : (Entry → Bool) → ℕ → ProcessState → List ObjectAccess
 ended_by_test test process state = ended_of (some_entry test (waiting_entries state.activity)) test process (waiting_line state.activity) (waiting_entries state.activity)
 
-ended-alike : (one other : Entry → Bool) (processes : List ProcessState) → ((entry : Entry) → one entry ≡ other entry) → joined (map_numbered (ended_by_test one) 0 processes) ≡ joined (map_numbered (ended_by_test other) 0 processes)
+ended-alike : (one other : Entry → Bool) (processes : List ProcessState) → ((entry : Entry) → one entry ≡ other entry) →
+    joined (map_numbered (ended_by_test one) 0 processes) ≡ joined (map_numbered (ended_by_test other) 0 processes)
 ended-alike one other processes h = λ i. joined (map_numbered (ended_by_test (λ entry. h entry i)) 0 processes)
 
 -- one write ends the waits that its change ends
@@ -124,7 +125,8 @@ ends-by-change change state =
     ended-alike (entry_matches change.object change.old change.new) (matches_one (change ∷ [])) state.processes (λ entry. sym (or-nothing (entry_matches change.object change.old change.new entry)))
 
 -- and where nothing changes none
-pub ends-by-write : (object : ℕ) (old new : LogicValue) (state : State) → ended_accesses object old new state ≡ joined (map_numbered (ended_by_changes (changes_of_write object old new)) 0 state.processes)
+pub ends-by-write : (object : ℕ) (old new : LogicValue) (state : State) → ended_accesses object old new state ≡ joined
+    (map_numbered (ended_by_changes (changes_of_write object old new)) 0 state.processes)
 ends-by-write object old new state = ended-alike (entry_matches object old new) (matches_one (changes_of_write object old new)) state.processes (λ entry. sym (matches-write object old new entry))
 
 -- Updates of nets
@@ -192,7 +194,8 @@ matches-between old new (object ∷ objects) entry =
     ∙ here (cases_eq object entry.object)
   where
     one : (b : Bool) → same_value (value_at old object) (value_at new object) ≡ b →
-        matches_one (elim b [ true ↦ changes_between old new objects | false ↦ record { object = object; old = value_at old object; new = value_at new object } ∷ changes_between old new objects ]) entry
+        matches_one (elim b [ true ↦ changes_between old new objects | false ↦ record { object = object; old = value_at old object; new = value_at new object } ∷ changes_between old new objects ])
+        entry
         ≡ (entry_matches object (value_at old object) (value_at new object) entry || matches_one (changes_between old new objects) entry)
     one true same =
         ap (λ b. b || matches_one (changes_between old new objects) entry)
@@ -204,7 +207,8 @@ matches-between old new (object ∷ objects) entry =
     either false b = and-nothing b
 
     here : (object ≡ entry.object) ⊎ (object ≡ entry.object → ⊥) →
-        (entry_matches object (value_at old object) (value_at new object) entry || (has objects entry.object && entry_matches entry.object (value_at old entry.object) (value_at new entry.object) entry))
+        (entry_matches object (value_at old object) (value_at new object) entry || (has objects entry.object
+        && entry_matches entry.object (value_at old entry.object) (value_at new entry.object) entry))
         ≡ ((nat_eq object entry.object || has objects entry.object) && entry_matches entry.object (value_at old entry.object) (value_at new entry.object) entry)
     here (inl same) =
         ap (λ o. entry_matches o (value_at old o) (value_at new o) entry || (has objects entry.object && entry_matches entry.object (value_at old entry.object) (value_at new entry.object) entry)) same
@@ -231,7 +235,8 @@ value-elsewhere (v ∷ values) zero (suc other) new d = refl
 value-elsewhere (v ∷ values) (suc object) zero new d = refl
 value-elsewhere (v ∷ values) (suc object) (suc other) new d = value-elsewhere values object other new (λ e. d (ap suc e))
 
-width-stays : (values : List LogicValue) (object other : ℕ) (new : LogicValue) → length new ≡ length (value_at values object) → length (value_at (change_at values object (λ old. new)) other) ≡ length (value_at values other)
+width-stays : (values : List LogicValue) (object other : ℕ) (new : LogicValue) → length new ≡ length (value_at values object) →
+    length (value_at (change_at values object (λ old. new)) other) ≡ length (value_at values other)
 width-stays [] object other new e = refl
 width-stays (v ∷ values) zero zero new e = e
 width-stays (v ∷ values) zero (suc other) new e = refl
@@ -310,7 +315,8 @@ values-wake machine [] values state distinct fit = sym (ready-all-never (some_ch
 values-wake machine (object ∷ objects) [] state distinct fit = sym (ready-all-never (some_change_matches state state (object ∷ objects)) state.processes (unchanged-matches state (object ∷ objects)))
 values-wake machine (object ∷ objects) (value ∷ values) state distinct fit =
     values-wake machine objects values middle distinct.1 (still-fit state.values object value objects values fit.0 fit.1)
-    ∙ map-twice (ready_process (some_change_matches middle end objects)) (woken_process object (value_at state.values object) value) (ready_process (some_change_matches state end (object ∷ objects))) state.processes one
+    ∙ map-twice (ready_process (some_change_matches middle end objects)) (woken_process object (value_at state.values object) value)
+    (ready_process (some_change_matches state end (object ∷ objects))) state.processes one
   where
     middle : State
     middle = with_value machine object value state
@@ -319,40 +325,51 @@ values-wake machine (object ∷ objects) (value ∷ values) state distinct fit =
     end = with_values machine objects values (with_value machine object value state)
 
     both : (entry : Entry) → some_change_matches state (with_values machine objects values (with_value machine object value state)) (object ∷ objects) entry
-        ≡ (entry_matches object (value_at state.values object) value entry || some_change_matches (with_value machine object value state) (with_values machine objects values (with_value machine object value state)) objects entry)
+        ≡ (entry_matches object (value_at state.values object) value entry || some_change_matches (with_value machine object value state)
+        (with_values machine objects values (with_value machine object value state)) objects entry)
     both entry = go (cases_eq object entry.object)
       where
         go : (object ≡ entry.object) ⊎ (object ≡ entry.object → ⊥) → some_change_matches state (with_values machine objects values (with_value machine object value state)) (object ∷ objects) entry
-            ≡ (entry_matches object (value_at state.values object) value entry || some_change_matches (with_value machine object value state) (with_values machine objects values (with_value machine object value state)) objects entry)
+            ≡ (entry_matches object (value_at state.values object) value entry || some_change_matches (with_value machine object value state)
+            (with_values machine objects values (with_value machine object value state)) objects entry)
         go (inl same) =
             let apart : has objects entry.object ≡ false = ap (has objects) (sym same) ∙ distinct.0 in
             let last : value_at (with_values machine objects values (with_value machine object value state)).values entry.object ≡ value =
-            values-elsewhere machine objects values (with_value machine object value state) entry.object apart ∙ ap (value_at (with_value machine object value state).values) (sym same) ∙ value-here state.values object value fit.0 in
-            ap (λ b. (b || has objects entry.object) && entry_matches entry.object (value_at state.values entry.object) (value_at (with_values machine objects values (with_value machine object value state)).values entry.object) entry) (eq-eqb object entry.object same)
+            values-elsewhere machine objects values (with_value machine object value state) entry.object apart ∙ ap (value_at (with_value machine object value state).values) (sym same)
+            ∙ value-here state.values object value fit.0 in
+            ap (λ b. (b || has objects entry.object) && entry_matches entry.object (value_at state.values entry.object)
+            (value_at (with_values machine objects values (with_value machine object value state)).values entry.object) entry) (eq-eqb object entry.object same)
             ∙ ap (λ v. entry_matches entry.object (value_at state.values entry.object) v entry) last
             ∙ ap (λ o. entry_matches o (value_at state.values o) value entry) (sym same)
             ∙ sym (or-nothing (entry_matches object (value_at state.values object) value entry))
             ∙ ap
             (λ b. entry_matches object (value_at state.values object) value entry
-            || (b && entry_matches entry.object (value_at (with_value machine object value state).values entry.object) (value_at (with_values machine objects values (with_value machine object value state)).values entry.object) entry))
+            || (b && entry_matches entry.object (value_at (with_value machine object value state).values entry.object)
+            (value_at (with_values machine objects values (with_value machine object value state)).values entry.object) entry))
             (sym apart)
         go (inr other) =
             let here : value_at (with_value machine object value state).values entry.object ≡ value_at state.values entry.object = value-elsewhere state.values object entry.object value other in
-            ap (λ b. (b || has objects entry.object) && entry_matches entry.object (value_at state.values entry.object) (value_at (with_values machine objects values (with_value machine object value state)).values entry.object) entry) (ne_eqb object entry.object other)
-            ∙ ap (λ v. has objects entry.object && entry_matches entry.object v (value_at (with_values machine objects values (with_value machine object value state)).values entry.object) entry) (sym here)
+            ap (λ b. (b || has objects entry.object) && entry_matches entry.object (value_at state.values entry.object)
+            (value_at (with_values machine objects values (with_value machine object value state)).values entry.object) entry) (ne_eqb object entry.object other)
+            ∙ ap (λ v. has objects entry.object && entry_matches entry.object v (value_at (with_values machine objects values (with_value machine object value state)).values entry.object) entry)
+            (sym here)
             ∙ ap
             (λ b. (b && edge_matches entry.edge (part_of (value_at state.values object) entry.low entry.width) (part_of value entry.low entry.width))
             || some_change_matches (with_value machine object value state) (with_values machine objects values (with_value machine object value state)) objects entry)
             (sym (ne_eqb entry.object object (λ e. other (sym e))))
 
     one : (process : ProcessState) →
-        ready_process (some_change_matches (with_value machine object value state) (with_values machine objects values (with_value machine object value state)) objects) (woken_process object (value_at state.values object) value process)
+        ready_process (some_change_matches (with_value machine object value state) (with_values machine objects values (with_value machine object value state)) objects)
+        (woken_process object (value_at state.values object) value process)
         ≡ ready_process (some_change_matches state (with_values machine objects values (with_value machine object value state)) (object ∷ objects)) process
     one process =
-        let is : ready_by (some_change_matches (with_value machine object value state) (with_values machine objects values (with_value machine object value state)) objects) (woken object (value_at state.values object) value process.activity)
+        let is : ready_by (some_change_matches (with_value machine object value state) (with_values machine objects values (with_value machine object value state)) objects)
+        (woken object (value_at state.values object) value process.activity)
         ≡ ready_by (some_change_matches state (with_values machine objects values (with_value machine object value state)) (object ∷ objects)) process.activity =
-        ap (ready_by (some_change_matches (with_value machine object value state) (with_values machine objects values (with_value machine object value state)) objects)) (woken-is object (value_at state.values object) value process.activity)
-        ∙ ready-twice (some_change_matches state (with_values machine objects values (with_value machine object value state)) (object ∷ objects)) (entry_matches object (value_at state.values object) value)
+        ap (ready_by (some_change_matches (with_value machine object value state) (with_values machine objects values (with_value machine object value state)) objects))
+        (woken-is object (value_at state.values object) value process.activity)
+        ∙ ready-twice (some_change_matches state (with_values machine objects values (with_value machine object value state)) (object ∷ objects))
+        (entry_matches object (value_at state.values object) value)
         (some_change_matches (with_value machine object value state) (with_values machine objects values (with_value machine object value state)) objects) process.activity both in
         λ i. record { activity = is i; later = process.later; lane = process.lane }
 
@@ -390,21 +407,24 @@ pub matches-nets : (design : FlatDesign) (outputs : List ℕ) (state next : Stat
 matches-nets design outputs state next entry nets =
     sym
     (matches-between state.values next.values (filter (has outputs) (net_pieces design)) entry
-    ∙ ap (λ b. b && entry_matches entry.object (value_at state.values entry.object) (value_at next.values entry.object) entry) (has-filter (has outputs) (net_pieces design) entry.object ∙ within (has outputs entry.object) refl))
+    ∙ ap (λ b. b && entry_matches entry.object (value_at state.values entry.object) (value_at next.values entry.object) entry)
+    (has-filter (has outputs) (net_pieces design) entry.object ∙ within (has outputs entry.object) refl))
   where
     within : (b : Bool) → has outputs entry.object ≡ b → (has (net_pieces design) entry.object && has outputs entry.object) ≡ has outputs entry.object
     within true e = ap (λ b. b && has outputs entry.object) (AllHold-has (λ object. has (net_pieces design) object ≡ true) outputs entry.object nets e)
     within false e = ap (λ b. has (net_pieces design) entry.object && b) e ∙ and-nothing (has (net_pieces design) entry.object) ∙ sym e
 
 -- an update of a node's nets makes those processes ready that its changes do
-pub wakes-by-nets : (machine : Machine) (objects : List ℕ) (values : List LogicValue) (state : State) → AreDistinct objects → AllHold (λ object. has (net_pieces machine.design) object ≡ true) objects → FitValues state.values objects values →
+pub wakes-by-nets : (machine : Machine) (objects : List ℕ) (values : List LogicValue) (state : State) → AreDistinct objects →
+    AllHold (λ object. has (net_pieces machine.design) object ≡ true) objects → FitValues state.values objects values →
     (with_values machine objects values state).processes ≡ map (woken_by (net_changes machine.design objects state.values (with_values machine objects values state).values)) state.processes
 wakes-by-nets machine objects values state distinct nets fit =
     values-wake machine objects values state distinct fit
     ∙ (λ i. map (ready_process (λ entry. matches-nets machine.design objects state (with_values machine objects values state) entry nets i)) state.processes)
 
 -- the writes of an update of nets are those of its changes
-pub writes-of-nets : (process line : ℕ) (state next : State) (objects : List ℕ) → joined (map (net_write process line state next) objects) ≡ map (write_of_change process line) (changes_between state.values next.values objects)
+pub writes-of-nets : (process line : ℕ) (state next : State) (objects : List ℕ) → joined (map (net_write process line state next) objects) ≡ map (write_of_change process line)
+    (changes_between state.values next.values objects)
 writes-of-nets process line state next [] = refl
 writes-of-nets process line state next (object ∷ objects) =
     ap (λ rest. net_write process line state next object ++ rest) (writes-of-nets process line state next objects) ∙ one (same_value (value_at state.values object) (value_at next.values object))
@@ -425,14 +445,17 @@ writes-of-nets process line state next (object ∷ objects) =
 -- the accesses of an update of a node's nets: the writes of its changes, and then the waits that they end
 pub accesses-of-nets : (design : FlatDesign) (process line : ℕ) (node : FlatNode) (state next : State) → AllHold (λ object. has (net_pieces design) object ≡ true) node.outputs →
     net_accesses design process line (Some node) state next
-    ≡ map (write_of_change process line) (net_changes design node.outputs state.values next.values) ++ joined (map_numbered (ended_by_changes (net_changes design node.outputs state.values next.values)) 0 state.processes)
+    ≡ map (write_of_change process line) (net_changes design node.outputs state.values next.values)
+    ++ joined (map_numbered (ended_by_changes (net_changes design node.outputs state.values next.values)) 0 state.processes)
 accesses-of-nets design process line node state next nets =
     (λ i. writes-of-nets process line state next (filter (has node.outputs) (net_pieces design)) i ++ joined (map_numbered (net_ended_by state next node.outputs) 0 state.processes))
     ∙ ap (λ ended. map (write_of_change process line) (net_changes design node.outputs state.values next.values) ++ ended)
-    (ended-alike (some_change_matches state next node.outputs) (matches_one (net_changes design node.outputs state.values next.values)) state.processes (λ entry. matches-nets design node.outputs state next entry nets))
+    (ended-alike (some_change_matches state next node.outputs) (matches_one (net_changes design node.outputs state.values next.values)) state.processes
+    (λ entry. matches-nets design node.outputs state next entry nets))
 
 -- the wait of a process that some changes end: it waits, and they make it ready
-pub woken-waits : (changes : List ObjectChange) (process : ProcessState) → some_entry (matches_one changes) (waiting_entries process.activity) ≡ (is_waiting process.activity && is_ready (woken_by changes process).activity)
+pub woken-waits : (changes : List ObjectChange) (process : ProcessState) → some_entry (matches_one changes) (waiting_entries process.activity) ≡
+    (is_waiting process.activity && is_ready (woken_by changes process).activity)
 woken-waits changes process = by-activity process.activity
   where
     readied : (b : Bool) (place : SourcePlace) (entries : List Entry) (tasks : List Task) → b ≡ is_ready (ready_if b (Waiting place entries tasks) tasks)

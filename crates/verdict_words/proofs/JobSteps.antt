@@ -1,5 +1,6 @@
 -- Each step of the jobs' table keeps its rule.
-use Rattle.std.proofs.Common.{◌≡◌, ◌≢◌, ℕ, ◌+◌, ◌<◌, ◌==◌, cond, Bool, inl, inr, List, [], ◌∷◌, ◌++◌, replicate, length, set, slice_index, sum_by, sym, refl, ap, ◌∙◌, subst, ⊎_elim, arith, eq-eqb, ne_eqb, length-set, get_or-set_same, get_or-set_other}
+use Rattle.std.proofs.Common.{◌≡◌, ◌≢◌, ℕ, ◌+◌, ◌<◌, ◌==◌, cond, Bool, inl, inr, List, [], ◌∷◌, ◌++◌, replicate, length, set, slice_index, sum_by, sym, refl, ap, ◌∙◌, subst, ⊎_elim, arith, eq-eqb}
+use Rattle.std.proofs.Common.{ne_eqb, length-set, get_or-set_same, get_or-set_other}
 use Rattle.std.proofs.lemmas.List.{set-get_or, get_or-replicate, length-replicate}
 use Rattle.std.proofs.lemmas.List.Sums.{sum_by_push}
 use native.Mathlib.Decide.{ℕ_discrete}
@@ -23,7 +24,8 @@ holds_else other slot refused n = ap (λ (b : Bool). cond {A = ℕ} b 1 0) (ne_e
 
 module _ (S : Type 0) (slots : ℕ) where
   -- a slot that the step doesn't speak of
-  kept_else : (s : State S Hold) (k j n : ℕ) (h : _) (views : List Hold) → j ≢ k → sum_by (holds_slot j) views ≡ sum_by (holds_slot j) s.views → Placed s j → Placed record { words = set s.words k n; homes = set s.homes k h; views = views } j
+  kept_else : (s : State S Hold) (k j n : ℕ) (h : _) (views : List Hold) → j ≢ k → sum_by (holds_slot j) views ≡ sum_by (holds_slot j) s.views → Placed s j →
+      Placed record { words = set s.words k n; homes = set s.homes k h; views = views } j
   kept_else s k j n h views apart same p = rw (get_or-set_other s.words k j n 0 apart, set_else s.homes k j h apart, same) p
 
   takes_it : (s : State S Hold) → Shelved slots s → length s.homes ≡ slots → (id r : ℕ) → get_elem? s.views id ≡ some (Free r) → (k : ℕ) → k < slots → sum_by (holds_slot k) s.views ≡ 0
@@ -32,7 +34,11 @@ module _ (S : Type 0) (slots : ℕ) where
     words = length-set s.words k 0 ∙ kept.words;
     placed = λ j short. (let e = sum_set (holds_slot j) s.views id (Free r) (Slot k r) at in elim (ℕ_discrete j k) [
       | yes same ↦ (let long = kept.words in subst (λ (i : ℕ). Placed record { words = set s.words k 0; homes = set s.homes k none; views = set s.views id (Slot k r) } i) (sym same)
-          (inr (get_or-set_same s.words k 0 0 (omega arith), set_here s.homes k none (omega arith), (let e' = sum_set (holds_slot k) s.views id (Free r) (Slot k r) at in let one = holds_it k r in omega arith))))
+          (inr (
+            get_or-set_same s.words k 0 0 (omega arith),
+            set_here s.homes k none (omega arith),
+            (let e' = sum_set (holds_slot k) s.views id (Free r) (Slot k r) at in let one = holds_it k r in omega arith),
+          )))
       | no apart ↦ kept_else s k j 0 none (set s.views id (Slot k r)) apart (let z = holds_else j k r apart in omega arith) (kept.placed j short)
     ]);
   }
@@ -43,16 +49,22 @@ module _ (S : Type 0) (slots : ℕ) where
     words = length-set s.words k 1 ∙ kept.words;
     placed = λ j short. (let e = sum_set (holds_slot j) s.views id (Slot k r) (Free r) at in elim (ℕ_discrete j k) [
       | yes same ↦ (let long = kept.words in subst (λ (i : ℕ). Placed record { words = set s.words k 1; homes = set s.homes k (some y); views = set s.views id (Free r) } i) (sym same)
-          (inl (get_or-set_same s.words k 1 0 (omega arith), (y, set_here s.homes k (some y) (omega arith)), (let e' = sum_set (holds_slot k) s.views id (Slot k r) (Free r) at in let it = holds_it k r in omega arith))))
+          (inl (
+            get_or-set_same s.words k 1 0 (omega arith),
+            (y, set_here s.homes k (some y) (omega arith)),
+            (let e' = sum_set (holds_slot k) s.views id (Slot k r) (Free r) at in let it = holds_it k r in omega arith),
+          )))
       | no apart ↦ kept_else s k j 1 (some y) (set s.views id (Free r)) apart (let z = holds_else j k r apart in omega arith) (kept.placed j short)
     ]);
   }
 
-  same_sums : (s : State S Hold) (views : List Hold) → ((j : ℕ) → sum_by (holds_slot j) views ≡ sum_by (holds_slot j) s.views) → Shelved slots s → Shelved slots record { words = s.words; homes = s.homes; views = views }
+  same_sums : (s : State S Hold) (views : List Hold) → ((j : ℕ) → sum_by (holds_slot j) views ≡ sum_by (holds_slot j) s.views) → Shelved slots s →
+      Shelved slots record { words = s.words; homes = s.homes; views = views }
   same_sums s views same kept = record { words = kept.words; placed = λ j short. rw (same j) (kept.placed j short) }
 
   -- no slot changes hands, and the word stays
-  refused : (s : State S Hold) (id k r : ℕ) → get_elem? s.views id ≡ some (Free r) → Shelved slots s → Shelved slots record { words = set s.words k (slice_index s.words k); homes = s.homes; views = set s.views id (Free (r + 1)) }
+  refused : (s : State S Hold) (id k r : ℕ) → get_elem? s.views id ≡ some (Free r) → Shelved slots s →
+      Shelved slots record { words = set s.words k (slice_index s.words k); homes = s.homes; views = set s.views id (Free (r + 1)) }
   refused s id k r at kept = rw (set-get_or s.words k 0)
       (same_sums s (set s.views id (Free (r + 1))) (λ j. (let e = sum_set (holds_slot j) s.views id (Free r) (Free (r + 1)) at in omega arith)) kept)
 
@@ -63,7 +75,8 @@ module _ (S : Type 0) (slots : ℕ) where
         Slot k r,
         takes k p.1.0,
         p.1.1,
-        exchanged n 1 0 (λ i. Shelved slots record { words = set s.words k i; homes = set s.homes k none; views = set s.views id (Slot k r) }) (λ _. takes_it s kept wide id r at k inside p.2) (λ other. absurd (other p.0)),
+        exchanged n 1 0 (λ i. Shelved slots record { words = set s.words k i; homes = set s.homes k none; views = set s.views id (Slot k r) }) (λ _. takes_it s kept wide id r at k inside p.2)
+            (λ other. absurd (other p.0)),
         record { got = λ _. (refl, (p.1.0, refl)); held = λ other. absurd (other p.0) },
       ))
       (λ (p : (n ≡ 0) × (get_elem? s.homes k ≡ some none) × (sum_by (holds_slot k) s.views ≡ 1)). (let other : n ≢ 1 = (λ e. (let z = p.0 in omega arith)) in (

@@ -31,5 +31,6 @@ one_moved codes sizes words f c v w v' w' (Was d) (Was e) nil nil' t t' k =
     let is : marks f v'.moved ≡ 0 = ap (λ (u : View). marks f u.moved) t.1 ∙ ap (marks f) nil in
     let is' : marks f w'.moved ≡ 0 = ap (λ (u : View). marks f u.moved) t'.1 ∙ ap (marks f) nil' in
     let known : Contains v'.seen (mark f c) = subst (λ (u : View). Contains u.seen (mark f c)) (sym t.1) (Contains-push v.seen (mark f c)) in
-    let word = All-contains (λ (m : Mark). (slice_index words (fault_number m.fault) ≡ m.code) × (m.code ≢ 0)) (v'.seen ++ w'.seen) (mark f c) k.seen (Contains-append_left v'.seen w'.seen (mark f c) known) in
+    let word = All-contains (λ (m : Mark). (slice_index words (fault_number m.fault) ≡ m.code) × (m.code ≢ 0)) (v'.seen ++ w'.seen) (mark f c) k.seen
+    (Contains-append_left v'.seen w'.seen (mark f c) known) in
     ⊎_elim (λ h. absurd (word.1 (sym word.0 ∙ h.0))) (λ h. (let z = h.2 in omega arith)) (k.moved f)

@@ -54,7 +54,8 @@ none_left f z (x ∷ xs) all none = let s = sum_by-cons (λ (v : View). v.share)
     let r = none_left f z xs (λ j u e. all (suc j) u e) (omega arith) in omega (arith, sum_by-cons f x xs)
 
 -- where one view has the whole share, all others are spent
-pub alone : (f : View → ℕ) → f spent_view ≡ 0 → (views : List View) (id : ℕ) (v : View) → get_elem? views id ≡ some v → EachView Within views → sum_by (λ (u : View). u.share) views ≡ v.share → sum_by f views ≡ f v
+pub alone : (f : View → ℕ) → f spent_view ≡ 0 → (views : List View) (id : ℕ) (v : View) → get_elem? views id ≡ some v → EachView Within views → sum_by (λ (u : View). u.share) views ≡ v.share →
+    sum_by f views ≡ f v
 alone f z [] id v e all whole = absurd (some-ne-none v (sym e))
 alone f z (x ∷ xs) zero v e all whole = let same : x ≡ v = some-injective x v e in let shares : x.share ≡ v.share = ap (λ (u : View). u.share) same in let is : f x ≡ f v = ap f same in
     let s = sum_by-cons (λ (u : View). u.share) x xs in let r = none_left f z xs (λ j u e. all (suc j) u e) (omega arith) in omega (arith, sum_by-cons f x xs)

@@ -1,5 +1,6 @@
 -- Each step keeps the rule.
-use Rattle.std.proofs.Common.{◌≡◌, ◌≢◌, ℕ, ◌+◌, ◌%◌, ◌^◌, ◌<◌, ◌≤◌, ◌==◌, min, cond, nat_lt, true, false, inr, List, [], ◌∷◌, ◌++◌, length, set, sum_by, IsTrue, sym, refl, ap, ◌∙◌, subst, ⊎_elim, arith, length-set, get_or-set_same, get_or-set_other}
+use Rattle.std.proofs.Common.{◌≡◌, ◌≢◌, ℕ, ◌+◌, ◌%◌, ◌^◌, ◌<◌, ◌≤◌, ◌==◌, min, cond, nat_lt, true, false, inr, List, [], ◌∷◌, ◌++◌, length, set, sum_by, IsTrue, sym, refl, ap, ◌∙◌, subst, ⊎_elim}
+use Rattle.std.proofs.Common.{arith, length-set, get_or-set_same, get_or-set_other}
 use Rattle.std.proofs.Common.{ne_eqb, eq-eqb, ◌&&◌, ◌||◌, Bool, true≢false}
 use Rattle.std.proofs.lemmas.List.Sums.{sum_by_push}
 use Rattle.std.proofs.lemmas.List.Elements.{All-nil, All-weaker, All-push, All-append, All-contains}
@@ -21,7 +22,8 @@ use Rattle.verdict_words.specs.Views.{mark, spent_view, with_claim, with_none, w
 use Rattle.verdict_words.specs.Rule.{times, marks, marks_with, moves_of, moves_with, once_below, counter, word_of, EachView, Moved, Seen, Within, Kept, Holds, Closing}
 use Rattle.verdict_words.specs.Plays.{Found, Claimed, Settles, Looks}
 use Rattle.verdict_words.proofs.Sums.{sum_set, part_le}
-use Rattle.verdict_words.proofs.Parts.{sum_le, alone, marks_push, marks-append, marks_with_push, marks_with-append, marks_with_le, each_set, each_push, each_weaker, times_push, times-append, once_more, once_no_more}
+use Rattle.verdict_words.proofs.Parts.{sum_le, alone, marks_push, marks-append, marks_with_push, marks_with-append, marks_with_le, each_set, each_push, each_weaker, times_push, times-append}
+use Rattle.verdict_words.proofs.Parts.{once_more, once_no_more}
 
 module _ (codes : List ℕ) (sizes : Sizes) (words : List ℕ) (views : List View) (r : Kept codes sizes words views) (id : ℕ) (v : View) (at : get_elem? views id ≡ some v) where
   -- the counter rises, and no other word changes
@@ -39,8 +41,10 @@ module _ (codes : List ℕ) (sizes : Sizes) (words : List ℕ) (views : List Vie
 
   moved_counted : (w : View) → w.moved ≡ v.moved → (f : ℕ) → Moved codes f (word_of counted f) (moves_of f (set views id w)) (moves_with f (code_of codes f) (set views id w))
   moved_counted w same f =
-      let here : moves_of f (set views id w) ≡ moves_of f views = let e = sum_set (λ (u : View). marks f u.moved) views id v w at in let q : marks f w.moved ≡ marks f v.moved = ap (marks f) same in omega arith in
-      let with' : moves_with f (code_of codes f) (set views id w) ≡ moves_with f (code_of codes f) views = let e = sum_set (λ (u : View). marks_with f (code_of codes f) u.moved) views id v w at in let q : marks_with f (code_of codes f) w.moved ≡ marks_with f (code_of codes f) v.moved = ap (marks_with f (code_of codes f)) same in omega arith in
+      let here : moves_of f (set views id w) ≡ moves_of f views = let e = sum_set (λ (u : View). marks f u.moved) views id v w at in let q : marks f w.moved ≡ marks f v.moved = ap (marks f) same in
+      omega arith in
+      let with' : moves_with f (code_of codes f) (set views id w) ≡ moves_with f (code_of codes f) views = let e = sum_set (λ (u : View). marks_with f (code_of codes f) u.moved) views id v w at in
+      let q : marks_with f (code_of codes f) w.moved ≡ marks_with f (code_of codes f) v.moved = ap (marks_with f (code_of codes f)) same in omega arith in
       rw (counted_word f, here, with') (r.moved f)
 
   -- after a call of `claim`
@@ -52,7 +56,8 @@ module _ (codes : List ℕ) (sizes : Sizes) (words : List ℕ) (views : List Vie
     one_each = length-set words 0 (counter words + 1) ∙ r.one_each;
     claimed = λ x. (let e = sum_set (λ (u : View). times x u.claimed) views id v w at in let p = r.claimed x in let q = claimed x in rw c (omega arith));
     moved = moved_counted w moved;
-    seen = each_set (λ (u : View). Seen counted u.seen) views id w (each_weaker (λ (u : View). Seen words u.seen) (λ (u : View). Seen counted u.seen) views (λ u h. seen_counted u.seen h) r.seen) (subst (λ ms. Seen counted ms) (sym seen) (seen_counted v.seen (r.seen id v at)));
+    seen = each_set (λ (u : View). Seen counted u.seen) views id w (each_weaker (λ (u : View). Seen words u.seen) (λ (u : View). Seen counted u.seen) views (λ u h. seen_counted u.seen h) r.seen)
+        (subst (λ ms. Seen counted ms) (sym seen) (seen_counted v.seen (r.seen id v at)));
     shares = (let e = sum_set (λ (u : View). u.share) views id v w at in let p = r.shares in omega arith);
     calls = (let e = sum_set (λ (u : View). u.calls) views id v w at in let p = r.calls in omega arith);
     within = each_set Within views id w r.within ((omega arith, λ z. absurd (omega arith)));
@@ -64,12 +69,14 @@ module _ (codes : List ℕ) (sizes : Sizes) (words : List ℕ) (views : List Vie
   fits = let a = sum_le (λ (u : View). u.calls) (λ (u : View). u.share) views (λ j u e. (r.within j u e).0) in let b = r.calls in let d = r.shares in omega arith
 
   -- the lists of the changed view have the same, and no word changes
-  same_words : (w : View) → w.claimed ≡ v.claimed → w.moved ≡ v.moved → w.share ≡ v.share → w.calls ≡ v.calls → w.dry ≡ v.dry → 0 < v.share → Seen words w.seen → Kept codes sizes words (set views id w)
+  same_words : (w : View) → w.claimed ≡ v.claimed → w.moved ≡ v.moved → w.share ≡ v.share → w.calls ≡ v.calls → w.dry ≡ v.dry → 0 < v.share → Seen words w.seen →
+      Kept codes sizes words (set views id w)
   same_words w claimed moved share calls dry some_share seen = record {
     one_each = r.one_each;
     claimed = λ x. (let e = sum_set (λ (u : View). times x u.claimed) views id v w at in let p = r.claimed x in let q : times x w.claimed ≡ times x v.claimed = ap (times x) claimed in omega arith);
     moved = λ f. (let e = sum_set (λ (u : View). marks f u.moved) views id v w at in let q : marks f w.moved ≡ marks f v.moved = ap (marks f) moved in
-        let e' = sum_set (λ (u : View). marks_with f (code_of codes f) u.moved) views id v w at in let q' : marks_with f (code_of codes f) w.moved ≡ marks_with f (code_of codes f) v.moved = ap (marks_with f (code_of codes f)) moved in
+        let e' = sum_set (λ (u : View). marks_with f (code_of codes f) u.moved) views id v w at in
+        let q' : marks_with f (code_of codes f) w.moved ≡ marks_with f (code_of codes f) v.moved = ap (marks_with f (code_of codes f)) moved in
         let here : moves_of f (set views id w) ≡ moves_of f views = omega arith in
         let with' : moves_with f (code_of codes f) (set views id w) ≡ moves_with f (code_of codes f) views = omega arith in
         rw (here, with') (r.moved f));
@@ -120,13 +127,16 @@ module _ (codes : List ℕ) (sizes : Sizes) (words : List ℕ) (views : List Vie
         inr ((λ z. graded (sym written_here ∙ z)), written_here ∙ is, omega arith, omega arith)
 
     moved_written : (g : ℕ) → Dec (g ≡ f) → Moved codes g (word_of written g) (moves_of g (set views id (with_moved f c v))) (moves_with g (code_of codes g) (set views id (with_moved f c v)))
-    moved_written g (yes e) = subst (λ (k : ℕ). Moved codes k (word_of written k) (moves_of k (set views id (with_moved f c v))) (moves_with k (code_of codes k) (set views id (with_moved f c v)))) (sym e) moved_here
+    moved_written g (yes e) = subst (λ (k : ℕ). Moved codes k (word_of written k) (moves_of k (set views id (with_moved f c v))) (moves_with k (code_of codes k) (set views id (with_moved f c v))))
+        (sym e) moved_here
     moved_written g (no n) =
         let p = sum_set (λ (u : View). marks g u.moved) views id v (with_moved f c v) at in let q = marks_push g f c v.moved in
         let p' = sum_set (λ (u : View). marks_with g (code_of codes g) u.moved) views id v (with_moved f c v) at in let q' = marks_with_push g (code_of codes g) f c v.moved in
         let off : (f == g) ≡ false = ne_eqb f g (λ e. n (sym e)) in
         let here : moves_of g (set views id (with_moved f c v)) ≡ moves_of g views = let z : cond {A = ℕ} (f == g) 1 0 ≡ 0 = ap (λ (b : Bool). cond {A = ℕ} b 1 0) off in omega arith in
-        let with' : moves_with g (code_of codes g) (set views id (with_moved f c v)) ≡ moves_with g (code_of codes g) views = let z : cond {A = ℕ} ((f == g) && (c == code_of codes g)) 1 0 ≡ 0 = ap (λ (b : Bool). cond {A = ℕ} (b && (c == code_of codes g)) 1 0) off in omega arith in
+        let with' : moves_with g (code_of codes g) (set views id (with_moved f c v)) ≡ moves_with g (code_of codes g) views = let z : cond {A = ℕ} ((f == g) && (c == code_of codes g)) 1 0 ≡ 0 =
+        ap (λ (b : Bool). cond {A = ℕ} (b && (c == code_of codes g)) 1 0)
+        off in omega arith in
         rw (written_else g n, here, with') (r.moved g)
 
     -- after the word was moved
@@ -140,14 +150,16 @@ module _ (codes : List ℕ) (sizes : Sizes) (words : List ℕ) (views : List Vie
       shares = (let e = sum_set (λ (u : View). u.share) views id v w at in let p = r.shares in omega arith);
       calls = (let e = sum_set (λ (u : View). u.calls) views id v w at in let p = r.calls in rw written_counter (omega arith));
       within = each_set Within views id w r.within (let h = r.within id v at in (omega arith, λ z. absurd (omega arith)));
-      dry = each_set (λ (u : View). IsTrue u.dry → sizes.claims ≤ counter written) views id w (λ j u e t. (let h = r.dry j u e t in rw written_counter h)) (λ t. (let h = r.dry id v at t in rw written_counter h));
+      dry = each_set (λ (u : View). IsTrue u.dry → sizes.claims ≤ counter written) views id w (λ j u e t. (let h = r.dry j u e t in rw written_counter h))
+          (λ t. (let h = r.dry id v at t in rw written_counter h));
     }
 
   -- after a new seat was split off
   splits : v.calls + lent_share < v.share → Kept codes sizes words (set views id (without_lent v) ++ newcomer v ∷ [])
   splits room = let a : View = without_lent v in let b : View = newcomer v in record {
     one_each = r.one_each;
-    claimed = λ x. (let e = sum_set (λ (u : View). times x u.claimed) views id v a at in let p = r.claimed x in let s = sum_by_push (λ (u : View). times x u.claimed) (set views id a) b in omega arith);
+    claimed = λ x. (let e = sum_set (λ (u : View). times x u.claimed) views id v a at in let p = r.claimed x in let s = sum_by_push (λ (u : View). times x u.claimed) (set views id a) b in
+        omega arith);
     moved = λ f. (let e = sum_set (λ (u : View). marks f u.moved) views id v a at in let s = sum_by_push (λ (u : View). marks f u.moved) (set views id a) b in
         let e' = sum_set (λ (u : View). marks_with f (code_of codes f) u.moved) views id v a at in let s' = sum_by_push (λ (u : View). marks_with f (code_of codes f) u.moved) (set views id a) b in
         let here : moves_of f (set views id a ++ b ∷ []) ≡ moves_of f views = omega arith in
@@ -157,7 +169,8 @@ module _ (codes : List ℕ) (sizes : Sizes) (words : List ℕ) (views : List Vie
     shares = (let e = sum_set (λ (u : View). u.share) views id v a at in let p = r.shares in let s = sum_by_push (λ (u : View). u.share) (set views id a) b in omega arith);
     calls = (let e = sum_set (λ (u : View). u.calls) views id v a at in let p = r.calls in let s = sum_by_push (λ (u : View). u.calls) (set views id a) b in omega arith);
     within = each_push Within (set views id a) b (each_set Within views id a r.within (omega arith, λ z. absurd (omega arith))) (omega arith, λ z. absurd (omega arith));
-    dry = each_push (λ (u : View). IsTrue u.dry → sizes.claims ≤ counter words) (set views id a) b (each_set (λ (u : View). IsTrue u.dry → sizes.claims ≤ counter words) views id a r.dry (λ t. r.dry id v at t)) (λ t. absurd (true≢false (sym t)));
+    dry = each_push (λ (u : View). IsTrue u.dry → sizes.claims ≤ counter words) (set views id a) b
+        (each_set (λ (u : View). IsTrue u.dry → sizes.claims ≤ counter words) views id a r.dry (λ t. r.dry id v at t)) (λ t. absurd (true≢false (sym t)));
   }
 
 -- of two views one is dry
@@ -184,8 +197,12 @@ module _ (codes : List ℕ) (sizes : Sizes) (words : List ℕ) (views : List Vie
   joins = record {
     one_each = r.one_each;
     claimed = λ x. sum_joined (λ (u : View). times x u.claimed) refl (times-append x v.claimed w.claimed) ∙ r.claimed x;
-    moved = λ f. rw (sum_joined (λ (u : View). marks f u.moved) refl (marks-append f v.moved w.moved), sum_joined (λ (u : View). marks_with f (code_of codes f) u.moved) refl (marks_with-append f (code_of codes f) v.moved w.moved)) (r.moved f);
-    seen = each_joined (λ (u : View). Seen words u.seen) r.seen (All-append (λ (m : Mark). (word_of words (fault_number m.fault) ≡ m.code) × (m.code ≢ 0)) v.seen w.seen (r.seen id v at) (r.seen other w there_before)) (All-nil (λ (m : Mark). (word_of words (fault_number m.fault) ≡ m.code) × (m.code ≢ 0)));
+    moved = λ f. rw (
+      sum_joined (λ (u : View). marks f u.moved) refl (marks-append f v.moved w.moved),
+      sum_joined (λ (u : View). marks_with f (code_of codes f) u.moved) refl (marks_with-append f (code_of codes f) v.moved w.moved),
+    ) (r.moved f);
+    seen = each_joined (λ (u : View). Seen words u.seen) r.seen (All-append (λ (m : Mark). (word_of words (fault_number m.fault) ≡ m.code) × (m.code ≢ 0)) v.seen w.seen (r.seen id v at)
+        (r.seen other w there_before)) (All-nil (λ (m : Mark). (word_of words (fault_number m.fault) ≡ m.code) × (m.code ≢ 0)));
     shares = sum_joined (λ (u : View). u.share) refl refl ∙ r.shares;
     calls = sum_joined (λ (u : View). u.calls) refl refl ∙ r.calls;
     within = each_joined Within r.within (let a = r.within id v at in let b = r.within other w there_before in (omega arith, λ z. absurd (omega arith))) (omega arith, λ _. refl);
@@ -193,7 +210,8 @@ module _ (codes : List ℕ) (sizes : Sizes) (words : List ℕ) (views : List Vie
   }
 
 -- where one view has the whole share, it has all that the views have
-module _ (codes : List ℕ) (sizes : Sizes) (words : List ℕ) (views : List View) (r : Kept codes sizes words views) (id : ℕ) (v : View) (at : get_elem? views id ≡ some v) (whole : v.share ≡ 2 ^ 62) where
+module _ (codes : List ℕ) (sizes : Sizes) (words : List ℕ) (views : List View) (r : Kept codes sizes words views) (id : ℕ) (v : View) (at : get_elem? views id ≡ some v)
+    (whole : v.share ≡ 2 ^ 62) where
   all_of_it : (f : View → ℕ) → f spent_view ≡ 0 → sum_by f views ≡ f v
   all_of_it f z = alone f z views id v at r.within (r.shares ∙ sym whole)
 
@@ -201,7 +219,8 @@ module _ (codes : List ℕ) (sizes : Sizes) (words : List ℕ) (views : List Vie
   all_moved f = rw (← all_of_it (λ (u : View). marks f u.moved) refl, ← all_of_it (λ (u : View). marks_with f (code_of codes f) u.moved) refl) (r.moved f)
 
   pub all_claimed : IsTrue v.dry → (x : ℕ) → times x v.claimed ≡ once_below x sizes.claims
-  all_claimed dry x = let h = r.dry id v at dry in let least : min (counter words) sizes.claims ≡ sizes.claims = omega arith in sym (all_of_it (λ (u : View). times x u.claimed) refl) ∙ r.claimed x ∙ ap (once_below x) least
+  all_claimed dry x = let h = r.dry id v at dry in let least : min (counter words) sizes.claims ≡ sizes.claims = omega arith in
+      sym (all_of_it (λ (u : View). times x u.claimed) refl) ∙ r.claimed x ∙ ap (once_below x) least
 
 module _ (codes : List ℕ) (sizes : Sizes) (slots id : ℕ) (me : Me (Unit {0}) View) where
   -- what a step asks of the table: at the counter
@@ -233,7 +252,8 @@ module _ (codes : List ℕ) (sizes : Sizes) (slots id : ℕ) (me : Me (Unit {0})
       with_moved f c v,
       keeps,
       tt,
-      exchanged n 0 c (λ k. Kept codes sizes (set s.words (f + 1) k) (set s.views id (with_moved f c v))) (λ _. writes codes sizes s.words s.views r id v at f c inside is graded h some_share) (λ no. absurd (no h)),
+      exchanged n 0 c (λ k. Kept codes sizes (set s.words (f + 1) k) (set s.views id (with_moved f c v))) (λ _. writes codes sizes s.words s.views r id v at f c inside is graded h some_share)
+          (λ no. absurd (no h)),
       record { view = ap (λ (b : Bool). cond b (with_moved f c v) (with_seen f n v)) (sym (eq-eqb n 0 h)); slots = refl; was = found codes sizes s.words s.views r id v at f },
     )
     | no h ↦ (
@@ -279,10 +299,12 @@ pub closes : (codes : List ℕ) (sizes : Sizes) (words : List ℕ) (views : List
 closes codes sizes words views r id v at whole copy long same =
     let read : (f : ℕ) → slice_index copy f ≡ slice_index words (f + 1) = λ f. elim (dec_lt f sizes.faults) [
       | yes h ↦ same f h
-      | no h ↦ (let past : length copy ≤ f = omega arith in let past' : length words ≤ f + 1 = (let k = r.one_each in omega arith) in get_or_past copy f 0 past ∙ sym (get_or_past words (f + 1) 0 past'))
+      | no h ↦ (let past : length copy ≤ f = omega arith in let past' : length words ≤ f + 1 = (let k = r.one_each in omega arith) in
+          get_or_past copy f 0 past ∙ sym (get_or_past words (f + 1) 0 past'))
     ] in record {
       one_each = long;
       moved = λ f. rw (read f) (all_moved codes sizes words views r id v at whole f);
-      seen = All-weaker (λ (m : Mark). (word_of words (fault_number m.fault) ≡ m.code) × (m.code ≢ 0)) (λ (m : Mark). (slice_index copy (fault_number m.fault) ≡ m.code) × (m.code ≢ 0)) (λ m h. (read (fault_number m.fault) ∙ h.0, h.1)) v.seen (r.seen id v at);
+      seen = All-weaker (λ (m : Mark). (word_of words (fault_number m.fault) ≡ m.code) × (m.code ≢ 0)) (λ (m : Mark). (slice_index copy (fault_number m.fault) ≡ m.code) × (m.code ≢ 0))
+          (λ m h. (read (fault_number m.fault) ∙ h.0, h.1)) v.seen (r.seen id v at);
       claimed = all_claimed codes sizes words views r id v at whole;
     }

@@ -34,7 +34,8 @@ filter-both : (p q : ℕ → Bool) (xs : List ℕ) → filter q (filter p xs) �
 filter-both p q [] = refl
 filter-both p q (x ∷ xs) = go (p x) (filter-both p q xs)
   where
-    go : (b : Bool) → filter q (filter p xs) ≡ filter (λ t. p t && q t) xs → filter q (cond b (x ∷ filter p xs) (filter p xs)) ≡ cond (b && q x) (x ∷ filter (λ t. p t && q t) xs) (filter (λ t. p t && q t) xs)
+    go : (b : Bool) → filter q (filter p xs) ≡ filter (λ t. p t && q t) xs → filter q (cond b (x ∷ filter p xs) (filter p xs)) ≡ cond (b && q x) (x ∷ filter (λ t. p t && q t) xs)
+        (filter (λ t. p t && q t) xs)
     go true e = ap (λ ys. cond (q x) (x ∷ ys) ys) e
     go false e = e
 
@@ -64,7 +65,8 @@ differing-filter good own [] = refl
 differing-filter good own (x ∷ xs) = go (not (same_value (own x) (good x))) (differing-filter good own xs)
   where
     go : (b : Bool) → differing good (samples_at own xs) ≡ samples_at own (filter (differ_at good own) xs) →
-        cond b (sample_at own x ∷ differing good (samples_at own xs)) (differing good (samples_at own xs)) ≡ samples_at own (cond b (x ∷ filter (differ_at good own) xs) (filter (differ_at good own) xs))
+        cond b (sample_at own x ∷ differing good (samples_at own xs)) (differing good (samples_at own xs)) ≡ samples_at own
+        (cond b (x ∷ filter (differ_at good own) xs) (filter (differ_at good own) xs))
     go true e = ap (λ samples. sample_at own x ∷ samples) e
     go false e = e
 
@@ -95,7 +97,8 @@ module _ (good own : Samples) (strobes : List ℕ) (before limit : ℕ → Bool)
   kept-strobes : filter kept_test (filter before strobes) ≡ filter (differ_at good own) (filter limit strobes)
   kept-strobes = filter-within kept_test before kept-within strobes ∙ sym (filter-both limit (differ_at good own) strobes)
 
-  are-beside : (gs ds : List SampleKept) → IsAscending strobes → map sample_of gs ≡ samples_at good (filter before strobes) → map sample_of ds ≡ differing good (samples_at own (filter limit strobes)) →
+  are-beside : (gs ds : List SampleKept) → IsAscending strobes → map sample_of gs ≡ samples_at good (filter before strobes) →
+      map sample_of ds ≡ differing good (samples_at own (filter limit strobes)) →
       AreBeside gs ds good own (filter before strobes) kept_test
   are-beside gs ds a g d = record {
     ascending = filter-ascends before strobes a;
@@ -117,18 +120,22 @@ after-before : (stop : Option Stop) (time : ℕ) → After stop time → is_befo
 after-before None time h = refl
 after-before (Some stop) time h = lt-ltb time stop.time h
 
-hard-of-kept : (design : FlatDesign) (plan : TestPlan) (good : List SampleKept) (fault : StuckAt) (kept : Kept) (one : Hard) → IsAscending plan.strobes → map sample_of good ≡ good_samples design plan → Keeps design plan fault kept → IsHardOf good kept one →
+hard-of-kept : (design : FlatDesign) (plan : TestPlan) (good : List SampleKept) (fault : StuckAt) (kept : Kept) (one : Hard) → IsAscending plan.strobes →
+    map sample_of good ≡ good_samples design plan → Keeps design plan fault kept → IsHardOf good kept one →
     one.times ≡ hard_times design plan fault
 hard-of-kept design plan good fault kept one ascending shown k h =
     let l = limited (good_stop design plan) (faulty_stop design plan fault) (faulty_seen design plan fault) plan.strobes k.0 k.1 in
     let within = λ (t : ℕ) (e : l.limit t ≡ true). after-before (good_stop design plan) t (l.out t e).0 in
-    h.times (good_seen design plan) (faulty_seen design plan fault) (filter (is_before (good_stop design plan)) plan.strobes) (λ t. l.limit t && differ_at (good_seen design plan) (faulty_seen design plan fault) t)
-    (are-beside (good_seen design plan) (faulty_seen design plan fault) plan.strobes (is_before (good_stop design plan)) l.limit within good kept.differs ascending shown (k.2.differs ∙ ap (differing (good_seen design plan)) l.samples))
+    h.times (good_seen design plan) (faulty_seen design plan fault) (filter (is_before (good_stop design plan)) plan.strobes)
+    (λ t. l.limit t && differ_at (good_seen design plan) (faulty_seen design plan fault) t)
+    (are-beside (good_seen design plan) (faulty_seen design plan fault) plan.strobes (is_before (good_stop design plan)) l.limit within good kept.differs ascending shown
+    (k.2.differs ∙ ap (differing (good_seen design plan)) l.samples))
     ∙ hard-kept (good_seen design plan) (faulty_seen design plan fault) plan.strobes (is_before (good_stop design plan)) l.limit within
     ∙ sym (ap (hard_of (good_seen design plan)) l.samples)
     ∙ sym (ap (hard_in (good_seen design plan)) k.1)
 
-all-hard : (design : FlatDesign) (plan : TestPlan) (good : List SampleKept) (faults : List StuckAt) (kept : List Kept) (hard : List Hard) → IsAscending plan.strobes → map sample_of good ≡ good_samples design plan → AllZip (Keeps design plan) faults kept →
+all-hard : (design : FlatDesign) (plan : TestPlan) (good : List SampleKept) (faults : List StuckAt) (kept : List Kept) (hard : List Hard) → IsAscending plan.strobes →
+    map sample_of good ≡ good_samples design plan → AllZip (Keeps design plan) faults kept →
     AllZip (IsHardOf good) kept hard → times_of hard ≡ map (hard_times design plan) faults
 all-hard design plan good [] [] [] a s k h = refl
 all-hard design plan good [] [] (one ∷ hard) a s k h = absurd h
@@ -137,13 +144,15 @@ all-hard design plan good (fault ∷ faults) [] hard a s k h = absurd k
 all-hard design plan good (fault ∷ faults) (own ∷ kept) [] a s k h = absurd h
 all-hard design plan good (fault ∷ faults) (own ∷ kept) (one ∷ hard) a s k h = λ i. hard-of-kept design plan good fault own one a s k.0 h.0 i ∷ all-hard design plan good faults kept hard a s k.1 h.1 i
 
-all-numbered : (good : List SampleKept) (kept : List Kept) (hard : List Hard) → AllZip (IsHardOf good) kept hard → map (λ (one : Hard). fault_number one.fault) hard ≡ map (λ (own : Kept). fault_number own.fault) kept
+all-numbered : (good : List SampleKept) (kept : List Kept) (hard : List Hard) → AllZip (IsHardOf good) kept hard →
+    map (λ (one : Hard). fault_number one.fault) hard ≡ map (λ (own : Kept). fault_number own.fault) kept
 all-numbered good [] [] h = refl
 all-numbered good [] (one ∷ hard) h = absurd h
 all-numbered good (own ∷ kept) [] h = absurd h
 all-numbered good (own ∷ kept) (one ∷ hard) h = λ i. fault_number (h.0.fault i) ∷ all-numbered good kept hard h.1 i
 
-pub are-hard : (design : FlatDesign) (plan : TestPlan) (dictionary : Dictionary) (hard : List Hard) → IsPlan plan → IsDictionary design plan dictionary → AllZip (IsHardOf dictionary.good) dictionary.faults hard → AreHard (hard_lists design plan) hard
+pub are-hard : (design : FlatDesign) (plan : TestPlan) (dictionary : Dictionary) (hard : List Hard) → IsPlan plan → IsDictionary design plan dictionary →
+    AllZip (IsHardOf dictionary.good) dictionary.faults hard → AreHard (hard_lists design plan) hard
 are-hard design plan dictionary hard rules d h = record {
   times = all-hard design plan dictionary.good plan.faults dictionary.faults hard rules.ascending d.good d.faults h;
   numbered = all-numbered dictionary.good dictionary.faults hard h ∙ d.numbered ∙ ap (up_from 0) (sym (length-map plan.faults (hard_times design plan)));

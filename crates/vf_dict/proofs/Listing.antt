@@ -28,7 +28,8 @@ zip-push P (w ∷ xs) [] x y h p = absurd h
 zip-push P (w ∷ xs) (z ∷ ys) x y h p = (h.0, zip-push P xs ys x y h.1 p)
 
 -- what holds of the first so many elements and of those of another list holds at each place of that one
-pub zip-at : {A B : Type 0} (P : A → B → Type 0) (count : ℕ) (xs : List A) (ys : List B) (k : ℕ) (x : A) (y : B) → AllZip P (take count xs) ys → slice_get xs k ≡ Some x → slice_get ys k ≡ Some y → P x y
+pub zip-at : {A B : Type 0} (P : A → B → Type 0) (count : ℕ) (xs : List A) (ys : List B) (k : ℕ) (x : A) (y : B) → AllZip P (take count xs) ys → slice_get xs k ≡ Some x → slice_get ys k ≡ Some y →
+    P x y
 zip-at P zero xs [] k x y h e f = cc
 zip-at P zero xs (z ∷ ys) k x y h e f = absurd h
 zip-at P (suc count) [] ys k x y h e f = cc
@@ -49,10 +50,12 @@ up_from-more start count = subst (λ n. up_from start n ≡ up_from start count 
 -- The listed faults
 
 -- one fault more
-pub kept-more : (design : FlatDesign) (plan : TestPlan) (faults : List StuckAt) (kept : List Kept) (count : ℕ) (fault : StuckAt) (own : Kept) → slice_get faults count ≡ Some fault → AreKept design plan (take count faults) kept →
+pub kept-more : (design : FlatDesign) (plan : TestPlan) (faults : List StuckAt) (kept : List Kept) (count : ℕ) (fault : StuckAt) (own : Kept) → slice_get faults count ≡ Some fault →
+    AreKept design plan (take count faults) kept →
     Keeps design plan fault own → fault_number own.fault ≡ count → AreKept design plan (take (count + 1) faults) (kept ++ own ∷ [])
 kept-more design plan faults kept count fault own at so keeps number =
-    subst (λ listed. AreKept design plan listed (kept ++ own ∷ [])) (sym (take_more faults count fault below ∙ ap (λ f. take count faults ++ f ∷ []) (get_or_from_slice_get faults count fault fault at))) (record {
+    subst (λ listed. AreKept design plan listed (kept ++ own ∷ [])) (sym (take_more faults count fault below
+    ∙ ap (λ f. take count faults ++ f ∷ []) (get_or_from_slice_get faults count fault fault at))) (record {
       each = zip-push (Keeps design plan) (take count faults) kept fault own so.each keeps;
       numbered =
           map_push (λ (one : Kept). fault_number one.fault) kept own
@@ -67,11 +70,13 @@ kept-more design plan faults kept count fault own at so keeps number =
     size = let taken : length (take count faults) ≡ count = length-take-le count faults (omega (arith, below)) in omega (arith, taken)
 
 -- all of them
-pub kept-whole : (design : FlatDesign) (plan : TestPlan) (faults : List StuckAt) (kept : List Kept) (count : ℕ) → length faults ≤ count → AreKept design plan (take count faults) kept → AreKept design plan faults kept
+pub kept-whole : (design : FlatDesign) (plan : TestPlan) (faults : List StuckAt) (kept : List Kept) (count : ℕ) → length faults ≤ count → AreKept design plan (take count faults) kept →
+    AreKept design plan faults kept
 kept-whole design plan faults kept count past so = subst (λ listed. AreKept design plan listed kept) (take_all count faults past) so
 
 -- what is kept of a fault is kept of each one of its class
-pub kept-copied : (design : FlatDesign) (plan : TestPlan) (one other : StuckAt) (same own : Kept) (number : FaultId) → FullGradesAgree → KeepsRules design → AreOneClass design one other → Keeps design plan one same → own ≡ record same { fault = number } →
+pub kept-copied : (design : FlatDesign) (plan : TestPlan) (one other : StuckAt) (same own : Kept) (number : FaultId) → FullGradesAgree → KeepsRules design → AreOneClass design one other →
+    Keeps design plan one same → own ≡ record same { fault = number } →
     Keeps design plan other own
 kept-copied design plan one other same own number law rules alike k is = (
   k.0,

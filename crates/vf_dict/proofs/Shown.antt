@@ -31,7 +31,8 @@ none-before stop [] h = refl
 none-before stop (x ∷ last) h = ap (λ b. cond b (x ∷ filter (is_before stop) last) (filter (is_before stop) last)) (since-stop stop x h.0) ∙ none-before stop last h.1
 
 -- the strobes of samples that come before a stop, where the others don't
-all-before : (stop : Option Stop) (shown : List Sample) (last : List ℕ) → AllHold (λ (sample : Sample). StopsAfter sample.time stop) shown → AllHold (λ strobe. StopsBy strobe stop) last → filter (is_before stop) (times shown ++ last) ≡ times shown
+all-before : (stop : Option Stop) (shown : List Sample) (last : List ℕ) → AllHold (λ (sample : Sample). StopsAfter sample.time stop) shown → AllHold (λ strobe. StopsBy strobe stop) last →
+    filter (is_before stop) (times shown ++ last) ≡ times shown
 all-before stop [] last h k = none-before stop last k
 all-before stop (sample ∷ shown) last h k =
     ap (λ b. cond b (sample.time ∷ filter (is_before stop) (times shown ++ last)) (filter (is_before stop) (times shown ++ last))) (before-stop stop sample.time h.0)
@@ -54,7 +55,8 @@ raced-if None = refl
 raced-if (Some pair) = refl
 
 -- the dictionary is made of what the good machine's run shows, and of what is kept of the listed faults
-pub made-of : (design : FlatDesign) (plan : TestPlan) (good : GoodSamples) (faults : List Kept) (dictionary : Dictionary) → dictionary ≡ record { good = good.samples.items; raced = is_some good.race; faults = faults } →
+pub made-of : (design : FlatDesign) (plan : TestPlan) (good : GoodSamples) (faults : List Kept) (dictionary : Dictionary) →
+    dictionary ≡ record { good = good.samples.items; raced = is_some good.race; faults = faults } →
     IsGoodRun design plan (samples_kept good) (race_if good.race) → AreKept design plan plan.faults faults → IsDictionary design plan dictionary
 made-of design plan good faults dictionary is run kept =
     subst (IsDictionary design plan) (sym is) (record {
@@ -70,6 +72,7 @@ outcome_or None = Fine
 outcome_or (Some stop) = stop.outcome
 
 -- what stops with a race, or not at all, doesn't loop
-pub no-loop : (design : FlatDesign) (plan : TestPlan) (race : Option Pair) → good_stop design plan ≡ race_if race → (time : ℕ) → good_stop design plan ≡ Some (record { time = time; outcome = Hyper }) → ⊥
+pub no-loop : (design : FlatDesign) (plan : TestPlan) (race : Option Pair) → good_stop design plan ≡ race_if race → (time : ℕ) →
+    good_stop design plan ≡ Some (record { time = time; outcome = Hyper }) → ⊥
 no-loop design plan None is time loops = let told : false ≡ true = sym (ap is_some is) ∙ ap is_some loops in absurd (cc)
 no-loop design plan (Some pair) is time loops = let told : Hyper ≡ Race (reported_pair pair) = ap outcome_or (sym loops ∙ is) in absurd (cc)

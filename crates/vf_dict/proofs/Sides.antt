@@ -27,7 +27,8 @@ module _ (good : SampleKept) (rest : List SampleKept) (seen own : Samples) (stro
   failed : test strobe ≡ false → filter test (strobe ∷ strobes) ≡ filter test strobes
   failed e = ap (λ b. cond b (strobe ∷ filter test strobes) (filter test strobes)) e
 
-  good-head : (differs : List SampleKept) → AreBeside (good ∷ rest) differs seen own (strobe ∷ strobes) test → (good.time ≡ strobe) × (good.bits ≡ seen strobe) × (map sample_of rest ≡ samples_at seen strobes)
+  good-head : (differs : List SampleKept) → AreBeside (good ∷ rest) differs seen own (strobe ∷ strobes) test →
+      (good.time ≡ strobe) × (good.bits ≡ seen strobe) × (map sample_of rest ≡ samples_at seen strobes)
   good-head differs b =
       let h = heads (sample_of good) (record { time = strobe; bits = seen strobe }) (map sample_of rest) (samples_at seen strobes) b.good_are in
       (ap (λ (s : Sample). s.time) h.0, ap (λ (s : Sample). s.bits) h.0, h.1)
@@ -89,11 +90,13 @@ module _ (good : SampleKept) (rest : List SampleKept) (seen own : Samples) (stro
       go false e = absurd (no-later (filter test strobes) (all-filtered (λ t. strobe < t) test strobes b.ascending.0) (b.differs_are ∙ ap (samples_at own) (failed e)))
 
   -- the hard strobes begin with this one, where the sample detects the fault
-  taken-times : test strobe ≡ true → hard_among seen own test (strobe ∷ strobes) ≡ cond (some_sample is_hard (seen strobe) (own strobe)) (strobe ∷ hard_among seen own test strobes) (hard_among seen own test strobes)
+  taken-times : test strobe ≡ true → hard_among seen own test (strobe ∷ strobes) ≡ cond (some_sample is_hard (seen strobe) (own strobe)) (strobe ∷ hard_among seen own test strobes)
+      (hard_among seen own test strobes)
   taken-times e = ap (λ xs. hard_of seen (samples_at own xs)) (passed e) ∙ go (some_sample is_hard (seen strobe) (own strobe))
     where
       go : (b : Bool) →
-          map (λ (sample : Sample). sample.time) (cond b (record { time = strobe; bits = own strobe } ∷ filter (λ (sample : Sample). some_sample is_hard (seen sample.time) sample.bits) (samples_at own (filter test strobes)))
+          map (λ (sample : Sample). sample.time) (cond b (record { time = strobe; bits = own strobe } ∷
+          filter (λ (sample : Sample). some_sample is_hard (seen sample.time) sample.bits) (samples_at own (filter test strobes)))
           (filter (λ (sample : Sample). some_sample is_hard (seen sample.time) sample.bits) (samples_at own (filter test strobes))))
           ≡ cond b (strobe ∷ hard_among seen own test strobes) (hard_among seen own test strobes)
       go true = refl
@@ -107,19 +110,24 @@ passes-none good differs before none = record {
   times = λ rest seen own strobe strobes test b. ap (λ xs. before ++ xs) (sym (over-times good rest seen own strobe strobes test (failed-here rest seen own strobe strobes test b)));
 }
   where
-    failed-here : (rest : List SampleKept) (seen own : Samples) (strobe : ℕ) (strobes : List ℕ) (test : ℕ → Bool) → AreBeside (good ∷ rest) differs seen own (strobe ∷ strobes) test → test strobe ≡ false
+    failed-here : (rest : List SampleKept) (seen own : Samples) (strobe : ℕ) (strobes : List ℕ) (test : ℕ → Bool) → AreBeside (good ∷ rest) differs seen own (strobe ∷ strobes) test →
+        test strobe ≡ false
     failed-here rest seen own strobe strobes test b = none-there good rest seen own strobe strobes test (subst (λ ds. AreBeside (good ∷ rest) ds seen own (strobe ∷ strobes) test) none b)
 
-pub passes-other : (good first : SampleKept) (differs later : List SampleKept) (before : List ℕ) → differs ≡ first ∷ later → (first.time ≡ good.time → ⊥) → PassesStrobe good differs before differs before
+pub passes-other : (good first : SampleKept) (differs later : List SampleKept) (before : List ℕ) → differs ≡ first ∷ later → (first.time ≡ good.time → ⊥) →
+    PassesStrobe good differs before differs before
 passes-other good first differs later before is other = record {
   beside = λ rest seen own strobe strobes test b. over good rest seen own strobe strobes test differs b (failed-here rest seen own strobe strobes test b);
   times = λ rest seen own strobe strobes test b. ap (λ xs. before ++ xs) (sym (over-times good rest seen own strobe strobes test (failed-here rest seen own strobe strobes test b)));
 }
   where
-    failed-here : (rest : List SampleKept) (seen own : Samples) (strobe : ℕ) (strobes : List ℕ) (test : ℕ → Bool) → AreBeside (good ∷ rest) differs seen own (strobe ∷ strobes) test → test strobe ≡ false
-    failed-here rest seen own strobe strobes test b = other-there good rest seen own strobe strobes test first later (subst (λ ds. AreBeside (good ∷ rest) ds seen own (strobe ∷ strobes) test) is b) other
+    failed-here : (rest : List SampleKept) (seen own : Samples) (strobe : ℕ) (strobes : List ℕ) (test : ℕ → Bool) → AreBeside (good ∷ rest) differs seen own (strobe ∷ strobes) test →
+        test strobe ≡ false
+    failed-here rest seen own strobe strobes test b = other-there good rest seen own strobe strobes test first later
+        (subst (λ ds. AreBeside (good ∷ rest) ds seen own (strobe ∷ strobes) test) is b) other
 
-pub passes-same : (good first : SampleKept) (differs later : List SampleKept) (before after : List ℕ) → differs ≡ first ∷ later → first.time ≡ good.time → after ≡ before ++ cond (some_sample is_hard good.bits first.bits) (first.time ∷ []) [] →
+pub passes-same : (good first : SampleKept) (differs later : List SampleKept) (before after : List ℕ) → differs ≡ first ∷ later → first.time ≡ good.time →
+    after ≡ before ++ cond (some_sample is_hard good.bits first.bits) (first.time ∷ []) [] →
     PassesStrobe good differs before later after
 passes-same good first differs later before after is same noted = record {
   beside = λ rest seen own strobe strobes test b. (found rest seen own strobe strobes test b).beside;
@@ -129,19 +137,24 @@ passes-same good first differs later before after is same noted = record {
       ap (λ xs. xs ++ hard_among seen own test strobes) noted
       ∙ append_assoc before (cond (some_sample is_hard good.bits first.bits) (first.time ∷ []) []) (hard_among seen own test strobes)
       ∙ ap (λ xs. before ++ xs) (
-      (λ i. cond (some_sample is_hard (head.1 i) (f.bits i)) (f.time i ∷ []) [] ++ hard_among seen own test strobes) ∙ joined (some_sample is_hard (seen strobe) (own strobe)) strobe (hard_among seen own test strobes)
+      (λ i. cond (some_sample is_hard (head.1 i) (f.bits i)) (f.time i ∷ []) [] ++ hard_among seen own test strobes)
+      ∙ joined (some_sample is_hard (seen strobe) (own strobe)) strobe (hard_among seen own test strobes)
       ∙ sym (taken-times good rest seen own strobe strobes test (passed-here rest seen own strobe strobes test b))
       );
 }
   where
-    first-is : (rest : List SampleKept) (seen own : Samples) (strobe : ℕ) (strobes : List ℕ) (test : ℕ → Bool) → AreBeside (good ∷ rest) differs seen own (strobe ∷ strobes) test → AreBeside (good ∷ rest) (first ∷ later) seen own (strobe ∷ strobes) test
+    first-is : (rest : List SampleKept) (seen own : Samples) (strobe : ℕ) (strobes : List ℕ) (test : ℕ → Bool) → AreBeside (good ∷ rest) differs seen own (strobe ∷ strobes) test →
+        AreBeside (good ∷ rest) (first ∷ later) seen own (strobe ∷ strobes) test
     first-is rest seen own strobe strobes test b = subst (λ ds. AreBeside (good ∷ rest) ds seen own (strobe ∷ strobes) test) is b
 
-    passed-here : (rest : List SampleKept) (seen own : Samples) (strobe : ℕ) (strobes : List ℕ) (test : ℕ → Bool) → AreBeside (good ∷ rest) differs seen own (strobe ∷ strobes) test → test strobe ≡ true
+    passed-here : (rest : List SampleKept) (seen own : Samples) (strobe : ℕ) (strobes : List ℕ) (test : ℕ → Bool) → AreBeside (good ∷ rest) differs seen own (strobe ∷ strobes) test →
+        test strobe ≡ true
     passed-here rest seen own strobe strobes test b = same-there good rest seen own strobe strobes test first later (first-is rest seen own strobe strobes test b) same
 
-    found : (rest : List SampleKept) (seen own : Samples) (strobe : ℕ) (strobes : List ℕ) (test : ℕ → Bool) → AreBeside (good ∷ rest) differs seen own (strobe ∷ strobes) test → IsTaken good rest seen own strobe strobes test first later
-    found rest seen own strobe strobes test b = taken good rest seen own strobe strobes test first later (first-is rest seen own strobe strobes test b) (passed-here rest seen own strobe strobes test b)
+    found : (rest : List SampleKept) (seen own : Samples) (strobe : ℕ) (strobes : List ℕ) (test : ℕ → Bool) → AreBeside (good ∷ rest) differs seen own (strobe ∷ strobes) test →
+        IsTaken good rest seen own strobe strobes test first later
+    found rest seen own strobe strobes test b = taken good rest seen own strobe strobes test first later (first-is rest seen own strobe strobes test b)
+        (passed-here rest seen own strobe strobes test b)
 
     joined : (b : Bool) (time : ℕ) (more : List ℕ) → cond b (time ∷ []) [] ++ more ≡ cond b (time ∷ more) more
     joined true time more = refl
@@ -164,7 +177,8 @@ as-long good differs seen own strobes test b = sym (length-map good sample_of) �
 pub passed-start : (good differs : List SampleKept) (times : List ℕ) → times ≡ [] → HasPassed good differs 0 (drop 0 differs) times
 passed-start good differs times none = λ seen own strobes test b. (b, ap (λ xs. xs ++ hard_among seen own test strobes) none)
 
-pub passed-more : (good differs : List SampleKept) (count : ℕ) (d : SampleKept) (left later : List SampleKept) (times more : List ℕ) → count < length good → HasPassed good differs count left times → PassesStrobe (get_or good count d) left times later more →
+pub passed-more : (good differs : List SampleKept) (count : ℕ) (d : SampleKept) (left later : List SampleKept) (times more : List ℕ) → count < length good → HasPassed good differs count left times →
+    PassesStrobe (get_or good count d) left times later more →
     HasPassed good differs (count + 1) later more
 passed-more good differs count d left later times more below so p = λ seen own strobes test b.
     let w = so seen own strobes test b in

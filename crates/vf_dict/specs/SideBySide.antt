@@ -20,7 +20,8 @@ hard_among seen own test strobes = hard_of seen (samples_at own (filter test str
 
 -- the first strobe was passed: the other samples are beside each other, and its time was put behind the others where it detects the fault
 pub record PassesStrobe (good : Sample) (differs : List Sample) (before : List ℕ) (left : List Sample) (after : List ℕ) : Type 0 where
-  pub beside : (rest : List Sample) (seen own : Samples) (strobe : ℕ) (strobes : List ℕ) (test : ℕ → Bool) → AreBeside (good ∷ rest) differs seen own (strobe ∷ strobes) test → AreBeside rest left seen own strobes test
+  pub beside : (rest : List Sample) (seen own : Samples) (strobe : ℕ) (strobes : List ℕ) (test : ℕ → Bool) → AreBeside (good ∷ rest) differs seen own (strobe ∷ strobes) test →
+      AreBeside rest left seen own strobes test
   pub times : (rest : List Sample) (seen own : Samples) (strobe : ℕ) (strobes : List ℕ) (test : ℕ → Bool) → AreBeside (good ∷ rest) differs seen own (strobe ∷ strobes) test →
       after ++ hard_among seen own test strobes ≡ before ++ hard_among seen own test (strobe ∷ strobes)
 

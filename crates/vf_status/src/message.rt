@@ -2,7 +2,8 @@
 
 ghost use Rattle.std.specs.Prelude.{◌≡◌, ◌++◌, IfOk, OnOk, codes};
 ghost use Rattle.std.specs.Fmt.{decimal};
-ghost use Rattle.vf_status.specs.Status.{status_text, refusal_text, scan_text, parse_text, elab_text, plan_text, response_text, too_large_text, numbered_text, place_text, at_place, what_word, file_word, usage_text};
+ghost use Rattle.vf_status.specs.Status.{status_text, refusal_text, scan_text, parse_text, elab_text, plan_text, response_text};
+ghost use Rattle.vf_status.specs.Status.{too_large_text, numbered_text, place_text, at_place, what_word, file_word, usage_text};
 
 use crate::status::{Refusal, Status, Which};
 use elaborate::ElabFault;

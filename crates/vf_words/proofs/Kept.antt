@@ -5,7 +5,8 @@ use Rattle.std.specs.Str.{bytes_eq}
 use Rattle.v_elab.specs.declared.Mode.{Mode}
 use Rattle.v_elab.specs.declared.Mode.TheVariants.{Usual, Strict}
 use Rattle.vf_words.specs.NumberLaws.{number-is}
-use Rattle.vf_words.specs.Words.{Source, Form, Check, Faults, Dict, Diagnose, Pick, Fits, is_word, source_of, workers_of, seed_of, size_of, design_form_if, is_plan_form, dictionary_form_if, grade_form, last_form_if, soak_form, three_words, plan_words, last_words, form_of}
+use Rattle.vf_words.specs.Words.{Source, Form, Check, Faults, Dict, Diagnose, Pick, Fits, is_word, source_of, workers_of, seed_of, size_of, design_form_if, is_plan_form, dictionary_form_if}
+use Rattle.vf_words.specs.Words.{grade_form, last_form_if, soak_form, three_words, plan_words, last_words, form_of}
 use Rattle.vf_words.specs.declared.words.Form.{Form as FormWords}
 use Rattle.vf_words.specs.Forms.{plain_form}
 

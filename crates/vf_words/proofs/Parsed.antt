@@ -71,7 +71,8 @@ pub record IsTaken (word : List ℕ) (number : ℕ) : Type 0 where
   pub text : word ≡ decimal number
   pub value : number ≡ digits_value 10 word
 
-pub taken : (word : List ℕ) (number : ℕ) → is_plain word ≡ true → (IsNumeral 10 (without_leading_plus word) × (digits_value 10 (without_leading_plus word) < 2 ^ 32)) × (number ≡ digits_value 10 (without_leading_plus word))
+pub taken : (word : List ℕ) (number : ℕ) → is_plain word ≡ true → (IsNumeral 10 (without_leading_plus word) × (digits_value 10 (without_leading_plus word) < 2 ^ 32))
+    × (number ≡ digits_value 10 (without_leading_plus word))
     → IsTaken word number
 taken word number e h =
     let plain = plain-is word e in

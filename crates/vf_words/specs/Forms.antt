@@ -1,7 +1,8 @@
 -- What the code's forms stand for (nothing of the language).
 use Rattle.vf_words.specs.declared.words.Source.{Source}
 use Rattle.vf_words.specs.declared.words.Form.{Form}
-use Rattle.vf_words.specs.declared.words.Form.TheVariants.{Grade as GradeWords, Check as CheckWords, Faults as FaultsWords, Soak as SoakWords, Dict as DictWords, Diagnose as DiagnoseWords, Pick as PickWords}
+use Rattle.vf_words.specs.declared.words.Form.TheVariants.{Grade as GradeWords, Check as CheckWords, Faults as FaultsWords, Soak as SoakWords, Dict as DictWords, Diagnose as DiagnoseWords}
+use Rattle.vf_words.specs.declared.words.Form.TheVariants.{Pick as PickWords}
 use Rattle.vf_words.specs.Words as plain
 
 -- a design

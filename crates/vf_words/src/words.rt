@@ -1,7 +1,8 @@
 // The words of the command line.
 
 ghost use Rattle.std.specs.Prelude.{◌≡◌, IfSome, option_map};
-ghost use Rattle.vf_words.specs.Words.{workers_of, seed_of, size_of, source_of, design_form, is_plan_form, dictionary_form, grade_form, last_form, soak_form, three_words, plan_words, last_words, four_words, five_words, form_of, bytes_of, Fits};
+ghost use Rattle.vf_words.specs.Words.{workers_of, seed_of, size_of, source_of, design_form, is_plan_form, dictionary_form, grade_form, last_form};
+ghost use Rattle.vf_words.specs.Words.{soak_form, three_words, plan_words, last_words, four_words, five_words, form_of, bytes_of, Fits};
 ghost use Rattle.vf_words.specs.Forms.{plain_source, plain_form};
 
 use crate::number::number_between;

@@ -96,7 +96,8 @@ WaitersAdded-new process taken before seen lists x had within unseen =
           ];
       bounded = λ o h.
           elim (cases_eq o x) [
-            | inl same ↦ let now : get_or (set seen x (process + 1)) o 0 ≡ process + 1 = ap (λ j. get_or (set seen x (process + 1)) j 0) same ∙ get_or-set_same seen x (process + 1) 0 in_seen in omega arith
+            | inl same ↦ let now : get_or (set seen x (process + 1)) o 0 ≡ process + 1 = ap (λ j. get_or (set seen x (process + 1)) j 0) same ∙ get_or-set_same seen x (process + 1) 0 in_seen in
+                omega arith
             | inr other ↦
                 let le : get_or seen o 0 ≤ process + 1 = had.bounded o (omega (arith, length-set seen x (process + 1))) in
                 let same : get_or (set seen x (process + 1)) o 0 ≡ get_or seen o 0 = get_or-set_other seen x o (process + 1) 0 other in omega arith
@@ -126,7 +127,8 @@ waiters_from-push : (object number : ℕ) (processes : List FlatProcess) (proces
 waiters_from-push object number [] process = ap (λ n. before_if (has (waited_objects process.body) object) n []) (let e : number ≡ number + 0 = omega arith in e)
 waiters_from-push object number (first ∷ processes) process =
     ap (before_if (has (waited_objects first.body) object) number) (waiters_from-push object (number + 1) processes process)
-    ∙ before_if-append (has (waited_objects first.body) object) number (waiters_from object (number + 1) processes) (before_if (has (waited_objects process.body) object) (number + 1 + length processes) [])
+    ∙ before_if-append (has (waited_objects first.body) object) number (waiters_from object (number + 1) processes)
+    (before_if (has (waited_objects process.body) object) (number + 1 + length processes) [])
     ∙ ap (λ n. before_if (has (waited_objects first.body) object) number (waiters_from object (number + 1) processes) ++ before_if (has (waited_objects process.body) object) n [])
     (let e : number + 1 + length processes ≡ number + suc (length processes) = omega arith in e)
   where

@@ -5,12 +5,19 @@ use Rattle.std.proofs.lemmas.Bool.{eqb-true, eq-eqb, or_cases, or_right, or_left
 use Rattle.vf_base.specs.Lists.{has, change_at, AllHold}
 use Rattle.four_value.specs.Values.{LogicValue, natural_number, edge_matches, part_of}
 use Rattle.vf_base.specs.Base.{SourcePlace}
-use Rattle.v_design.specs.Trees.{Piece, Entry, Vector, Expression, Constant, Name, BitSelect, PartSelect, WordSelect, Unary, Binary, Conditional, Concatenation, Replication, Expressions, no_expressions, more_expressions, Statement, Null, Block, If, Case, For, While, Repeat, Forever, Delay, EventControl, Wait, Blocking, Nonblocking, Finish, Statements, no_statements, more_statements, CaseItems, no_items, more_items}
-use Rattle.v_design.specs.Expressions.{Progress, Needs, Has, then_with, sign_of, read_expression, read_each, pieces_read, parts_read, piece_objects, Slice, slice_piece, slice_pieces, slices_at, whole_slices, bit_slices, some_place_within, part_places, place_of_number, index_number, is_constant, no_values, memory_pieces}
+use Rattle.v_design.specs.Trees.{Piece, Entry, Vector, Expression, Constant, Name, BitSelect, PartSelect, WordSelect, Unary, Binary, Conditional, Concatenation, Replication, Expressions}
+use Rattle.v_design.specs.Trees.{no_expressions, more_expressions, Statement, Null, Block, If, Case, For, While, Repeat, Forever, Delay, EventControl, Wait, Blocking, Nonblocking, Finish}
+use Rattle.v_design.specs.Trees.{Statements, no_statements, more_statements, CaseItems, no_items, more_items}
+use Rattle.v_design.specs.Expressions.{Progress, Needs, Has, then_with, sign_of, read_expression, read_each, pieces_read, parts_read, piece_objects, Slice, slice_piece, slice_pieces, slices_at}
+use Rattle.v_design.specs.Expressions.{whole_slices, bit_slices, some_place_within, part_places, place_of_number, index_number, is_constant, no_values, memory_pieces}
 use Rattle.v_design.specs.Designs.{FlatProcess, FlatNode, FlatDesign, Machine}
 use Rattle.v_design.specs.Assignments.{ValueUpdate, value_at, read_assignment, some_label_matches}
-use Rattle.v_design.specs.Processes.{Task, Run, Turns, Writes, Appends, Activity, Ready, Waiting, Asleep, Postponed, Done, Action, ReadsObject, WritesObject, AppendsUpdate, TouchesNothing, ProcessStep, opened, opened_all, goes_on, after_delay, reads_or, writes_left, write_step, append_step, assignment_step, either_statement, read_items, read_case, turns_of, turns_step, loop_of, wait_step, statement_step, end_step, process_step, piece_unless, pieces_once, change_entries}
-use Rattle.v_design.specs.States.{State, ProcessState, Event, Step, LaneStep, Evaluation, NetUpdate, TurnKind, PostponedTurn, UpdatesTurn, TimeTurn, found_or, idle_process, process_at, source_at, start, next_activity, write_of, activity_step, step_of, after_step, first_update, after_lane_step, after, entry_matches, some_entry, ready_if, woken, woken_process, with_value, with_values, written_if, value_written, with_process, evaluated, nets_updated, resumed, awake_at, is_due, turned, turn_of}
+use Rattle.v_design.specs.Processes.{Task, Run, Turns, Writes, Appends, Activity, Ready, Waiting, Asleep, Postponed, Done, Action, ReadsObject, WritesObject, AppendsUpdate, TouchesNothing}
+use Rattle.v_design.specs.Processes.{ProcessStep, opened, opened_all, goes_on, after_delay, reads_or, writes_left, write_step, append_step, assignment_step, either_statement, read_items, read_case}
+use Rattle.v_design.specs.Processes.{turns_of, turns_step, loop_of, wait_step, statement_step, end_step, process_step, piece_unless, pieces_once, change_entries}
+use Rattle.v_design.specs.States.{State, ProcessState, Event, Step, LaneStep, Evaluation, NetUpdate, TurnKind, PostponedTurn, UpdatesTurn, TimeTurn, found_or, idle_process, process_at, source_at}
+use Rattle.v_design.specs.States.{start, next_activity, write_of, activity_step, step_of, after_step, first_update, after_lane_step, after, entry_matches, some_entry, ready_if, woken, woken_process}
+use Rattle.v_design.specs.States.{with_value, with_values, written_if, value_written, with_process, evaluated, nets_updated, resumed, awake_at, is_due, turned, turn_of}
 use Rattle.v_design.specs.Accesses.{waiting_entries}
 use Rattle.v_design.specs.Runs.{Move, Happens, turned_by, made, all_made}
 use Rattle.v_design.specs.Runs as runs
@@ -105,7 +112,8 @@ once-named P seen (piece ∷ pieces) h = go (has seen piece.object) (once-named 
     go true rest = rest
     go false rest = (h.0, rest)
 
-entries-of-pieces : (P : ℕ → Type 0) (pieces : List Piece) (entry : Piece → Entry) → ((piece : Piece) → (entry piece).object ≡ piece.object) → Named P pieces → AllHold P (entry_objects (map entry pieces))
+entries-of-pieces : (P : ℕ → Type 0) (pieces : List Piece) (entry : Piece → Entry) → ((piece : Piece) → (entry piece).object ≡ piece.object) → Named P pieces →
+    AllHold P (entry_objects (map entry pieces))
 entries-of-pieces P [] entry same h = tt
 entries-of-pieces P (piece ∷ pieces) entry same h = (subst P (sym (same piece)) h.0, entries-of-pieces P pieces entry same h.1)
 
@@ -212,7 +220,8 @@ left-waits : (P : ℕ → Type 0) (place : SourcePlace) (updates : List (Option 
 left-waits P place [] tasks i = i
 left-waits P place (update ∷ updates) tasks i = i
 
-assigns-waits : (P : ℕ → Type 0) (place : SourcePlace) (now : ℕ) (delay : Option ℕ) (updates : List (Option ValueUpdate)) (tasks : List Task) → Tasks P tasks → StepWaits P (assignment_step place now delay updates tasks)
+assigns-waits : (P : ℕ → Type 0) (place : SourcePlace) (now : ℕ) (delay : Option ℕ) (updates : List (Option ValueUpdate)) (tasks : List Task) → Tasks P tasks →
+    StepWaits P (assignment_step place now delay updates tasks)
 assigns-waits P place now None updates tasks i = write-waits P place updates tasks i
 assigns-waits P place now (Some delay) updates tasks i = delay-waits P place.line now delay (writes_left place updates tasks) (left-waits P place updates tasks i)
 
@@ -230,7 +239,8 @@ statement-waits P now operands (Block statements) tasks h i = opened_all-waits P
 statement-waits P now operands (If place condition first second) tasks h i =
     reads-waits P (λ v. Unit {0}) place.line (Run (If place condition first second) ∷ tasks) operands (read_expression condition operands) _
     (one-task P (Run (If place condition first second)) tasks h i) (anything (read_expression condition operands))
-    (λ value u. opened-waits P (either_statement _ first second) tasks (either-waits P _ first second (hold-left P (waited_objects first) (waited_objects second) h) (hold-right P (waited_objects first) (waited_objects second) h)) i)
+    (λ value u. opened-waits P (either_statement _ first second) tasks (either-waits P _ first second (hold-left P (waited_objects first) (waited_objects second) h)
+    (hold-right P (waited_objects first) (waited_objects second) h)) i)
 statement-waits P now operands (Case place kind value items default) tasks h i =
     reads-waits P (Waiter P) place.line (Run (Case place kind value items default) ∷ tasks) operands (read_case kind value items default operands) _
     (one-task P (Run (Case place kind value items default)) tasks h i)
@@ -302,7 +312,8 @@ each-changed Q (x ∷ xs) zero change keep h (suc number) = h (suc number)
 each-changed Q (x ∷ xs) (suc place) change keep h zero = h 0
 each-changed Q (x ∷ xs) (suc place) change keep h (suc number) = each-changed (λ n. Q (suc n)) xs place change keep (λ n. h (suc n)) number
 
-each-mapped : (Q : ℕ → ProcessState → Type 0) (xs : List ProcessState) (change : ProcessState → ProcessState) → ((number : ℕ) (x : ProcessState) → Q number x → Q number (change x)) → Each Q xs → Each Q (map change xs)
+each-mapped : (Q : ℕ → ProcessState → Type 0) (xs : List ProcessState) (change : ProcessState → ProcessState) → ((number : ℕ) (x : ProcessState) → Q number x → Q number (change x)) → Each Q xs →
+    Each Q (map change xs)
 each-mapped Q [] change keep h number = h number
 each-mapped Q (x ∷ xs) change keep h zero = keep 0 x (h 0)
 each-mapped Q (x ∷ xs) change keep h (suc number) = each-mapped (λ n. Q (suc n)) xs change (λ n. keep (suc n)) (λ n. h (suc n)) number
@@ -424,8 +435,10 @@ all_made-waits machine state [] h = h
 all_made-waits machine state (move ∷ moves) h = all_made-waits machine (made machine state move) moves (made-waits machine state move h)
 
 -- a process begins with the tasks of its body
-starts : (processes : List FlatProcess) (P : ℕ → ℕ → Type 0) → ((number : ℕ) → AllHold (P number) (waited_objects (found_or (record { always = false; body = Null; place = record { line = 0; column = 0 } }) (slice_get processes number)).body)) →
-    Each (λ number process. AllHold (P number) (activity_waits process.activity)) (map (λ (process : FlatProcess). record { activity = Ready (opened process.body []) []; later = []; lane = [] }) processes)
+starts : (processes : List FlatProcess) (P : ℕ → ℕ → Type 0) → ((number : ℕ) → AllHold (P number)
+    (waited_objects (found_or (record { always = false; body = Null; place = record { line = 0; column = 0 } }) (slice_get processes number)).body)) →
+    Each (λ number process. AllHold (P number) (activity_waits process.activity)) (map (λ (process : FlatProcess). record { activity = Ready (opened process.body []) []; later = []; lane = [] })
+    processes)
 starts [] P h number = tt
 starts (process ∷ processes) P h zero = opened-waits (P 0) process.body [] (h 0) tt
 starts (process ∷ processes) P h (suc number) = starts processes (λ n. P (suc n)) (λ n. h (suc n)) number
@@ -455,7 +468,8 @@ among-waiters object from (process ∷ processes) (suc number) h =
     ap (has (waiters_from object (from + 1) processes)) (sym e) ∙ among-waiters object (from + 1) processes number h)
 
 entry-on : (object : ℕ) (old new : LogicValue) (entry : Entry) → entry_matches object old new entry ≡ true → entry.object ≡ object
-entry-on object old new entry h = eqb-true entry.object object (and_parts (nat_eq entry.object object) (edge_matches entry.edge (part_of old entry.low entry.width) (part_of new entry.low entry.width)) h).0
+entry-on object old new entry h = eqb-true entry.object object (and_parts (nat_eq entry.object object)
+    (edge_matches entry.edge (part_of old entry.low entry.width) (part_of new entry.low entry.width)) h).0
 
 matched : (P : ℕ → Type 0) (object : ℕ) (old new : LogicValue) (entries : List Entry) → AllHold P (entry_objects entries) → some_entry (entry_matches object old new) entries ≡ true → P object
 matched P object old new [] h e = absurd (cc)

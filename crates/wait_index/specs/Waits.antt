@@ -2,7 +2,8 @@
 use Rattle.std.specs.Prelude.{◌≡◌, ℕ, ◌+◌, ◌<◌, Bool, true, false, List, [], ◌∷◌, ◌++◌, map, length, get_or, IsTrue}
 use Rattle.four_value.specs.Values.{LogicValue}
 use Rattle.vf_base.specs.Lists.{has, AllHold}
-use Rattle.v_design.specs.Trees.{Entry, Statement, Null, Block, If, Case, For, While, Repeat, Forever, Delay, EventControl, Wait, Blocking, Nonblocking, Finish, Statements, no_statements, more_statements, CaseItems, no_items, more_items}
+use Rattle.v_design.specs.Trees.{Entry, Statement, Null, Block, If, Case, For, While, Repeat, Forever, Delay, EventControl, Wait, Blocking, Nonblocking, Finish, Statements, no_statements}
+use Rattle.v_design.specs.Trees.{more_statements, CaseItems, no_items, more_items}
 use Rattle.v_design.specs.Expressions.{piece_objects}
 use Rattle.v_design.specs.Designs.{FlatProcess, FlatDesign, Machine}
 use Rattle.v_design.specs.Processes.{Task, Run, Turns, Writes, Appends, Activity, Ready, Waiting, Asleep, Postponed, Done}

@@ -31,7 +31,8 @@ IsBlockKind (GateNode kind terminals) = ⊥
 IsBlockKind (BlockNode statement) = Unit {0}
 
 -- the block of a node of the walk
-pub known-block : (modules : List SourceModule) (mode : Mode) (top : SourceModule) (parts : List Part) → AllHold (IsReadPart modules mode top) parts → (number : ℕ) (node : WalkedNode) (process : WalkedProcess) →
+pub known-block : (modules : List SourceModule) (mode : Mode) (top : SourceModule) (parts : List Part) → AllHold (IsReadPart modules mode top) parts →
+    (number : ℕ) (node : WalkedNode) (process : WalkedProcess) →
     slice_get (nodes_in parts) number ≡ Some node → node.function ≡ BlockFunction process → IsKnownBlock modules mode top parts number node process
 known-block modules mode top parts read number node process at function =
     let moves = block-part parts number node process at function in
@@ -39,9 +40,11 @@ known-block modules mode top parts read number node process at function =
     record { at = at; moves = moves; text = text; form = block-formed process.scope process.body moves.targets (text.form moves.targets moves.targets_is) }
 
 -- what holds of each block that is known holds of each node that is one
-pub each-block : (modules : List SourceModule) (mode : Mode) (top : SourceModule) (parts : List Part) (design : FlatDesign) (P : FlatNodeKind → FlatNode → Type 0) → IsMadeOf parts design → AllHold (IsReadPart modules mode top) parts →
+pub each-block : (modules : List SourceModule) (mode : Mode) (top : SourceModule) (parts : List Part) (design : FlatDesign) (P : FlatNodeKind → FlatNode → Type 0) → IsMadeOf parts design →
+    AllHold (IsReadPart modules mode top) parts →
     ((number : ℕ) (node : WalkedNode) (process : WalkedProcess) → IsKnownBlock modules mode top parts number node process →
-    P (BlockNode (statement_over (meaning_in parts (objects_in parts) process) (block_body process.body))) (flat_node parts (objects_in parts) number node)) → AllHold (λ (node : FlatNode). IsBlockKind node.kind → P node.kind node) design.nodes
+    P (BlockNode (statement_over (meaning_in parts (objects_in parts) process) (block_body process.body))) (flat_node parts (objects_in parts) number node)) →
+    AllHold (λ (node : FlatNode). IsBlockKind node.kind → P node.kind node) design.nodes
 each-block modules mode top parts design P made read each =
     each-node (λ node. IsBlockKind node.kind → P node.kind node) parts design made
     (AllHold-from (λ (node : FlatNode). IsBlockKind node.kind → P node.kind node) (flat_nodes_in parts)
@@ -62,7 +65,8 @@ each-block modules mode top parts design P made read each =
 abbrev NamedAs : FlatDesign → FlatNodeKind → FlatNode → Type 0
 NamedAs design kind node = IsTrue (have_widths design (named_by_node kind)) × (node.kind ≡ kind → (object : ℕ) → has node.inputs object ≡ has (node_reads kind node.outputs) object)
 
-blocks-named : (modules : List SourceModule) (mode : Mode) (top : SourceModule) (parts : List Part) (design : FlatDesign) → walked_from modules mode top ≡ Ok parts → IsMadeOf parts design → IsHierarchy parts → AllHold (IsReadPart modules mode top) parts →
+blocks-named : (modules : List SourceModule) (mode : Mode) (top : SourceModule) (parts : List Part) (design : FlatDesign) → walked_from modules mode top ≡ Ok parts → IsMadeOf parts design →
+    IsHierarchy parts → AllHold (IsReadPart modules mode top) parts →
     AllHold (λ (node : FlatNode). IsBlockKind node.kind → NamedAs design node.kind node) design.nodes
 blocks-named modules mode top parts design e made hierarchy read =
     each-block modules mode top parts design (NamedAs design) made read
@@ -82,7 +86,8 @@ which-kind (AssignNode value places) = inl tt
 which-kind (GateNode kind terminals) = inl tt
 which-kind (BlockNode statement) = inr tt
 
-both-named : (design : FlatDesign) (nodes : List FlatNode) → AllHold (λ (node : FlatNode). IsAssignOrGate node.kind → IsNamed design node) nodes → AllHold (λ (node : FlatNode). IsBlockKind node.kind → NamedAs design node.kind node) nodes →
+both-named : (design : FlatDesign) (nodes : List FlatNode) → AllHold (λ (node : FlatNode). IsAssignOrGate node.kind → IsNamed design node) nodes →
+    AllHold (λ (node : FlatNode). IsBlockKind node.kind → NamedAs design node.kind node) nodes →
     AllHold (IsNamed design) nodes
 both-named design [] h k = tt
 both-named design (node ∷ nodes) h k = (
@@ -94,6 +99,8 @@ both-named design (node ∷ nodes) h k = (
 )
 
 -- each node of a hierarchy
-pub all-named : (modules : List SourceModule) (mode : Mode) (top : SourceModule) (parts : List Part) (design : FlatDesign) → walked_from modules mode top ≡ Ok parts → IsMadeOf parts design → IsHierarchy parts → AllHold (IsReadPart modules mode top) parts →
+pub all-named : (modules : List SourceModule) (mode : Mode) (top : SourceModule) (parts : List Part) (design : FlatDesign) → walked_from modules mode top ≡ Ok parts → IsMadeOf parts design →
+    IsHierarchy parts → AllHold (IsReadPart modules mode top) parts →
     AllHold (IsNamed design) design.nodes
-all-named modules mode top parts design e made hierarchy read = both-named design design.nodes (nodes-named parts design made hierarchy) (blocks-named modules mode top parts design e made hierarchy read)
+all-named modules mode top parts design e made hierarchy read = both-named design design.nodes (nodes-named parts design made hierarchy)
+    (blocks-named modules mode top parts design e made hierarchy read)

@@ -69,8 +69,10 @@ record IsTargetObject (parts : List Part) (process : WalkedProcess) (targets : L
   holder : held.holder ≡ outermost (signals_of parts) (process.path ++ name)
   object_is : o ≡ first_object (pieces_held (objects_in parts) (outermost (signals_of parts) (process.path ++ name)))
 
-target-object : (modules : List SourceModule) (mode : Mode) (top : SourceModule) (parts : List Part) (design : FlatDesign) → IsMadeOf parts design → IsHierarchy parts → (number : ℕ) (node : WalkedNode) (process : WalkedProcess) →
-    (block : IsKnownBlock modules mode top parts number node process) → (o : ℕ) → has (objects_of_outputs (outputs_of (objects_in parts) number)) o ≡ true → IsTargetObject parts process block.moves.targets o
+target-object : (modules : List SourceModule) (mode : Mode) (top : SourceModule) (parts : List Part) (design : FlatDesign) → IsMadeOf parts design → IsHierarchy parts →
+    (number : ℕ) (node : WalkedNode) (process : WalkedProcess) →
+    (block : IsKnownBlock modules mode top parts number node process) → (o : ℕ) → has (objects_of_outputs (outputs_of (objects_in parts) number)) o ≡ true →
+    IsTargetObject parts process block.moves.targets o
 target-object modules mode top parts design made hierarchy number node process block o output =
     let out = output-of parts hierarchy number node process block.at block.moves o output in
     let full = process.path ++ out.name in
@@ -86,7 +88,8 @@ target-object modules mode top parts design made hierarchy number node process b
     }
 
 -- a name that the body of a block reads
-name-read : (modules : List SourceModule) (mode : Mode) (top : SourceModule) (parts : List Part) (design : FlatDesign) → IsMadeOf parts design → IsHierarchy parts → (number : ℕ) (node : WalkedNode) (process : WalkedProcess) →
+name-read : (modules : List SourceModule) (mode : Mode) (top : SourceModule) (parts : List Part) (design : FlatDesign) → IsMadeOf parts design → IsHierarchy parts →
+    (number : ℕ) (node : WalkedNode) (process : WalkedProcess) →
     (block : IsKnownBlock modules mode top parts number node process) → (i : ℕ) (name : Identifier) → slice_get (names_read block.form.inner) i ≡ Some name →
     IsRead (meaning_in parts (objects_in parts) process) block.moves.targets (objects_of_outputs (outputs_of (objects_in parts) number)) name
 name-read modules mode top parts design made hierarchy number node process block i name at o there output =
@@ -115,7 +118,8 @@ name-read modules mode top parts design made hierarchy number node process block
           absurd (cc)
     ]
   where
-    among : (signals : List Signal) (targets : List Identifier) (n : Identifier) → has_name targets n ≡ true → has_name (map (outermost signals) (target_signals process targets)) (outermost signals (process.path ++ n)) ≡ true
+    among : (signals : List Signal) (targets : List Identifier) (n : Identifier) → has_name targets n ≡ true →
+        has_name (map (outermost signals) (target_signals process targets)) (outermost signals (process.path ++ n)) ≡ true
     among signals targets n e =
         let place = there-name targets n e in
         name-there (map (outermost signals) (target_signals process targets)) place.0 (outermost signals (process.path ++ n))
@@ -143,16 +147,19 @@ words-apart parts design made hierarchy number process targets assigned name =
         list_all (λ (piece : Piece). not (has outputs piece.object) || has assigned piece.object) (map (λ word. record { object = word; width = width }) words) ≡ true
     words-free assigned outputs width [] each = refl
     words-free assigned outputs width (word ∷ words) each =
-        both-true (not (has outputs word) || has assigned word) (list_all (λ (piece : Piece). not (has outputs piece.object) || has assigned piece.object) (map (λ word. record { object = word; width = width }) words))
+        both-true (not (has outputs word) || has assigned word) (list_all (λ (piece : Piece). not (has outputs piece.object) || has assigned piece.object)
+        (map (λ word. record { object = word; width = width }) words))
         (or_left (not (has outputs word)) (has assigned word) (ap not (each word (or_left (nat_eq word word) (has words word) (eq-eqb word word refl)))))
         (words-free assigned outputs width words (λ o there. each o (or_right (nat_eq word o) (has words o) there)))
 
-assigned-some : (targets : List Identifier) (found : Option (List Identifier)) → all_assigned targets found ≡ true → (after : List Identifier) × (found ≡ Some after) × (list_all (has_name after) targets ≡ true)
+assigned-some : (targets : List Identifier) (found : Option (List Identifier)) → all_assigned targets found ≡ true →
+    (after : List Identifier) × (found ≡ Some after) × (list_all (has_name after) targets ≡ true)
 assigned-some targets None e = absurd (cc)
 assigned-some targets (Some after) e = (after, refl, e)
 
 -- a block writes its outputs
-pub block-writes : (modules : List SourceModule) (mode : Mode) (top : SourceModule) (parts : List Part) (design : FlatDesign) → walked_from modules mode top ≡ Ok parts → IsMadeOf parts design → IsHierarchy parts → (number : ℕ) (node : WalkedNode)
+pub block-writes : (modules : List SourceModule) (mode : Mode) (top : SourceModule) (parts : List Part) (design : FlatDesign) → walked_from modules mode top ≡ Ok parts → IsMadeOf parts design →
+    IsHierarchy parts → (number : ℕ) (node : WalkedNode)
     (process : WalkedProcess) → IsKnownBlock modules mode top parts number node process →
     WritesOutputs (BlockNode (statement_over (meaning_in parts (objects_in parts) process) (block_body process.body))) (objects_of_outputs (outputs_of (objects_in parts) number))
 block-writes modules mode top parts design e made hierarchy number node process block =
@@ -167,7 +174,8 @@ block-writes modules mode top parts design e made hierarchy number node process 
     let plain = AllHold-from (IsPlain meaning targets outputs) (assigned_names inner)
     (λ i n at. let there = assigned-target process.scope process.body targets form i n at in (there, target-plain process.scope process.body targets form n.name there)) in
     let m = statement-moves meaning targets outputs inner (words-apart parts design made hierarchy number process targets) [] after.0 [] (λ name there. absurd (cc)) reads plain after.1 in
-    let fits = subst (λ s. FitsStatement design (λ o. has outputs o ≡ true) meaning (statement_over meaning (block_body s))) form.is (block-fits modules mode top parts design e made hierarchy number node process block) in
+    let fits = subst (λ s. FitsStatement design (λ o. has outputs o ≡ true) meaning (statement_over meaning (block_body s))) form.is
+    (block-fits modules mode top parts design e made hierarchy number node process block) in
     let found : (o : ℕ) → has outputs o ≡ true → has m.found o ≡ true = λ o output.
     let t = target-object modules mode top parts design made hierarchy number node process block o output in
     ap (has m.found) t.object_is ∙ m.follows t.name (all-named (has_name after.0) targets t.name after.2 t.target) in
@@ -177,7 +185,9 @@ block-writes modules mode top parts design e made hierarchy number node process 
     subst (λ s. WritesOutputs (BlockNode (statement_over meaning (block_body s))) outputs) (sym form.is) (writes, whole)
 
 -- each node that is a block
-pub blocks-write : (modules : List SourceModule) (mode : Mode) (top : SourceModule) (parts : List Part) (design : FlatDesign) → walked_from modules mode top ≡ Ok parts → IsMadeOf parts design → IsHierarchy parts → AllHold (IsReadPart modules mode top) parts →
+pub blocks-write : (modules : List SourceModule) (mode : Mode) (top : SourceModule) (parts : List Part) (design : FlatDesign) → walked_from modules mode top ≡ Ok parts → IsMadeOf parts design →
+    IsHierarchy parts → AllHold (IsReadPart modules mode top) parts →
     AllHold (λ (node : FlatNode). IsBlockKind node.kind → WritesOutputs node.kind node.outputs) design.nodes
 blocks-write modules mode top parts design e made hierarchy read =
-    each-block modules mode top parts design (λ kind node. WritesOutputs kind node.outputs) made read (λ number node process block. block-writes modules mode top parts design e made hierarchy number node process block)
+    each-block modules mode top parts design (λ kind node. WritesOutputs kind node.outputs) made read
+    (λ number node process block. block-writes modules mode top parts design e made hierarchy number node process block)

@@ -7,9 +7,13 @@ use Rattle.vf_base.specs.Lists.{AllHold}
 use Rattle.v_design.specs.Trees.{Variable, Target, Statement}
 use Rattle.v_design.specs.Designs.{FlatDesign}
 use Rattle.v_design.specs.Expressions.{memory_pieces}
-use Rattle.v_design.specs.Reads.{variable_piece, target_objects, targets_objects, written_objects, all_written, items_written, named_in, named_in_parts, named_in_target, named_in_targets, named_by, named_by_all, named_by_items}
+use Rattle.v_design.specs.Reads.{variable_piece, target_objects, targets_objects, written_objects, all_written, items_written, named_in, named_in_parts, named_in_target, named_in_targets, named_by}
+use Rattle.v_design.specs.Reads.{named_by_all, named_by_items}
 use Rattle.v_design.specs.WellFormed.{has_width}
-use Rattle.v_tree.specs.Trees.{Identifier, SourceExpression, SourceIndex, NoIndex, IndexAt, IndexRange, SourceExpressions, no_parts, more_parts, SourceSelect, SourceTarget, OneSelect, JoinedSelects, selects_of, NamedPlace, SourceStatement, NullStatement, BlockStatement, IfStatement, IfElseStatement, CaseStatement, ForStatement, WhileStatement, RepeatStatement, ForeverStatement, WaitStatement, EventStatement, DelayStatement, BlockingStatement, NonblockingStatement, IgnoredTask, FinishTask, SourceStatements, no_source_statements, more_source_statements, SourceCaseItems, no_source_items, labelled, otherwise}
+use Rattle.v_tree.specs.Trees.{Identifier, SourceExpression, SourceIndex, NoIndex, IndexAt, IndexRange, SourceExpressions, no_parts, more_parts, SourceSelect, SourceTarget, OneSelect, JoinedSelects}
+use Rattle.v_tree.specs.Trees.{selects_of, NamedPlace, SourceStatement, NullStatement, BlockStatement, IfStatement, IfElseStatement, CaseStatement, ForStatement, WhileStatement, RepeatStatement}
+use Rattle.v_tree.specs.Trees.{ForeverStatement, WaitStatement, EventStatement, DelayStatement, BlockingStatement, NonblockingStatement, IgnoredTask, FinishTask, SourceStatements}
+use Rattle.v_tree.specs.Trees.{no_source_statements, more_source_statements, SourceCaseItems, no_source_items, labelled, otherwise}
 use Rattle.v_names.specs.Faults.{Fault, BadWidth, fault_at}
 use Rattle.v_names.specs.Scopes.{ScopeEntry, ParameterEntry, RefusedParameter, WaitingParameter, NetEntry, RegEntry, MemoryEntry, GateEntry, InstanceEntry, looked_up, is_memory, is_reg}
 use Rattle.v_names.specs.Readings.{Size, alone_faults, name_reading, ranged_reading, reading_of, select_reading, number_of_constant, tree_at, tree_alone, tree_in}
@@ -20,7 +24,8 @@ use Rattle.v_width.specs.Targets.{ByProcess, may_write, written_reading, target_
 use Rattle.v_design.specs.Sized.{most_bits}
 use Rattle.v_comb.specs.CombinationalForm.{target_names, assigned_names, all_assigned_names, items_assigned_names}
 use Rattle.v_elab.specs.ItemFaults.{size_faults, assigned_faults, wait_faults, waits_faults, case_faults, statement_faults, statements_faults, items_faults}
-use Rattle.v_elab.specs.Statements.{Meaning, alone_expression, assigned_expression, variable_of, indexed_target, target_by_index, targets_over, items_size, label_expressions, statement_over, statements_over, items_over, default_over}
+use Rattle.v_elab.specs.Statements.{Meaning, alone_expression, assigned_expression, variable_of, indexed_target, target_by_index, targets_over, items_size, label_expressions, statement_over}
+use Rattle.v_elab.specs.Statements.{statements_over, items_over, default_over}
 use Rattle.flat_laws.specs.Sizes.Complete.{append-none, group-none}
 use Rattle.flat_laws.specs.Hierarchy.Given.{both-true}
 use Rattle.flat_laws.specs.Numbered.{AllHold-append}
@@ -39,7 +44,8 @@ AllHold-parts P (x ∷ xs) ys h = let r = AllHold-parts P xs ys h.1 in ((h.0, r.
 abbrev pub IsWrittenEntry : Option ScopeEntry → SourceIndex → Type 0
 IsWrittenEntry entry index = ((is_reg entry ≡ true) × (is_memory entry ≡ false)) ⊎ ((i : SourceExpression) × (index ≡ IndexAt i) × (is_memory entry ≡ true))
 
-whole-written : (name : Identifier) (place : SourcePlace) (entry : Option ScopeEntry) → may_write ByProcess entry ≡ true → known_faults entry place ≡ [] → (name_reading entry place name).here ≡ [] → IsWrittenEntry entry NoIndex
+whole-written : (name : Identifier) (place : SourcePlace) (entry : Option ScopeEntry) → may_write ByProcess entry ≡ true → known_faults entry place ≡ [] → (name_reading entry place name).here ≡ [] →
+    IsWrittenEntry entry NoIndex
 whole-written name place (Some (RegEntry range signed)) writes known h = inl (refl, refl)
 whole-written name place (Some (MemoryEntry range first last signed)) writes known h = absurd (cc)
 whole-written name place None writes known h = absurd (cc)
@@ -61,7 +67,8 @@ index-written index place (Some WaitingParameter) writes known = absurd (cc)
 index-written index place (Some GateEntry) writes known = absurd (cc)
 index-written index place (Some InstanceEntry) writes known = absurd (cc)
 
-range-written : (name : Identifier) (place : SourcePlace) (from to : SourceExpression) (inside : List Fault) (first second : Option ℕ) (entry : Option ScopeEntry) → may_write ByProcess entry ≡ true → known_faults entry place ≡ [] →
+range-written : (name : Identifier) (place : SourcePlace) (from to : SourceExpression) (inside : List Fault) (first second : Option ℕ) (entry : Option ScopeEntry) →
+    may_write ByProcess entry ≡ true → known_faults entry place ≡ [] →
     (ranged_reading entry place name inside first second).here ≡ [] → IsWrittenEntry entry (IndexRange from to)
 range-written name place from to inside first second (Some (RegEntry range signed)) writes known h = inl (refl, refl)
 range-written name place from to inside first second (Some (MemoryEntry range low high signed)) writes known h = absurd (cc)
@@ -73,12 +80,15 @@ range-written name place from to inside first second (Some WaitingParameter) wri
 range-written name place from to inside first second (Some GateEntry) writes known h = absurd (cc)
 range-written name place from to inside first second (Some InstanceEntry) writes known h = absurd (cc)
 
-select-written : (meaning : Meaning) (place : SourcePlace) (name : Identifier) (index : SourceIndex) → may_write ByProcess (looked_up meaning.scope name) ≡ true → known_faults (looked_up meaning.scope name) place ++ index_faults meaning.scope index ≡ [] →
+select-written : (meaning : Meaning) (place : SourcePlace) (name : Identifier) (index : SourceIndex) → may_write ByProcess (looked_up meaning.scope name) ≡ true →
+    known_faults (looked_up meaning.scope name) place ++ index_faults meaning.scope index ≡ [] →
     (select_reading meaning.scope place name index).here ≡ [] → IsWrittenEntry (looked_up meaning.scope name) index
 select-written meaning place name NoIndex writes names h = whole-written name place (looked_up meaning.scope name) writes (append-none (known_faults (looked_up meaning.scope name) place) [] names).0 h
-select-written meaning place name (IndexAt index) writes names h = index-written index place (looked_up meaning.scope name) writes (append-none (known_faults (looked_up meaning.scope name) place) (name_faults meaning.scope index) names).0
+select-written meaning place name (IndexAt index) writes names h = index-written index place (looked_up meaning.scope name) writes
+    (append-none (known_faults (looked_up meaning.scope name) place) (name_faults meaning.scope index) names).0
 select-written meaning place name (IndexRange from to) writes names h =
-    range-written name place from to (alone_faults (reading_of meaning.scope from) ++ alone_faults (reading_of meaning.scope to)) (number_of_constant meaning.scope from) (number_of_constant meaning.scope to) (looked_up meaning.scope name) writes
+    range-written name place from to (alone_faults (reading_of meaning.scope from) ++ alone_faults (reading_of meaning.scope to)) (number_of_constant meaning.scope from)
+    (number_of_constant meaning.scope to) (looked_up meaning.scope name) writes
     (append-none (known_faults (looked_up meaning.scope name) place) (index_faults meaning.scope (IndexRange from to)) names).0 h
 
 written-by : (meaning : Meaning) (select : SourceSelect) (writes : Bool) → may_write ByProcess (looked_up meaning.scope select.name) ≡ writes → select_faults meaning.scope select ≡ [] →
@@ -163,16 +173,19 @@ module _ (design : FlatDesign) (Q : ℕ → Type 0) (meaning : Meaning) where
       all-append (has_width design) (named_in (over_objects meaning.holders (tree_at (reading_of meaning.scope label) size))) (named_in_parts (label_expressions meaning size rest))
       (tree-there design meaning.holders fits (tree_at (reading_of meaning.scope label) size)) (labels-there fits size rest)
 
-  variable-fits : (name : Identifier) (index : SourceIndex) → AreThere design meaning.holders → FitsVariable design Q (variable_of (meaning.holders.vector name)) → is_memory (looked_up meaning.scope name) ≡ false → FitsTarget (target_by_index meaning name index)
+  variable-fits : (name : Identifier) (index : SourceIndex) → AreThere design meaning.holders → FitsVariable design Q (variable_of (meaning.holders.vector name)) →
+      is_memory (looked_up meaning.scope name) ≡ false → FitsTarget (target_by_index meaning name index)
   variable-fits name NoIndex fits v none = (both-true (has_width design (variable_piece (variable_of (meaning.holders.vector name)))) true v.0 refl, (v.1, tt))
   variable-fits name (IndexRange from to) fits v none = (both-true (has_width design (variable_piece (variable_of (meaning.holders.vector name)))) true v.0 refl, (v.1, tt))
   variable-fits name (IndexAt index) fits v none =
       subst (λ b. FitsTarget (indexed_target b meaning name index)) (sym none) (
-        both-true (has_width design (variable_piece (variable_of (meaning.holders.vector name)))) (list_all (has_width design) (named_in (alone_expression meaning index))) v.0 (alone-there fits index),
+        both-true (has_width design (variable_piece (variable_of (meaning.holders.vector name)))) (list_all (has_width design) (named_in (alone_expression meaning index))) v.0
+            (alone-there fits index),
         (v.1, tt),
       )
 
-  word-fits : (name : Identifier) (index : SourceExpression) → AreThere design meaning.holders → AllHold Q (meaning.holders.memory name).words → is_memory (looked_up meaning.scope name) ≡ true → FitsTarget (target_by_index meaning name (IndexAt index))
+  word-fits : (name : Identifier) (index : SourceExpression) → AreThere design meaning.holders → AllHold Q (meaning.holders.memory name).words → is_memory (looked_up meaning.scope name) ≡ true →
+      FitsTarget (target_by_index meaning name (IndexAt index))
   word-fits name index fits words memory =
       subst (λ b. FitsTarget (indexed_target b meaning name index)) (sym memory) (
         all-append (has_width design) (memory_pieces (meaning.holders.memory name)) (named_in (alone_expression meaning index)) (fits name).1 (alone-there fits index),
@@ -186,7 +199,8 @@ module _ (design : FlatDesign) (Q : ℕ → Type 0) (meaning : Meaning) where
         | inr word ↦ subst (λ index. FitsTarget (target_by_index meaning s.name index)) (sym word.1) (word-fits s.name word.0 fits (name.words word.2) word.2)
       ]
 
-  selects-fit : (selects : List SourceSelect) → AreThere design meaning.holders → AllHold (λ (n : NamedPlace). FitsName n.name) (map (λ (s : SourceSelect). record { name = s.name; place = s.place }) selects) →
+  selects-fit : (selects : List SourceSelect) → AreThere design meaning.holders → AllHold (λ (n : NamedPlace). FitsName n.name)
+      (map (λ (s : SourceSelect). record { name = s.name; place = s.place }) selects) →
       AllHold (λ (s : SourceSelect). IsWrittenEntry (looked_up meaning.scope s.name) s.index) selects → FitsTargets (map (λ (s : SourceSelect). target_by_index meaning s.name s.index) selects)
   selects-fit [] fits names written = (refl, tt)
   selects-fit (s ∷ selects) fits names written =
@@ -196,13 +210,15 @@ module _ (design : FlatDesign) (Q : ℕ → Type 0) (meaning : Meaning) where
       let others = map (λ (s : SourceSelect). target_by_index meaning s.name s.index) selects in
       (all-append (has_width design) (named_in_target target) (named_in_targets others) first.0 rest.0, AllHold-append Q (target_objects target) (targets_objects others) first.1 rest.1)
 
-  assignment-fits : (target : SourceTarget) (value : SourceExpression) → AreThere design meaning.holders → AllHold (λ (n : NamedPlace). FitsName n.name) (target_names target) → target_faults meaning.scope target ≡ [] →
+  assignment-fits : (target : SourceTarget) (value : SourceExpression) → AreThere design meaning.holders → AllHold (λ (n : NamedPlace). FitsName n.name) (target_names target) →
+      target_faults meaning.scope target ≡ [] →
       assigned_faults ByProcess meaning.scope target value ≡ [] → FitsTargets (targets_over meaning target)
   assignment-fits target value fits names none faults = selects-fit (selects_of target) fits names (assigned-written meaning target value none faults)
 
   mutual
     -- a statement of which nothing is wrong names what is there, and writes objects that have the property
-    pub statement-fits : (s : SourceStatement) → AreThere design meaning.holders → AllHold (λ (n : NamedPlace). FitsName n.name) (assigned_names s) → statement_name_faults meaning.scope s ≡ [] → statement_faults meaning.scope s ≡ [] →
+    pub statement-fits : (s : SourceStatement) → AreThere design meaning.holders → AllHold (λ (n : NamedPlace). FitsName n.name) (assigned_names s) → statement_name_faults meaning.scope s ≡ [] →
+        statement_faults meaning.scope s ≡ [] →
         FitsStatement (statement_over meaning s)
     statement-fits (NullStatement place) fits all names sizes = (refl, tt)
     statement-fits (BlockStatement place statements) fits all names sizes = statements-fit statements fits all names sizes
@@ -222,7 +238,8 @@ module _ (design : FlatDesign) (Q : ℕ → Type 0) (meaning : Meaning) where
         let split = AllHold-parts (λ (n : NamedPlace). FitsName n.name) (assigned_names first) (assigned_names second) all in
         let r = statement-fits first fits split.0 m.0 t.0 in
         let q = statement-fits second fits split.1 m.1 t.1 in (
-          all-append (has_width design) (named_in (alone_expression meaning condition)) (named_by (statement_over meaning first) ++ named_by (statement_over meaning second)) (alone-there fits condition)
+          all-append (has_width design) (named_in (alone_expression meaning condition)) (named_by (statement_over meaning first) ++ named_by (statement_over meaning second))
+              (alone-there fits condition)
               (all-append (has_width design) (named_by (statement_over meaning first)) (named_by (statement_over meaning second)) r.0 q.0),
           AllHold-append Q (written_objects (statement_over meaning first)) (written_objects (statement_over meaning second)) r.1 q.1,
         )
@@ -232,19 +249,22 @@ module _ (design : FlatDesign) (Q : ℕ → Type 0) (meaning : Meaning) where
         let size = items_size meaning.scope items (reading_of meaning.scope value).size in
         let r = items-fit size items fits all n.1 s.1 in
         let q = default-fits items fits all n.1 s.1 in (
-          all-append (has_width design) (named_in (over_objects meaning.holders (tree_at (reading_of meaning.scope value) size))) (named_by_items (items_over meaning size items) ++ named_by (default_over meaning items))
+          all-append (has_width design) (named_in (over_objects meaning.holders (tree_at (reading_of meaning.scope value) size)))
+              (named_by_items (items_over meaning size items) ++ named_by (default_over meaning items))
               (tree-there design meaning.holders fits (tree_at (reading_of meaning.scope value) size))
               (all-append (has_width design) (named_by_items (items_over meaning size items)) (named_by (default_over meaning items)) r.0 q.0),
           AllHold-append Q (items_written (items_over meaning size items)) (written_objects (default_over meaning items)) r.1 q.1,
         )
     statement-fits (ForStatement place first_target first condition next_target next body) fits all names sizes =
         let scope = meaning.scope in
-        let n1 = append-none (target_faults scope first_target) (name_faults scope first ++ (name_faults scope condition ++ (target_faults scope next_target ++ (name_faults scope next ++ statement_name_faults scope body)))) names in
+        let n1 = append-none (target_faults scope first_target) (name_faults scope first ++
+        (name_faults scope condition ++ (target_faults scope next_target ++ (name_faults scope next ++ statement_name_faults scope body)))) names in
         let n2 = append-none (name_faults scope first) (name_faults scope condition ++ (target_faults scope next_target ++ (name_faults scope next ++ statement_name_faults scope body))) n1.1 in
         let n3 = append-none (name_faults scope condition) (target_faults scope next_target ++ (name_faults scope next ++ statement_name_faults scope body)) n2.1 in
         let n4 = append-none (target_faults scope next_target) (name_faults scope next ++ statement_name_faults scope body) n3.1 in
         let n5 = append-none (name_faults scope next) (statement_name_faults scope body) n4.1 in
-        let s1 = append-none (assigned_faults ByProcess scope first_target first) (size_faults scope condition ++ (assigned_faults ByProcess scope next_target next ++ statement_faults scope body)) sizes in
+        let s1 = append-none (assigned_faults ByProcess scope first_target first) (size_faults scope condition ++ (assigned_faults ByProcess scope next_target next ++ statement_faults scope body))
+        sizes in
         let s2 = append-none (size_faults scope condition) (assigned_faults ByProcess scope next_target next ++ statement_faults scope body) s1.1 in
         let s3 = append-none (assigned_faults ByProcess scope next_target next) (statement_faults scope body) s2.1 in
         let a1 = AllHold-parts (λ (n : NamedPlace). FitsName n.name) (target_names first_target) (target_names next_target ++ assigned_names body) all in
@@ -282,9 +302,11 @@ module _ (design : FlatDesign) (Q : ℕ → Type 0) (meaning : Meaning) where
         let r = statement-fits body fits all n.1 s.1 in
         (all-append (has_width design) (named_in (alone_expression meaning condition)) (named_by (statement_over meaning body)) (alone-there fits condition) r.0, r.1)
     statement-fits (EventStatement place waits body) fits all names sizes =
-        statement-fits body fits all (append-none (entry_faults meaning.scope waits) (statement_name_faults meaning.scope body) names).1 (append-none (waits_faults meaning.scope waits) (statement_faults meaning.scope body) sizes).1
+        statement-fits body fits all (append-none (entry_faults meaning.scope waits) (statement_name_faults meaning.scope body) names).1
+        (append-none (waits_faults meaning.scope waits) (statement_faults meaning.scope body) sizes).1
     statement-fits (DelayStatement place delay body) fits all names sizes =
-        statement-fits body fits all (append-none (constant_faults meaning.scope DelayValue delay) (statement_name_faults meaning.scope body) names).1 (append-none (size_faults meaning.scope delay) (statement_faults meaning.scope body) sizes).1
+        statement-fits body fits all (append-none (constant_faults meaning.scope DelayValue delay) (statement_name_faults meaning.scope body) names).1
+        (append-none (size_faults meaning.scope delay) (statement_faults meaning.scope body) sizes).1
     statement-fits (BlockingStatement place target delay value) fits all names sizes =
         let n = append-none (target_faults meaning.scope target) (optional_faults (constant_faults meaning.scope DelayValue) delay ++ name_faults meaning.scope value) names in
         let s = append-none (assigned_faults ByProcess meaning.scope target value) (optional_faults (size_faults meaning.scope) delay) sizes in
@@ -298,8 +320,10 @@ module _ (design : FlatDesign) (Q : ℕ → Type 0) (meaning : Meaning) where
     statement-fits (IgnoredTask place) fits all names sizes = (refl, tt)
     statement-fits (FinishTask place) fits all names sizes = (refl, tt)
 
-    statements-fit : (statements : SourceStatements) → AreThere design meaning.holders → AllHold (λ (n : NamedPlace). FitsName n.name) (all_assigned_names statements) → statements_name_faults meaning.scope statements ≡ [] →
-        statements_faults meaning.scope statements ≡ [] → (list_all (has_width design) (named_by_all (statements_over meaning statements)) ≡ true) × AllHold Q (all_written (statements_over meaning statements))
+    statements-fit : (statements : SourceStatements) → AreThere design meaning.holders → AllHold (λ (n : NamedPlace). FitsName n.name) (all_assigned_names statements) →
+        statements_name_faults meaning.scope statements ≡ [] →
+        statements_faults meaning.scope statements ≡ [] → (list_all (has_width design) (named_by_all (statements_over meaning statements)) ≡ true)
+        × AllHold Q (all_written (statements_over meaning statements))
     statements-fit no_source_statements fits all names sizes = (refl, tt)
     statements-fit (more_source_statements first rest) fits all names sizes =
         let n = append-none (statement_name_faults meaning.scope first) (statements_name_faults meaning.scope rest) names in
@@ -311,7 +335,8 @@ module _ (design : FlatDesign) (Q : ℕ → Type 0) (meaning : Meaning) where
           AllHold-append Q (written_objects (statement_over meaning first)) (all_written (statements_over meaning rest)) r.1 q.1,
         )
 
-    items-fit : (size : Option Size) (items : SourceCaseItems) → AreThere design meaning.holders → AllHold (λ (n : NamedPlace). FitsName n.name) (items_assigned_names items) → case_name_faults meaning.scope items ≡ [] →
+    items-fit : (size : Option Size) (items : SourceCaseItems) → AreThere design meaning.holders → AllHold (λ (n : NamedPlace). FitsName n.name) (items_assigned_names items) →
+        case_name_faults meaning.scope items ≡ [] →
         items_faults meaning.scope items ≡ [] → (list_all (has_width design) (named_by_items (items_over meaning size items)) ≡ true) × AllHold Q (items_written (items_over meaning size items))
     items-fit size no_source_items fits all names sizes = (refl, tt)
     items-fit size (labelled labels statement rest) fits all names sizes =
@@ -321,7 +346,8 @@ module _ (design : FlatDesign) (Q : ℕ → Type 0) (meaning : Meaning) where
         let split = AllHold-parts (λ (n : NamedPlace). FitsName n.name) (assigned_names statement) (items_assigned_names rest) all in
         let r = statement-fits statement fits split.0 m.0 s.0 in
         let q = items-fit size rest fits split.1 m.1 s.1 in (
-          all-append (has_width design) (named_in_parts (label_expressions meaning size labels)) (named_by (statement_over meaning statement) ++ named_by_items (items_over meaning size rest)) (labels-there fits size labels)
+          all-append (has_width design) (named_in_parts (label_expressions meaning size labels)) (named_by (statement_over meaning statement) ++ named_by_items (items_over meaning size rest))
+              (labels-there fits size labels)
               (all-append (has_width design) (named_by (statement_over meaning statement)) (named_by_items (items_over meaning size rest)) r.0 q.0),
           AllHold-append Q (written_objects (statement_over meaning statement)) (items_written (items_over meaning size rest)) r.1 q.1,
         )
@@ -331,7 +357,8 @@ module _ (design : FlatDesign) (Q : ℕ → Type 0) (meaning : Meaning) where
         let split = AllHold-parts (λ (n : NamedPlace). FitsName n.name) (assigned_names statement) (items_assigned_names rest) all in
         items-fit size rest fits split.1 m.1 s.1
 
-    default-fits : (items : SourceCaseItems) → AreThere design meaning.holders → AllHold (λ (n : NamedPlace). FitsName n.name) (items_assigned_names items) → case_name_faults meaning.scope items ≡ [] → items_faults meaning.scope items ≡ [] →
+    default-fits : (items : SourceCaseItems) → AreThere design meaning.holders → AllHold (λ (n : NamedPlace). FitsName n.name) (items_assigned_names items) →
+        case_name_faults meaning.scope items ≡ [] → items_faults meaning.scope items ≡ [] →
         FitsStatement (default_over meaning items)
     default-fits no_source_items fits all names sizes = (refl, tt)
     default-fits (labelled labels statement rest) fits all names sizes =

@@ -5,12 +5,16 @@ use Rattle.std.specs.List.{list_all, list_any}
 use Rattle.std.proofs.lemmas.Bool.{cases_Bool, or_left, or_right}
 use Rattle.vf_base.specs.Base.{SourcePlace}
 use Rattle.vf_base.specs.Lists.{has, AllHold}
-use Rattle.v_design.specs.Trees.{Piece, Expression, Expressions, Target, WholeTarget, BitTarget, PartTarget, WordTarget, Statement, Null, Block, If, Case, For, While, Repeat, Forever, Delay, EventControl, Wait, Blocking, Nonblocking, Finish, Statements, no_statements, more_statements, CaseItems, no_items, more_items}
+use Rattle.v_design.specs.Trees.{Piece, Expression, Expressions, Target, WholeTarget, BitTarget, PartTarget, WordTarget, Statement, Null, Block, If, Case, For, While, Repeat, Forever, Delay}
+use Rattle.v_design.specs.Trees.{EventControl, Wait, Blocking, Nonblocking, Finish, Statements, no_statements, more_statements, CaseItems, no_items, more_items}
 use Rattle.v_design.specs.Expressions.{memory_pieces, pieces_read, parts_read, piece_objects, objects_of, parts_objects}
 use Rattle.v_design.specs.Designs.{BlockNode, FlatDesign}
-use Rattle.v_design.specs.Reads.{index_objects, indexes_objects, read_objects, all_read, items_read, node_reads, variable_piece, named_in, named_in_parts, named_in_target, named_in_targets, named_by, named_by_all, named_by_items}
+use Rattle.v_design.specs.Reads.{index_objects, indexes_objects, read_objects, all_read, items_read, node_reads, variable_piece, named_in, named_in_parts, named_in_target, named_in_targets}
+use Rattle.v_design.specs.Reads.{named_by, named_by_all, named_by_items}
 use Rattle.v_design.specs.WellFormed.{has_width, have_widths}
-use Rattle.v_tree.specs.Trees.{Identifier, NamedPlace, same_name, has_name, SourceWaits, SourceStatement, NullStatement, BlockStatement, IfStatement, IfElseStatement, CaseStatement, ForStatement, WhileStatement, RepeatStatement, ForeverStatement, WaitStatement, EventStatement, DelayStatement, BlockingStatement, NonblockingStatement, IgnoredTask, FinishTask, SourceModule}
+use Rattle.v_tree.specs.Trees.{Identifier, NamedPlace, same_name, has_name, SourceWaits, SourceStatement, NullStatement, BlockStatement, IfStatement, IfElseStatement, CaseStatement, ForStatement}
+use Rattle.v_tree.specs.Trees.{WhileStatement, RepeatStatement, ForeverStatement, WaitStatement, EventStatement, DelayStatement, BlockingStatement, NonblockingStatement, IgnoredTask, FinishTask}
+use Rattle.v_tree.specs.Trees.{SourceModule}
 use Rattle.v_names.specs.Scopes.{Scope, looked_up, is_memory, is_reg}
 use Rattle.v_names.specs.Names.{entry_faults, statement_name_faults}
 use Rattle.v_names.specs.SizedLaws.{and-left, and-right}
@@ -56,7 +60,8 @@ and_then-some : {A B : Type 0} (f : A → Option B) (x : Option A) (y : B) → o
 and_then-some f None y e = absurd (cc)
 and_then-some f (Some a) y e = (a, e)
 
-net-form : (scope : Scope) (test : Bool) (own reads targets : List Identifier) → net_targets scope (form_if test own reads) ≡ Some targets → (test ≡ true) × (own ≡ targets) × (list_any (λ name. is_memory (looked_up scope name)) own ≡ false)
+net-form : (scope : Scope) (test : Bool) (own reads targets : List Identifier) → net_targets scope (form_if test own reads) ≡ Some targets →
+    (test ≡ true) × (own ≡ targets) × (list_any (λ name. is_memory (looked_up scope name)) own ≡ false)
 net-form scope false own reads targets e = absurd (cc)
 net-form scope true own reads targets e = by_memory (list_any (λ name. is_memory (looked_up scope name)) own) refl
   where
@@ -115,13 +120,15 @@ once-has seen (first ∷ names) name there unseen =
     ]
 
 -- a name that the body assigns is a target
-pub assigned-target : (scope : Scope) (body : SourceStatement) (targets : List Identifier) → (form : IsBlockForm scope body targets) → (i : ℕ) (n : NamedPlace) → slice_get (assigned_names form.inner) i ≡ Some n → has_name targets n.name ≡ true
+pub assigned-target : (scope : Scope) (body : SourceStatement) (targets : List Identifier) → (form : IsBlockForm scope body targets) → (i : ℕ) (n : NamedPlace) →
+    slice_get (assigned_names form.inner) i ≡ Some n → has_name targets n.name ≡ true
 assigned-target scope body targets form i n at =
     let names = map (λ (m : NamedPlace). m.name) (assigned_names form.inner) in
     ap (λ l. has_name l n.name) (sym form.targets_are) ∙ once-has [] names n.name (name-there names i n.name (at-map (λ (m : NamedPlace). m.name) (assigned_names form.inner) i n at)) refl
 
 -- a target is no memory
-pub target-plain : (scope : Scope) (body : SourceStatement) (targets : List Identifier) → IsBlockForm scope body targets → (name : Identifier) → has_name targets name ≡ true → is_memory (looked_up scope name) ≡ false
+pub target-plain : (scope : Scope) (body : SourceStatement) (targets : List Identifier) → IsBlockForm scope body targets → (name : Identifier) → has_name targets name ≡ true →
+    is_memory (looked_up scope name) ≡ false
 target-plain scope body targets form name there =
     elim (cases_Bool (is_memory (looked_up scope name))) [
       | inl memory ↦ let both : true ≡ false = sym (any-named (λ n. is_memory (looked_up scope n)) targets name there memory) ∙ form.no_memory in absurd (cc)
@@ -132,8 +139,10 @@ target-plain scope body targets form name there =
 
 pieces-low : (design : FlatDesign) (pieces : List Piece) → list_all (has_width design) pieces ≡ true → AllHold (λ o. o < length design.objects) (piece_objects pieces)
 pieces-low design [] h = tt
-pieces-low design (piece ∷ pieces) h =
-    (width-within design.objects piece.width piece.object (and-left (has_width design piece) (list_all (has_width design) pieces) h), pieces-low design pieces (and-right (has_width design piece) (list_all (has_width design) pieces) h))
+pieces-low design (piece ∷ pieces) h = (
+  width-within design.objects piece.width piece.object (and-left (has_width design piece) (list_all (has_width design) pieces) h),
+  pieces-low design pieces (and-right (has_width design piece) (list_all (has_width design) pieces) h),
+)
 
 module _ (design : FlatDesign) where
   abbrev IsLow : ℕ → Type 0
@@ -157,7 +166,8 @@ module _ (design : FlatDesign) where
   targets-low : (targets : List Target) → list_all named (named_in_targets targets) ≡ true → AllHold IsLow (indexes_objects targets)
   targets-low [] h = tt
   targets-low (target ∷ targets) h =
-      AllHold-append IsLow (index_objects target) (indexes_objects targets) (target-low target (all-front named (named_in_target target) (named_in_targets targets) h)) (targets-low targets (all-back named (named_in_target target) (named_in_targets targets) h))
+      AllHold-append IsLow (index_objects target) (indexes_objects targets) (target-low target (all-front named (named_in_target target) (named_in_targets targets) h))
+      (targets-low targets (all-back named (named_in_target target) (named_in_targets targets) h))
 
   mutual
     -- what a statement reads is there, where all is that it names
@@ -167,17 +177,20 @@ module _ (design : FlatDesign) where
     statement-low (If place condition first second) h =
         let rest = all-back named (named_in condition) (named_by first ++ named_by second) h in
         AllHold-append IsLow (objects_of condition) (read_objects first ++ read_objects second) (value-low condition (all-front named (named_in condition) (named_by first ++ named_by second) h))
-        (AllHold-append IsLow (read_objects first) (read_objects second) (statement-low first (all-front named (named_by first) (named_by second) rest)) (statement-low second (all-back named (named_by first) (named_by second) rest)))
+        (AllHold-append IsLow (read_objects first) (read_objects second) (statement-low first (all-front named (named_by first) (named_by second) rest))
+        (statement-low second (all-back named (named_by first) (named_by second) rest)))
     statement-low (Case place kind value items default) h =
         let rest = all-back named (named_in value) (named_by_items items ++ named_by default) h in
         AllHold-append IsLow (objects_of value) (items_read items ++ read_objects default) (value-low value (all-front named (named_in value) (named_by_items items ++ named_by default) h))
-        (AllHold-append IsLow (items_read items) (read_objects default) (items-low items (all-front named (named_by_items items) (named_by default) rest)) (statement-low default (all-back named (named_by_items items) (named_by default) rest)))
+        (AllHold-append IsLow (items_read items) (read_objects default) (items-low items (all-front named (named_by_items items) (named_by default) rest))
+        (statement-low default (all-back named (named_by_items items) (named_by default) rest)))
     statement-low (For place first_targets first condition next_targets next body) h =
         let r1 = all-back named (named_in_targets first_targets) (named_in first ++ (named_in condition ++ (named_in_targets next_targets ++ (named_in next ++ named_by body)))) h in
         let r2 = all-back named (named_in first) (named_in condition ++ (named_in_targets next_targets ++ (named_in next ++ named_by body))) r1 in
         let r3 = all-back named (named_in condition) (named_in_targets next_targets ++ (named_in next ++ named_by body)) r2 in
         let r4 = all-back named (named_in_targets next_targets) (named_in next ++ named_by body) r3 in
-        let q0 = targets-low first_targets (all-front named (named_in_targets first_targets) (named_in first ++ (named_in condition ++ (named_in_targets next_targets ++ (named_in next ++ named_by body)))) h) in
+        let q0 = targets-low first_targets (all-front named (named_in_targets first_targets)
+        (named_in first ++ (named_in condition ++ (named_in_targets next_targets ++ (named_in next ++ named_by body)))) h) in
         let q1 = value-low first (all-front named (named_in first) (named_in condition ++ (named_in_targets next_targets ++ (named_in next ++ named_by body))) r1) in
         let q2 = value-low condition (all-front named (named_in condition) (named_in_targets next_targets ++ (named_in next ++ named_by body)) r2) in
         let q3 = targets-low next_targets (all-front named (named_in_targets next_targets) (named_in next ++ named_by body) r3) in
@@ -188,33 +201,41 @@ module _ (design : FlatDesign) where
         (AllHold-append IsLow (objects_of condition) (indexes_objects next_targets ++ (objects_of next ++ read_objects body)) q2
         (AllHold-append IsLow (indexes_objects next_targets) (objects_of next ++ read_objects body) q3 (AllHold-append IsLow (objects_of next) (read_objects body) q4 q5))))
     statement-low (While place condition body) h =
-        AllHold-append IsLow (objects_of condition) (read_objects body) (value-low condition (all-front named (named_in condition) (named_by body) h)) (statement-low body (all-back named (named_in condition) (named_by body) h))
+        AllHold-append IsLow (objects_of condition) (read_objects body) (value-low condition (all-front named (named_in condition) (named_by body) h))
+        (statement-low body (all-back named (named_in condition) (named_by body) h))
     statement-low (Repeat place count body) h =
-        AllHold-append IsLow (objects_of count) (read_objects body) (value-low count (all-front named (named_in count) (named_by body) h)) (statement-low body (all-back named (named_in count) (named_by body) h))
+        AllHold-append IsLow (objects_of count) (read_objects body) (value-low count (all-front named (named_in count) (named_by body) h))
+        (statement-low body (all-back named (named_in count) (named_by body) h))
     statement-low (Forever place body) h = statement-low body h
     statement-low (Delay place delay body) h = statement-low body h
     statement-low (EventControl place entries body) h = statement-low body h
     statement-low (Wait place condition body) h = statement-low body (all-back named (named_in condition) (named_by body) h)
     statement-low (Blocking place targets delay value) h =
-        AllHold-append IsLow (indexes_objects targets) (objects_of value) (targets-low targets (all-front named (named_in_targets targets) (named_in value) h)) (value-low value (all-back named (named_in_targets targets) (named_in value) h))
+        AllHold-append IsLow (indexes_objects targets) (objects_of value) (targets-low targets (all-front named (named_in_targets targets) (named_in value) h))
+        (value-low value (all-back named (named_in_targets targets) (named_in value) h))
     statement-low (Nonblocking place targets delay value) h =
-        AllHold-append IsLow (indexes_objects targets) (objects_of value) (targets-low targets (all-front named (named_in_targets targets) (named_in value) h)) (value-low value (all-back named (named_in_targets targets) (named_in value) h))
+        AllHold-append IsLow (indexes_objects targets) (objects_of value) (targets-low targets (all-front named (named_in_targets targets) (named_in value) h))
+        (value-low value (all-back named (named_in_targets targets) (named_in value) h))
     statement-low (Finish place) h = tt
 
     statements-low : (statements : Statements) → list_all (λ piece. has_width design piece) (named_by_all statements) ≡ true → AllHold (λ o. o < length design.objects) (all_read statements)
     statements-low no_statements h = tt
     statements-low (more_statements first rest) h =
-        AllHold-append IsLow (read_objects first) (all_read rest) (statement-low first (all-front named (named_by first) (named_by_all rest) h)) (statements-low rest (all-back named (named_by first) (named_by_all rest) h))
+        AllHold-append IsLow (read_objects first) (all_read rest) (statement-low first (all-front named (named_by first) (named_by_all rest) h))
+        (statements-low rest (all-back named (named_by first) (named_by_all rest) h))
 
     items-low : (items : CaseItems) → list_all (λ piece. has_width design piece) (named_by_items items) ≡ true → AllHold (λ o. o < length design.objects) (items_read items)
     items-low no_items h = tt
     items-low (more_items labels statement rest) h =
         let later = all-back named (named_in_parts labels) (named_by statement ++ named_by_items rest) h in
-        AllHold-append IsLow (parts_objects labels) (read_objects statement ++ items_read rest) (parts-low labels (all-front named (named_in_parts labels) (named_by statement ++ named_by_items rest) h))
-        (AllHold-append IsLow (read_objects statement) (items_read rest) (statement-low statement (all-front named (named_by statement) (named_by_items rest) later)) (items-low rest (all-back named (named_by statement) (named_by_items rest) later)))
+        AllHold-append IsLow (parts_objects labels) (read_objects statement ++ items_read rest)
+        (parts-low labels (all-front named (named_in_parts labels) (named_by statement ++ named_by_items rest) h))
+        (AllHold-append IsLow (read_objects statement) (items_read rest) (statement-low statement (all-front named (named_by statement) (named_by_items rest) later))
+        (items-low rest (all-back named (named_by statement) (named_by_items rest) later)))
 
 -- so a block reads objects that are there
-pub block-within : (design : FlatDesign) (s : Statement) (outputs : List ℕ) → IsTrue (have_widths design (named_by s)) → (o : ℕ) → has (node_reads (BlockNode s) outputs) o ≡ true → o < length design.objects
+pub block-within : (design : FlatDesign) (s : Statement) (outputs : List ℕ) → IsTrue (have_widths design (named_by s)) → (o : ℕ) → has (node_reads (BlockNode s) outputs) o ≡ true →
+    o < length design.objects
 block-within design s outputs h o e =
     AllHold-has (λ n. n < length design.objects) (filter (λ object. not (has outputs object)) (read_objects s)) o
     (AllHold-filter (λ n. n < length design.objects) (λ object. not (has outputs object)) (read_objects s) (statement-low design s h)) e
@@ -229,7 +250,8 @@ pub record IsKnownBlock (modules : List SourceModule) (mode : Mode) (top : Sourc
   pub form : IsBlockForm process.scope process.body moves.targets
 
 -- a target that is a variable is held by one object
-pub known-target : (modules : List SourceModule) (mode : Mode) (top : SourceModule) (parts : List Part) → walked_from modules mode top ≡ Ok parts → IsHierarchy parts → two_drivers (signals_of parts) (nodes_in parts) ≡ None →
+pub known-target : (modules : List SourceModule) (mode : Mode) (top : SourceModule) (parts : List Part) → walked_from modules mode top ≡ Ok parts → IsHierarchy parts →
+    two_drivers (signals_of parts) (nodes_in parts) ≡ None →
     (number : ℕ) (node : WalkedNode) (process : WalkedProcess) → (block : IsKnownBlock modules mode top parts number node process) → (name : Identifier) → has_name block.moves.targets name ≡ true →
     is_reg (looked_up process.scope name) ≡ true → IsTargetHeld parts number (process.path ++ name)
 known-target modules mode top parts e hierarchy two number node process block name there reg =
@@ -238,9 +260,11 @@ known-target modules mode top parts e hierarchy two number node process block na
     target-held parts hierarchy two number node process block.at block.moves place.0 name place.1 variable.number variable.signal variable.is variable.name_is
 
 -- what the body of a block names is there, and it writes outputs of its node
-pub block-fits : (modules : List SourceModule) (mode : Mode) (top : SourceModule) (parts : List Part) (design : FlatDesign) → walked_from modules mode top ≡ Ok parts → IsMadeOf parts design → IsHierarchy parts → (number : ℕ) (node : WalkedNode)
+pub block-fits : (modules : List SourceModule) (mode : Mode) (top : SourceModule) (parts : List Part) (design : FlatDesign) → walked_from modules mode top ≡ Ok parts → IsMadeOf parts design →
+    IsHierarchy parts → (number : ℕ) (node : WalkedNode)
     (process : WalkedProcess) → IsKnownBlock modules mode top parts number node process →
-    FitsStatement design (λ o. has (objects_of_outputs (outputs_of (objects_in parts) number)) o ≡ true) (meaning_in parts (objects_in parts) process) (statement_over (meaning_in parts (objects_in parts) process) (block_body process.body))
+    FitsStatement design (λ o. has (objects_of_outputs (outputs_of (objects_in parts) number)) o ≡ true) (meaning_in parts (objects_in parts) process)
+    (statement_over (meaning_in parts (objects_in parts) process) (block_body process.body))
 block-fits modules mode top parts design e made hierarchy number node process block =
     let objects = objects_in parts in
     let is = design-objects parts design made in
@@ -257,7 +281,8 @@ block-fits modules mode top parts design e made hierarchy number node process bl
       words = λ memory. let both : true ≡ false = sym memory ∙ target-plain process.scope process.body block.moves.targets form n.name target in absurd (cc);
       variable = λ reg.
           let t = known-target modules mode top parts e hierarchy made.one_driver number node process block n.name target reg in
-          one-fits design Q objects is (outermost (signals_of parts) (process.path ++ n.name)) t.held t.one (target-output parts number (process.path ++ n.name) t) (vector_of_name (signals_of parts) objects (process.path ++ n.name)) refl;
+          one-fits design Q objects is (outermost (signals_of parts) (process.path ++ n.name)) t.held t.one (target-output parts number (process.path ++ n.name) t)
+          (vector_of_name (signals_of parts) objects (process.path ++ n.name)) refl;
     }) in
     let none = append-none (entry_faults process.scope form.waits) (statement_name_faults process.scope inner) (ap (statement_name_faults process.scope) (sym form.is) ∙ block.text.names) in
     let sizes = append-none (waits_faults process.scope form.waits) (statement_faults process.scope inner) (ap (statement_faults process.scope) (sym form.is) ∙ block.text.sizes) in

@@ -11,14 +11,20 @@ use Rattle.v_design.specs.Expressions.{memory_pieces, pieces_read, parts_read, p
 use Rattle.v_design.specs.Reads.{targets_objects, index_objects, indexes_objects, written_objects, all_written, items_written, labels_read, named_in, named_in_parts}
 use Rattle.v_design.specs.CombinationalForm.{whole_targets, part_targets_after, assigned_if, assigned_on_both, then_assigned, assigned_by, all_assigned_by, items_assigned_by}
 use Rattle.v_design.specs.CombinationalForm.{reads_assigned as objects_assigned}
-use Rattle.v_tree.specs.Trees.{Identifier, NamedPlace, same_name, has_name, SourceExpression, SourceIndex, NoIndex, IndexAt, IndexRange, SourceExpressions, no_parts, more_parts, SourceSelect, SourceTarget, selects_of, names_in, names_in_index, names_in_parts, SourceStatement, NullStatement, BlockStatement, IfStatement, IfElseStatement, CaseStatement, ForStatement, WhileStatement, RepeatStatement, ForeverStatement, WaitStatement, EventStatement, DelayStatement, BlockingStatement, NonblockingStatement, IgnoredTask, FinishTask, SourceStatements, no_source_statements, more_source_statements, SourceCaseItems, no_source_items, labelled, otherwise}
+use Rattle.v_tree.specs.Trees.{Identifier, NamedPlace, same_name, has_name, SourceExpression, SourceIndex, NoIndex, IndexAt, IndexRange, SourceExpressions, no_parts, more_parts, SourceSelect}
+use Rattle.v_tree.specs.Trees.{SourceTarget, selects_of, names_in, names_in_index, names_in_parts, SourceStatement, NullStatement, BlockStatement, IfStatement, IfElseStatement, CaseStatement}
+use Rattle.v_tree.specs.Trees.{ForStatement, WhileStatement, RepeatStatement, ForeverStatement, WaitStatement, EventStatement, DelayStatement, BlockingStatement, NonblockingStatement, IgnoredTask}
+use Rattle.v_tree.specs.Trees.{FinishTask, SourceStatements, no_source_statements, more_source_statements, SourceCaseItems, no_source_items, labelled, otherwise}
 use Rattle.v_tree.specs.Trees.{named_in as names_of, named_in_parts as names_of_parts}
 use Rattle.v_names.specs.Scopes.{looked_up, is_memory}
 use Rattle.v_names.specs.Readings.{Size, size_or_bit, reading_of, tree_at}
 use Rattle.v_names.specs.SizedTrees.{over_objects}
 use Rattle.v_names.specs.SizedLaws.{and-left, and-right}
-use Rattle.v_comb.specs.CombinationalForm.{target_names, target_index_names, assigned_names, all_assigned_names, items_assigned_names, labels_names, names_read, all_names_read, items_names_read, reads_assigned, is_whole_select, whole_names, part_names, names_needed, assigned_where, on_both_paths, unmatched_path, path_with, paths_or, assigned_after, all_assigned_after, items_assigned_after}
-use Rattle.v_elab.specs.Statements.{Meaning, alone_expression, assigned_expression, first_object, indexed_target, target_by_index, targets_over, delay_number, items_size, label_expressions, statement_over, statements_over, items_over, default_over}
+use Rattle.v_comb.specs.CombinationalForm.{target_names, target_index_names, assigned_names, all_assigned_names, items_assigned_names, labels_names, names_read, all_names_read, items_names_read}
+use Rattle.v_comb.specs.CombinationalForm.{reads_assigned, is_whole_select, whole_names, part_names, names_needed, assigned_where, on_both_paths, unmatched_path, path_with, paths_or, assigned_after}
+use Rattle.v_comb.specs.CombinationalForm.{all_assigned_after, items_assigned_after}
+use Rattle.v_elab.specs.Statements.{Meaning, alone_expression, assigned_expression, first_object, indexed_target, target_by_index, targets_over, delay_number, items_size, label_expressions}
+use Rattle.v_elab.specs.Statements.{statement_over, statements_over, items_over, default_over}
 use Rattle.graph_order.specs.ListLaws.{has-append}
 use Rattle.flat_laws.specs.Lists.{same_some}
 use Rattle.flat_laws.specs.Hierarchy.Given.{equal-name, both-true}
@@ -128,12 +134,14 @@ module _ (meaning : Meaning) (targets : List Identifier) (outputs : List ℕ) wh
   pieces-free assigned (piece ∷ pieces) each =
       both-true (free assigned piece) (list_all (free assigned) pieces)
       (elim (cases_Bool (has outputs piece.object)) [
-        | inl output ↦ or_right (not (has outputs piece.object)) (has assigned piece.object) (each piece.object (or_left (nat_eq piece.object piece.object) (has (piece_objects pieces) piece.object) (eq-eqb piece.object piece.object refl)) output)
+        | inl output ↦ or_right (not (has outputs piece.object)) (has assigned piece.object)
+            (each piece.object (or_left (nat_eq piece.object piece.object) (has (piece_objects pieces) piece.object) (eq-eqb piece.object piece.object refl)) output)
         | inr none ↦ or_left (not (has outputs piece.object)) (has assigned piece.object) (ap not none)
       ])
       (pieces-free assigned pieces (λ o there. each o (or_right (nat_eq piece.object o) (has (piece_objects pieces) o) there)))
 
-  name-free : (names : List Identifier) (assigned : List ℕ) (name : Identifier) → Follows names assigned → IsRead name → (not (has_name targets name) || has_name names name) ≡ true → Free assigned name
+  name-free : (names : List Identifier) (assigned : List ℕ) (name : Identifier) → Follows names assigned → IsRead name → (not (has_name targets name) || has_name names name) ≡ true →
+      Free assigned name
   name-free names assigned name follows reads ok =
       pieces-free assigned (meaning.holders.vector name).pieces
       (λ o there output.
@@ -141,7 +149,8 @@ module _ (meaning : Meaning) (targets : List Identifier) (outputs : List ℕ) wh
       let now : has_name names name ≡ true = ap (λ b. not b || has_name names name) (sym r.0) ∙ ok in
       ap (has assigned) r.1 ∙ follows name now)
 
-  names-free : (names : List Identifier) (assigned : List ℕ) (all : List Identifier) → Follows names assigned → AllHold IsRead all → reads_assigned targets names all ≡ true → AllHold (Free assigned) all
+  names-free : (names : List Identifier) (assigned : List ℕ) (all : List Identifier) → Follows names assigned → AllHold IsRead all → reads_assigned targets names all ≡ true →
+      AllHold (Free assigned) all
   names-free names assigned [] follows reads ok = tt
   names-free names assigned (name ∷ all) follows reads ok = (
     name-free names assigned name follows reads.0 (and-left (not (has_name targets name) || has_name names name) (reads_assigned targets names all) ok),
@@ -161,23 +170,27 @@ module _ (meaning : Meaning) (targets : List Identifier) (outputs : List ℕ) wh
       (objects-append assigned xs ys (and-right (not (has outputs x) || has assigned x) (objects_assigned outputs assigned xs) h) k)
 
   -- an expression over objects reads outputs that are assigned, where its names are
-  tree-free : AreApart → (names : List Identifier) (assigned : List ℕ) (e : SourceExpression) → Follows names assigned → AllHold IsRead (names_in e) → reads_assigned targets names (names_in e) ≡ true → (width : ℕ) (signed : Bool) →
+  tree-free : AreApart → (names : List Identifier) (assigned : List ℕ) (e : SourceExpression) → Follows names assigned → AllHold IsRead (names_in e) →
+      reads_assigned targets names (names_in e) ≡ true → (width : ℕ) (signed : Bool) →
       list_all (free assigned) (named_in (over_objects meaning.holders ((reading_of meaning.scope e).tree width signed))) ≡ true
   tree-free apart names assigned e follows reads ok width signed =
       names-pass (free assigned) meaning.holders (apart assigned) ((reading_of meaning.scope e).tree width signed)
       (expression-read (Free assigned) meaning.scope e (unmapped (Free assigned) (names_of e) (names-free names assigned (names_in e) follows reads ok)) width signed)
 
-  value-free : AreApart → (names : List Identifier) (assigned : List ℕ) (e : SourceExpression) → Follows names assigned → AllHold IsRead (names_in e) → reads_assigned targets names (names_in e) ≡ true → (width : ℕ) (signed : Bool) →
+  value-free : AreApart → (names : List Identifier) (assigned : List ℕ) (e : SourceExpression) → Follows names assigned → AllHold IsRead (names_in e) →
+      reads_assigned targets names (names_in e) ≡ true → (width : ℕ) (signed : Bool) →
       objects_assigned outputs assigned (objects_of (over_objects meaning.holders ((reading_of meaning.scope e).tree width signed))) ≡ true
   value-free apart names assigned e follows reads ok width signed =
       let over = over_objects meaning.holders ((reading_of meaning.scope e).tree width signed) in
       free-assigned assigned (pieces_read over) (read-there (free assigned) over (tree-free apart names assigned e follows reads ok width signed))
 
-  alone-free : AreApart → (names : List Identifier) (assigned : List ℕ) (e : SourceExpression) → Follows names assigned → AllHold IsRead (names_in e) → reads_assigned targets names (names_in e) ≡ true →
+  alone-free : AreApart → (names : List Identifier) (assigned : List ℕ) (e : SourceExpression) → Follows names assigned → AllHold IsRead (names_in e) →
+      reads_assigned targets names (names_in e) ≡ true →
       objects_assigned outputs assigned (objects_of (alone_expression meaning e)) ≡ true
   alone-free apart names assigned e follows reads ok = let size = size_or_bit (reading_of meaning.scope e).size in value-free apart names assigned e follows reads ok size.width size.signed
 
-  labels-free : AreApart → (names : List Identifier) (assigned : List ℕ) (size : Option Size) (labels : SourceExpressions) → Follows names assigned → AllHold IsRead (names_in_parts labels) → reads_assigned targets names (names_in_parts labels) ≡ true →
+  labels-free : AreApart → (names : List Identifier) (assigned : List ℕ) (size : Option Size) (labels : SourceExpressions) → Follows names assigned → AllHold IsRead (names_in_parts labels) →
+      reads_assigned targets names (names_in_parts labels) ≡ true →
       list_all (free assigned) (named_in_parts (label_expressions meaning size labels)) ≡ true
   labels-free apart names assigned size no_parts follows reads ok = refl
   labels-free apart names assigned size (more_parts label rest) follows reads ok =
@@ -192,9 +205,11 @@ module _ (meaning : Meaning) (targets : List Identifier) (outputs : List ℕ) wh
     where
       append : (xs ys : List Piece) → list_all (free assigned) xs ≡ true → list_all (free assigned) ys ≡ true → list_all (free assigned) (xs ++ ys) ≡ true
       append [] ys h k = k
-      append (x ∷ xs) ys h k = both-true (free assigned x) (list_all (free assigned) (xs ++ ys)) (and-left (free assigned x) (list_all (free assigned) xs) h) (append xs ys (and-right (free assigned x) (list_all (free assigned) xs) h) k)
+      append (x ∷ xs) ys h k = both-true (free assigned x) (list_all (free assigned) (xs ++ ys)) (and-left (free assigned x) (list_all (free assigned) xs) h)
+          (append xs ys (and-right (free assigned x) (list_all (free assigned) xs) h) k)
 
-  items-free : AreApart → (names : List Identifier) (assigned : List ℕ) (size : Option Size) (items : SourceCaseItems) → Follows names assigned → AllHold IsRead (items_names_read items) → reads_assigned targets names (labels_names items) ≡ true →
+  items-free : AreApart → (names : List Identifier) (assigned : List ℕ) (size : Option Size) (items : SourceCaseItems) → Follows names assigned → AllHold IsRead (items_names_read items) →
+      reads_assigned targets names (labels_names items) ≡ true →
       objects_assigned outputs assigned (labels_read (items_over meaning size items)) ≡ true
   items-free apart names assigned size no_source_items follows reads ok = refl
   items-free apart names assigned size (labelled labels statement rest) follows reads ok =
@@ -203,7 +218,8 @@ module _ (meaning : Meaning) (targets : List Identifier) (outputs : List ℕ) wh
       let later = AllHold-parts IsRead (names_read statement) (items_names_read rest) own.1 in
       let over = label_expressions meaning size labels in
       objects-append assigned (parts_objects over) (labels_read (items_over meaning size rest))
-      (free-assigned assigned (parts_read over) (reads-there (free assigned) over (labels-free apart names assigned size labels follows own.0 (all-front test (names_in_parts labels) (labels_names rest) ok))))
+      (free-assigned assigned (parts_read over) (reads-there (free assigned) over (labels-free apart names assigned size labels follows own.0
+      (all-front test (names_in_parts labels) (labels_names rest) ok))))
       (items-free apart names assigned size rest follows later.1 (all-back test (names_in_parts labels) (labels_names rest) ok))
   items-free apart names assigned size (otherwise statement rest) follows reads ok =
       let later = AllHold-parts IsRead (names_read statement) (items_names_read rest) reads in items-free apart names assigned size rest follows later.1 ok
@@ -211,14 +227,16 @@ module _ (meaning : Meaning) (targets : List Identifier) (outputs : List ℕ) wh
   -- Targets
 
   -- a select of a target: its index, whether it is assigned in part, and what it assigns whole
-  index-free : AreApart → (names : List Identifier) (assigned : List ℕ) (name : Identifier) (index : SourceIndex) → Follows names assigned → is_memory (looked_up meaning.scope name) ≡ false → AllHold IsRead (names_in_index index) →
+  index-free : AreApart → (names : List Identifier) (assigned : List ℕ) (name : Identifier) (index : SourceIndex) → Follows names assigned → is_memory (looked_up meaning.scope name) ≡ false →
+      AllHold IsRead (names_in_index index) →
       reads_assigned targets names (names_in_index index) ≡ true → objects_assigned outputs assigned (index_objects (target_by_index meaning name index)) ≡ true
   index-free apart names assigned name NoIndex follows plain reads ok = refl
   index-free apart names assigned name (IndexRange from to) follows plain reads ok = refl
   index-free apart names assigned name (IndexAt index) follows plain reads ok =
       ap (λ b. objects_assigned outputs assigned (index_objects (indexed_target b meaning name index))) plain ∙ alone-free apart names assigned index follows reads ok
 
-  indexes-free : AreApart → (names : List Identifier) (assigned : List ℕ) (selects : List SourceSelect) → Follows names assigned → AllHold (λ (s : SourceSelect). is_memory (looked_up meaning.scope s.name) ≡ false) selects →
+  indexes-free : AreApart → (names : List Identifier) (assigned : List ℕ) (selects : List SourceSelect) → Follows names assigned →
+      AllHold (λ (s : SourceSelect). is_memory (looked_up meaning.scope s.name) ≡ false) selects →
       AllHold IsRead (flat_map (λ (s : SourceSelect). names_in_index s.index) selects) → reads_assigned targets names (flat_map (λ (s : SourceSelect). names_in_index s.index) selects) ≡ true →
       objects_assigned outputs assigned (indexes_objects (map (λ (s : SourceSelect). target_by_index meaning s.name s.index) selects)) ≡ true
   indexes-free apart names assigned [] follows plain reads ok = refl
@@ -231,7 +249,8 @@ module _ (meaning : Meaning) (targets : List Identifier) (outputs : List ℕ) wh
       (indexes-free apart names assigned selects follows plain.1 split.1 (all-back test (names_in_index s.index) more ok))
 
   -- what is assigned in part was assigned whole
-  parts-after : (names : List Identifier) (assigned : List ℕ) (selects : List SourceSelect) → Follows names assigned → AllHold (λ (s : SourceSelect). (has_name targets s.name ≡ true) × (is_memory (looked_up meaning.scope s.name) ≡ false)) selects →
+  parts-after : (names : List Identifier) (assigned : List ℕ) (selects : List SourceSelect) → Follows names assigned →
+      AllHold (λ (s : SourceSelect). (has_name targets s.name ≡ true) × (is_memory (looked_up meaning.scope s.name) ≡ false)) selects →
       reads_assigned targets names (map (λ (s : SourceSelect). s.name) (filter (λ s. not (is_whole_select s)) selects)) ≡ true →
       part_targets_after assigned (map (λ (s : SourceSelect). target_by_index meaning s.name s.index) selects) ≡ true
   parts-after names assigned [] follows plain ok = refl
@@ -252,15 +271,18 @@ module _ (meaning : Meaning) (targets : List Identifier) (outputs : List ℕ) wh
       by_index place name NoIndex p k rest = rest k
       by_index place name (IndexAt index) p k rest =
           ap (λ b. part_targets_after assigned (indexed_target b meaning name index ∷ others)) p.1
-          ∙ both-true (has assigned (object name)) (part_targets_after assigned others) (own name p.0 (and-left (not (has_name targets name) || has_name names name) (reads_assigned targets names more) k))
+          ∙ both-true (has assigned (object name)) (part_targets_after assigned others) (own name p.0
+          (and-left (not (has_name targets name) || has_name names name) (reads_assigned targets names more) k))
           (rest (and-right (not (has_name targets name) || has_name names name) (reads_assigned targets names more) k))
       by_index place name (IndexRange from to) p k rest =
-          both-true (has assigned (object name)) (part_targets_after assigned others) (own name p.0 (and-left (not (has_name targets name) || has_name names name) (reads_assigned targets names more) k))
+          both-true (has assigned (object name)) (part_targets_after assigned others) (own name p.0
+          (and-left (not (has_name targets name) || has_name names name) (reads_assigned targets names more) k))
           (rest (and-right (not (has_name targets name) || has_name names name) (reads_assigned targets names more) k))
 
   -- what is assigned whole over names is over objects
   whole-follows : (selects : List SourceSelect) (name : Identifier) → AllHold (λ (s : SourceSelect). is_memory (looked_up meaning.scope s.name) ≡ false) selects →
-      has_name (map (λ (s : SourceSelect). s.name) (filter is_whole_select selects)) name ≡ true → has (whole_targets (map (λ (s : SourceSelect). target_by_index meaning s.name s.index) selects)) (object name) ≡ true
+      has_name (map (λ (s : SourceSelect). s.name) (filter is_whole_select selects)) name ≡ true →
+      has (whole_targets (map (λ (s : SourceSelect). target_by_index meaning s.name s.index) selects)) (object name) ≡ true
   whole-follows [] name plain e = absurd (cc)
   whole-follows (s ∷ selects) name plain e = by_index s.place s.name s.index plain.0 e (λ later. whole-follows selects name plain.1 later)
     where
@@ -271,11 +293,13 @@ module _ (meaning : Meaning) (targets : List Identifier) (outputs : List ℕ) wh
       more = map (λ (s : SourceSelect). s.name) (filter is_whole_select selects)
 
       by_index : (place : SourcePlace) (first : Identifier) (index : SourceIndex) → is_memory (looked_up meaning.scope first) ≡ false →
-          has_name (map (λ (s : SourceSelect). s.name) (filter is_whole_select (record { place = place; name = first; index = index } ∷ selects))) name ≡ true → (has_name more name ≡ true → has (whole_targets others) (object name) ≡ true) →
+          has_name (map (λ (s : SourceSelect). s.name) (filter is_whole_select (record { place = place; name = first; index = index } ∷ selects))) name ≡ true →
+          (has_name more name ≡ true → has (whole_targets others) (object name) ≡ true) →
           has (whole_targets (target_by_index meaning first index ∷ others)) (object name) ≡ true
       by_index place first NoIndex p k rest =
           elim (or_cases (same_name first name) (has_name more name) k) [
-            | inl here ↦ or_left (nat_eq (object first) (object name)) (has (whole_targets others) (object name)) (eq-eqb (object first) (object name) (ap (λ n. object n) (equal-name first name here)))
+            | inl here ↦ or_left (nat_eq (object first) (object name)) (has (whole_targets others) (object name))
+                (eq-eqb (object first) (object name) (ap (λ n. object n) (equal-name first name here)))
             | inr later ↦ or_right (nat_eq (object first) (object name)) (has (whole_targets others) (object name)) (rest later)
           ]
       by_index place first (IndexAt index) p k rest = ap (λ b. has (whole_targets (indexed_target b meaning first index ∷ others)) (object name)) p ∙ rest k
@@ -307,12 +331,14 @@ module _ (meaning : Meaning) (targets : List Identifier) (outputs : List ℕ) wh
       record { found = assigned; is = refl; follows = λ name there. follows name (ap (λ l. has_name l name) same ∙ there); writes = λ o there. or_left (has assigned o) (has written o) there }
 
   -- both of two paths
-  both-move : (a b after : List Identifier) (assigned : List ℕ) (one other : Option (List ℕ)) (written more : List ℕ) → ((name : Identifier) → has_name after name ≡ true → (has_name a name ≡ true) × (has_name b name ≡ true)) →
+  both-move : (a b after : List Identifier) (assigned : List ℕ) (one other : Option (List ℕ)) (written more : List ℕ) →
+      ((name : Identifier) → has_name after name ≡ true → (has_name a name ≡ true) × (has_name b name ≡ true)) →
       Moves a assigned one written → Moves b assigned other more → Moves after assigned (assigned_on_both one other) (written ++ more)
   both-move a b after assigned one other written more within r q = record {
     found = filter (has q.found) r.found;
     is = ap₂ assigned_on_both r.is q.is;
-    follows = λ name there. let both = within name there in has-filter (has q.found) r.found (object name) ∙ both-true (has q.found (object name)) (has r.found (object name)) (q.follows name both.1) (r.follows name both.0);
+    follows = λ name there. let both = within name there in has-filter (has q.found) r.found (object name)
+        ∙ both-true (has q.found (object name)) (has r.found (object name)) (q.follows name both.1) (r.follows name both.0);
     writes = λ o there. lift-left (has assigned o) written more o (r.writes o (and-right (has q.found o) (has r.found o) (sym (has-filter (has q.found) r.found o) ∙ there)));
   }
 
@@ -321,7 +347,8 @@ module _ (meaning : Meaning) (targets : List Identifier) (outputs : List ℕ) wh
   plain-selects [] h = tt
   plain-selects (s ∷ selects) h = (h.0, plain-selects selects h.1)
 
-  no-memories : (selects : List SourceSelect) → AllHold (λ (s : SourceSelect). (has_name targets s.name ≡ true) × (is_memory (looked_up meaning.scope s.name) ≡ false)) selects → AllHold (λ (s : SourceSelect). is_memory (looked_up meaning.scope s.name) ≡ false) selects
+  no-memories : (selects : List SourceSelect) → AllHold (λ (s : SourceSelect). (has_name targets s.name ≡ true) × (is_memory (looked_up meaning.scope s.name) ≡ false)) selects →
+      AllHold (λ (s : SourceSelect). is_memory (looked_up meaning.scope s.name) ≡ false) selects
   no-memories [] h = tt
   no-memories (s ∷ selects) h = (h.0.1, no-memories selects h.1)
 
@@ -329,7 +356,8 @@ module _ (meaning : Meaning) (targets : List Identifier) (outputs : List ℕ) wh
   no-delay None e = refl
   no-delay (Some d) e = absurd (cc)
 
-  assignment-moves : AreApart → (names after : List Identifier) (assigned : List ℕ) (place : SourcePlace) (target : SourceTarget) (delay : Option SourceExpression) (value : SourceExpression) → Follows names assigned →
+  assignment-moves : AreApart → (names after : List Identifier) (assigned : List ℕ) (place : SourcePlace) (target : SourceTarget) (delay : Option SourceExpression) (value : SourceExpression) →
+      Follows names assigned →
       AllHold IsRead (target_index_names target ++ names_in value) → AllHold IsPlain (target_names target) → assigned_after targets names (BlockingStatement place target delay value) ≡ Some after →
       Moves after assigned (assigned_by outputs assigned (statement_over meaning (BlockingStatement place target delay value))) (targets_objects (targets_over meaning target))
   assignment-moves apart names after assigned place target delay value follows reads plain e =
@@ -352,7 +380,8 @@ module _ (meaning : Meaning) (targets : List Identifier) (outputs : List ℕ) wh
       let same = some-names (whole_names target ++ names) after r.1 in
       record {
         found = whole;
-        is = three-true (is_none (option_map (delay_number meaning) delay)) (objects_assigned outputs assigned (objects_of (assigned_expression meaning target value) ++ indexes_objects over)) (part_targets_after assigned over) whole
+        is = three-true (is_none (option_map (delay_number meaning) delay)) (objects_assigned outputs assigned (objects_of (assigned_expression meaning target value) ++ indexes_objects over))
+            (part_targets_after assigned over) whole
             (no-delay delay none) read (parts-after names assigned (selects_of target) follows selects parts);
         follows = λ name there.
             has-append (whole_targets over) assigned (object name)
@@ -367,7 +396,8 @@ module _ (meaning : Meaning) (targets : List Identifier) (outputs : List ℕ) wh
             ];
       }
 
-  test-moves : (test : Bool) (after : List Identifier) (assigned : List ℕ) (result : Option (List ℕ)) (written : List ℕ) → test ≡ true → Moves after assigned result written → Moves after assigned (then_assigned test result) written
+  test-moves : (test : Bool) (after : List Identifier) (assigned : List ℕ) (result : Option (List ℕ)) (written : List ℕ) → test ≡ true → Moves after assigned result written →
+      Moves after assigned (then_assigned test result) written
   test-moves true after assigned result written e m = m
   test-moves false after assigned result written e m = absurd (cc)
 
@@ -399,9 +429,11 @@ module _ (meaning : Meaning) (targets : List Identifier) (outputs : List ℕ) wh
   none-each names q (labelled labels statement rest) e = absurd (never-none (assigned_after targets names statement) (items_assigned_after targets names rest) e)
   none-each names q (otherwise statement rest) e = absurd (never-none (assigned_after targets names statement) (items_assigned_after targets names rest) e)
 
-  step-path : (names q p : List Identifier) (statement : SourceStatement) (rest : SourceCaseItems) → ((name : Identifier) → has_name q name ≡ true → has_name p name ≡ true) → (paths : Option (Option (List Identifier))) →
+  step-path : (names q p : List Identifier) (statement : SourceStatement) (rest : SourceCaseItems) → ((name : Identifier) → has_name q name ≡ true → has_name p name ≡ true) →
+      (paths : Option (Option (List Identifier))) →
       items_assigned_after targets names rest ≡ paths → path_with (assigned_after targets names statement) paths ≡ Some (Some p) →
-      ((b : List Identifier) → items_assigned_after targets names rest ≡ Some (Some b) → ((name : Identifier) → has_name q name ≡ true → has_name b name ≡ true) → EachPath names q rest) → IsPath names q statement × EachPath names q rest
+      ((b : List Identifier) → items_assigned_after targets names rest ≡ Some (Some b) → ((name : Identifier) → has_name q name ≡ true → has_name b name ≡ true) → EachPath names q rest) →
+      IsPath names q statement × EachPath names q rest
   step-path names q p statement rest within None is e onward =
       (record { a = p; is = same_some (assigned_after targets names statement) (Some p) e; within = within }, none-each names q rest is)
   step-path names q p statement rest within (Some other) is e onward =
@@ -410,7 +442,8 @@ module _ (meaning : Meaning) (targets : List Identifier) (outputs : List ℕ) wh
         onward b.b (is ∙ ap Some b.other_is) (λ name there. (b.within name (within name there)).1),
       )
 
-  each-path : (names q p : List Identifier) (items : SourceCaseItems) → items_assigned_after targets names items ≡ Some (Some p) → ((name : Identifier) → has_name q name ≡ true → has_name p name ≡ true) → EachPath names q items
+  each-path : (names q p : List Identifier) (items : SourceCaseItems) → items_assigned_after targets names items ≡ Some (Some p) →
+      ((name : Identifier) → has_name q name ≡ true → has_name p name ≡ true) → EachPath names q items
   each-path names q p no_source_items e within = tt
   each-path names q p (labelled labels statement rest) e within =
       step-path names q p statement rest within (items_assigned_after targets names rest) refl e (λ b is more. each-path names q b rest is more)
@@ -433,7 +466,8 @@ module _ (meaning : Meaning) (targets : List Identifier) (outputs : List ℕ) wh
 
   mutual
     -- a statement of combinational form over names is so over objects
-    pub statement-moves : (s : SourceStatement) → AreApart → (names after : List Identifier) (assigned : List ℕ) → Follows names assigned → AllHold IsRead (names_read s) → AllHold IsPlain (assigned_names s) → assigned_after targets names s ≡ Some after →
+    pub statement-moves : (s : SourceStatement) → AreApart → (names after : List Identifier) (assigned : List ℕ) → Follows names assigned → AllHold IsRead (names_read s) →
+        AllHold IsPlain (assigned_names s) → assigned_after targets names s ≡ Some after →
         Moves after assigned (assigned_by outputs assigned (statement_over meaning s)) (written_objects (statement_over meaning s))
     statement-moves (NullStatement place) apart names after assigned follows reads plain e = still names after assigned [] follows e
     statement-moves (IgnoredTask place) apart names after assigned follows reads plain e = still names after assigned [] follows e
@@ -445,7 +479,8 @@ module _ (meaning : Meaning) (targets : List Identifier) (outputs : List ℕ) wh
         let over = statement_over meaning first in
         let m = statement-moves first apart names b.b assigned follows split.1 plain b.other_is in
         let n = still names b.a assigned [] follows b.one_is in
-        test-moves (objects_assigned outputs assigned (objects_of (alone_expression meaning condition))) after assigned (assigned_on_both (assigned_by outputs assigned over) (Some assigned)) (written_objects over ++ [])
+        test-moves (objects_assigned outputs assigned (objects_of (alone_expression meaning condition))) after assigned (assigned_on_both (assigned_by outputs assigned over) (Some assigned))
+        (written_objects over ++ [])
         (alone-free apart names assigned condition follows split.0 r.0)
         (both-move b.b b.a after assigned (assigned_by outputs assigned over) (Some assigned) (written_objects over) [] (λ name there. let w = b.within name there in (w.1, w.0)) m n)
     statement-moves (IfElseStatement place condition first second) apart names after assigned follows reads plain e =
@@ -458,8 +493,10 @@ module _ (meaning : Meaning) (targets : List Identifier) (outputs : List ℕ) wh
         let two = statement_over meaning second in
         let m = statement-moves first apart names b.a assigned follows rest.0 both.0 b.one_is in
         let n = statement-moves second apart names b.b assigned follows rest.1 both.1 b.other_is in
-        test-moves (objects_assigned outputs assigned (objects_of (alone_expression meaning condition))) after assigned (assigned_on_both (assigned_by outputs assigned one) (assigned_by outputs assigned two)) (written_objects one ++ written_objects two)
-        (alone-free apart names assigned condition follows split.0 r.0) (both-move b.a b.b after assigned (assigned_by outputs assigned one) (assigned_by outputs assigned two) (written_objects one) (written_objects two) b.within m n)
+        test-moves (objects_assigned outputs assigned (objects_of (alone_expression meaning condition))) after assigned
+        (assigned_on_both (assigned_by outputs assigned one) (assigned_by outputs assigned two)) (written_objects one ++ written_objects two)
+        (alone-free apart names assigned condition follows split.0 r.0) (both-move b.a b.b after assigned (assigned_by outputs assigned one) (assigned_by outputs assigned two) (written_objects one)
+        (written_objects two) b.within m n)
     statement-moves (CaseStatement place kind value items) apart names after assigned follows reads plain e =
         let test : Identifier → Bool = λ name. not (has_name targets name) || has_name names name in
         let r = where-some (reads_assigned targets names (names_in value ++ labels_names items)) (unmatched_path names items (paths_or names (items_assigned_after targets names items))) after e in
@@ -471,12 +508,15 @@ module _ (meaning : Meaning) (targets : List Identifier) (outputs : List ℕ) wh
         let over = over_objects meaning.holders (tree_at (reading_of meaning.scope value) size) in
         let labels = items_over meaning size items in
         let default = default_over meaning items in
-        let read = objects-append assigned (objects_of over) (labels_read labels) (value-free apart names assigned value follows split.0 (all-front test (names_in value) (labels_names items) r.0) z.width z.signed)
+        let read = objects-append assigned (objects_of over) (labels_read labels) (value-free apart names assigned value follows split.0
+        (all-front test (names_in value) (labels_names items) r.0) z.width z.signed)
         (items-free apart names assigned size items follows split.1 (all-back test (names_in value) (labels_names items) r.0)) in
         let d = default-moves items apart names after assigned follows split.1 plain each u.3 in
-        test-moves (objects_assigned outputs assigned (objects_of over ++ labels_read labels)) after assigned (items_assigned_by outputs assigned labels (assigned_by outputs assigned default)) (items_written labels ++ written_objects default) read
+        test-moves (objects_assigned outputs assigned (objects_of over ++ labels_read labels)) after assigned (items_assigned_by outputs assigned labels (assigned_by outputs assigned default))
+        (items_written labels ++ written_objects default) read
         (items-move size items apart names after assigned (assigned_by outputs assigned default) (written_objects default) follows split.1 plain each d)
-    statement-moves (BlockingStatement place target delay value) apart names after assigned follows reads plain e = assignment-moves apart names after assigned place target delay value follows reads plain e
+    statement-moves (BlockingStatement place target delay value) apart names after assigned follows reads plain e =
+        assignment-moves apart names after assigned place target delay value follows reads plain e
     statement-moves (ForStatement place first_target first condition next_target next body) apart names after assigned follows reads plain e = absurd (cc)
     statement-moves (WhileStatement place condition body) apart names after assigned follows reads plain e = absurd (cc)
     statement-moves (RepeatStatement place count body) apart names after assigned follows reads plain e = absurd (cc)
@@ -487,8 +527,10 @@ module _ (meaning : Meaning) (targets : List Identifier) (outputs : List ℕ) wh
     statement-moves (NonblockingStatement place target delay value) apart names after assigned follows reads plain e = absurd (cc)
     statement-moves (FinishTask place) apart names after assigned follows reads plain e = absurd (cc)
 
-    statements-move : (statements : SourceStatements) → AreApart → (names after : List Identifier) (assigned : List ℕ) → Follows names assigned → AllHold IsRead (all_names_read statements) → AllHold IsPlain (all_assigned_names statements) →
-        all_assigned_after targets names statements ≡ Some after → Moves after assigned (all_assigned_by outputs assigned (statements_over meaning statements)) (all_written (statements_over meaning statements))
+    statements-move : (statements : SourceStatements) → AreApart → (names after : List Identifier) (assigned : List ℕ) → Follows names assigned → AllHold IsRead (all_names_read statements) →
+        AllHold IsPlain (all_assigned_names statements) →
+        all_assigned_after targets names statements ≡ Some after → Moves after assigned (all_assigned_by outputs assigned (statements_over meaning statements))
+        (all_written (statements_over meaning statements))
     statements-move no_source_statements apart names after assigned follows reads plain e = still names after assigned [] follows e
     statements-move (more_source_statements first rest) apart names after assigned follows reads plain e =
         let now = then-some (λ all. all_assigned_after targets all rest) (assigned_after targets names first) after e in
@@ -509,7 +551,8 @@ module _ (meaning : Meaning) (targets : List Identifier) (outputs : List ℕ) wh
               ];
         }
 
-    items-move : (size : Option Size) (items : SourceCaseItems) → AreApart → (names after : List Identifier) (assigned : List ℕ) (result : Option (List ℕ)) (written : List ℕ) → Follows names assigned → AllHold IsRead (items_names_read items) →
+    items-move : (size : Option Size) (items : SourceCaseItems) → AreApart → (names after : List Identifier) (assigned : List ℕ) (result : Option (List ℕ)) (written : List ℕ) →
+        Follows names assigned → AllHold IsRead (items_names_read items) →
         AllHold IsPlain (items_assigned_names items) → EachPath names after items → Moves after assigned result written →
         Moves after assigned (items_assigned_by outputs assigned (items_over meaning size items) result) (items_written (items_over meaning size items) ++ written)
     items-move size no_source_items apart names after assigned result written follows reads plain each d = d
@@ -522,14 +565,17 @@ module _ (meaning : Meaning) (targets : List Identifier) (outputs : List ℕ) wh
         let path = each.0 in
         let m = statement-moves statement apart names path.a assigned follows later.0 both.0 path.is in
         let q = items-move size rest apart names after assigned result written follows later.1 both.1 each.1 d in
-        subst (Moves after assigned (assigned_on_both (assigned_by outputs assigned one) (items_assigned_by outputs assigned others result))) (sym (append_assoc (written_objects one) (items_written others) written))
-        (both-move path.a after after assigned (assigned_by outputs assigned one) (items_assigned_by outputs assigned others result) (written_objects one) (items_written others ++ written) (λ name there. (path.within name there, there)) m q)
+        subst (Moves after assigned (assigned_on_both (assigned_by outputs assigned one) (items_assigned_by outputs assigned others result)))
+        (sym (append_assoc (written_objects one) (items_written others) written))
+        (both-move path.a after after assigned (assigned_by outputs assigned one) (items_assigned_by outputs assigned others result) (written_objects one) (items_written others ++ written)
+        (λ name there. (path.within name there, there)) m q)
     items-move size (otherwise statement rest) apart names after assigned result written follows reads plain each d =
         let later = AllHold-parts IsRead (names_read statement) (items_names_read rest) reads in
         let both = AllHold-parts IsPlain (assigned_names statement) (items_assigned_names rest) plain in
         items-move size rest apart names after assigned result written follows later.1 both.1 each.1 d
 
-    default-moves : (items : SourceCaseItems) → AreApart → (names after : List Identifier) (assigned : List ℕ) → Follows names assigned → AllHold IsRead (items_names_read items) → AllHold IsPlain (items_assigned_names items) → EachPath names after items →
+    default-moves : (items : SourceCaseItems) → AreApart → (names after : List Identifier) (assigned : List ℕ) → Follows names assigned → AllHold IsRead (items_names_read items) →
+        AllHold IsPlain (items_assigned_names items) → EachPath names after items →
         IsUnmatched names after items → Moves after assigned (assigned_by outputs assigned (default_over meaning items)) (written_objects (default_over meaning items))
     default-moves no_source_items apart names after assigned follows reads plain each un =
         record { found = assigned; is = refl; follows = λ name there. follows name (un name there); writes = λ o there. or_left (has assigned o) false there }

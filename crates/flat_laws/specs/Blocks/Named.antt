@@ -5,14 +5,17 @@ use Rattle.std.specs.List.{list_all}
 use Rattle.std.proofs.lemmas.Bool.{or_cases, or_left, or_right, eq-eqb, eqb-true, cond-true, cond-false}
 use Rattle.std.proofs.lemmas.Option.{slice_get_within}
 use Rattle.vf_base.specs.Lists.{has, map_numbered, joined}
-use Rattle.v_design.specs.Trees.{Piece, Vector, Expression, Constant, Name, BitSelect, PartSelect, WordSelect, Unary, Binary, Conditional, Concatenation, Replication, Expressions, no_expressions, more_expressions}
-use Rattle.v_design.specs.Expressions.{is_constant, up_from, whole_slices, some_place_within, slices_at, slice_piece, slice_pieces, no_values, bit_slices, index_number, part_places, place_of_number, memory_pieces, pieces_read, parts_read, piece_objects}
+use Rattle.v_design.specs.Trees.{Piece, Vector, Expression, Constant, Name, BitSelect, PartSelect, WordSelect, Unary, Binary, Conditional, Concatenation, Replication, Expressions, no_expressions}
+use Rattle.v_design.specs.Trees.{more_expressions}
+use Rattle.v_design.specs.Expressions.{is_constant, up_from, whole_slices, some_place_within, slices_at, slice_piece, slice_pieces, no_values, bit_slices, index_number, part_places, place_of_number}
+use Rattle.v_design.specs.Expressions.{memory_pieces, pieces_read, parts_read, piece_objects}
 use Rattle.v_design.specs.Designs.{FlatObject, FlatNodeKind, AssignNode, GateNode, BlockNode, FlatDesign}
 use Rattle.v_design.specs.Reads.{node_reads, named_in, named_in_parts, named_by_node}
 use Rattle.v_design.specs.WellFormed.{width_is, has_width, have_widths}
 use Rattle.v_tree.specs.Trees.{Identifier, same_name}
 use Rattle.v_names.specs.Scopes.{range_width}
-use Rattle.v_names.specs.SizedTrees.{SizedExpression, SizedConstant, SizedName, SizedBit, SizedPart, SizedWord, SizedUnary, SizedBinary, SizedChoice, SizedConcatenation, SizedReplication, SizedExpressions, no_sized, more_sized, Holders, over_objects, all_over_objects}
+use Rattle.v_names.specs.SizedTrees.{SizedExpression, SizedConstant, SizedName, SizedBit, SizedPart, SizedWord, SizedUnary, SizedBinary, SizedChoice, SizedConcatenation, SizedReplication}
+use Rattle.v_names.specs.SizedTrees.{SizedExpressions, no_sized, more_sized, Holders, over_objects, all_over_objects}
 use Rattle.v_names.specs.SizedLaws.{and-left, and-right}
 use Rattle.v_elab.specs.Parts.{Signal, WalkedMemory, Part, SignalPart, MemoryPart, AssignPart, GatePart, ProcessPart, InstancePart}
 use Rattle.v_elab.specs.Drivers.{signals_of, outermost, is_unjoined, WalkedNode}
@@ -27,7 +30,8 @@ use Rattle.flat_laws.specs.Sizes.Objects.{all-append, object-at, pieces-there}
 
 -- The words of a memory
 
-pub at-flat_map : {A B : Type 0} (g : A → List B) (xs : List A) (i : ℕ) (y : B) → slice_get (flat_map g xs) i ≡ Some y → (j : ℕ) × (x : A) × (m : ℕ) × (slice_get xs j ≡ Some x) × (slice_get (g x) m ≡ Some y)
+pub at-flat_map : {A B : Type 0} (g : A → List B) (xs : List A) (i : ℕ) (y : B) → slice_get (flat_map g xs) i ≡ Some y →
+    (j : ℕ) × (x : A) × (m : ℕ) × (slice_get xs j ≡ Some x) × (slice_get (g x) m ≡ Some y)
 at-flat_map g [] i y at = absurd (cc)
 at-flat_map g (x ∷ xs) i y at =
     elim (at-append (g x) (flat_map g xs) i y at) [
@@ -36,18 +40,22 @@ at-flat_map g (x ∷ xs) i y at =
     ]
 
 -- an object of a part that has a name holds that name
-pub part-holds : (signals : List Signal) (nodes : List WalkedNode) (part : Part) (m : ℕ) (held : HeldObject) → slice_get (part_objects signals nodes part) m ≡ Some held → part_name part ≡ Some held.holder
+pub part-holds : (signals : List Signal) (nodes : List WalkedNode) (part : Part) (m : ℕ) (held : HeldObject) → slice_get (part_objects signals nodes part) m ≡ Some held →
+    part_name part ≡ Some held.holder
 part-holds signals nodes (SignalPart signal) m held at =
-    ap Some (sym (AllHold-slice_get (λ (h : HeldObject). h.holder ≡ signal.name) (signal_objects signals nodes (is_unjoined signal) signal) m held (signal-holder signals nodes (is_unjoined signal) signal) at))
+    ap Some (sym (AllHold-slice_get (λ (h : HeldObject). h.holder ≡ signal.name) (signal_objects signals nodes (is_unjoined signal) signal) m held
+    (signal-holder signals nodes (is_unjoined signal) signal) at))
 part-holds signals nodes (MemoryPart memory) m held at =
-    ap Some (sym (AllHold-slice_get (λ (h : HeldObject). h.holder ≡ memory.name) (word_objects memory) m held (AllHold-map (λ (h : HeldObject). h.holder ≡ memory.name) (word_object memory) _ (AllHold-all (λ address. (word_object memory address).holder ≡ memory.name) _ (λ address. refl))) at))
+    ap Some (sym (AllHold-slice_get (λ (h : HeldObject). h.holder ≡ memory.name) (word_objects memory) m held
+    (AllHold-map (λ (h : HeldObject). h.holder ≡ memory.name) (word_object memory) _ (AllHold-all (λ address. (word_object memory address).holder ≡ memory.name) _ (λ address. refl))) at))
 part-holds signals nodes (AssignPart drives value) m held at = absurd (cc)
 part-holds signals nodes (GatePart name kind drives path terminals) m held at = absurd (cc)
 part-holds signals nodes (ProcessPart process) m held at = absurd (cc)
 part-holds signals nodes InstancePart m held at = absurd (cc)
 
 -- an object that holds a memory's name has the width of its words
-word-width : (parts : List Part) (nodes : List WalkedNode) → IsHierarchy parts → (k : ℕ) (memory : WalkedMemory) → slice_get parts k ≡ Some (MemoryPart memory) → (i : ℕ) (held : HeldObject) → slice_get (objects_of_parts parts nodes) i ≡ Some held →
+word-width : (parts : List Part) (nodes : List WalkedNode) → IsHierarchy parts → (k : ℕ) (memory : WalkedMemory) → slice_get parts k ≡ Some (MemoryPart memory) → (i : ℕ) (held : HeldObject) →
+    slice_get (objects_of_parts parts nodes) i ≡ Some held →
     held.holder ≡ memory.name → held.object.width ≡ range_width memory.range
 word-width parts nodes hierarchy k memory at i held there name =
     let r = at-flat_map (part_objects (signals_of parts) nodes) parts i held there in
@@ -55,9 +63,11 @@ word-width parts nodes hierarchy k memory at i held there name =
     let part : r.1 ≡ MemoryPart memory = same_some r.1 (MemoryPart memory) (sym r.3 ∙ ap (slice_get parts) same ∙ at) in
     let word : slice_get (word_objects memory) r.2 ≡ Some held = ap (λ p. slice_get (part_objects (signals_of parts) nodes p) r.2) (sym part) ∙ r.4 in
     AllHold-slice_get (λ (h : HeldObject). h.object.width ≡ range_width memory.range) (word_objects memory) r.2 held
-    (AllHold-map (λ (h : HeldObject). h.object.width ≡ range_width memory.range) (word_object memory) _ (AllHold-all (λ address. (word_object memory address).object.width ≡ range_width memory.range) _ (λ address. refl))) word
+    (AllHold-map (λ (h : HeldObject). h.object.width ≡ range_width memory.range) (word_object memory) _
+    (AllHold-all (λ address. (word_object memory address).object.width ≡ range_width memory.range) _ (λ address. refl))) word
 
-word-there : (design : FlatDesign) (width number : ℕ) (holder : Identifier) (held : HeldObject) (test : Bool) → same_name held.holder holder ≡ test → slice_get design.objects number ≡ Some held.object → (held.holder ≡ holder → held.object.width ≡ width) →
+word-there : (design : FlatDesign) (width number : ℕ) (holder : Identifier) (held : HeldObject) (test : Bool) → same_name held.holder holder ≡ test →
+    slice_get design.objects number ≡ Some held.object → (held.holder ≡ holder → held.object.width ≡ width) →
     list_all (has_width design) (map (λ word. record { object = word; width = width }) (map (λ (p : Piece). p.object) (piece_if test number held))) ≡ true
 word-there design width number holder held true is at same =
     both-true (width_is width (slice_get design.objects number)) true (ap (width_is width) at ∙ eq-eqb held.object.width width (same (equal-name held.holder holder is))) refl
@@ -66,7 +76,8 @@ word-there design width number holder held false is at same = refl
 words-there : (design : FlatDesign) (width : ℕ) (holder : Identifier) (start : ℕ) (objects : List HeldObject) →
     ((i : ℕ) (held : HeldObject) → slice_get objects i ≡ Some held → (slice_get design.objects (start + i) ≡ Some held.object) × (held.holder ≡ holder → held.object.width ≡ width)) →
     list_all (has_width design)
-    (map (λ word. record { object = word; width = width }) (map (λ (p : Piece). p.object) (joined (map_numbered (λ number (held : HeldObject). piece_if (same_name held.holder holder) number held) start objects)))) ≡ true
+    (map (λ word. record { object = word; width = width }) (map (λ (p : Piece). p.object) (joined
+    (map_numbered (λ number (held : HeldObject). piece_if (same_name held.holder holder) number held) start objects)))) ≡ true
 words-there design width holder start [] there = refl
 words-there design width holder start (held ∷ objects) there =
     let first = piece_if (same_name held.holder holder) start held in
@@ -77,14 +88,16 @@ words-there design width holder start (held ∷ objects) there =
     let later = words-there design width holder (start + 1) objects
     (λ i other at. let moved : (start + 1) + i ≡ start + suc i = omega arith in let next = there (suc i) other at in (ap (slice_get design.objects) moved ∙ next.0, next.1)) in
     ap (list_all (has_width design)) (split (λ word. record { object = word; width = width }) first rest)
-    ∙ all-append (has_width design) (map (λ word. record { object = word; width = width }) (map (λ (p : Piece). p.object) first)) (map (λ word. record { object = word; width = width }) (map (λ (p : Piece). p.object) rest)) one later
+    ∙ all-append (has_width design) (map (λ word. record { object = word; width = width }) (map (λ (p : Piece). p.object) first))
+    (map (λ word. record { object = word; width = width }) (map (λ (p : Piece). p.object) rest)) one later
   where
     split : (f : ℕ → Piece) (xs ys : List Piece) → map f (map (λ (p : Piece). p.object) (xs ++ ys)) ≡ map f (map (λ (p : Piece). p.object) xs) ++ map f (map (λ (p : Piece). p.object) ys)
     split f [] ys = refl
     split f (x ∷ xs) ys = ap (λ l. f x.object ∷ l) (split f xs ys)
 
 -- the words of a name are objects of the design with the width of a word
-memory-there : (design : FlatDesign) (parts : List Part) (nodes : List WalkedNode) → IsHierarchy parts → map (λ (held : HeldObject). held.object) (objects_of_parts parts nodes) ≡ design.objects → (memories : List WalkedMemory) →
+memory-there : (design : FlatDesign) (parts : List Part) (nodes : List WalkedNode) → IsHierarchy parts → map (λ (held : HeldObject). held.object) (objects_of_parts parts nodes) ≡ design.objects →
+    (memories : List WalkedMemory) →
     ((i : ℕ) (memory : WalkedMemory) → slice_get memories i ≡ Some memory → (k : ℕ) × (slice_get parts k ≡ Some (MemoryPart memory))) → (name : Identifier) →
     list_all (has_width design) (memory_pieces (memory_of_name (objects_of_parts parts nodes) memories name)) ≡ true
 memory-there design parts nodes hierarchy is [] each name = refl
@@ -111,7 +124,8 @@ abbrev pub AreThere : FlatDesign → Holders → Type 0
 AreThere design holders =
     (name : Identifier) → (list_all (has_width design) (holders.vector name).pieces ≡ true) × (list_all (has_width design) (memory_pieces (holders.memory name)) ≡ true)
 
-pub holders-there : (design : FlatDesign) (parts : List Part) (nodes : List WalkedNode) → IsHierarchy parts → map (λ (held : HeldObject). held.object) (objects_of_parts parts nodes) ≡ design.objects → (path : Identifier) →
+pub holders-there : (design : FlatDesign) (parts : List Part) (nodes : List WalkedNode) → IsHierarchy parts →
+    map (λ (held : HeldObject). held.object) (objects_of_parts parts nodes) ≡ design.objects → (path : Identifier) →
     AreThere design (holders_at parts (objects_of_parts parts nodes) path)
 holders-there design parts nodes hierarchy is path name = (
   pieces-there design (objects_of_parts parts nodes) is (outermost (signals_of parts) (path ++ name)),
@@ -123,7 +137,8 @@ mutual
   pub tree-there : (design : FlatDesign) (holders : Holders) → AreThere design holders → (tree : SizedExpression) → list_all (has_width design) (named_in (over_objects holders tree)) ≡ true
   tree-there design holders there (SizedConstant width signed value) = refl
   tree-there design holders there (SizedName width signed name) = (there name).0
-  tree-there design holders there (SizedBit width signed name index) = all-append (has_width design) (holders.vector name).pieces (named_in (over_objects holders index)) (there name).0 (tree-there design holders there index)
+  tree-there design holders there (SizedBit width signed name index) = all-append (has_width design) (holders.vector name).pieces (named_in (over_objects holders index)) (there name).0
+      (tree-there design holders there index)
   tree-there design holders there (SizedPart width signed name from to) = (there name).0
   tree-there design holders there (SizedWord width signed name index) =
       all-append (has_width design) (named_in (over_objects holders index)) (memory_pieces (holders.memory name)) (tree-there design holders there index) (there name).1
@@ -131,15 +146,18 @@ mutual
   tree-there design holders there (SizedBinary width signed operator left right) =
       all-append (has_width design) (named_in (over_objects holders left)) (named_in (over_objects holders right)) (tree-there design holders there left) (tree-there design holders there right)
   tree-there design holders there (SizedChoice width signed condition first second) =
-      all-append (has_width design) (named_in (over_objects holders condition)) (named_in (over_objects holders first) ++ named_in (over_objects holders second)) (tree-there design holders there condition)
+      all-append (has_width design) (named_in (over_objects holders condition)) (named_in (over_objects holders first) ++ named_in (over_objects holders second))
+      (tree-there design holders there condition)
       (all-append (has_width design) (named_in (over_objects holders first)) (named_in (over_objects holders second)) (tree-there design holders there first) (tree-there design holders there second))
   tree-there design holders there (SizedConcatenation width signed parts) = trees-there design holders there parts
   tree-there design holders there (SizedReplication width signed count parts) = trees-there design holders there parts
 
-  pub trees-there : (design : FlatDesign) (holders : Holders) → AreThere design holders → (trees : SizedExpressions) → list_all (has_width design) (named_in_parts (all_over_objects holders trees)) ≡ true
+  pub trees-there : (design : FlatDesign) (holders : Holders) → AreThere design holders → (trees : SizedExpressions) →
+      list_all (has_width design) (named_in_parts (all_over_objects holders trees)) ≡ true
   trees-there design holders there no_sized = refl
   trees-there design holders there (more_sized first rest) =
-      all-append (has_width design) (named_in (over_objects holders first)) (named_in_parts (all_over_objects holders rest)) (tree-there design holders there first) (trees-there design holders there rest)
+      all-append (has_width design) (named_in (over_objects holders first)) (named_in_parts (all_over_objects holders rest)) (tree-there design holders there first)
+      (trees-there design holders there rest)
 
 -- What an expression reads
 
@@ -155,11 +173,13 @@ whole-pieces : (pieces : List Piece) → slice_pieces (whole_slices pieces) ≡ 
 whole-pieces [] = refl
 whole-pieces (piece ∷ pieces) = ap (λ l. piece ∷ l) (whole-pieces pieces)
 
-some-slice : (test : Piece → Bool) (kept : Bool) (piece : Piece) (rest : List Piece) → test piece ≡ true → list_all test rest ≡ true → list_all test (slice_piece (if kept then Some piece.object else None) piece.width ++ rest) ≡ true
+some-slice : (test : Piece → Bool) (kept : Bool) (piece : Piece) (rest : List Piece) → test piece ≡ true → list_all test rest ≡ true →
+    list_all test (slice_piece (if kept then Some piece.object else None) piece.width ++ rest) ≡ true
 some-slice test true piece rest h k = both-true (test piece) (list_all test rest) h k
 some-slice test false piece rest h k = k
 
-pub slices-there : (test : Piece → Bool) (places : List (Option ℕ)) (offset : ℕ) (pieces : List Piece) → list_all test pieces ≡ true → list_all test (slice_pieces (slices_at places offset pieces)) ≡ true
+pub slices-there : (test : Piece → Bool) (places : List (Option ℕ)) (offset : ℕ) (pieces : List Piece) → list_all test pieces ≡ true →
+    list_all test (slice_pieces (slices_at places offset pieces)) ≡ true
 slices-there test places offset [] h = refl
 slices-there test places offset (piece ∷ pieces) h =
     some-slice test (some_place_within offset (offset + piece.width) places) piece (slice_pieces (slices_at places (offset + piece.width) pieces)) (and-left (test piece) (list_all test pieces) h)
@@ -193,7 +213,8 @@ mutual
   pub reads-there : (test : Piece → Bool) (parts : Expressions) → list_all test (named_in_parts parts) ≡ true → list_all test (parts_read parts) ≡ true
   reads-there test no_expressions h = refl
   reads-there test (more_expressions part rest) h =
-      all-append test (pieces_read part) (parts_read rest) (read-there test part (all-front test (named_in part) (named_in_parts rest) h)) (reads-there test rest (all-back test (named_in part) (named_in_parts rest) h))
+      all-append test (pieces_read part) (parts_read rest) (read-there test part (all-front test (named_in part) (named_in_parts rest) h))
+      (reads-there test rest (all-back test (named_in part) (named_in_parts rest) h))
 
 -- an object that some pieces name is one of the design
 pub width-within : (objects : List FlatObject) (width number : ℕ) → width_is width (slice_get objects number) ≡ true → number < length objects
@@ -207,7 +228,8 @@ object-within : (design : FlatDesign) (pieces : List Piece) (o : ℕ) → list_a
 object-within design [] o h e = absurd (cc)
 object-within design (piece ∷ pieces) o h e =
     elim (or_cases (nat_eq piece.object o) (has (piece_objects pieces) o) e) [
-      | inl same ↦ subst (λ n. n < length design.objects) (eqb-true piece.object o same) (width-within design.objects piece.width piece.object (and-left (has_width design piece) (list_all (has_width design) pieces) h))
+      | inl same ↦ subst (λ n. n < length design.objects) (eqb-true piece.object o same) (width-within design.objects piece.width piece.object
+          (and-left (has_width design piece) (list_all (has_width design) pieces) h))
       | inr later ↦ object-within design pieces o (and-right (has_width design piece) (list_all (has_width design) pieces) h) later
     ]
 
@@ -221,10 +243,12 @@ has-filter test [] o = sym (none (test o))
     none false = refl
 has-filter test (x ∷ xs) o = by_test (test x) refl (nat_eq x o) refl (has-filter test xs o)
   where
-    by_test : (passes : Bool) → test x ≡ passes → (same : Bool) → nat_eq x o ≡ same → has (filter test xs) o ≡ (test o && has xs o) → has (filter test (x ∷ xs)) o ≡ (test o && (nat_eq x o || has xs o))
+    by_test : (passes : Bool) → test x ≡ passes → (same : Bool) → nat_eq x o ≡ same → has (filter test xs) o ≡ (test o && has xs o) →
+        has (filter test (x ∷ xs)) o ≡ (test o && (nat_eq x o || has xs o))
     by_test true p true s rest =
         let is : test o ≡ true = ap test (sym (eqb-true x o s)) ∙ p in
-        ap (λ l. has l o) (cond-true (test x) (x ∷ filter test xs) (filter test xs) p) ∙ or_left (nat_eq x o) (has (filter test xs) o) s ∙ sym (both-true (test o) (nat_eq x o || has xs o) is (or_left (nat_eq x o) (has xs o) s))
+        ap (λ l. has l o) (cond-true (test x) (x ∷ filter test xs) (filter test xs) p) ∙ or_left (nat_eq x o) (has (filter test xs) o) s
+        ∙ sym (both-true (test o) (nat_eq x o || has xs o) is (or_left (nat_eq x o) (has xs o) s))
     by_test true p false s rest =
         ap (λ l. has l o) (cond-true (test x) (x ∷ filter test xs) (filter test xs) p) ∙ ap (λ b. b || has (filter test xs) o) s ∙ rest ∙ ap (λ b. test o && (b || has xs o)) (sym s)
     by_test false p true s rest =
@@ -236,7 +260,8 @@ pub has-all : (start count o : ℕ) → start ≤ o → o < start + count → ha
 has-all start zero o low high = absurd (omega (arith, low, high))
 has-all start (suc count) o low high = by_first (nat_eq start o) refl (λ l h. has-all (start + 1) count o l h)
   where
-    by_first : (same : Bool) → nat_eq start o ≡ same → (start + 1 ≤ o → o < (start + 1) + count → has (up_from (start + 1) count) o ≡ true) → (nat_eq start o || has (up_from (start + 1) count) o) ≡ true
+    by_first : (same : Bool) → nat_eq start o ≡ same → (start + 1 ≤ o → o < (start + 1) + count → has (up_from (start + 1) count) o ≡ true) →
+        (nat_eq start o || has (up_from (start + 1) count) o) ≡ true
     by_first true s rest = or_left (nat_eq start o) (has (up_from (start + 1) count) o) s
     by_first false s rest =
         or_right (nat_eq start o) (has (up_from (start + 1) count) o)
@@ -260,7 +285,8 @@ IsAssignOrGate (GateNode kind terminals) = Unit {0}
 IsAssignOrGate (BlockNode statement) = ⊥
 
 -- an assignment or a gate reads objects of the design
-pub reads-within : (design : FlatDesign) (kind : FlatNodeKind) (outputs : List ℕ) → IsTrue (have_widths design (named_by_node kind)) → (o : ℕ) → has (node_reads kind outputs) o ≡ true → IsAssignOrGate kind → o < length design.objects
+pub reads-within : (design : FlatDesign) (kind : FlatNodeKind) (outputs : List ℕ) → IsTrue (have_widths design (named_by_node kind)) → (o : ℕ) → has (node_reads kind outputs) o ≡ true →
+    IsAssignOrGate kind → o < length design.objects
 reads-within design (AssignNode value places) outputs named o e which = object-within design (pieces_read value) o (read-there (has_width design) value named) e
 reads-within design (GateNode kind terminals) outputs named o e which = object-within design (parts_read terminals) o (reads-there (has_width design) terminals named) e
 reads-within design (BlockNode statement) outputs named o e which = absurd which

@@ -13,8 +13,11 @@ use Rattle.v_width.specs.Targets.{whole_places}
 use Rattle.v_ports.specs.Pieces.{DrivenRun, SecondDriver, second_driver, CutPiece, pieces_of}
 use Rattle.v_elab.specs.Parts.{Signal, Drive, WalkedProcess, Part, SignalPart, MemoryPart, AssignPart, GatePart, ProcessPart, InstancePart}
 use Rattle.v_elab.specs.Connections.{most_depth}
-use Rattle.v_elab.specs.Drivers.{signals_of, signal_named, joined_into, up_or, outermost_within, outermost, is_unjoined, WalkedNode, signal_width, block_drive, driving_variables, ObjectDrive, drive_if, drives_width, node_drives, drives_from, object_drives, run_of, taken_bits, bits_within, refusal_of, second_variable, signal_two_drivers, first_two_drivers, two_drivers}
-use Rattle.v_elab.specs.Objects.{PieceDriver, HeldObject, variable_object, value_place, piece_driver, drive_numbered, piece_object, pieces_or_variable, signal_objects, word_object, part_objects, piece_if, pieces_held}
+use Rattle.v_elab.specs.Drivers.{signals_of, signal_named, joined_into, up_or, outermost_within, outermost, is_unjoined, WalkedNode, signal_width, block_drive, driving_variables, ObjectDrive}
+use Rattle.v_elab.specs.Drivers.{drive_if, drives_width, node_drives, drives_from, object_drives, run_of, taken_bits, bits_within, refusal_of, second_variable, signal_two_drivers, first_two_drivers}
+use Rattle.v_elab.specs.Drivers.{two_drivers}
+use Rattle.v_elab.specs.Objects.{PieceDriver, HeldObject, variable_object, value_place, piece_driver, drive_numbered, piece_object, pieces_or_variable, signal_objects, word_object, part_objects}
+use Rattle.v_elab.specs.Objects.{piece_if, pieces_held}
 use Rattle.v_elab.specs.Flat.{NodeOutput, output_if, output_of_object, outputs_of}
 use Rattle.graph_order.specs.ListLaws.{has-append}
 use Rattle.flat_laws.specs.Made.{refusal_or-none, nodes_in, objects_in}
@@ -60,7 +63,8 @@ back [] two i b e = (i, e)
 back (c ∷ one) two i b e = let r = back one two i b e in (suc r.0, r.1)
 
 -- a drive of a node that is of an object is among the object's
-drive-at : (signals : List Signal) (object : Identifier) (start i m : ℕ) (nodes : List WalkedNode) (node : WalkedNode) (d : Drive) → slice_get nodes i ≡ Some node → slice_get node.drives m ≡ Some d → same_name (outermost signals d.signal) object ≡ true →
+drive-at : (signals : List Signal) (object : Identifier) (start i m : ℕ) (nodes : List WalkedNode) (node : WalkedNode) (d : Drive) → slice_get nodes i ≡ Some node →
+    slice_get node.drives m ≡ Some d → same_name (outermost signals d.signal) object ≡ true →
     (j : ℕ) × (found : ObjectDrive) × (slice_get (drives_from signals object start nodes) j ≡ Some found) × (found.node ≡ start + i) × (found.places ≡ d.places)
 drive-at signals object start i m [] node d at drive same = absurd (cc)
 drive-at signals object start zero m (first ∷ nodes) node d at drive same =
@@ -95,13 +99,15 @@ own-drive signals object number j (first ∷ drives) found at =
     made = record { node = number; offset = drives_width drives; places = first.places; place = first.place }
 
     by_test : (k : ℕ) (test : Bool) → same_name (outermost signals first.signal) object ≡ test → slice_get (drive_if test made (node_drives signals object number drives)) k ≡ Some found →
-        ((k : ℕ) → slice_get (node_drives signals object number drives) k ≡ Some found → (m : ℕ) × (d : Drive) × (slice_get drives m ≡ Some d) × (found.node ≡ number) × (same_name (outermost signals d.signal) object ≡ true)) →
+        ((k : ℕ) → slice_get (node_drives signals object number drives) k ≡ Some found → (m : ℕ) × (d : Drive) × (slice_get drives m ≡ Some d) × (found.node ≡ number)
+        × (same_name (outermost signals d.signal) object ≡ true)) →
         (m : ℕ) × (d : Drive) × (slice_get (first ∷ drives) m ≡ Some d) × (found.node ≡ number) × (same_name (outermost signals d.signal) object ≡ true)
     by_test zero true is there rest = (0, first, refl, ap (λ (o : ObjectDrive). o.node) (sym (same_some made found there)), is)
     by_test (suc k) true is there rest = let r = rest k there in (suc r.0, r.1, r.2, r.3, r.4)
     by_test k false is there rest = let r = rest k there in (suc r.0, r.1, r.2, r.3, r.4)
 
-at-drive : (signals : List Signal) (object : Identifier) (start j : ℕ) (nodes : List WalkedNode) (found : ObjectDrive) → slice_get (drives_from signals object start nodes) j ≡ Some found → IsDriveOf signals object start nodes found
+at-drive : (signals : List Signal) (object : Identifier) (start j : ℕ) (nodes : List WalkedNode) (found : ObjectDrive) → slice_get (drives_from signals object start nodes) j ≡ Some found →
+    IsDriveOf signals object start nodes found
 at-drive signals object start j [] found at = absurd (cc)
 at-drive signals object start j (first ∷ nodes) found at =
     elim (at-append (node_drives signals object start first.drives) (drives_from signals object (start + 1) nodes) j found at) [
@@ -117,11 +123,13 @@ at-drive signals object start j (first ∷ nodes) found at =
 
 -- No two drivers
 
-refusal-none : (signals : List Signal) (nodes : List WalkedNode) (all : List Signal) (i : ℕ) (signal : Signal) → slice_get all i ≡ Some signal → first_two_drivers signals nodes all ≡ None → signal_two_drivers signals nodes signal ≡ None
+refusal-none : (signals : List Signal) (nodes : List WalkedNode) (all : List Signal) (i : ℕ) (signal : Signal) → slice_get all i ≡ Some signal → first_two_drivers signals nodes all ≡ None →
+    signal_two_drivers signals nodes signal ≡ None
 refusal-none signals nodes [] i signal at e = absurd (cc)
 refusal-none signals nodes (first ∷ all) zero signal at e =
     ap (signal_two_drivers signals nodes) (sym (same_some first signal at)) ∙ (refusal_or-none (signal_two_drivers signals nodes first) (first_two_drivers signals nodes all) e).0
-refusal-none signals nodes (first ∷ all) (suc i) signal at e = refusal-none signals nodes all i signal at (refusal_or-none (signal_two_drivers signals nodes first) (first_two_drivers signals nodes all) e).1
+refusal-none signals nodes (first ∷ all) (suc i) signal at e = refusal-none signals nodes all i signal at
+    (refusal_or-none (signal_two_drivers signals nodes first) (first_two_drivers signals nodes all) e).1
 
 -- no bit of an unjoined net or variable has two drivers
 one-each : (signals : List Signal) (nodes : List WalkedNode) → two_drivers signals nodes ≡ None → (i : ℕ) (signal : Signal) → slice_get signals i ≡ Some signal → is_unjoined signal ≡ true →
@@ -157,8 +165,10 @@ pub record IsTargetHeld (parts : List Part) (number : ℕ) (full : Identifier) :
   pub node : driver.node ≡ number
 
 -- an unjoined net or variable that one drive drives whole
-whole-held : (parts : List Part) → IsHierarchy parts → (outer : Signal) (k : ℕ) → slice_get parts k ≡ Some (SignalPart outer) → outer.joined ≡ None → (n : ℕ) → range_width outer.range ≡ suc n → (j : ℕ) (found : ObjectDrive) →
-    slice_get (object_drives (signals_of parts) (nodes_in parts) outer.name) j ≡ Some found → found.places ≡ whole_places (suc n) → (driving : List Signal) → driving_variables (signals_of parts) (nodes_in parts) outer.name ≡ driving →
+whole-held : (parts : List Part) → IsHierarchy parts → (outer : Signal) (k : ℕ) → slice_get parts k ≡ Some (SignalPart outer) → outer.joined ≡ None → (n : ℕ) → range_width outer.range ≡ suc n →
+    (j : ℕ) (found : ObjectDrive) →
+    slice_get (object_drives (signals_of parts) (nodes_in parts) outer.name) j ≡ Some found → found.places ≡ whole_places (suc n) → (driving : List Signal) →
+    driving_variables (signals_of parts) (nodes_in parts) outer.name ≡ driving →
     second_driver (taken_bits (range_width outer.range) driving) (map run_of (object_drives (signals_of parts) (nodes_in parts) outer.name)) ≡ None →
     (held : HeldObject) × IsOneObject (objects_in parts) outer.name held × (held.driver ≡ Some (record { node = found.node; place = found.offset + 0 }))
 whole-held parts hierarchy outer k part unjoined n width j found at places driving e none = by_driving driving e none
@@ -197,8 +207,10 @@ whole-held parts hierarchy outer k part unjoined n width j found at places drivi
           ap (piece_driver 0) (drive-numbered drives j found at) ∙ whole-driver found (map Some (up_from 1 n)) places,
         )
 
-pub target-held : (parts : List Part) → IsHierarchy parts → two_drivers (signals_of parts) (nodes_in parts) ≡ None → (number : ℕ) (node : WalkedNode) (process : WalkedProcess) → slice_get (nodes_in parts) number ≡ Some node →
-    (moves : IsBlockPart parts node process) (m : ℕ) (name : Identifier) → slice_get moves.targets m ≡ Some name → (i : ℕ) (signal : Signal) → slice_get (signals_of parts) i ≡ Some signal → signal.name ≡ process.path ++ name →
+pub target-held : (parts : List Part) → IsHierarchy parts → two_drivers (signals_of parts) (nodes_in parts) ≡ None → (number : ℕ) (node : WalkedNode) (process : WalkedProcess) →
+    slice_get (nodes_in parts) number ≡ Some node →
+    (moves : IsBlockPart parts node process) (m : ℕ) (name : Identifier) → slice_get moves.targets m ≡ Some name → (i : ℕ) (signal : Signal) → slice_get (signals_of parts) i ≡ Some signal →
+    signal.name ≡ process.path ++ name →
     IsTargetHeld parts number (process.path ++ name)
 target-held parts hierarchy two number node process at moves m name target i signal there is =
     let signals = signals_of parts in
@@ -238,15 +250,18 @@ output-from number start zero (first ∷ objects) held driver at is node =
     let driven : first.driver ≡ Some driver = ap (λ (h : HeldObject). h.driver) (same_some first held at) ∙ is in
     let here : has (objects_of_outputs mine) o ≡ true =
     ap (λ d. has (objects_of_outputs (output_of_object number start d)) o) driven
-    ∙ ap (λ b. has (objects_of_outputs (output_if b (record { object = start; place = driver.place }))) o) (eq-eqb driver.node number node) ∙ or_left (nat_eq start o) false (eq-eqb start o (omega arith)) in
-    ap (λ l. has l o) (map-append (λ (p : NodeOutput). p.object) mine rest) ∙ has-append (objects_of_outputs mine) (objects_of_outputs rest) o ∙ or_left (has (objects_of_outputs mine) o) (has (objects_of_outputs rest) o) here
+    ∙ ap (λ b. has (objects_of_outputs (output_if b (record { object = start; place = driver.place }))) o) (eq-eqb driver.node number node)
+    ∙ or_left (nat_eq start o) false (eq-eqb start o (omega arith)) in
+    ap (λ l. has l o) (map-append (λ (p : NodeOutput). p.object) mine rest) ∙ has-append (objects_of_outputs mine) (objects_of_outputs rest) o
+    ∙ or_left (has (objects_of_outputs mine) o) (has (objects_of_outputs rest) o) here
 output-from number start (suc k) (first ∷ objects) held driver at is node =
     let o = start + suc k in
     let mine = output_of_object number start first.driver in
     let rest = outputs_from number (start + 1) objects in
     let same : (start + 1) + k ≡ o = omega arith in
     let later : has (objects_of_outputs rest) o ≡ true = ap (has (objects_of_outputs rest)) (sym same) ∙ output-from number (start + 1) k objects held driver at is node in
-    ap (λ l. has l o) (map-append (λ (p : NodeOutput). p.object) mine rest) ∙ has-append (objects_of_outputs mine) (objects_of_outputs rest) o ∙ or_right (has (objects_of_outputs mine) o) (has (objects_of_outputs rest) o) later
+    ap (λ l. has l o) (map-append (λ (p : NodeOutput). p.object) mine rest) ∙ has-append (objects_of_outputs mine) (objects_of_outputs rest) o
+    ∙ or_right (has (objects_of_outputs mine) o) (has (objects_of_outputs rest) o) later
 
 -- the object of a target is an output
 pub target-output : (parts : List Part) (number : ℕ) (full : Identifier) → (t : IsTargetHeld parts number full) → has (objects_of_outputs (outputs_of (objects_in parts) number)) t.one.number ≡ true
@@ -283,7 +298,8 @@ only-one : {A : Type 0} (x y : A) (m : ℕ) → slice_get (x ∷ []) m ≡ Some 
 only-one x y zero at = same_some x y at
 only-one x y (suc m) at = absurd (cc)
 
-driven-piece : (signals : List Signal) (nodes : List WalkedNode) (part : Part) (m : ℕ) (held : HeldObject) (driver : PieceDriver) → slice_get (part_objects signals nodes part) m ≡ Some held → held.driver ≡ Some driver →
+driven-piece : (signals : List Signal) (nodes : List WalkedNode) (part : Part) (m : ℕ) (held : HeldObject) (driver : PieceDriver) → slice_get (part_objects signals nodes part) m ≡ Some held →
+    held.driver ≡ Some driver →
     IsDrivenPiece signals nodes part held driver
 driven-piece signals nodes (SignalPart outer) m held driver at is = by_joining (is_unjoined outer) at
   where
@@ -340,7 +356,8 @@ found-signal parts hierarchy k outer part name e = by_found (signal_named (signa
         let both : None ≡ Some outer = sym is ∙ ap (signal_named (signals_of parts)) same ∙ signal-found parts hierarchy place.0 outer place.1 in
         absurd (cc)
 
-pub output-of : (parts : List Part) → IsHierarchy parts → (number : ℕ) (node : WalkedNode) (process : WalkedProcess) → slice_get (nodes_in parts) number ≡ Some node → (moves : IsBlockPart parts node process) (o : ℕ) →
+pub output-of : (parts : List Part) → IsHierarchy parts → (number : ℕ) (node : WalkedNode) (process : WalkedProcess) → slice_get (nodes_in parts) number ≡ Some node →
+    (moves : IsBlockPart parts node process) (o : ℕ) →
     has (objects_of_outputs (outputs_of (objects_in parts) number)) o ≡ true → IsOutputOf parts process moves.targets o
 output-of parts hierarchy number node process at moves o e =
     let signals = signals_of parts in
@@ -359,7 +376,8 @@ output-of parts hierarchy number node process at moves o e =
     let target = map-at (block_drive signals process) moves.targets drive.m drive.drive
     (ap (λ l. slice_get l drive.m) (sym moves.drives) ∙ ap (λ (n : WalkedNode). slice_get n.drives drive.m) (sym same) ∙ drive.drive_is) in
     let signal_is : process.path ++ target.0 ≡ drive.drive.signal = ap (λ (d : Drive). d.signal) target.2 in
-    let outermost_is : outermost signals (process.path ++ target.0) ≡ piece.outer.name = ap (outermost signals) signal_is ∙ equal-name (outermost signals drive.drive.signal) piece.outer.name drive.same in
+    let outermost_is : outermost signals (process.path ++ target.0) ≡ piece.outer.name = ap (outermost signals) signal_is
+    ∙ equal-name (outermost signals drive.drive.signal) piece.outer.name drive.same in
     let found = found-signal parts hierarchy r.0 piece.outer (r.3 ∙ ap Some piece.part_is) (process.path ++ target.0) outermost_is in
     record {
       m = drive.m;
@@ -390,10 +408,12 @@ held-piece (first ∷ objects) holder start (suc i) held at holds =
     let rest = joined (map_numbered (λ number (h : HeldObject). piece_if (same_name h.holder holder) number h) (start + 1) objects) in
     let same : (start + 1) + i ≡ o = omega arith in
     let later : has (piece_objects rest) o ≡ true = ap (has (piece_objects rest)) (sym same) ∙ held-piece objects holder (start + 1) i held at holds in
-    ap (λ l. has l o) (map-append (λ (p : Piece). p.object) mine rest) ∙ has-append (piece_objects mine) (piece_objects rest) o ∙ or_right (has (piece_objects mine) o) (has (piece_objects rest) o) later
+    ap (λ l. has l o) (map-append (λ (p : Piece). p.object) mine rest) ∙ has-append (piece_objects mine) (piece_objects rest) o
+    ∙ or_right (has (piece_objects mine) o) (has (piece_objects rest) o) later
 
 -- of a name that one object holds there is no other
-pub only-object : (objects : List HeldObject) (holder : Identifier) (held : HeldObject) → (one : IsOneObject objects holder held) → (o : ℕ) (other : HeldObject) → slice_get objects o ≡ Some other → other.holder ≡ holder → one.number ≡ o
+pub only-object : (objects : List HeldObject) (holder : Identifier) (held : HeldObject) → (one : IsOneObject objects holder held) → (o : ℕ) (other : HeldObject) → slice_get objects o ≡ Some other →
+    other.holder ≡ holder → one.number ≡ o
 only-object objects holder held one o other at holds =
     let here : has (piece_objects (pieces_held objects holder)) (0 + o) ≡ true = held-piece objects holder 0 o other at holds in
     let place : 0 + o ≡ o = omega arith in

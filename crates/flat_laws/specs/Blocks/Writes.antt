@@ -29,9 +29,11 @@ pub record IsWritten (design : FlatDesign) : Type 0 where
 
 -- the flat design of a unit each of whose walks is consistent
 abbrev pub ConsistentDesignsAreWritten : Type 0
-ConsistentDesignsAreWritten = (unit : SourceUnit) (top : Identifier) (mode : Mode) (design : FlatDesign) → IsSourceUnit unit.modules → WalksAreConsistent unit.modules mode → flat unit top mode ≡ Ok design → IsWritten design
+ConsistentDesignsAreWritten = (unit : SourceUnit) (top : Identifier) (mode : Mode) (design : FlatDesign) → IsSourceUnit unit.modules → WalksAreConsistent unit.modules mode →
+    flat unit top mode ≡ Ok design → IsWritten design
 
-node-written : (design : FlatDesign) (kind : FlatNodeKind) (outputs : List ℕ) → (IsGate kind → (length outputs ≤ 1) × AllHold (λ object. width_in design object ≡ 1) outputs) → (IsBlockKind kind → WritesOutputs kind outputs) → WritesOutputs kind outputs
+node-written : (design : FlatDesign) (kind : FlatNodeKind) (outputs : List ℕ) → (IsGate kind → (length outputs ≤ 1) × AllHold (λ object. width_in design object ≡ 1) outputs) →
+    (IsBlockKind kind → WritesOutputs kind outputs) → WritesOutputs kind outputs
 node-written design (AssignNode value places) outputs gate block = tt
 node-written design (GateNode kind terminals) outputs gate block = (gate tt).0
 node-written design (BlockNode statement) outputs gate block = block tt
@@ -52,6 +54,7 @@ consistent-written unit top mode design source consistent e =
       outputs =
           AllHold-from (λ (node : FlatNode). WritesOutputs node.kind node.outputs) design.nodes
           (λ i node at.
-          node-written design node.kind node.outputs (AllHold-slice_get (λ (n : FlatNode). IsGate n.kind → (length n.outputs ≤ 1) × AllHold (λ object. width_in design object ≡ 1) n.outputs) design.nodes i node gates at)
+          node-written design node.kind node.outputs (AllHold-slice_get (λ (n : FlatNode). IsGate n.kind → (length n.outputs ≤ 1) × AllHold (λ object. width_in design object ≡ 1) n.outputs)
+          design.nodes i node gates at)
           (AllHold-slice_get (λ (n : FlatNode). IsBlockKind n.kind → WritesOutputs n.kind n.outputs) design.nodes i node blocks at));
     }

@@ -41,7 +41,8 @@ pub record IsVariableAt (parts : List Part) (full : Identifier) : Type 0 where
   pub reg : signal.is_reg ≡ true
 
 -- a variable of an instance that a walk comes to
-pub reg-at : (modules : List SourceModule) (mode : Mode) (top : SourceModule) (parts : List Part) → walked_from modules mode top ≡ Ok parts → (path : Identifier) (scope : Scope) → IsAt modules mode top path scope → (name : Identifier) →
+pub reg-at : (modules : List SourceModule) (mode : Mode) (top : SourceModule) (parts : List Part) → walked_from modules mode top ≡ Ok parts → (path : Identifier) (scope : Scope) →
+    IsAt modules mode top path scope → (name : Identifier) →
     is_reg (looked_up scope name) ≡ true → IsVariableAt parts (path ++ name)
 reg-at modules mode top parts e path scope at name reg = by_entry (looked_up scope name) refl reg
   where
@@ -67,7 +68,8 @@ pub record WritesVariables (design : FlatDesign) (process : FlatProcess) : Type 
   pub names : IsTrue (have_widths design (named_by process.body))
   pub variables : AllHold (λ object. has (net_pieces design) object ≡ false) (written_objects process.body)
 
-process-written : (modules : List SourceModule) (mode : Mode) (top : SourceModule) (parts : List Part) (design : FlatDesign) → walked_from modules mode top ≡ Ok parts → IsMadeOf parts design → IsHierarchy parts →
+process-written : (modules : List SourceModule) (mode : Mode) (top : SourceModule) (parts : List Part) (design : FlatDesign) → walked_from modules mode top ≡ Ok parts → IsMadeOf parts design →
+    IsHierarchy parts →
     AllHold (IsReadPart modules mode top) parts → (process : WalkedProcess) → IsProcessPart parts process → WritesVariables design (flat_process parts (objects_in parts) process)
 process-written modules mode top parts design e made hierarchy read process stays =
     let objects = objects_in parts in
@@ -87,14 +89,16 @@ process-written modules mode top parts design e made hierarchy read process stay
           let held = driving-held parts (nodes_in parts) hierarchy variable.number variable.signal variable.is drives in
           let one = held.2 in
           one-fits design Q objects is (outermost (signals_of parts) variable.signal.name) held.0 one
-          (no-piece design one.number held.0.object (ap (λ all. slice_get all one.number) (sym is) ∙ object-at objects one.number held.0 one.is) held.1) (vector_of_name (signals_of parts) objects (process.path ++ n.name))
+          (no-piece design one.number held.0.object (ap (λ all. slice_get all one.number) (sym is) ∙ object-at objects one.number held.0 one.is) held.1)
+          (vector_of_name (signals_of parts) objects (process.path ++ n.name))
           (ap (λ full. (vector_of_name (signals_of parts) objects full).pieces) (sym variable.name_is));
     }) in
     let r = statement-fits design Q meaning process.body there names text.names text.sizes in
     record { names = r.0; variables = r.1 }
 
 -- the processes of a hierarchy
-pub processes-written : (modules : List SourceModule) (mode : Mode) (top : SourceModule) (parts : List Part) (design : FlatDesign) → walked_from modules mode top ≡ Ok parts → IsMadeOf parts design → IsHierarchy parts →
+pub processes-written : (modules : List SourceModule) (mode : Mode) (top : SourceModule) (parts : List Part) (design : FlatDesign) → walked_from modules mode top ≡ Ok parts → IsMadeOf parts design →
+    IsHierarchy parts →
     AllHold (IsReadPart modules mode top) parts → AllHold (WritesVariables design) design.processes
 processes-written modules mode top parts design e made hierarchy read =
     subst (AllHold (WritesVariables design)) (design-processes parts design made)

@@ -8,10 +8,13 @@ use Rattle.v_design.specs.Sized.{span, most_bits}
 use Rattle.v_design.specs.Expressions.{up_from, place_of, place_of_number, part_indexes}
 use Rattle.v_tree.specs.Trees.{Identifier, SourceIndex, NoIndex, IndexAt, IndexRange, SourceSelect, SourceTarget, OneSelect, JoinedSelects, selects_of}
 use Rattle.v_names.specs.Faults.{Fault}
-use Rattle.v_names.specs.Scopes.{DeclaredRange, ScopeEntry, ParameterEntry, RefusedParameter, WaitingParameter, NetEntry, RegEntry, MemoryEntry, GateEntry, InstanceEntry, Scope, looked_up, range_width}
-use Rattle.v_names.specs.Readings.{Size, Reading, alone_faults, name_reading, bit_reading, indexed_reading, runs_alike, part_if, part_reading, ranged_reading, reading_of, select_reading, number_of_constant, number_or}
+use Rattle.v_names.specs.Scopes.{DeclaredRange, ScopeEntry, ParameterEntry, RefusedParameter, WaitingParameter, NetEntry, RegEntry, MemoryEntry, GateEntry, InstanceEntry, Scope, looked_up}
+use Rattle.v_names.specs.Scopes.{range_width}
+use Rattle.v_names.specs.Readings.{Size, Reading, alone_faults, name_reading, bit_reading, indexed_reading, runs_alike, part_if, part_reading, ranged_reading, reading_of, select_reading}
+use Rattle.v_names.specs.Readings.{number_of_constant, number_or}
 use Rattle.v_names.specs.Constants.{IndexOrCount, value_faults, known_faults, constant_name_faults, index_faults, fixed_index_faults, fixed_select_faults}
-use Rattle.v_width.specs.Targets.{ByNode, may_write, written_reading, target_select_reading, TargetReading, width_of_size, sum_of_widths, selects_reading, within_most, target_reading, target_width_in, range_of_entry, whole_places, places_between, places_of_select}
+use Rattle.v_width.specs.Targets.{ByNode, may_write, written_reading, target_select_reading, TargetReading, width_of_size, sum_of_widths, selects_reading, within_most, target_reading}
+use Rattle.v_width.specs.Targets.{target_width_in, range_of_entry, whole_places, places_between, places_of_select}
 use Rattle.v_elab.specs.Parts.{Drive}
 use Rattle.v_elab.specs.Drivers.{drives_width}
 use Rattle.v_elab.specs.Connections.{drives_of}
@@ -49,11 +52,13 @@ whole-holds (Some WaitingParameter) place name writes known c = absurd (cc)
 whole-holds (Some GateEntry) place name writes known c = absurd (cc)
 whole-holds (Some InstanceEntry) place name writes known c = absurd (cc)
 
-bit-holds : (ranged : Bool) (place : SourcePlace) (name : Identifier) (index : Reading) (at : Option ℕ) → (bit_reading ranged place name index).complete ≡ true → SelectHolds (at ∷ []) (bit_reading ranged place name index).size
+bit-holds : (ranged : Bool) (place : SourcePlace) (name : Identifier) (index : Reading) (at : Option ℕ) → (bit_reading ranged place name index).complete ≡ true →
+    SelectHolds (at ∷ []) (bit_reading ranged place name index).size
 bit-holds true place name index at c = record { z = record { width = 1; signed = false }; size_is = refl; covers = omega arith; few = omega arith }
 bit-holds false place name index at c = absurd (cc)
 
-index-holds : (entry : Option ScopeEntry) (place : SourcePlace) (name : Identifier) (index : Reading) (at : Option ℕ) → may_write ByNode entry ≡ true → known_faults entry place ≡ [] → (indexed_reading entry place name index).complete ≡ true →
+index-holds : (entry : Option ScopeEntry) (place : SourcePlace) (name : Identifier) (index : Reading) (at : Option ℕ) → may_write ByNode entry ≡ true → known_faults entry place ≡ [] →
+    (indexed_reading entry place name index).complete ≡ true →
     SelectHolds (at ∷ []) (indexed_reading entry place name index).size
 index-holds (Some (NetEntry range signed)) place name index at writes known c = bit-holds range.ranged place name index at c
 index-holds None place name index at writes known c = absurd (cc)
@@ -74,14 +79,16 @@ alike-holds range place name inside from to true c =
     record { z = record { width = span from to; signed = false }; size_is = h.size_is; covers = omega (arith, long); few = room.1 }
 alike-holds range place name inside from to false c = absurd (cc)
 
-part-holds : (ranged : Bool) (range : DeclaredRange) (place : SourcePlace) (name : Identifier) (inside : List Fault) (from to : Option ℕ) → (part_reading ranged range place name inside from to).complete ≡ true →
+part-holds : (ranged : Bool) (range : DeclaredRange) (place : SourcePlace) (name : Identifier) (inside : List Fault) (from to : Option ℕ) →
+    (part_reading ranged range place name inside from to).complete ≡ true →
     SelectHolds (places_between range from to) (part_reading ranged range place name inside from to).size
 part-holds false range place name inside from to c = absurd (cc)
 part-holds true range place name inside None to c = absurd (cc)
 part-holds true range place name inside (Some from) None c = absurd (cc)
 part-holds true range place name inside (Some from) (Some to) c = alike-holds range place name inside from to (runs_alike range from to) c
 
-range-holds : (entry : Option ScopeEntry) (place : SourcePlace) (name : Identifier) (inside : List Fault) (from to : Option ℕ) → may_write ByNode entry ≡ true → known_faults entry place ≡ [] → (ranged_reading entry place name inside from to).complete ≡ true →
+range-holds : (entry : Option ScopeEntry) (place : SourcePlace) (name : Identifier) (inside : List Fault) (from to : Option ℕ) → may_write ByNode entry ≡ true → known_faults entry place ≡ [] →
+    (ranged_reading entry place name inside from to).complete ≡ true →
     SelectHolds (places_between (range_of_entry entry) from to) (ranged_reading entry place name inside from to).size
 range-holds (Some (NetEntry range signed)) place name inside from to writes known c = part-holds range.ranged range place name inside from to c
 range-holds None place name inside from to writes known c = absurd (cc)
@@ -97,7 +104,8 @@ range-holds (Some InstanceEntry) place name inside from to writes known c = absu
 abbrev Holds : Scope → SourceSelect → Option Size → Type 0
 Holds scope select size = SelectHolds (places_of_select scope select) size × Ascend 0 (places_of_select scope select)
 
-select-holds : (scope : Scope) (place : SourcePlace) (name : Identifier) (index : SourceIndex) → may_write ByNode (looked_up scope name) ≡ true → known_faults (looked_up scope name) place ≡ [] → (select_reading scope place name index).here ≡ [] →
+select-holds : (scope : Scope) (place : SourcePlace) (name : Identifier) (index : SourceIndex) → may_write ByNode (looked_up scope name) ≡ true → known_faults (looked_up scope name) place ≡ [] →
+    (select_reading scope place name index).here ≡ [] →
     (select_reading scope place name index).complete ≡ true → Holds scope (record { place = place; name = name; index = index }) (select_reading scope place name index).size
 select-holds scope place name NoIndex writes known h c = (whole-holds (looked_up scope name) place name writes known c, whole-ascends (range_width (range_of_entry (looked_up scope name))))
 select-holds scope place name (IndexAt index) writes known h c =
@@ -117,11 +125,13 @@ fixed-index scope (IndexAt index) e = constant-names scope index (append-none (c
 fixed-index scope (IndexRange from to) e = e
 
 written-holds : (scope : Scope) → IsSettled scope → (select : SourceSelect) (writes : Bool) → may_write ByNode (looked_up scope select.name) ≡ writes → fixed_select_faults scope select ≡ [] →
-    (written_reading writes select.place (select_reading scope select.place select.name select.index)).here ≡ [] → (written_reading writes select.place (select_reading scope select.place select.name select.index)).inside ≡ [] →
+    (written_reading writes select.place (select_reading scope select.place select.name select.index)).here ≡ [] →
+    (written_reading writes select.place (select_reading scope select.place select.name select.index)).inside ≡ [] →
     Holds scope select (written_reading writes select.place (select_reading scope select.place select.name select.index)).size
 written-holds scope settled select true e names h i =
     let none = append-none (known_faults (looked_up scope select.name) select.place) (fixed_index_faults scope select.index) names in
-    let all : known_faults (looked_up scope select.name) select.place ++ index_faults scope select.index ≡ [] = ap (λ l. l ++ index_faults scope select.index) none.0 ∙ fixed-index scope select.index none.1 in
+    let all : known_faults (looked_up scope select.name) select.place ++ index_faults scope select.index ≡ [] = ap (λ l. l ++ index_faults scope select.index) none.0
+    ∙ fixed-index scope select.index none.1 in
     select-holds scope select.place select.name select.index e none.0 h (select-full scope settled select.place select.name select.index all h i)
 written-holds scope settled select false e names h i = absurd (cc)
 
@@ -136,7 +146,8 @@ record SelectsHold (drives : List Drive) (width : Option ℕ) : Type 0 where
   covers : drives_width drives ≤ total
   ascends : AllHold (λ (d : Drive). Ascend 0 d.places) drives
 
-selects-hold : (path : Identifier) (scope : Scope) → IsSettled scope → (selects : List SourceSelect) → flat_map (fixed_select_faults scope) selects ≡ [] → (selects_reading ByNode scope selects).here ≡ [] →
+selects-hold : (path : Identifier) (scope : Scope) → IsSettled scope → (selects : List SourceSelect) → flat_map (fixed_select_faults scope) selects ≡ [] →
+    (selects_reading ByNode scope selects).here ≡ [] →
     (selects_reading ByNode scope selects).inside ≡ [] → SelectsHold (map (drive_of path scope) selects) (selects_reading ByNode scope selects).width
 selects-hold path scope settled [] names h i = record { total = 0; width_is = refl; covers = omega arith; ascends = tt }
 selects-hold path scope settled (select ∷ selects) names h i =
@@ -170,7 +181,8 @@ within-width place reading e = by_width reading.width refl
         (sym (ap (λ (r : TargetReading). r.here) all) ∙ e, ap (λ (r : TargetReading). r.inside) all)
     by_width (Some total) is = let few = within-few place reading total is e in (few.2, few.3)
 
-pub target-holds : (path : Identifier) (scope : Scope) → IsSettled scope → (target : SourceTarget) → flat_map (fixed_select_faults scope) (selects_of target) ≡ [] → (target_reading ByNode scope target).here ≡ [] →
+pub target-holds : (path : Identifier) (scope : Scope) → IsSettled scope → (target : SourceTarget) → flat_map (fixed_select_faults scope) (selects_of target) ≡ [] →
+    (target_reading ByNode scope target).here ≡ [] →
     (target_reading ByNode scope target).inside ≡ [] → TargetHolds path scope target
 target-holds path scope settled (OneSelect select) names h i =
     let all = selects-hold path scope settled (select ∷ []) names h i in

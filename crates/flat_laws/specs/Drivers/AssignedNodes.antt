@@ -16,7 +16,8 @@ use Rattle.v_names.specs.SizedLaws.{IsSizedTo}
 use Rattle.v_elab.specs.declared.Mode.{Mode}
 use Rattle.v_elab.specs.Parts.{Signal, Drive, WalkedProcess, Part, SignalPart, MemoryPart, AssignPart, GatePart, ProcessPart, InstancePart}
 use Rattle.v_elab.specs.Walk.{walked_from}
-use Rattle.v_elab.specs.Drivers.{signals_of, NodeFunction, AssignFunction, GateFunction, BlockFunction, WalkedNode, drives_width, Behaviour, IsNode, IsProcess, block_or_process, process_behaviour, part_behaviour, behaviours_of, nodes_of}
+use Rattle.v_elab.specs.Drivers.{signals_of, NodeFunction, AssignFunction, GateFunction, BlockFunction, WalkedNode, drives_width, Behaviour, IsNode, IsProcess, block_or_process, process_behaviour}
+use Rattle.v_elab.specs.Drivers.{part_behaviour, behaviours_of, nodes_of}
 use Rattle.v_elab.specs.Objects.{PieceDriver, HeldObject, holders_at}
 use Rattle.v_elab.specs.Flat.{NodeOutput, output_if, output_of_object, outputs_of, meaning_in, node_kind, flat_node}
 use Rattle.graph_order.specs.ListLaws.{AllHold-slice_get}
@@ -41,7 +42,8 @@ IsAssignSized design (BlockNode statement) outputs = Unit {0}
 
 -- Outputs
 
-one-output : (P : NodeOutput → Type 0) (number object : ℕ) (driver : Option PieceDriver) → ((d : PieceDriver) → driver ≡ Some d → d.node ≡ number → P (record { object = object; place = d.place })) → AllHold P (output_of_object number object driver)
+one-output : (P : NodeOutput → Type 0) (number object : ℕ) (driver : Option PieceDriver) → ((d : PieceDriver) → driver ≡ Some d → d.node ≡ number → P (record { object = object; place = d.place })) →
+    AllHold P (output_of_object number object driver)
 one-output P number object None h = tt
 one-output P number object (Some d) h =
     let output : NodeOutput = record { object = object; place = d.place } in
@@ -51,7 +53,8 @@ one-output P number object (Some d) h =
     ]
 
 outputs-hold : (P : NodeOutput → Type 0) (number start : ℕ) (objects : List HeldObject) →
-    ((i object : ℕ) (held : HeldObject) (d : PieceDriver) → object ≡ start + i → slice_get objects i ≡ Some held → held.driver ≡ Some d → d.node ≡ number → P (record { object = object; place = d.place })) →
+    ((i object : ℕ) (held : HeldObject) (d : PieceDriver) → object ≡ start + i → slice_get objects i ≡ Some held → held.driver ≡ Some d → d.node ≡ number →
+    P (record { object = object; place = d.place })) →
     AllHold P (joined (map_numbered (λ object (held : HeldObject). output_of_object number object held.driver) start objects))
 outputs-hold P number start [] h = tt
 outputs-hold P number start (held ∷ objects) h =
@@ -63,7 +66,8 @@ all-zip : {A : Type 0} (P : ℕ → ℕ → Type 0) (f g : A → ℕ) (xs : List
 all-zip P f g [] h = tt
 all-zip P f g (x ∷ xs) h = (h.0, all-zip P f g xs h.1)
 
-width-at : (objects : List HeldObject) (i : ℕ) (held : HeldObject) → slice_get objects i ≡ Some held → get_or (map (λ (o : FlatObject). o.width) (map (λ (h : HeldObject). h.object) objects)) i 0 ≡ held.object.width
+width-at : (objects : List HeldObject) (i : ℕ) (held : HeldObject) → slice_get objects i ≡ Some held →
+    get_or (map (λ (o : FlatObject). o.width) (map (λ (h : HeldObject). h.object) objects)) i 0 ≡ held.object.width
 width-at [] i held e = absurd (cc)
 width-at (first ∷ objects) zero held e = ap (λ (h : HeldObject). h.object.width) (same_some first held e)
 width-at (first ∷ objects) (suc i) held e = width-at objects i held e
@@ -77,7 +81,8 @@ abbrev IsAscended : WalkedNode → Type 0
 IsAscended node = AllHold (λ (d : Drive). Ascend 0 d.places) node.drives
 
 -- the objects that a node writes have their bits among those of its drives
-outputs-fit : (parts : List Part) (design : FlatDesign) → IsMadeOf parts design → (number : ℕ) (node : WalkedNode) → slice_get (nodes_in parts) number ≡ Some node → IsAscended node → (most : ℕ) → drives_width node.drives ≤ most →
+outputs-fit : (parts : List Part) (design : FlatDesign) → IsMadeOf parts design → (number : ℕ) (node : WalkedNode) → slice_get (nodes_in parts) number ≡ Some node → IsAscended node → (most : ℕ) →
+    drives_width node.drives ≤ most →
     AllHold (λ (o : NodeOutput). o.place + width_in design o.object ≤ most) (outputs_of (objects_in parts) number)
 outputs-fit parts design made number node at up most covers =
     outputs-hold (λ (o : NodeOutput). o.place + width_in design o.object ≤ most) number 0 (objects_in parts)
@@ -119,12 +124,15 @@ module _ (modules : List SourceModule) (mode : Mode) (top : SourceModule) where
   part-read parts number (MemoryPart memory) h = tt
   part-read parts number InstancePart h = tt
 
-  behaviours-read : (parts : List Part) (number : ℕ) (some : List Part) → AllHold (IsReadAssignment modules mode top) some → AllHold (IsReadBehaviour modules mode top) (joined (map_numbered (part_behaviour parts) number some))
+  behaviours-read : (parts : List Part) (number : ℕ) (some : List Part) → AllHold (IsReadAssignment modules mode top) some →
+      AllHold (IsReadBehaviour modules mode top) (joined (map_numbered (part_behaviour parts) number some))
   behaviours-read parts number [] h = tt
   behaviours-read parts number (part ∷ rest) h =
-      AllHold-append (IsReadBehaviour modules mode top) (part_behaviour parts number part) (joined (map_numbered (part_behaviour parts) (number + 1) rest)) (part-read parts number part h.0) (behaviours-read parts (number + 1) rest h.1)
+      AllHold-append (IsReadBehaviour modules mode top) (part_behaviour parts number part) (joined (map_numbered (part_behaviour parts) (number + 1) rest)) (part-read parts number part h.0)
+      (behaviours-read parts (number + 1) rest h.1)
 
-  nodes-read : (behaviours : List Behaviour) → AllHold (IsReadBehaviour modules mode top) behaviours → AllHold (λ (node : WalkedNode). IsReadBy modules mode top node.drives node.function) (nodes_of behaviours)
+  nodes-read : (behaviours : List Behaviour) → AllHold (IsReadBehaviour modules mode top) behaviours →
+      AllHold (λ (node : WalkedNode). IsReadBy modules mode top node.drives node.function) (nodes_of behaviours)
   nodes-read [] h = tt
   nodes-read (IsNode node ∷ rest) h = (h.0, nodes-read rest h.1)
   nodes-read (IsProcess process ∷ rest) h = nodes-read rest h.1
@@ -133,7 +141,8 @@ module _ (modules : List SourceModule) (mode : Mode) (top : SourceModule) where
   abbrev process_at : Identifier → Scope → WalkedProcess
   process_at path scope = let place : SourcePlace = record { line = 0; column = 0 } in record { always = false; place = place; path = path; scope = scope; body = NullStatement place; targets = None }
 
-  function-sized : (parts : List Part) (design : FlatDesign) → walked_from modules mode top ≡ Ok parts → IsMadeOf parts design → IsHierarchy parts → (number : ℕ) (node : WalkedNode) → slice_get (nodes_in parts) number ≡ Some node → (function : NodeFunction) →
+  function-sized : (parts : List Part) (design : FlatDesign) → walked_from modules mode top ≡ Ok parts → IsMadeOf parts design → IsHierarchy parts → (number : ℕ) (node : WalkedNode) →
+      slice_get (nodes_in parts) number ≡ Some node → (function : NodeFunction) →
       IsReadBy modules mode top node.drives function →
       IsAssignSized design (node_kind parts (objects_in parts) (outputs_of (objects_in parts) number) function) (map (λ (o : NodeOutput). o.object) (outputs_of (objects_in parts) number))
   function-sized parts design e made hierarchy number node at (GateFunction kind path terminals) h = tt
@@ -141,7 +150,10 @@ module _ (modules : List SourceModule) (mode : Mode) (top : SourceModule) where
   function-sized parts design e made hierarchy number node at (AssignFunction value) h =
       let process = process_at value.path h.scope in
       let meaning = meaning_in parts (objects_in parts) process in
-      let meant = process-meant parts design made hierarchy process (record { at = scope-at modules mode top parts e value.path h.scope h.at; settled = walk-settled modules mode top parts e value.path h.scope h.at }) in
+      let meant = process-meant parts design made hierarchy process (record {
+        at = scope-at modules mode top parts e value.path h.scope h.at;
+        settled = walk-settled modules mode top parts e value.path h.scope h.at;
+      }) in
       let reading = reading_of h.scope h.e in
       let holders = holders_at parts (objects_in parts) value.path in
       let size = complete-size meaning meant h.e h.complete in
@@ -149,17 +161,22 @@ module _ (modules : List SourceModule) (mode : Mode) (top : SourceModule) where
       let most = size.most in
       let few = h.few in
       let covers = h.covers in
-      let T : Option Size → Type 0 = λ z. IsSizedTo (over_objects holders (reading.tree (max h.width (size_or_bit z).width) (size_or_bit z).signed)) size.size.width (max h.width size.size.width) size.size.signed in
+      let T : Option Size → Type 0 = λ z. IsSizedTo (over_objects holders (reading.tree (max h.width (size_or_bit z).width) (size_or_bit z).signed)) size.size.width
+      (max h.width size.size.width) size.size.signed in
       let tree : IsSizedTo (over_objects holders (tree_in h.width reading)) size.size.width (max h.width size.size.width) size.size.signed =
       subst T (sym size.size_is) (size.gives (max h.width size.size.width) size.size.signed (omega arith) (omega (arith, few, most)) (λ s. s)) in
       let sized : IsSizedTo (over_objects holders value.value) size.size.width (max h.width size.size.width) size.size.signed =
       subst (λ (t : SizedExpression). IsSizedTo (over_objects holders t) size.size.width (max h.width size.size.width) size.size.signed) h.is tree in
       let width = sized.width_is in
-      let fits = outputs-fit parts design made number node at h.ascends (width_of (over_objects holders value.value)) (omega (arith, covers, width, some)) in
-      (sized.sized, all-zip (λ object place. place + width_in design object ≤ width_of (over_objects holders value.value)) (λ (o : NodeOutput). o.object) (λ (o : NodeOutput). o.place) (outputs_of (objects_in parts) number) fits)
+      let fits = outputs-fit parts design made number node at h.ascends (width_of (over_objects holders value.value)) (omega (arith, covers, width, some)) in (
+        sized.sized,
+        all-zip (λ object place. place + width_in design object ≤ width_of (over_objects holders value.value)) (λ (o : NodeOutput). o.object) (λ (o : NodeOutput). o.place)
+            (outputs_of (objects_in parts) number) fits,
+      )
 
   -- the assignments of a design are sized
-  pub assigns-sized : (parts : List Part) (design : FlatDesign) → walked_from modules mode top ≡ Ok parts → IsMadeOf parts design → IsHierarchy parts → AllHold (λ (node : FlatNode). IsAssignSized design node.kind node.outputs) design.nodes
+  pub assigns-sized : (parts : List Part) (design : FlatDesign) → walked_from modules mode top ≡ Ok parts → IsMadeOf parts design → IsHierarchy parts →
+      AllHold (λ (node : FlatNode). IsAssignSized design node.kind node.outputs) design.nodes
   assigns-sized parts design e made hierarchy =
       let read = nodes-read (behaviours_of parts) (behaviours-read parts 0 parts (assignments-read modules mode top parts e)) in
       each-node (λ (node : FlatNode). IsAssignSized design node.kind node.outputs) parts design made

@@ -9,21 +9,26 @@ use Rattle.vf_base.specs.Lists.{AllHold}
 use Rattle.v_design.specs.Sized.{most_bits}
 use Rattle.v_tree.specs.declared.item.Direction.{Direction}
 use Rattle.v_tree.specs.declared.item.Direction.TheVariants.{Input, Output}
-use Rattle.v_tree.specs.Trees.{Identifier, SourceExpression, Selected, NoIndex, SourceTarget, OneSelect, SourceWire, SourceAssignment, SourceGate, SourceConnection, SourceInstance, SourceItem, ParameterItem, PortItem, WireItem, RegItem, IntegerItem, AssignItem, GateItem, InstanceItem, InitialItem, AlwaysItem, SourceModule, place_of_expression, same_name}
+use Rattle.v_tree.specs.Trees.{Identifier, SourceExpression, Selected, NoIndex, SourceTarget, OneSelect, SourceWire, SourceAssignment, SourceGate, SourceConnection, SourceInstance, SourceItem}
+use Rattle.v_tree.specs.Trees.{ParameterItem, PortItem, WireItem, RegItem, IntegerItem, AssignItem, GateItem, InstanceItem, InitialItem, AlwaysItem, SourceModule, place_of_expression, same_name}
 use Rattle.v_names.specs.Faults.{TooDeep, fault_at, fault_if, same_place}
-use Rattle.v_names.specs.Scopes.{ScopeEntry, ParameterEntry, RefusedParameter, WaitingParameter, NetEntry, RegEntry, MemoryEntry, GateEntry, InstanceEntry, Scope, looked_up, range_width, declared_width, is_vector}
+use Rattle.v_names.specs.Scopes.{ScopeEntry, ParameterEntry, RefusedParameter, WaitingParameter, NetEntry, RegEntry, MemoryEntry, GateEntry, InstanceEntry, Scope, looked_up, range_width}
+use Rattle.v_names.specs.Scopes.{declared_width, is_vector}
 use Rattle.v_names.specs.SizedTrees.{SizedExpression}
 use Rattle.v_names.specs.Readings.{tree_in, sized_if, sized_reading, name_reading, reading_of}
 use Rattle.v_names.specs.Constants.{known_faults, name_faults, constant_faults, ParameterValue, optional_faults}
-use Rattle.v_names.specs.Names.{Declared, DeclaredParameter, DeclaredPort, DeclaredNet, DeclaredReg, DeclaredMemory, DeclaredGate, DeclaredInstance, Declaration, names_declared, of_name, item_declarations, GivenParameter, meaning_of, scope_of, fixed_target_faults, actual_faults, item_name_faults, module_name_faults, names}
+use Rattle.v_names.specs.Names.{Declared, DeclaredParameter, DeclaredPort, DeclaredNet, DeclaredReg, DeclaredMemory, DeclaredGate, DeclaredInstance, Declaration, names_declared, of_name}
+use Rattle.v_names.specs.Names.{item_declarations, GivenParameter, meaning_of, scope_of, fixed_target_faults, actual_faults, item_name_faults, module_name_faults, names}
 use Rattle.v_width.specs.Targets.{ByNode, target_reading, target_alone_faults, target_width_in, target_of}
 use Rattle.v_elab.specs.declared.Mode.{Mode}
 use Rattle.v_elab.specs.Refusals.{as_refusal}
 use Rattle.v_elab.specs.ItemFaults.{assigned_faults, wire_select, wire_faults, declared_range_faults, item_faults}
 use Rattle.v_elab.specs.Parts.{Drive, ValueIn, Part, AssignPart}
 use Rattle.v_elab.specs.Drivers.{drives_width}
-use Rattle.v_elab.specs.Connections.{most_depth, Child, Paths, direction_of_first, port_direction, port_width, joined_name, output_actual_faults, actual_faults_by, port_faults, is_named, connections_faults, instance_faults, name_before, actual_parts, output_parts, connection_parts, connections_parts, connected_name, head_names}
-use Rattle.v_elab.specs.Walk.{Entered, Here, part_by_entry, parts_of_own, declared_parts, assign_part, wire_parts, gate_parts, item_parts, child_of, paths_of, entered, walked_module, walked, walked_from}
+use Rattle.v_elab.specs.Connections.{most_depth, Child, Paths, direction_of_first, port_direction, port_width, joined_name, output_actual_faults, actual_faults_by, port_faults, is_named}
+use Rattle.v_elab.specs.Connections.{connections_faults, instance_faults, name_before, actual_parts, output_parts, connection_parts, connections_parts, connected_name, head_names}
+use Rattle.v_elab.specs.Walk.{Entered, Here, part_by_entry, parts_of_own, declared_parts, assign_part, wire_parts, gate_parts, item_parts, child_of, paths_of, entered, walked_module, walked}
+use Rattle.v_elab.specs.Walk.{walked_from}
 use Rattle.flat_laws.specs.Made.{then_go-ok}
 use Rattle.flat_laws.specs.Numbered.{AllHold-append, AllHold-flat_map, AllHold-all}
 use Rattle.flat_laws.specs.Hierarchy.Given.{both-true}
@@ -57,7 +62,8 @@ IsReadAssignment modules mode top _ = Unit {0}
 
 -- Ports
 
-port-vector : (scope : Scope) (given : List GivenParameter) (d : Declaration) (kind : Declared) (rest : List Declaration) (direction : Direction) → direction_of_first (record d { declared = kind } ∷ rest) ≡ Some direction →
+port-vector : (scope : Scope) (given : List GivenParameter) (d : Declaration) (kind : Declared) (rest : List Declaration) (direction : Direction) →
+    direction_of_first (record d { declared = kind } ∷ rest) ≡ Some direction →
     is_vector (Some (meaning_of scope given d.name kind)) ≡ true
 port-vector scope given d (DeclaredPort own true signed bounds first) rest direction e = refl
 port-vector scope given d (DeclaredPort own false signed bounds first) rest direction e = refl
@@ -85,7 +91,8 @@ found-vector scope given port direction (d ∷ ds) e =
     ]
 
 -- a port is a net or a variable
-module-port : (m : SourceModule) (given : List GivenParameter) (port : Identifier) (direction : Direction) → port_direction m port ≡ Some direction → is_vector (looked_up (scope_of m given) port) ≡ true
+module-port : (m : SourceModule) (given : List GivenParameter) (port : Identifier) (direction : Direction) → port_direction m port ≡ Some direction →
+    is_vector (looked_up (scope_of m given) port) ≡ true
 module-port m given port direction e =
     let scope = scope_of m given in
     ap is_vector (ap (λ s. looked_up s port) (scope-fixed m given) ∙ in-meanings scope given (names_declared m) port) ∙ found-vector scope given port direction (names_declared m) e
@@ -99,7 +106,8 @@ test-true a b h =
 
 sized-complete : (place : SourcePlace) (width : ℕ) (signed : Bool) (tree : ℕ → Bool → SizedExpression) → 1 ≤ width → width ≤ most_bits → (sized_reading place width signed true [] tree).complete ≡ true
 sized-complete place width signed tree some few =
-    ap (λ b. (sized_if b place (record { width = width; signed = signed }) true [] tree).complete) (both-true (nat_le 1 width) (nat_le width most_bits) (test-true 1 width some) (test-true width most_bits few))
+    ap (λ b. (sized_if b place (record { width = width; signed = signed }) true [] tree).complete)
+    (both-true (nat_le 1 width) (nat_le width most_bits) (test-true 1 width some) (test-true width most_bits few))
 
 vector-complete : (entry : Option ScopeEntry) (place : SourcePlace) (name : Identifier) → is_vector entry ≡ true → declared_width entry ≤ most_bits → (name_reading entry place name).complete ≡ true
 vector-complete (Some (NetEntry range signed)) place name v few = sized-complete place (range_width range) signed _ (omega arith) few
@@ -130,7 +138,8 @@ module _ (modules : List SourceModule) (mode : Mode) (top : SourceModule) where
       actual_faults_by child.outer_scope None (Some Output) e ≡ [] → target_of e ≡ target → AllHold P (output_parts child paths port e target)
   output-read child paths is port direction e None faults t = tt
   output-read child paths is port direction e (Some target) faults t =
-      let step : actual_faults_by child.outer_scope None (Some Output) e ≡ target_alone_faults (target_reading ByNode child.outer_scope target) ++ fixed_target_faults child.outer_scope target = ap (output_actual_faults child.outer_scope e) t in
+      let step : actual_faults_by child.outer_scope None (Some Output) e ≡ target_alone_faults (target_reading ByNode child.outer_scope target) ++ fixed_target_faults child.outer_scope target =
+      ap (output_actual_faults child.outer_scope e) t in
       let own : target_alone_faults (target_reading ByNode child.outer_scope target) ++ fixed_target_faults child.outer_scope target ≡ [] = sym step ∙ faults in
       let none = append-none (target_alone_faults (target_reading ByNode child.outer_scope target)) (fixed_target_faults child.outer_scope target) own in
       let group = group-none (target_reading ByNode child.outer_scope target).here (target_reading ByNode child.outer_scope target).inside none.0 in
@@ -149,7 +158,8 @@ module _ (modules : List SourceModule) (mode : Mode) (top : SourceModule) where
         tt,
       )
 
-  actual-read : (child : Child) (paths : Paths) → IsChild child paths → (port : Identifier) (e : SourceExpression) (joined : Option Identifier) (direction : Option Direction) → port_direction child.inner port ≡ direction →
+  actual-read : (child : Child) (paths : Paths) → IsChild child paths → (port : Identifier) (e : SourceExpression) (joined : Option Identifier) (direction : Option Direction) →
+      port_direction child.inner port ≡ direction →
       actual_faults_by child.outer_scope joined direction e ≡ [] → name_faults child.outer_scope e ≡ [] → AllHold P (actual_parts child paths port e joined direction)
   actual-read child paths is port e (Some joined) direction d faults names = tt
   actual-read child paths is port e None (Some Input) d faults names =
@@ -176,10 +186,12 @@ module _ (modules : List SourceModule) (mode : Mode) (top : SourceModule) where
   connection-read child paths is earlier connection None actual faults names = tt
   connection-read child paths is earlier connection (Some port) None faults names = tt
   connection-read child paths is earlier connection (Some port) (Some e) faults names =
-      let own = (append-none (fault_if (is_named connection.name && _) connection.place _) (actual_faults_by child.outer_scope (joined_name child port e) (port_direction child.inner port) e) faults).1 in
+      let own = (append-none (fault_if (is_named connection.name && _) connection.place _)
+      (actual_faults_by child.outer_scope (joined_name child port e) (port_direction child.inner port) e) faults).1 in
       actual-read child paths is port e (joined_name child port e) (port_direction child.inner port) refl own names
 
-  connections-read : (child : Child) (paths : Paths) → IsChild child paths → (position : ℕ) (earlier : List Identifier) (connections : List SourceConnection) → connections_faults child position earlier connections ≡ [] →
+  connections-read : (child : Child) (paths : Paths) → IsChild child paths → (position : ℕ) (earlier : List Identifier) (connections : List SourceConnection) →
+      connections_faults child position earlier connections ≡ [] →
       flat_map (actual_faults child.outer_scope) connections ≡ [] → AllHold P (connections_parts child paths position connections)
   connections-read child paths is position earlier [] faults names = tt
   connections-read child paths is position earlier (connection ∷ rest) faults names =
@@ -201,8 +213,10 @@ module _ (modules : List SourceModule) (mode : Mode) (top : SourceModule) where
 
   -- Items
 
-  assign-read : (here : Here) → IsAt modules mode top here.instance.path here.scope → IsSettled here.scope → (target : SourceTarget) (value : SourceExpression) → assigned_faults ByNode here.scope target value ≡ [] →
-      name_faults here.scope value ≡ [] → ((target_reading ByNode here.scope target).here ≡ [] → (target_reading ByNode here.scope target).inside ≡ [] → TargetHolds here.instance.path here.scope target) → P (assign_part here target value)
+  assign-read : (here : Here) → IsAt modules mode top here.instance.path here.scope → IsSettled here.scope → (target : SourceTarget) (value : SourceExpression) →
+      assigned_faults ByNode here.scope target value ≡ [] →
+      name_faults here.scope value ≡ [] → ((target_reading ByNode here.scope target).here ≡ [] → (target_reading ByNode here.scope target).inside ≡ [] →
+      TargetHolds here.instance.path here.scope target) → P (assign_part here target value)
   assign-read here at settled target value faults names holds =
       let t = target_reading ByNode here.scope target in
       let v = reading_of here.scope value in
@@ -224,7 +238,8 @@ module _ (modules : List SourceModule) (mode : Mode) (top : SourceModule) where
 
   assigns-read : (here : Here) → IsAt modules mode top here.instance.path here.scope → IsSettled here.scope → (assignments : List SourceAssignment) →
       flat_map (λ (a : SourceAssignment). fixed_target_faults here.scope a.target ++ name_faults here.scope a.value) assignments ≡ [] →
-      flat_map (λ (a : SourceAssignment). assigned_faults ByNode here.scope a.target a.value) assignments ≡ [] → AllHold P (map (λ (a : SourceAssignment). assign_part here a.target a.value) assignments)
+      flat_map (λ (a : SourceAssignment). assigned_faults ByNode here.scope a.target a.value) assignments ≡ [] →
+      AllHold P (map (λ (a : SourceAssignment). assign_part here a.target a.value) assignments)
   assigns-read here at settled [] names faults = tt
   assigns-read here at settled (a ∷ rest) names faults =
       let n = append-none (fixed_target_faults here.scope a.target ++ name_faults here.scope a.value) _ names in
@@ -234,20 +249,23 @@ module _ (modules : List SourceModule) (mode : Mode) (top : SourceModule) where
 
   -- a declared net is a target; a name that isn't declared counts as one bit
   wire-holds : (path : Identifier) (scope : Scope) → IsSettled scope → (place : SourcePlace) (name : Identifier) (entry : Option ScopeEntry) → looked_up scope name ≡ entry →
-      (target_reading ByNode scope (OneSelect (record { place = place; name = name; index = NoIndex }))).here ≡ [] → (target_reading ByNode scope (OneSelect (record { place = place; name = name; index = NoIndex }))).inside ≡ [] →
+      (target_reading ByNode scope (OneSelect (record { place = place; name = name; index = NoIndex }))).here ≡ [] →
+      (target_reading ByNode scope (OneSelect (record { place = place; name = name; index = NoIndex }))).inside ≡ [] →
       TargetHolds path scope (OneSelect (record { place = place; name = name; index = NoIndex }))
   wire-holds path scope settled place name (Some entry) is h i =
       let known : known_faults (looked_up scope name) place ≡ [] = ap (λ e. known_faults e place) is in
       target-holds path scope settled (OneSelect (record { place = place; name = name; index = NoIndex })) (ap (λ l. (l ++ []) ++ []) known) h i
   wire-holds path scope settled place name None is h i = record { few = rw is (omega arith); covers = rw is (omega arith); ascends = (whole-ascends _, tt) }
 
-  wire-read : (here : Here) → IsAt modules mode top here.instance.path here.scope → IsSettled here.scope → (wire : SourceWire) (value : Option SourceExpression) → optional_faults (assigned_faults ByNode here.scope (wire_select wire)) value ≡ [] →
+  wire-read : (here : Here) → IsAt modules mode top here.instance.path here.scope → IsSettled here.scope → (wire : SourceWire) (value : Option SourceExpression) →
+      optional_faults (assigned_faults ByNode here.scope (wire_select wire)) value ≡ [] →
       optional_faults (name_faults here.scope) value ≡ [] → AllHold P (wire_parts here (record wire { value = value }))
   wire-read here at settled wire None faults names = tt
   wire-read here at settled wire (Some value) faults names =
       (assign-read here at settled (wire_select wire) value faults names (wire-holds here.instance.path here.scope settled wire.place wire.name (looked_up here.scope wire.name) refl), tt)
 
-  wires-read : (here : Here) → IsAt modules mode top here.instance.path here.scope → IsSettled here.scope → (wires : List SourceWire) → flat_map (λ (w : SourceWire). optional_faults (name_faults here.scope) w.value) wires ≡ [] →
+  wires-read : (here : Here) → IsAt modules mode top here.instance.path here.scope → IsSettled here.scope → (wires : List SourceWire) →
+      flat_map (λ (w : SourceWire). optional_faults (name_faults here.scope) w.value) wires ≡ [] →
       flat_map (wire_faults here.scope) wires ≡ [] → AllHold P (flat_map (wire_parts here) wires)
   wires-read here at settled [] names faults = tt
   wires-read here at settled (wire ∷ rest) names faults =
@@ -271,21 +289,25 @@ module _ (modules : List SourceModule) (mode : Mode) (top : SourceModule) where
       AllHold-flat_map P (parts_of_own here (names_declared here.instance.inner)) (item_declarations item)
       (AllHold-all (λ d. AllHold P (parts_of_own here (names_declared here.instance.inner) d)) (item_declarations item)
       (λ d.
-      AllHold-flat_map P (λ (own : Declaration). part_by_entry here own (looked_up here.scope own.name)) (filter (λ (own : Declaration). same_place own.place d.place) (of_name d.name (names_declared here.instance.inner)))
-      (AllHold-all (λ (own : Declaration). AllHold P (part_by_entry here own (looked_up here.scope own.name))) (filter (λ (own : Declaration). same_place own.place d.place) (of_name d.name (names_declared here.instance.inner)))
+      AllHold-flat_map P (λ (own : Declaration). part_by_entry here own (looked_up here.scope own.name))
+      (filter (λ (own : Declaration). same_place own.place d.place) (of_name d.name (names_declared here.instance.inner)))
+      (AllHold-all (λ (own : Declaration). AllHold P (part_by_entry here own (looked_up here.scope own.name)))
+      (filter (λ (own : Declaration). same_place own.place d.place) (of_name d.name (names_declared here.instance.inner)))
       (λ own. entry-read here own (looked_up here.scope own.name)))))
 
   gates-read : (here : Here) (kind : GateKind) (number : ℕ) (gates : List SourceGate) → AllHold P (gate_parts here kind number gates)
   gates-read here kind number [] = tt
   gates-read here kind number (gate ∷ rest) = (tt, gates-read here kind (number + 1) rest)
 
-  item-read : (here : Here) → IsAt modules mode top here.instance.path here.scope → IsSettled here.scope → (gates : ℕ) (item : SourceItem) → item_name_faults here.scope item ≡ [] → item_faults here.scope item ≡ [] → AllHold P (item_parts here gates item)
+  item-read : (here : Here) → IsAt modules mode top here.instance.path here.scope → IsSettled here.scope → (gates : ℕ) (item : SourceItem) → item_name_faults here.scope item ≡ [] →
+      item_faults here.scope item ≡ [] → AllHold P (item_parts here gates item)
   item-read here at settled gates (ParameterItem group) names faults = tt
   item-read here at settled gates (PortItem group) names faults = declared-read here (PortItem group)
   item-read here at settled gates (WireItem place signed range wires) names faults =
       let n = append-none (optional_faults _ range) (flat_map (λ (w : SourceWire). optional_faults (name_faults here.scope) w.value) wires) names in
       let f = append-none (declared_range_faults here.scope range) (flat_map (wire_faults here.scope) wires) faults in
-      AllHold-append P (declared_parts here (WireItem place signed range wires)) (flat_map (wire_parts here) wires) (declared-read here (WireItem place signed range wires)) (wires-read here at settled wires n.1 f.1)
+      AllHold-append P (declared_parts here (WireItem place signed range wires)) (flat_map (wire_parts here) wires) (declared-read here (WireItem place signed range wires))
+      (wires-read here at settled wires n.1 f.1)
   item-read here at settled gates (RegItem place signed range regs) names faults = declared-read here (RegItem place signed range regs)
   item-read here at settled gates (IntegerItem place regs) names faults = declared-read here (IntegerItem place regs)
   item-read here at settled gates (AssignItem place assignments) names faults = assigns-read here at settled assignments names faults
@@ -297,10 +319,12 @@ module _ (modules : List SourceModule) (mode : Mode) (top : SourceModule) where
   -- Instances
 
   -- an instance that a walk comes to has a scope
-  visited-named : (parts : List Part) → walked_from modules mode top ≡ Ok parts → (instance : Entered) → IsVisited modules mode top instance → names instance.inner instance.given ≡ Ok (scope_of instance.inner instance.given)
+  visited-named : (parts : List Part) → walked_from modules mode top ≡ Ok parts → (instance : Entered) → IsVisited modules mode top instance →
+      names instance.inner instance.given ≡ Ok (scope_of instance.inner instance.given)
   visited-named parts e instance visited =
       let w = visited-walked modules mode top parts e instance visited in
-      let step = then_go-ok (as_refusal (names instance.inner instance.given)) (λ s. walked_module (walked modules mode w.levels) (record { modules = modules; mode = mode; instance = instance; scope = s }) instance.inner w.before) w.after w.is in
+      let step = then_go-ok (as_refusal (names instance.inner instance.given)) (λ s. walked_module (walked modules mode w.levels)
+      (record { modules = modules; mode = mode; instance = instance; scope = s }) instance.inner w.before) w.after w.is in
       let named = as_refusal-ok (names instance.inner instance.given) step.0 step.1 in
       let m = instance.inner in
       let same : scope_of m instance.given ≡ step.0 = (unless_faulty-ok (module_name_faults (scope_of m instance.given) m) (scope_of m instance.given) step.0 named).1 in
@@ -312,7 +336,8 @@ module _ (modules : List SourceModule) (mode : Mode) (top : SourceModule) where
   here-at : (here : Here) → IsHere Q modules mode here → IsAt modules mode top here.instance.path here.scope
   here-at here is = record { instance = here.instance; visited = is.entered; named = is.scope; path_is = refl }
 
-  child-read : (parts : List Part) → walked_from modules mode top ≡ Ok parts → (here : Here) → IsHere Q modules mode here → (inner : SourceModule) (given : List GivenParameter) (i : SourceInstance) → IsInstance here inner given i →
+  child-read : (parts : List Part) → walked_from modules mode top ≡ Ok parts → (here : Here) → IsHere Q modules mode here →
+      (inner : SourceModule) (given : List GivenParameter) (i : SourceInstance) → IsInstance here inner given i →
       IsChild (child_of here inner given) (paths_of here i)
   child-read parts e here is inner given i of =
       let visited = below here is.scope is.same_modules is.same_mode is.entered inner given i of in
@@ -331,12 +356,15 @@ module _ (modules : List SourceModule) (mode : Mode) (top : SourceModule) where
       walk-holds P Q modules mode
       (record {
         of_item = λ here is gates item of none.
-            item-read here (here-at here is) (walk-settled modules mode top parts e here.instance.path here.scope (here-at here is)) gates item (items-named here.instance.inner here.instance.given here.scope is.scope item of) none;
+            item-read here (here-at here is) (walk-settled modules mode top parts e here.instance.path here.scope (here-at here is)) gates item
+            (items-named here.instance.inner here.instance.given here.scope is.scope item of) none;
         of_connections = λ here is inner given i of.
             let all = items-named here.instance.inner here.instance.given here.scope is.scope (InstanceItem of.place of.module_name of.parameters of.instances) of.is in
-            let actuals = (append-none (flat_map (λ (c : SourceConnection). optional_faults (constant_faults here.scope ParameterValue) c.actual) of.parameters) (flat_map (λ (j : SourceInstance). flat_map (actual_faults here.scope) j.connections) of.instances) all).1 in
+            let actuals = (append-none (flat_map (λ (c : SourceConnection). optional_faults (constant_faults here.scope ParameterValue) c.actual) of.parameters)
+            (flat_map (λ (j : SourceInstance). flat_map (actual_faults here.scope) j.connections) of.instances) all).1 in
             let own = flat-none (λ (j : SourceInstance). flat_map (actual_faults here.scope) j.connections) of.instances actuals of.number i of.at in
-            connections-read (child_of here inner given) (paths_of here i) (child-read parts e here is inner given i of) 0 [] i.connections (shallow (child_of here inner given) (here.instance.depth + 1) i of.faultless) own;
+            connections-read (child_of here inner given) (paths_of here i) (child-read parts e here is inner given i of) 0 [] i.connections
+            (shallow (child_of here inner given) (here.instance.depth + 1) i of.faultless) own;
         of_instance = tt;
         enters = λ here is inner given i of. below here is.scope is.same_modules is.same_mode is.entered inner given i of;
       }) top at_top parts e

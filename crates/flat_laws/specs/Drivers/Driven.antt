@@ -48,7 +48,8 @@ driver_weight n width (Some driver) = number_if (nat_eq driver.node n) width
 abbrev pub held_weight : ℕ → HeldObject → ℕ
 held_weight n held = driver_weight n held.object.width held.driver
 
-placed-weight : (n width : ℕ) (drive : ObjectDrive) (value : Option ℕ) → driver_weight n width (option_and_then (λ at. Some (record { node = drive.node; place = at })) value) ≤ number_if (nat_eq drive.node n) width
+placed-weight : (n width : ℕ) (drive : ObjectDrive) (value : Option ℕ) → driver_weight n width (option_and_then (λ at. Some (record { node = drive.node; place = at })) value) ≤ number_if
+    (nat_eq drive.node n) width
 placed-weight n width drive None = omega arith
 placed-weight n width drive (Some at) = omega arith
 
@@ -77,18 +78,31 @@ grown-weight : (find : Option ℕ → Option ObjectDrive) (n : ℕ) (same : Bool
     sum_by (cut_weight find n) (grown_or_new same bit driver next pieces) ≡ drive_weight n 1 (find driver) + sum_by (cut_weight find n) (next ∷ pieces)
 grown-weight find n true bit driver next pieces is =
     let moved : drive_weight n next.width (find driver) ≡ drive_weight n next.width (find next.driver) = ap (λ d. drive_weight n next.width (find d)) (is refl) in
-    omega (arith, drive-more n next.width (find driver), moved, sum_by-cons (cut_weight find n) (record { low = bit; width = next.width + 1; driver = driver }) pieces, sum_by-cons (cut_weight find n) next pieces)
+    omega (
+      arith,
+      drive-more n next.width (find driver),
+      moved,
+      sum_by-cons (cut_weight find n) (record { low = bit; width = next.width + 1; driver = driver }) pieces,
+      sum_by-cons (cut_weight find n) next pieces,
+    )
 grown-weight find n false bit driver next pieces is = sum_by-cons (cut_weight find n) (record { low = bit; width = 1; driver = driver }) (next ∷ pieces)
 
-before-weight : (find : Option ℕ → Option ObjectDrive) (n bit : ℕ) (driver : Option ℕ) (pieces : List CutPiece) → sum_by (cut_weight find n) (bit_before bit driver pieces) ≡ drive_weight n 1 (find driver) + sum_by (cut_weight find n) pieces
+before-weight : (find : Option ℕ → Option ObjectDrive) (n bit : ℕ) (driver : Option ℕ) (pieces : List CutPiece) →
+    sum_by (cut_weight find n) (bit_before bit driver pieces) ≡ drive_weight n 1 (find driver) + sum_by (cut_weight find n) pieces
 before-weight find n bit driver [] = sum_by-cons (cut_weight find n) (record { low = bit; width = 1; driver = driver }) []
 before-weight find n bit driver (next ∷ pieces) = grown-weight find n (same_driver driver next.driver) bit driver next pieces (driver-same driver next.driver)
 
 -- the pieces weigh what their bits weigh
-bits-weight : (find : Option ℕ → Option ObjectDrive) (n : ℕ) (runs : List DrivenRun) (bits : List ℕ) → sum_by (cut_weight find n) (pieces_from runs bits) ≡ sum_by (λ bit. drive_weight n 1 (find (driver_of_bit 0 runs bit))) bits
+bits-weight : (find : Option ℕ → Option ObjectDrive) (n : ℕ) (runs : List DrivenRun) (bits : List ℕ) →
+    sum_by (cut_weight find n) (pieces_from runs bits) ≡ sum_by (λ bit. drive_weight n 1 (find (driver_of_bit 0 runs bit))) bits
 bits-weight find n runs [] = refl
 bits-weight find n runs (bit ∷ bits) =
-    omega (arith, before-weight find n bit (driver_of_bit 0 runs bit) (pieces_from runs bits), bits-weight find n runs bits, sum_by-cons (λ b. drive_weight n 1 (find (driver_of_bit 0 runs b))) bit bits)
+    omega (
+      arith,
+      before-weight find n bit (driver_of_bit 0 runs bit) (pieces_from runs bits),
+      bits-weight find n runs bits,
+      sum_by-cons (λ b. drive_weight n 1 (find (driver_of_bit 0 runs b))) bit bits,
+    )
 
 -- Bits by their drives
 
@@ -102,7 +116,8 @@ bit-driven n bit number all (drive ∷ rest) at =
     by_test (has (bits_within drive.places) bit) refl
     (bit-driven n bit (number + 1) all rest (λ i. let moved : number + suc i ≡ (number + 1) + i = omega arith in ap (drive_numbered all) (sym moved) ∙ at (suc i)))
   where
-    by_test : (test : Bool) → has (bits_within drive.places) bit ≡ test → drive_weight n 1 (option_and_then (drive_numbered all) (driver_of_bit (number + 1) (map run_of rest) bit)) ≤ sum_by (drive_has n bit) rest →
+    by_test : (test : Bool) → has (bits_within drive.places) bit ≡ test → drive_weight n 1 (option_and_then (drive_numbered all) (driver_of_bit (number + 1) (map run_of rest) bit)) ≤ sum_by
+        (drive_has n bit) rest →
         drive_weight n 1 (option_and_then (drive_numbered all) (driver_of_bit number (run_of drive ∷ map run_of rest) bit)) ≤ sum_by (drive_has n bit) (drive ∷ rest)
     by_test true e later =
         let is : driver_of_bit number (run_of drive ∷ map run_of rest) bit ≡ Some number = rw e refl in
@@ -140,7 +155,13 @@ bits-most [] start count = omega (arith, sum-zero (λ b. one_if (has [] b)) (up_
 bits-most (x ∷ bits) start count =
     let f : ℕ → ℕ = λ b. one_if (nat_eq x b) in
     let g : ℕ → ℕ = λ b. one_if (has bits b) in
-    omega (arith, sums-least (λ b. one_if (has (x ∷ bits) b)) (λ b. f b + g b) (up_from start count) (λ b. or-most (nat_eq x b) (has bits b)), sums-two f g (up_from start count), (number-once x start count).0, bits-most bits start count)
+    omega (
+      arith,
+      sums-least (λ b. one_if (has (x ∷ bits) b)) (λ b. f b + g b) (up_from start count) (λ b. or-most (nat_eq x b) (has bits b)),
+      sums-two f g (up_from start count),
+      (number-once x start count).0,
+      bits-most bits start count,
+    )
 
 within-length : (places : List (Option ℕ)) → length (bits_within places) ≤ length places
 within-length [] = omega arith
@@ -171,11 +192,18 @@ drives-most n start count (drive ∷ rest) =
 
 -- Objects of a signal
 
-made-weight : (n : ℕ) (signal : Signal) (drives : List ObjectDrive) (pieces : List CutPiece) → sum_by (held_weight n) (map (piece_object signal drives) pieces) ≤ sum_by (cut_weight (option_and_then (drive_numbered drives)) n) pieces
+made-weight : (n : ℕ) (signal : Signal) (drives : List ObjectDrive) (pieces : List CutPiece) →
+    sum_by (held_weight n) (map (piece_object signal drives) pieces) ≤ sum_by (cut_weight (option_and_then (drive_numbered drives)) n) pieces
 made-weight n signal drives [] = omega arith
 made-weight n signal drives (piece ∷ pieces) =
     let find = option_and_then (drive_numbered drives) in
-    omega (arith, driver-weight n piece.width piece.low (find piece.driver), made-weight n signal drives pieces, sum_by-cons (held_weight n) (piece_object signal drives piece) (map (piece_object signal drives) pieces), sum_by-cons (cut_weight find n) piece pieces)
+    omega (
+      arith,
+      driver-weight n piece.width piece.low (find piece.driver),
+      made-weight n signal drives pieces,
+      sum_by-cons (held_weight n) (piece_object signal drives piece) (map (piece_object signal drives) pieces),
+      sum_by-cons (cut_weight find n) piece pieces,
+    )
 
 pieces-weight : (n : ℕ) (signal : Signal) (drives : List ObjectDrive) (driving : List Signal) → sum_by (held_weight n) (pieces_or_variable signal drives driving) ≤ drives_weight n drives
 pieces-weight n signal drives [] =
@@ -198,7 +226,8 @@ abbrev of_signal : (Identifier → ℕ) → Part → ℕ
 of_signal f (SignalPart signal) = f signal.name
 of_signal f _ = 0
 
-signal-weight : (signals : List Signal) (nodes : List WalkedNode) (n : ℕ) (unjoined : Bool) (signal : Signal) → sum_by (held_weight n) (signal_objects signals nodes unjoined signal) ≤ drives_weight n (drives_from signals signal.name 0 nodes)
+signal-weight : (signals : List Signal) (nodes : List WalkedNode) (n : ℕ) (unjoined : Bool) (signal : Signal) →
+    sum_by (held_weight n) (signal_objects signals nodes unjoined signal) ≤ drives_weight n (drives_from signals signal.name 0 nodes)
 signal-weight signals nodes n true signal = pieces-weight n signal (object_drives signals nodes signal.name) (driving_variables signals nodes signal.name)
 signal-weight signals nodes n false signal = omega arith
 
@@ -206,7 +235,8 @@ words-weight : (n : ℕ) (memory : WalkedMemory) (addresses : List ℕ) → sum_
 words-weight n memory [] = refl
 words-weight n memory (address ∷ addresses) = omega (arith, sum_by-cons (held_weight n) (word_object memory address) (map (word_object memory) addresses), words-weight n memory addresses)
 
-part-weight : (signals : List Signal) (nodes : List WalkedNode) (n : ℕ) (part : Part) → sum_by (held_weight n) (part_objects signals nodes part) ≤ of_signal (λ name. drives_weight n (drives_from signals name 0 nodes)) part
+part-weight : (signals : List Signal) (nodes : List WalkedNode) (n : ℕ) (part : Part) → sum_by (held_weight n) (part_objects signals nodes part) ≤ of_signal
+    (λ name. drives_weight n (drives_from signals name 0 nodes)) part
 part-weight signals nodes n (SignalPart signal) = signal-weight signals nodes n (is_unjoined signal) signal
 part-weight signals nodes n (MemoryPart memory) = omega (arith, words-weight n memory (up_from (min memory.first memory.last) (span memory.first memory.last)))
 part-weight signals nodes n (AssignPart drives value) = omega arith
@@ -292,23 +322,32 @@ name-most own count (part ∷ parts) once = by_part part (λ o. o) once (name-mo
 -- Drives of a node
 
 node-split : (n number : ℕ) (signals : List Signal) (drive : Drive) (rest : List Drive) (name : Identifier) →
-    drives_weight n (node_drives signals name number (drive ∷ rest)) ≤ number_if (nat_eq number n) (number_if (same_name (outermost signals drive.signal) name) (length drive.places)) + drives_weight n (node_drives signals name number rest)
+    drives_weight n (node_drives signals name number (drive ∷ rest)) ≤ number_if (nat_eq number n)
+    (number_if (same_name (outermost signals drive.signal) name) (length drive.places)) + drives_weight n (node_drives signals name number rest)
 node-split n number signals drive rest name = by_test (same_name (outermost signals drive.signal) name)
   where
     own : ObjectDrive
     own = record { node = number; offset = drives_width rest; places = drive.places; place = drive.place }
 
-    by_test : (test : Bool) → drives_weight n (drive_if test own (node_drives signals name number rest)) ≤ number_if (nat_eq number n) (number_if test (length drive.places)) + drives_weight n (node_drives signals name number rest)
+    by_test : (test : Bool) → drives_weight n (drive_if test own (node_drives signals name number rest)) ≤ number_if (nat_eq number n) (number_if test (length drive.places)) + drives_weight n
+        (node_drives signals name number rest)
     by_test true = omega (arith, sum_by-cons (λ (d : ObjectDrive). number_if (nat_eq d.node n) (length d.places)) own (node_drives signals name number rest))
     by_test false = omega arith
 
-node-most : (n number : ℕ) (signals : List Signal) (drives : List Drive) (parts : List Part) → NamesOnce parts → sum_by (of_signal (λ name. drives_weight n (node_drives signals name number drives))) parts ≤ number_if (nat_eq number n) (drives_width drives)
-node-most n number signals [] parts once = omega (arith, sum-zero (of_signal (λ name. drives_weight n (node_drives signals name number []))) parts (of-signal-none (λ name. drives_weight n (node_drives signals name number [])) (λ name. refl)), number-zero (nat_eq number n))
+node-most : (n number : ℕ) (signals : List Signal) (drives : List Drive) (parts : List Part) → NamesOnce parts →
+    sum_by (of_signal (λ name. drives_weight n (node_drives signals name number drives))) parts ≤ number_if (nat_eq number n) (drives_width drives)
+node-most n number signals [] parts once = omega (
+  arith,
+  sum-zero (of_signal (λ name. drives_weight n (node_drives signals name number []))) parts
+      (of-signal-none (λ name. drives_weight n (node_drives signals name number [])) (λ name. refl)),
+  number-zero (nat_eq number n),
+)
 node-most n number signals (drive ∷ rest) parts once =
     let own = outermost signals drive.signal in
     omega (
       arith,
-      signals-split (λ name. drives_weight n (node_drives signals name number (drive ∷ rest))) (λ name. number_if (nat_eq number n) (number_if (same_name own name) (length drive.places))) (λ name. drives_weight n (node_drives signals name number rest))
+      signals-split (λ name. drives_weight n (node_drives signals name number (drive ∷ rest))) (λ name. number_if (nat_eq number n) (number_if (same_name own name) (length drive.places)))
+          (λ name. drives_weight n (node_drives signals name number rest))
           (node-split n number signals drive rest) parts,
       node-most n number signals rest parts once,
       by_test (nat_eq number n),
@@ -319,7 +358,8 @@ node-most n number signals (drive ∷ rest) parts once =
     sum_of true a b = refl
     sum_of false a b = refl
 
-    by_test : (test : Bool) → sum_by (of_signal (λ name. number_if test (number_if (same_name (outermost signals drive.signal) name) (length drive.places)))) parts ≤ number_if test (length drive.places)
+    by_test : (test : Bool) → sum_by (of_signal (λ name. number_if test (number_if (same_name (outermost signals drive.signal) name) (length drive.places)))) parts ≤ number_if test
+        (length drive.places)
     by_test true = name-most (outermost signals drive.signal) (length drive.places) parts once
     by_test false =
         omega (
@@ -333,13 +373,23 @@ abbrev nodes_width : ℕ → ℕ → List WalkedNode → ℕ
 nodes_width n start [] = 0
 nodes_width n start (node ∷ nodes) = number_if (nat_eq start n) (drives_width node.drives) + nodes_width n (start + 1) nodes
 
-nodes-most : (n start : ℕ) (signals : List Signal) (nodes : List WalkedNode) (parts : List Part) → NamesOnce parts → sum_by (of_signal (λ name. drives_weight n (drives_from signals name start nodes))) parts ≤ nodes_width n start nodes
-nodes-most n start signals [] parts once = omega (arith, sum-zero (of_signal (λ name. drives_weight n (drives_from signals name start []))) parts (of-signal-none (λ name. drives_weight n (drives_from signals name start [])) (λ name. refl)))
+nodes-most : (n start : ℕ) (signals : List Signal) (nodes : List WalkedNode) (parts : List Part) → NamesOnce parts →
+    sum_by (of_signal (λ name. drives_weight n (drives_from signals name start nodes))) parts ≤ nodes_width n start nodes
+nodes-most n start signals [] parts once = omega (
+  arith,
+  sum-zero (of_signal (λ name. drives_weight n (drives_from signals name start []))) parts
+      (of-signal-none (λ name. drives_weight n (drives_from signals name start [])) (λ name. refl)),
+)
 nodes-most n start signals (node ∷ nodes) parts once =
     omega (
       arith,
-      signals-split (λ name. drives_weight n (drives_from signals name start (node ∷ nodes))) (λ name. drives_weight n (node_drives signals name start node.drives)) (λ name. drives_weight n (drives_from signals name (start + 1) nodes))
-          (λ name. omega (arith, sum_by-append (λ (d : ObjectDrive). number_if (nat_eq d.node n) (length d.places)) (node_drives signals name start node.drives) (drives_from signals name (start + 1) nodes))) parts,
+      signals-split (λ name. drives_weight n (drives_from signals name start (node ∷ nodes))) (λ name. drives_weight n (node_drives signals name start node.drives))
+          (λ name. drives_weight n (drives_from signals name (start + 1) nodes))
+          (λ name. omega (
+            arith,
+            sum_by-append (λ (d : ObjectDrive). number_if (nat_eq d.node n) (length d.places)) (node_drives signals name start node.drives)
+                (drives_from signals name (start + 1) nodes),
+          )) parts,
       node-most n start signals node.drives parts once,
       nodes-most n (start + 1) signals nodes parts once,
     )
@@ -350,7 +400,8 @@ nodes-past n start (node ∷ nodes) less =
     let first : number_if (nat_eq start n) (drives_width node.drives) ≡ 0 = ap (λ b. number_if b (drives_width node.drives)) (ne_eqb start n (λ e. omega (arith, e, less))) in
     omega (arith, first, nodes-past n (start + 1) nodes (omega (arith, less)))
 
-node-alone : (n start most : ℕ) (nodes : List WalkedNode) → ((i : ℕ) (node : WalkedNode) → slice_get nodes i ≡ Some node → start + i ≡ n → drives_width node.drives ≤ most) → nodes_width n start nodes ≤ most
+node-alone : (n start most : ℕ) (nodes : List WalkedNode) → ((i : ℕ) (node : WalkedNode) → slice_get nodes i ≡ Some node → start + i ≡ n → drives_width node.drives ≤ most) →
+    nodes_width n start nodes ≤ most
 node-alone n start most [] each = omega arith
 node-alone n start most (node ∷ nodes) each =
     elim (cases_eq start n) [

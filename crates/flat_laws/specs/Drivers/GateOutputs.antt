@@ -10,7 +10,8 @@ use Rattle.v_design.specs.Designs.{FlatObject, FlatNodeKind, AssignNode, GateNod
 use Rattle.v_design.specs.WellFormed.{IsSizedObject}
 use Rattle.v_tree.specs.declared.item.Direction.{Direction}
 use Rattle.v_tree.specs.declared.item.Direction.TheVariants.{Input, Output}
-use Rattle.v_tree.specs.Trees.{Identifier, SourceExpression, SourceTarget, SourceWire, SourceAssignment, SourceGate, SourceConnection, SourceItem, ParameterItem, PortItem, WireItem, RegItem, IntegerItem, AssignItem, GateItem, InstanceItem, InitialItem, AlwaysItem, SourceModule}
+use Rattle.v_tree.specs.Trees.{Identifier, SourceExpression, SourceTarget, SourceWire, SourceAssignment, SourceGate, SourceConnection, SourceItem, ParameterItem, PortItem, WireItem, RegItem}
+use Rattle.v_tree.specs.Trees.{IntegerItem, AssignItem, GateItem, InstanceItem, InitialItem, AlwaysItem, SourceModule}
 use Rattle.v_names.specs.Faults.{same_place}
 use Rattle.v_names.specs.Scopes.{ScopeEntry, ParameterEntry, RefusedParameter, WaitingParameter, NetEntry, RegEntry, MemoryEntry, GateEntry, InstanceEntry, Scope, looked_up}
 use Rattle.v_names.specs.Constants.{name_faults}
@@ -21,7 +22,8 @@ use Rattle.v_elab.specs.ItemFaults.{output_faults, terminal_faults, gate_faults,
 use Rattle.v_elab.specs.Parts.{Signal, WalkedProcess, Part, SignalPart, MemoryPart, AssignPart, GatePart, ProcessPart, InstancePart}
 use Rattle.v_elab.specs.Connections.{Child, Paths, joined_name, port_direction, actual_parts, output_parts, connection_parts, connections_parts, connected_name, head_names}
 use Rattle.v_elab.specs.Walk.{Here, part_by_entry, parts_of_own, declared_parts, assign_part, wire_parts, gate_parts, item_parts, child_of, paths_of, walked_from}
-use Rattle.v_elab.specs.Drivers.{signals_of, drives_width, NodeFunction, AssignFunction, GateFunction, BlockFunction, WalkedNode, Behaviour, IsNode, IsProcess, block_or_process, process_behaviour, part_behaviour, behaviours_of, nodes_of}
+use Rattle.v_elab.specs.Drivers.{signals_of, drives_width, NodeFunction, AssignFunction, GateFunction, BlockFunction, WalkedNode, Behaviour, IsNode, IsProcess, block_or_process, process_behaviour}
+use Rattle.v_elab.specs.Drivers.{part_behaviour, behaviours_of, nodes_of}
 use Rattle.v_elab.specs.Objects.{PieceDriver, HeldObject}
 use Rattle.v_elab.specs.Flat.{NodeOutput, output_if, output_of_object, node_kind, outputs_of, flat_node}
 use Rattle.graph_order.specs.ListLaws.{AllHold-slice_get}
@@ -63,8 +65,10 @@ declared-narrow here item =
     AllHold-flat_map IsNarrow (parts_of_own here (names_declared here.instance.inner)) (item_declarations item)
     (AllHold-all (λ d. AllHold IsNarrow (parts_of_own here (names_declared here.instance.inner) d)) (item_declarations item)
     (λ d.
-    AllHold-flat_map IsNarrow (λ (own : Declaration). part_by_entry here own (looked_up here.scope own.name)) (filter (λ (own : Declaration). same_place own.place d.place) (of_name d.name (names_declared here.instance.inner)))
-    (AllHold-all (λ (own : Declaration). AllHold IsNarrow (part_by_entry here own (looked_up here.scope own.name))) (filter (λ (own : Declaration). same_place own.place d.place) (of_name d.name (names_declared here.instance.inner)))
+    AllHold-flat_map IsNarrow (λ (own : Declaration). part_by_entry here own (looked_up here.scope own.name))
+    (filter (λ (own : Declaration). same_place own.place d.place) (of_name d.name (names_declared here.instance.inner)))
+    (AllHold-all (λ (own : Declaration). AllHold IsNarrow (part_by_entry here own (looked_up here.scope own.name)))
+    (filter (λ (own : Declaration). same_place own.place d.place) (of_name d.name (names_declared here.instance.inner)))
     (λ own. entry-narrow here own (looked_up here.scope own.name)))))
 
 wire-narrow : (here : Here) (wire : SourceWire) (value : Option SourceExpression) → AllHold IsNarrow (wire_parts here (record wire { value = value }))
@@ -75,7 +79,8 @@ port-narrow : (child : Child) (paths : Paths) (port : Identifier) (e : SourceExp
 port-narrow child paths port e None = tt
 port-narrow child paths port e (Some target) = (tt, tt)
 
-actual-narrow : (child : Child) (paths : Paths) (port : Identifier) (e : SourceExpression) (joined : Option Identifier) (direction : Option Direction) → AllHold IsNarrow (actual_parts child paths port e joined direction)
+actual-narrow : (child : Child) (paths : Paths) (port : Identifier) (e : SourceExpression) (joined : Option Identifier) (direction : Option Direction) →
+    AllHold IsNarrow (actual_parts child paths port e joined direction)
 actual-narrow child paths port e (Some joined) direction = tt
 actual-narrow child paths port e None (Some Input) = (tt, tt)
 actual-narrow child paths port e None (Some Output) = port-narrow child paths port e (target_of e)
@@ -89,10 +94,12 @@ connection-narrow child paths (Some port) (Some e) = actual-narrow child paths p
 connections-narrow : (child : Child) (paths : Paths) (position : ℕ) (connections : List SourceConnection) → AllHold IsNarrow (connections_parts child paths position connections)
 connections-narrow child paths position [] = tt
 connections-narrow child paths position (connection ∷ rest) =
-    AllHold-append IsNarrow (connection_parts child paths (connected_name (head_names child.inner.heads) position connection.name) connection.actual) (connections_parts child paths (position + 1) rest)
+    AllHold-append IsNarrow (connection_parts child paths (connected_name (head_names child.inner.heads) position connection.name) connection.actual)
+    (connections_parts child paths (position + 1) rest)
     (connection-narrow child paths (connected_name (head_names child.inner.heads) position connection.name) connection.actual) (connections-narrow child paths (position + 1) rest)
 
-gates-narrow : (here : Here) → IsSettled here.scope → (kind : GateKind) (number : ℕ) (gates : List SourceGate) → flat_map (gate_name_faults here.scope) gates ≡ [] → flat_map (gate_faults here.scope) gates ≡ [] → AllHold IsNarrow (gate_parts here kind number gates)
+gates-narrow : (here : Here) → IsSettled here.scope → (kind : GateKind) (number : ℕ) (gates : List SourceGate) → flat_map (gate_name_faults here.scope) gates ≡ [] →
+    flat_map (gate_faults here.scope) gates ≡ [] → AllHold IsNarrow (gate_parts here kind number gates)
 gates-narrow here settled kind number [] names sizes = tt
 gates-narrow here settled kind number (gate ∷ rest) names sizes =
     let n = append-none (gate_name_faults here.scope gate) (flat_map (gate_name_faults here.scope) rest) names in
@@ -105,7 +112,8 @@ gates-narrow here settled kind number (gate ∷ rest) names sizes =
 abbrev pub AllSettled : List SourceModule → Mode → SourceModule → Type 0
 AllSettled modules mode top = (path : Identifier) (scope : Scope) → IsAt modules mode top path scope → IsSettled scope
 
-item-narrow : (modules : List SourceModule) (mode : Mode) (top : SourceModule) → AllSettled modules mode top → (here : Here) → IsHere (IsVisited modules mode top) modules mode here → (gates : ℕ) (item : SourceItem) → IsOf here.instance.inner item →
+item-narrow : (modules : List SourceModule) (mode : Mode) (top : SourceModule) → AllSettled modules mode top → (here : Here) → IsHere (IsVisited modules mode top) modules mode here →
+    (gates : ℕ) (item : SourceItem) → IsOf here.instance.inner item →
     item_faults here.scope item ≡ [] → AllHold IsNarrow (item_parts here gates item)
 item-narrow modules mode top settled here is gates (ParameterItem group) of none = tt
 item-narrow modules mode top settled here is gates (PortItem group) of none = declared-narrow here (PortItem group)
@@ -115,7 +123,8 @@ item-narrow modules mode top settled here is gates (WireItem place signed range 
 item-narrow modules mode top settled here is gates (RegItem place signed range regs) of none = declared-narrow here (RegItem place signed range regs)
 item-narrow modules mode top settled here is gates (IntegerItem place regs) of none = declared-narrow here (IntegerItem place regs)
 item-narrow modules mode top settled here is gates (AssignItem place assignments) of none =
-    AllHold-map IsNarrow (λ (a : SourceAssignment). assign_part here a.target a.value) assignments (AllHold-all (λ (a : SourceAssignment). IsNarrow (assign_part here a.target a.value)) assignments (λ a. tt))
+    AllHold-map IsNarrow (λ (a : SourceAssignment). assign_part here a.target a.value) assignments
+    (AllHold-all (λ (a : SourceAssignment). IsNarrow (assign_part here a.target a.value)) assignments (λ a. tt))
 item-narrow modules mode top settled here is gates (GateItem place kind all) of none =
     gates-narrow here (settled here.instance.path here.scope (record { instance = here.instance; visited = is.entered; named = is.scope; path_is = refl })) kind (gates + 1) all
     (items-named here.instance.inner here.instance.given here.scope is.scope (GateItem place kind all) of) none
@@ -124,7 +133,8 @@ item-narrow modules mode top settled here is gates (InitialItem place body) of n
 item-narrow modules mode top settled here is gates (AlwaysItem place body) of none = (tt, tt)
 
 -- the gates of a walk drive one bit at most
-pub parts-narrow : (modules : List SourceModule) (mode : Mode) (top : SourceModule) → AllSettled modules mode top → (parts : List Part) → walked_from modules mode top ≡ Ok parts → AllHold IsNarrow parts
+pub parts-narrow : (modules : List SourceModule) (mode : Mode) (top : SourceModule) → AllSettled modules mode top → (parts : List Part) → walked_from modules mode top ≡ Ok parts →
+    AllHold IsNarrow parts
 parts-narrow modules mode top settled parts e =
     walk-holds IsNarrow (IsVisited modules mode top) modules mode
     (record {
@@ -167,7 +177,8 @@ part-narrow parts number InstancePart h = tt
 behaviours-narrow : (parts : List Part) (number : ℕ) (some : List Part) → AllHold IsNarrow some → AllHold IsNarrowBehaviour (joined (map_numbered (part_behaviour parts) number some))
 behaviours-narrow parts number [] h = tt
 behaviours-narrow parts number (part ∷ rest) h =
-    AllHold-append IsNarrowBehaviour (part_behaviour parts number part) (joined (map_numbered (part_behaviour parts) (number + 1) rest)) (part-narrow parts number part h.0) (behaviours-narrow parts (number + 1) rest h.1)
+    AllHold-append IsNarrowBehaviour (part_behaviour parts number part) (joined (map_numbered (part_behaviour parts) (number + 1) rest)) (part-narrow parts number part h.0)
+    (behaviours-narrow parts (number + 1) rest h.1)
 
 nodes-narrow : (behaviours : List Behaviour) → AllHold IsNarrowBehaviour behaviours → AllHold IsNarrowNode (nodes_of behaviours)
 nodes-narrow [] h = tt
@@ -182,13 +193,16 @@ outputs_from n start objects = joined (map_numbered (λ object (held : HeldObjec
 abbrev AreOfOneBit : FlatDesign → List ℕ → Type 0
 AreOfOneBit design objects = AllHold (λ object. width_in design object ≡ 1) objects
 
-test-one : (design : FlatDesign) (start width later : ℕ) (outs : List NodeOutput) (test : Bool) (place : ℕ) → 1 ≤ width → width_in design start ≡ width → number_if test width + later ≤ 1 → length outs ≤ later →
+test-one : (design : FlatDesign) (start width later : ℕ) (outs : List NodeOutput) (test : Bool) (place : ℕ) → 1 ≤ width → width_in design start ≡ width → number_if test width + later ≤ 1 →
+    length outs ≤ later →
     AreOfOneBit design (map (λ (o : NodeOutput). o.object) outs) →
-    (length (output_if test (record { object = start; place = place }) ++ outs) ≤ number_if test width + later) × AreOfOneBit design (map (λ (o : NodeOutput). o.object) (output_if test (record { object = start; place = place }) ++ outs))
+    (length (output_if test (record { object = start; place = place }) ++ outs) ≤ number_if test width + later)
+    × AreOfOneBit design (map (λ (o : NodeOutput). o.object) (output_if test (record { object = start; place = place }) ++ outs))
 test-one design start width later outs true place some is most few h = (omega (arith, some, few), (omega (arith, is, some, most), h))
 test-one design start width later outs false place some is most few h = (omega (arith, few), h)
 
-driver-one : (design : FlatDesign) (n start width later : ℕ) (outs : List NodeOutput) (driver : Option PieceDriver) → 1 ≤ width → width_in design start ≡ width → driver_weight n width driver + later ≤ 1 → length outs ≤ later →
+driver-one : (design : FlatDesign) (n start width later : ℕ) (outs : List NodeOutput) (driver : Option PieceDriver) → 1 ≤ width → width_in design start ≡ width →
+    driver_weight n width driver + later ≤ 1 → length outs ≤ later →
     AreOfOneBit design (map (λ (o : NodeOutput). o.object) outs) →
     (length (output_of_object n start driver ++ outs) ≤ driver_weight n width driver + later) × AreOfOneBit design (map (λ (o : NodeOutput). o.object) (output_of_object n start driver ++ outs))
 driver-one design n start width later outs None some is most few h = (omega (arith, few), h)
@@ -201,9 +215,11 @@ outputs-one : (design : FlatDesign) (n start : ℕ) (objects : List HeldObject) 
 outputs-one design n start [] sized widths most = (omega arith, tt)
 outputs-one design n start (held ∷ objects) sized widths most =
     let cons = sum_by-cons (held_weight n) held objects in
-    let rest = outputs-one design n (start + 1) objects sized.1 (λ i other at. let moved : (start + 1) + i ≡ start + suc i = omega arith in ap (width_in design) moved ∙ widths (suc i) other at) (omega (arith, cons, most)) in
+    let rest = outputs-one design n (start + 1) objects sized.1 (λ i other at. let moved : (start + 1) + i ≡ start + suc i = omega arith in ap (width_in design) moved ∙ widths (suc i) other at)
+    (omega (arith, cons, most)) in
     let same : start + 0 ≡ start = omega arith in
-    let own = driver-one design n start held.object.width (sum_by (held_weight n) objects) (outputs_from n (start + 1) objects) held.driver sized.0 (ap (width_in design) (sym same) ∙ widths 0 held refl) (omega (arith, cons, most)) rest.0 rest.1 in
+    let own = driver-one design n start held.object.width (sum_by (held_weight n) objects) (outputs_from n (start + 1) objects) held.driver sized.0
+    (ap (width_in design) (sym same) ∙ widths 0 held refl) (omega (arith, cons, most)) rest.0 rest.1 in
     (omega (arith, cons, own.0), own.1)
 
 -- The gates of a design
@@ -213,7 +229,8 @@ IsGate (AssignNode value places) = ⊥
 IsGate (GateNode kind terminals) = Unit {0}
 IsGate (BlockNode statement) = ⊥
 
-function-narrow : (parts : List Part) (objects : List HeldObject) (outputs : List NodeOutput) (function : NodeFunction) (width : ℕ) → IsGate (node_kind parts objects outputs function) → IsNarrowFunction function width → width ≤ 1
+function-narrow : (parts : List Part) (objects : List HeldObject) (outputs : List NodeOutput) (function : NodeFunction) (width : ℕ) → IsGate (node_kind parts objects outputs function) →
+    IsNarrowFunction function width → width ≤ 1
 function-narrow parts objects outputs (AssignFunction value) width gate h = absurd gate
 function-narrow parts objects outputs (GateFunction kind path terminals) width gate h = h
 function-narrow parts objects outputs (BlockFunction process) width gate h = absurd gate
@@ -246,7 +263,8 @@ gates-one parts design made hierarchy narrow =
     let one = outputs-one design i 0 objects some
     (λ k held there.
     let same : 0 + k ≡ k = omega arith in
-    let widths = at-mapped (λ (o : FlatObject). o.width) design.objects k held.object (ap (λ all. slice_get all k) (sym (design-objects parts design made)) ∙ at-mapped (λ (h : HeldObject). h.object) objects k held there) in
+    let widths = at-mapped (λ (o : FlatObject). o.width) design.objects k held.object (ap (λ all. slice_get all k) (sym (design-objects parts design made))
+    ∙ at-mapped (λ (h : HeldObject). h.object) objects k held there) in
     ap (width_in design) same ∙ get_or_from_slice_get (map (λ (o : FlatObject). o.width) design.objects) k held.object.width 0 widths) total in
     let outs = node-outputs parts objects nodes i node at in
     let long = ap length outs ∙ length-map (outputs_of objects i) (λ (o : NodeOutput). o.object) in

@@ -8,14 +8,17 @@ use Rattle.vf_base.specs.Lists.{map_numbered, joined, AllHold}
 use Rattle.v_design.specs.Trees.{Piece, Memory}
 use Rattle.v_design.specs.Expressions.{up_from}
 use Rattle.v_design.specs.Sized.{span, pieces_width, HasItsBits, HasItsWords}
-use Rattle.v_tree.specs.Trees.{Identifier, same_name, SourceExpression, Number, Selected, Parenthesised, Prefixed, Infixed, Chosen, Concatenated, Replicated, SourceIndex, NoIndex, IndexAt, IndexRange, SourceExpressions, no_parts, more_parts}
-use Rattle.v_names.specs.Scopes.{DeclaredRange, ScopeEntry, ParameterEntry, RefusedParameter, WaitingParameter, NetEntry, RegEntry, MemoryEntry, GateEntry, InstanceEntry, Scope, looked_up, range_width}
+use Rattle.v_tree.specs.Trees.{Identifier, same_name, SourceExpression, Number, Selected, Parenthesised, Prefixed, Infixed, Chosen, Concatenated, Replicated, SourceIndex, NoIndex, IndexAt}
+use Rattle.v_tree.specs.Trees.{IndexRange, SourceExpressions, no_parts, more_parts}
+use Rattle.v_names.specs.Scopes.{DeclaredRange, ScopeEntry, ParameterEntry, RefusedParameter, WaitingParameter, NetEntry, RegEntry, MemoryEntry, GateEntry, InstanceEntry, Scope, looked_up}
+use Rattle.v_names.specs.Scopes.{range_width}
 use Rattle.v_names.specs.SizedTrees.{Holders}
 use Rattle.v_names.specs.SizedLaws.{IsHeld, AreHeld, AreHeldInIndex, AreHeldInParts}
 use Rattle.v_ports.specs.Pieces.{CutPiece, pieces_of}
 use Rattle.v_elab.specs.Parts.{Signal, WalkedMemory, Part, SignalPart, MemoryPart, AssignPart, GatePart, ProcessPart, InstancePart}
 use Rattle.v_elab.specs.Drivers.{signals_of, signal_named, outermost, is_unjoined, WalkedNode, driving_variables, ObjectDrive, object_drives, run_of}
-use Rattle.v_elab.specs.Objects.{HeldObject, variable_object, piece_object, pieces_or_variable, signal_objects, word_object, word_objects, part_objects, objects_of_parts, piece_if, pieces_held, range_of_signal, vector_of_name, memories_of, memory_vector, memory_if, memory_of_name, holders_at}
+use Rattle.v_elab.specs.Objects.{HeldObject, variable_object, piece_object, pieces_or_variable, signal_objects, word_object, word_objects, part_objects, objects_of_parts, piece_if, pieces_held}
+use Rattle.v_elab.specs.Objects.{range_of_signal, vector_of_name, memories_of, memory_vector, memory_if, memory_of_name, holders_at}
 use Rattle.graph_order.specs.ListLaws.{AllHold-slice_get, sum_by-none}
 use Rattle.flat_laws.specs.Lists.{same_some}
 use Rattle.flat_laws.specs.Numbered.{AllHold-map, AllHold-all}
@@ -32,17 +35,20 @@ weight_if false weight = 0
 abbrev pub weight_of : (HeldObject → ℕ) → Identifier → HeldObject → ℕ
 weight_of weight holder held = weight_if (same_name held.holder holder) (weight held)
 
-piece-weight : (g : Piece → ℕ) (weight : HeldObject → ℕ) → ((number : ℕ) (held : HeldObject) → g (record { object = number; width = held.object.width }) ≡ weight held) → (test : Bool) (number : ℕ) (held : HeldObject) →
+piece-weight : (g : Piece → ℕ) (weight : HeldObject → ℕ) → ((number : ℕ) (held : HeldObject) → g (record { object = number; width = held.object.width }) ≡ weight held) →
+    (test : Bool) (number : ℕ) (held : HeldObject) →
     sum_by g (piece_if test number held) ≡ weight_if test (weight held)
 piece-weight g weight same true number held =
     let here = same number held in
-    let one : sum_by g (record { object = number; width = held.object.width } ∷ []) ≡ g (record { object = number; width = held.object.width }) + sum_by g [] = sum_by-cons g (record { object = number; width = held.object.width }) [] in
+    let one : sum_by g (record { object = number; width = held.object.width } ∷ []) ≡ g (record { object = number; width = held.object.width }) + sum_by g [] =
+    sum_by-cons g (record { object = number; width = held.object.width }) [] in
     let none : sum_by g [] ≡ 0 = refl in
     omega (arith, here, one, none)
 piece-weight g weight same false number held = refl
 
 -- the pieces of a name weigh what the objects that hold it weigh
-pub held-weight : (g : Piece → ℕ) (weight : HeldObject → ℕ) → ((number : ℕ) (held : HeldObject) → g (record { object = number; width = held.object.width }) ≡ weight held) → (holder : Identifier) (start : ℕ) (objects : List HeldObject) →
+pub held-weight : (g : Piece → ℕ) (weight : HeldObject → ℕ) → ((number : ℕ) (held : HeldObject) → g (record { object = number; width = held.object.width }) ≡ weight held) →
+    (holder : Identifier) (start : ℕ) (objects : List HeldObject) →
     sum_by g (joined (map_numbered (λ number (held : HeldObject). piece_if (same_name held.holder holder) number held) start objects)) ≡ sum_by (weight_of weight holder) objects
 held-weight g weight same holder start [] = refl
 held-weight g weight same holder start (held ∷ objects) =
@@ -77,7 +83,8 @@ sum-flat_map f g (x ∷ xs) =
     omega (arith, split, rest, whole)
 
 -- objects that hold another name weigh nothing
-other-weight : (weight : HeldObject → ℕ) (holder name : Identifier) (objects : List HeldObject) → AllHold (λ (held : HeldObject). held.holder ≡ name) objects → (name ≡ holder → ⊥) → sum_by (weight_of weight holder) objects ≡ 0
+other-weight : (weight : HeldObject → ℕ) (holder name : Identifier) (objects : List HeldObject) → AllHold (λ (held : HeldObject). held.holder ≡ name) objects → (name ≡ holder → ⊥) →
+    sum_by (weight_of weight holder) objects ≡ 0
 other-weight weight holder name objects held_by other =
     sum_by-none (weight_of weight holder) objects
     (λ i held at.
@@ -88,18 +95,22 @@ other-weight weight holder name objects held_by other =
 
 pieces-holder : (signal : Signal) (drives : List ObjectDrive) (driving : List Signal) → AllHold (λ (held : HeldObject). held.holder ≡ signal.name) (pieces_or_variable signal drives driving)
 pieces-holder signal drives [] =
-    AllHold-map (λ (held : HeldObject). held.holder ≡ signal.name) (piece_object signal drives) _ (AllHold-all (λ (piece : CutPiece). (piece_object signal drives piece).holder ≡ signal.name) _ (λ piece. refl))
+    AllHold-map (λ (held : HeldObject). held.holder ≡ signal.name) (piece_object signal drives) _
+    (AllHold-all (λ (piece : CutPiece). (piece_object signal drives piece).holder ≡ signal.name) _ (λ piece. refl))
 pieces-holder signal drives (first ∷ rest) = (refl, tt)
 
-pub signal-holder : (signals : List Signal) (nodes : List WalkedNode) (unjoined : Bool) (signal : Signal) → AllHold (λ (held : HeldObject). held.holder ≡ signal.name) (signal_objects signals nodes unjoined signal)
+pub signal-holder : (signals : List Signal) (nodes : List WalkedNode) (unjoined : Bool) (signal : Signal) →
+    AllHold (λ (held : HeldObject). held.holder ≡ signal.name) (signal_objects signals nodes unjoined signal)
 signal-holder signals nodes true signal = pieces-holder signal (object_drives signals nodes signal.name) (driving_variables signals nodes signal.name)
 signal-holder signals nodes false signal = tt
 
 memory-holder : (memory : WalkedMemory) → AllHold (λ (held : HeldObject). held.holder ≡ memory.name) (word_objects memory)
-memory-holder memory = AllHold-map (λ (held : HeldObject). held.holder ≡ memory.name) (word_object memory) _ (AllHold-all (λ address. (word_object memory address).holder ≡ memory.name) _ (λ address. refl))
+memory-holder memory = AllHold-map (λ (held : HeldObject). held.holder ≡ memory.name) (word_object memory) _
+    (AllHold-all (λ address. (word_object memory address).holder ≡ memory.name) _ (λ address. refl))
 
 -- a part of another name holds nothing of a name
-part-other : (signals : List Signal) (nodes : List WalkedNode) (weight : HeldObject → ℕ) (holder : Identifier) (part : Part) → (part_name part ≡ Some holder → ⊥) → sum_by (weight_of weight holder) (part_objects signals nodes part) ≡ 0
+part-other : (signals : List Signal) (nodes : List WalkedNode) (weight : HeldObject → ℕ) (holder : Identifier) (part : Part) → (part_name part ≡ Some holder → ⊥) →
+    sum_by (weight_of weight holder) (part_objects signals nodes part) ≡ 0
 part-other signals nodes weight holder (SignalPart signal) other =
     other-weight weight holder signal.name (signal_objects signals nodes (is_unjoined signal) signal) (signal-holder signals nodes (is_unjoined signal) signal) (λ e. other (ap Some e))
 part-other signals nodes weight holder (MemoryPart memory) other = other-weight weight holder memory.name (word_objects memory) (memory-holder memory) (λ e. other (ap Some e))
@@ -109,7 +120,8 @@ part-other signals nodes weight holder (ProcessPart process) other = refl
 part-other signals nodes weight holder InstancePart other = refl
 
 -- the objects of a name are those of the part that has it
-pub part-weight : (parts : List Part) (nodes : List WalkedNode) → IsHierarchy parts → (weight : HeldObject → ℕ) (holder : Identifier) (i : ℕ) (part : Part) → slice_get parts i ≡ Some part → part_name part ≡ Some holder →
+pub part-weight : (parts : List Part) (nodes : List WalkedNode) → IsHierarchy parts → (weight : HeldObject → ℕ) (holder : Identifier) (i : ℕ) (part : Part) → slice_get parts i ≡ Some part →
+    part_name part ≡ Some holder →
     sum_by (weight_of weight holder) (objects_of_parts parts nodes) ≡ sum_by (weight_of weight holder) (part_objects (signals_of parts) nodes part)
 part-weight parts nodes hierarchy weight holder i part at is =
     sum-flat_map (weight_of weight holder) (part_objects (signals_of parts) nodes) parts
@@ -137,9 +149,11 @@ single-weight f held weight e =
     let none : sum_by f [] ≡ 0 = refl in
     omega (arith, one, none, e)
 
-own-width : (signal : Signal) (drives : List ObjectDrive) (driving : List Signal) → sum_by (weight_of (λ (held : HeldObject). held.object.width) signal.name) (pieces_or_variable signal drives driving) ≡ range_width signal.range
+own-width : (signal : Signal) (drives : List ObjectDrive) (driving : List Signal) → sum_by (weight_of (λ (held : HeldObject). held.object.width) signal.name)
+    (pieces_or_variable signal drives driving) ≡ range_width signal.range
 own-width signal drives [] =
-    sum-made (weight_of (λ (held : HeldObject). held.object.width) signal.name) (λ (piece : CutPiece). piece.width) (piece_object signal drives) (pieces_of (range_width signal.range) (map run_of drives))
+    sum-made (weight_of (λ (held : HeldObject). held.object.width) signal.name) (λ (piece : CutPiece). piece.width) (piece_object signal drives)
+    (pieces_of (range_width signal.range) (map run_of drives))
     (λ piece. same-width (λ (held : HeldObject). held.object.width) signal.name (piece_object signal drives piece) refl)
     ∙ pieces-width (range_width signal.range) (map run_of drives)
 own-width signal drives (first ∷ rest) =
@@ -166,7 +180,8 @@ pub record HoldsRange (parts : List Part) (objects : List HeldObject) (name : Id
   pub bits : HasItsBits (vector_of_name (signals_of parts) objects name)
   pub bounds : range_of_signal (signal_named (signals_of parts) name) ≡ range
 
-pub signal-holds : (parts : List Part) (nodes : List WalkedNode) → IsHierarchy parts → (i : ℕ) (signal : Signal) → slice_get (signals_of parts) i ≡ Some signal → HoldsRange parts (objects_of_parts parts nodes) signal.name signal.range
+pub signal-holds : (parts : List Part) (nodes : List WalkedNode) → IsHierarchy parts → (i : ℕ) (signal : Signal) → slice_get (signals_of parts) i ≡ Some signal →
+    HoldsRange parts (objects_of_parts parts nodes) signal.name signal.range
 signal-holds parts nodes hierarchy i signal at =
     let last = outermost-is parts hierarchy i signal at in
     let width : pieces_width (pieces_held (objects_of_parts parts nodes) (outermost (signals_of parts) signal.name)) ≡ range_width signal.range =
@@ -241,8 +256,10 @@ some-memory objects (first ∷ memories) i memory at =
     Found all = (j : ℕ) × (found : WalkedMemory) × (slice_get all j ≡ Some found) × (found.name ≡ memory.name) × (memory_of_name objects all memory.name ≡ memory_vector objects found)
 
     later : (k : ℕ) → slice_get (first ∷ memories) k ≡ Some memory → same_name first.name memory.name ≡ false →
-        ((k : ℕ) → slice_get memories k ≡ Some memory → (j : ℕ) × (found : WalkedMemory) × (slice_get memories j ≡ Some found) × (found.name ≡ memory.name) × (memory_of_name objects memories memory.name ≡ memory_vector objects found)) →
-        (j : ℕ) × (found : WalkedMemory) × (slice_get (first ∷ memories) j ≡ Some found) × (found.name ≡ memory.name) × (memory_of_name objects (first ∷ memories) memory.name ≡ memory_vector objects found)
+        ((k : ℕ) → slice_get memories k ≡ Some memory → (j : ℕ) × (found : WalkedMemory) × (slice_get memories j ≡ Some found) × (found.name ≡ memory.name)
+        × (memory_of_name objects memories memory.name ≡ memory_vector objects found)) →
+        (j : ℕ) × (found : WalkedMemory) × (slice_get (first ∷ memories) j ≡ Some found) × (found.name ≡ memory.name)
+        × (memory_of_name objects (first ∷ memories) memory.name ≡ memory_vector objects found)
     later zero there differs rest =
         let same : same_name first.name memory.name ≡ true = ap (λ (m : WalkedMemory). same_name first.name m.name) (sym (same_some first memory there)) ∙ name-same first.name in
         let both : false ≡ true = sym differs ∙ same in
@@ -268,7 +285,8 @@ own-words memory =
 
 -- what holds a memory has a word for each address
 pub memory-holds : (parts : List Part) (nodes : List WalkedNode) → IsHierarchy parts → (k : ℕ) (memory : WalkedMemory) → slice_get parts k ≡ Some (MemoryPart memory) →
-    HasItsWords (memory_of_name (objects_of_parts parts nodes) (memories_of parts) memory.name) × ((memory_of_name (objects_of_parts parts nodes) (memories_of parts) memory.name).width ≡ range_width memory.range)
+    HasItsWords (memory_of_name (objects_of_parts parts nodes) (memories_of parts) memory.name)
+    × ((memory_of_name (objects_of_parts parts nodes) (memories_of parts) memory.name).width ≡ range_width memory.range)
 memory-holds parts nodes hierarchy k memory at =
     let objects = objects_of_parts parts nodes in
     let pieces = pieces_held objects memory.name in
@@ -284,20 +302,24 @@ memory-holds parts nodes hierarchy k memory at =
 abbrev pub IsDeclaredAs : List Part → Identifier → Option ScopeEntry → Type 0
 IsDeclaredAs parts full (Some (NetEntry range signed)) = (k : ℕ) × (signal : Signal) × (slice_get parts k ≡ Some (SignalPart signal)) × (signal.name ≡ full) × (signal.range ≡ range)
 IsDeclaredAs parts full (Some (RegEntry range signed)) = (k : ℕ) × (signal : Signal) × (slice_get parts k ≡ Some (SignalPart signal)) × (signal.name ≡ full) × (signal.range ≡ range)
-IsDeclaredAs parts full (Some (MemoryEntry range first last signed)) = (k : ℕ) × (memory : WalkedMemory) × (slice_get parts k ≡ Some (MemoryPart memory)) × (memory.name ≡ full) × (memory.range ≡ range)
+IsDeclaredAs parts full (Some (MemoryEntry range first last signed)) = (k : ℕ) × (memory : WalkedMemory) × (slice_get parts k ≡ Some (MemoryPart memory)) × (memory.name ≡ full)
+    × (memory.range ≡ range)
 IsDeclaredAs parts full _ = Unit {0}
 
 -- a scope of an instance whose names stand behind a path
 abbrev pub IsScopeAt : List Part → Identifier → Scope → Type 0
 IsScopeAt parts path scope = (name : Identifier) → IsDeclaredAs parts (path ++ name) (looked_up scope name)
 
-vector-held : (parts : List Part) (nodes : List WalkedNode) → IsHierarchy parts → (path name : Identifier) (range : DeclaredRange) (k : ℕ) (signal : Signal) → slice_get parts k ≡ Some (SignalPart signal) → signal.name ≡ path ++ name →
-    signal.range ≡ range → HasItsBits ((holders_at parts (objects_of_parts parts nodes) path).vector name) × (pieces_width ((holders_at parts (objects_of_parts parts nodes) path).vector name).pieces ≡ range_width range)
+vector-held : (parts : List Part) (nodes : List WalkedNode) → IsHierarchy parts → (path name : Identifier) (range : DeclaredRange) (k : ℕ) (signal : Signal) →
+    slice_get parts k ≡ Some (SignalPart signal) → signal.name ≡ path ++ name →
+    signal.range ≡ range → HasItsBits ((holders_at parts (objects_of_parts parts nodes) path).vector name)
+    × (pieces_width ((holders_at parts (objects_of_parts parts nodes) path).vector name).pieces ≡ range_width range)
 vector-held parts nodes hierarchy path name range k signal at is bounds =
     let place = part-in-signals parts k signal at in
     let holds = signal-holds parts nodes hierarchy place.0 signal place.1 in
     let P : Identifier → Type 0 = λ full.
-    HasItsBits (vector_of_name (signals_of parts) (objects_of_parts parts nodes) full) × (pieces_width (vector_of_name (signals_of parts) (objects_of_parts parts nodes) full).pieces ≡ range_width range) in
+    HasItsBits (vector_of_name (signals_of parts) (objects_of_parts parts nodes) full) × (pieces_width
+    (vector_of_name (signals_of parts) (objects_of_parts parts nodes) full).pieces ≡ range_width range) in
     subst P is (holds.bits, holds.width ∙ ap range_width bounds)
 
 pub entry-held : (parts : List Part) (nodes : List WalkedNode) → IsHierarchy parts → (path name : Identifier) (entry : Option ScopeEntry) → IsDeclaredAs parts (path ++ name) entry →

@@ -33,7 +33,8 @@ pub record IsWrittenBy (number : ℕ) (held : HeldObject) : Type 0 where
   pub is : held.driver ≡ Some driver
   pub node : driver.node ≡ number
 
-own-output : (number object o : ℕ) (held : HeldObject) (driver : Option PieceDriver) → held.driver ≡ driver → has (objects_of_outputs (output_of_object number object driver)) o ≡ true → (o ≡ object) × IsWrittenBy number held
+own-output : (number object o : ℕ) (held : HeldObject) (driver : Option PieceDriver) → held.driver ≡ driver → has (objects_of_outputs (output_of_object number object driver)) o ≡ true →
+    (o ≡ object) × IsWrittenBy number held
 own-output number object o held None is e = absurd (cc)
 own-output number object o held (Some driver) is e =
     elim (cases_Bool (nat_eq driver.node number)) [
@@ -69,7 +70,8 @@ written-from number start o (held ∷ objects) e =
     ]
 
 -- the objects ascend
-outputs-ascend : (number start : ℕ) (objects : List HeldObject) → AllHold (λ o. start ≤ o) (objects_of_outputs (outputs_from number start objects)) × IsAscending (objects_of_outputs (outputs_from number start objects))
+outputs-ascend : (number start : ℕ) (objects : List HeldObject) → AllHold (λ o. start ≤ o) (objects_of_outputs (outputs_from number start objects))
+    × IsAscending (objects_of_outputs (outputs_from number start objects))
 outputs-ascend number start [] = (tt, tt)
 outputs-ascend number start (held ∷ objects) =
     let rest = outputs-ascend number (start + 1) objects in
@@ -78,7 +80,8 @@ outputs-ascend number start (held ∷ objects) =
     Both : List NodeOutput → Type 0
     Both all = AllHold (λ o. start ≤ o) (objects_of_outputs all) × IsAscending (objects_of_outputs all)
 
-    by_test : (test : Bool) (place : ℕ) (later : List ℕ) (rest : List NodeOutput) → objects_of_outputs rest ≡ later → AllHold (λ o. start + 1 ≤ o) (objects_of_outputs rest) → IsAscending (objects_of_outputs rest) →
+    by_test : (test : Bool) (place : ℕ) (later : List ℕ) (rest : List NodeOutput) → objects_of_outputs rest ≡ later → AllHold (λ o. start + 1 ≤ o) (objects_of_outputs rest) →
+        IsAscending (objects_of_outputs rest) →
         AllHold (λ o. start ≤ o) (objects_of_outputs (output_if test (record { object = start; place = place }) ++ rest))
         × IsAscending (objects_of_outputs (output_if test (record { object = start; place = place }) ++ rest))
     by_test true place later rest is low up = (
@@ -87,13 +90,15 @@ outputs-ascend number start (held ∷ objects) =
     )
     by_test false place later rest is low up = (AllHold-each (λ o. start + 1 ≤ o) (λ o. start ≤ o) (objects_of_outputs rest) (λ o h. omega (arith, h)) low, up)
 
-    by_driver : (driver : Option PieceDriver) (later : List ℕ) (rest : List NodeOutput) → objects_of_outputs rest ≡ later → AllHold (λ o. start + 1 ≤ o) (objects_of_outputs rest) → IsAscending (objects_of_outputs rest) →
+    by_driver : (driver : Option PieceDriver) (later : List ℕ) (rest : List NodeOutput) → objects_of_outputs rest ≡ later → AllHold (λ o. start + 1 ≤ o) (objects_of_outputs rest) →
+        IsAscending (objects_of_outputs rest) →
         AllHold (λ o. start ≤ o) (objects_of_outputs (output_of_object number start driver ++ rest)) × IsAscending (objects_of_outputs (output_of_object number start driver ++ rest))
     by_driver None later rest is low up = (AllHold-each (λ o. start + 1 ≤ o) (λ o. start ≤ o) (objects_of_outputs rest) (λ o h. omega (arith, h)) low, up)
     by_driver (Some driver) later rest is low up = by_test (nat_eq driver.node number) driver.place later rest is low up
 
 -- a node writes each of its objects once
-pub outputs-once : (objects : List HeldObject) (number : ℕ) → without_repeats [] (map (λ (p : NodeOutput). p.object) (outputs_of objects number)) ≡ map (λ (p : NodeOutput). p.object) (outputs_of objects number)
+pub outputs-once : (objects : List HeldObject) (number : ℕ) → without_repeats [] (map (λ (p : NodeOutput). p.object) (outputs_of objects number)) ≡ map (λ (p : NodeOutput). p.object)
+    (outputs_of objects number)
 outputs-once objects number = ascending-once (objects_of_outputs (outputs_from number 0 objects)) (outputs-ascend number 0 objects).1
 
 -- One driver
@@ -109,7 +114,8 @@ outputs-differ objects o one other e d =
     sym first.by.node ∙ ap (λ (p : PieceDriver). p.node) driver ∙ second.by.node
 
 -- the node of the walk at a number
-pub node-outputs : (parts : List Part) (objects : List HeldObject) (nodes : List WalkedNode) (i : ℕ) (node : FlatNode) → slice_get (walked_nodes parts objects nodes) i ≡ Some node → node.outputs ≡ objects_of_outputs (outputs_of objects i)
+pub node-outputs : (parts : List Part) (objects : List HeldObject) (nodes : List WalkedNode) (i : ℕ) (node : FlatNode) → slice_get (walked_nodes parts objects nodes) i ≡ Some node →
+    node.outputs ≡ objects_of_outputs (outputs_of objects i)
 node-outputs parts objects nodes i node at =
     let r = at-numbered (flat_node parts objects) 0 nodes i node at in
     let number : 0 + i ≡ i = omega arith in
@@ -155,7 +161,8 @@ one-writes parts objects nodes o =
         ]
 
 -- and so in any order of them
-pub one-driver : (parts : List Part) (objects : List HeldObject) (nodes : List WalkedNode) (all : List FlatNode) → IsPermutation (walked_nodes parts objects nodes) all → (low high : ℕ) (node other : FlatNode) → slice_get all low ≡ Some node →
+pub one-driver : (parts : List Part) (objects : List HeldObject) (nodes : List WalkedNode) (all : List FlatNode) → IsPermutation (walked_nodes parts objects nodes) all →
+    (low high : ℕ) (node other : FlatNode) → slice_get all low ≡ Some node →
     slice_get all high ≡ Some other → low < high → (object : ℕ) → has node.outputs object ≡ true → has other.outputs object ≡ false
 one-driver parts objects nodes all moved low high node other at_low at_high less object writes =
     elim (cases_Bool (has other.outputs object)) [
@@ -177,7 +184,8 @@ abbrev IsNetIfDriven : HeldObject → Type 0
 IsNetIfDriven held = (driver : PieceDriver) → held.driver ≡ Some driver → is_net held.object.kind ≡ true
 
 pieces-driven : (signal : Signal) (drives : List ObjectDrive) (driving : List Signal) → AllHold IsNetIfDriven (pieces_or_variable signal drives driving)
-pieces-driven signal drives [] = AllHold-map IsNetIfDriven (piece_object signal drives) _ (AllHold-all (λ (piece : CutPiece). IsNetIfDriven (piece_object signal drives piece)) _ (λ piece driver e. refl))
+pieces-driven signal drives [] = AllHold-map IsNetIfDriven (piece_object signal drives) _ (AllHold-all (λ (piece : CutPiece). IsNetIfDriven (piece_object signal drives piece)) _
+    (λ piece driver e. refl))
 pieces-driven signal drives (first ∷ rest) = (λ driver e. absurd (cc), tt)
 
 signal-driven : (signals : List Signal) (nodes : List WalkedNode) (unjoined : Bool) (signal : Signal) → AllHold IsNetIfDriven (signal_objects signals nodes unjoined signal)
@@ -186,17 +194,21 @@ signal-driven signals nodes false signal = tt
 
 part-driven : (signals : List Signal) (nodes : List WalkedNode) (part : Part) → AllHold IsNetIfDriven (part_objects signals nodes part)
 part-driven signals nodes (SignalPart signal) = signal-driven signals nodes (is_unjoined signal) signal
-part-driven signals nodes (MemoryPart memory) = AllHold-map IsNetIfDriven (word_object memory) _ (AllHold-all (λ address. IsNetIfDriven (word_object memory address)) _ (λ address driver e. absurd (cc)))
+part-driven signals nodes (MemoryPart memory) = AllHold-map IsNetIfDriven (word_object memory) _
+    (AllHold-all (λ address. IsNetIfDriven (word_object memory address)) _ (λ address driver e. absurd (cc)))
 part-driven signals nodes (AssignPart drives value) = tt
 part-driven signals nodes (GatePart name kind drives path terminals) = tt
 part-driven signals nodes (ProcessPart process) = tt
 part-driven signals nodes InstancePart = tt
 
-pub objects-driven : (parts : List Part) (nodes : List WalkedNode) → AllHold (λ (held : HeldObject). (driver : PieceDriver) → held.driver ≡ Some driver → is_net held.object.kind ≡ true) (objects_of_parts parts nodes)
-objects-driven parts nodes = AllHold-flat_map IsNetIfDriven (part_objects (signals_of parts) nodes) parts (AllHold-all (λ part. AllHold IsNetIfDriven (part_objects (signals_of parts) nodes part)) parts (part-driven (signals_of parts) nodes))
+pub objects-driven : (parts : List Part) (nodes : List WalkedNode) → AllHold (λ (held : HeldObject). (driver : PieceDriver) → held.driver ≡ Some driver → is_net held.object.kind ≡ true)
+    (objects_of_parts parts nodes)
+objects-driven parts nodes = AllHold-flat_map IsNetIfDriven (part_objects (signals_of parts) nodes) parts
+    (AllHold-all (λ part. AllHold IsNetIfDriven (part_objects (signals_of parts) nodes part)) parts (part-driven (signals_of parts) nodes))
 
 -- the number of an object that passes a test is among those that do
-numbers-have : (test : FlatObject → Bool) (number : ℕ) (objects : List FlatObject) (i : ℕ) (object : FlatObject) → slice_get objects i ≡ Some object → test object ≡ true → has (numbers_of test number objects) (number + i) ≡ true
+numbers-have : (test : FlatObject → Bool) (number : ℕ) (objects : List FlatObject) (i : ℕ) (object : FlatObject) → slice_get objects i ≡ Some object → test object ≡ true →
+    has (numbers_of test number objects) (number + i) ≡ true
 numbers-have test number [] i object at e = absurd (cc)
 numbers-have test number (first ∷ objects) zero object at e =
     let passes : test first ≡ true = ap test (same_some first object at) ∙ e in

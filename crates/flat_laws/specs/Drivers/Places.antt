@@ -10,7 +10,8 @@ use Rattle.v_names.specs.Scopes.{range_width}
 use Rattle.v_ports.specs.Pieces.{DrivenRun, driver_of_bit, CutPiece, same_driver, grown_or_new, bit_before, pieces_from, pieces_of}
 use Rattle.v_elab.specs.Parts.{Signal, Drive, Part, SignalPart, MemoryPart, AssignPart, GatePart, ProcessPart, InstancePart}
 use Rattle.v_elab.specs.Drivers.{signals_of, is_unjoined, outermost, WalkedNode, bits_within, ObjectDrive, drive_if, drives_width, node_drives, drives_from, object_drives, driving_variables, run_of}
-use Rattle.v_elab.specs.Objects.{PieceDriver, HeldObject, is_bit, value_place, piece_driver, drive_numbered, piece_object, pieces_or_variable, signal_objects, word_object, part_objects, objects_of_parts}
+use Rattle.v_elab.specs.Objects.{PieceDriver, HeldObject, is_bit, value_place, piece_driver, drive_numbered, piece_object, pieces_or_variable, signal_objects, word_object, part_objects}
+use Rattle.v_elab.specs.Objects.{objects_of_parts}
 use Rattle.flat_laws.specs.Lists.{same_some}
 use Rattle.flat_laws.specs.Numbered.{AllHold-append, AllHold-flat_map, AllHold-map, AllHold-all, AllHold-each}
 use Rattle.flat_laws.specs.Sizes.Entries.{Ascend}
@@ -53,7 +54,8 @@ count-places least (Some place ∷ places) low (suc count) up each =
     elim (cases_Bool (nat_eq place low)) [
       | inl same ↦
           let is = eqb-true place low same in
-          let h = count-places (place + 1) places (low + 1) count up.1 (λ b l m. has-later place b (bits_within places) (λ e. omega (arith, e, is, l)) (each b (omega (arith, l)) (omega (arith, m)))) in
+          let h = count-places (place + 1) places (low + 1) count up.1 (λ b l m. has-later place b (bits_within places) (λ e. omega (arith, e, is, l)) (each b (omega (arith, l)) (omega (arith, m))))
+          in
           omega (arith, h)
       | inr other ↦
           let differs : place ≡ low → ⊥ = λ e. true-false (nat_eq place low) (eq-eqb place low e) other in
@@ -67,7 +69,8 @@ earlier-none None at e = absurd (cc)
 earlier-none (Some before) at e = (before, refl, sym (same_some (before + 1) at e))
 
 -- from the place of the first of some bits on there is a place for each
-run-places : (least : ℕ) (places : List (Option ℕ)) (low count at : ℕ) → Ascend least places → 1 ≤ count → HasEach (bits_within places) low count → first_place (is_bit low) places ≡ Some at → at + count ≤ length places
+run-places : (least : ℕ) (places : List (Option ℕ)) (low count at : ℕ) → Ascend least places → 1 ≤ count → HasEach (bits_within places) low count → first_place (is_bit low) places ≡ Some at →
+    at + count ≤ length places
 run-places least [] low count at up some each e = absurd (cc)
 run-places least (None ∷ places) low count at up some each e =
     let later = earlier-none (first_place (is_bit low) places) at e in
@@ -105,7 +108,8 @@ same-is (Some a) (Some b) e = ap Some (eqb-true a b e)
 one-alike : (runs : List DrivenRun) (bit : ℕ) → IsDrivenAlike runs (record { low = bit; width = 1; driver = driver_of_bit 0 runs bit })
 one-alike runs bit b l m = let same : b ≡ bit = omega (arith, l, m) in ap (driver_of_bit 0 runs) same
 
-grown-alike : (runs : List DrivenRun) (bit : ℕ) (next : CutPiece) (pieces : List CutPiece) (same : Bool) → same_driver (driver_of_bit 0 runs bit) next.driver ≡ same → next.low ≡ bit + 1 → AllHold (IsDrivenAlike runs) (next ∷ pieces) →
+grown-alike : (runs : List DrivenRun) (bit : ℕ) (next : CutPiece) (pieces : List CutPiece) (same : Bool) → same_driver (driver_of_bit 0 runs bit) next.driver ≡ same → next.low ≡ bit + 1 →
+    AllHold (IsDrivenAlike runs) (next ∷ pieces) →
     AllHold (IsDrivenAlike runs) (grown_or_new same bit (driver_of_bit 0 runs bit) next pieces)
 grown-alike runs bit next pieces true e low h = (
   λ b l m.
@@ -117,7 +121,8 @@ grown-alike runs bit next pieces true e low h = (
 )
 grown-alike runs bit next pieces false e low h = (one-alike runs bit, h)
 
-before-alike : (runs : List DrivenRun) (bit to : ℕ) (pieces : List CutPiece) → Tile (bit + 1) to pieces → AllHold (IsDrivenAlike runs) pieces → AllHold (IsDrivenAlike runs) (bit_before bit (driver_of_bit 0 runs bit) pieces)
+before-alike : (runs : List DrivenRun) (bit to : ℕ) (pieces : List CutPiece) → Tile (bit + 1) to pieces → AllHold (IsDrivenAlike runs) pieces →
+    AllHold (IsDrivenAlike runs) (bit_before bit (driver_of_bit 0 runs bit) pieces)
 before-alike runs bit to [] tile h = (one-alike runs bit, tt)
 before-alike runs bit to (next ∷ pieces) tile h = grown-alike runs bit next pieces (same_driver (driver_of_bit 0 runs bit) next.driver) refl tile.0 h
 
@@ -132,12 +137,14 @@ pieces-alike width runs = from-alike runs 0 width
 -- Drives
 
 -- the driver of a bit has it
-run-has : (drives : List ObjectDrive) (number b k : ℕ) → driver_of_bit number (map run_of drives) b ≡ Some k → (i : ℕ) × (drive : ObjectDrive) × (k ≡ number + i) × (drive_numbered drives i ≡ Some drive) × (has (bits_within drive.places) b ≡ true)
+run-has : (drives : List ObjectDrive) (number b k : ℕ) → driver_of_bit number (map run_of drives) b ≡ Some k →
+    (i : ℕ) × (drive : ObjectDrive) × (k ≡ number + i) × (drive_numbered drives i ≡ Some drive) × (has (bits_within drive.places) b ≡ true)
 run-has [] number b k e = absurd (cc)
 run-has (drive ∷ drives) number b k e = by (has (bits_within drive.places) b) refl (λ f. run-has drives (number + 1) b k f)
   where
     by : (test : Bool) → has (bits_within drive.places) b ≡ test →
-        (driver_of_bit (number + 1) (map run_of drives) b ≡ Some k → (i : ℕ) × (found : ObjectDrive) × (k ≡ number + 1 + i) × (drive_numbered drives i ≡ Some found) × (has (bits_within found.places) b ≡ true)) →
+        (driver_of_bit (number + 1) (map run_of drives) b ≡ Some k → (i : ℕ) × (found : ObjectDrive) × (k ≡ number + 1 + i) × (drive_numbered drives i ≡ Some found)
+        × (has (bits_within found.places) b ≡ true)) →
         (i : ℕ) × (found : ObjectDrive) × (k ≡ number + i) × (drive_numbered (drive ∷ drives) i ≡ Some found) × (has (bits_within found.places) b ≡ true)
     by true h rest =
         let step : driver_of_bit number (map run_of (drive ∷ drives)) b ≡ Some number = rw h refl in
@@ -163,14 +170,16 @@ record IsOwnDrive (number : ℕ) (drives : List Drive) (drive : ObjectDrive) : T
   ascends : AllHold (λ (d : Drive). Ascend 0 d.places) drives → Ascend 0 drive.places
   within : drive.offset + length drive.places ≤ drives_width drives
 
-if-own : (test : Bool) (number : ℕ) (drives : List Drive) (drive : ObjectDrive) (rest : List ObjectDrive) → IsOwnDrive number drives drive → AllHold (IsOwnDrive number drives) rest → AllHold (IsOwnDrive number drives) (drive_if test drive rest)
+if-own : (test : Bool) (number : ℕ) (drives : List Drive) (drive : ObjectDrive) (rest : List ObjectDrive) → IsOwnDrive number drives drive → AllHold (IsOwnDrive number drives) rest →
+    AllHold (IsOwnDrive number drives) (drive_if test drive rest)
 if-own true number drives drive rest h k = (h, k)
 if-own false number drives drive rest h k = k
 
 node-own : (signals : List Signal) (object : Identifier) (number : ℕ) (drives : List Drive) → AllHold (IsOwnDrive number drives) (node_drives signals object number drives)
 node-own signals object number [] = tt
 node-own signals object number (drive ∷ rest) =
-    if-own (same_name (outermost signals drive.signal) object) number (drive ∷ rest) (record { node = number; offset = drives_width rest; places = drive.places; place = drive.place }) (node_drives signals object number rest)
+    if-own (same_name (outermost signals drive.signal) object) number (drive ∷ rest) (record { node = number; offset = drives_width rest; places = drive.places; place = drive.place })
+    (node_drives signals object number rest)
     (record { node_is = refl; ascends = λ h. h.0; within = omega arith })
     (AllHold-each (IsOwnDrive number rest) (IsOwnDrive number (drive ∷ rest)) (node_drives signals object number rest)
     (λ d own. let within = own.within in record { node_is = own.node_is; ascends = λ h. own.ascends h.1; within = omega (arith, within) }) (node-own signals object number rest))
@@ -180,9 +189,11 @@ drives-own signals object number [] = tt
 drives-own signals object number (node ∷ nodes) =
     AllHold-append (IsDriveOf (node ∷ nodes) number) (node_drives signals object number node.drives) (drives_from signals object (number + 1) nodes)
     (AllHold-each (IsOwnDrive number node.drives) (IsDriveOf (node ∷ nodes) number) (node_drives signals object number node.drives)
-    (λ d own. let same = own.node_is in record { index = 0; node = node; number_is = omega (arith, same); is = refl; ascends = own.ascends; within = own.within }) (node-own signals object number node.drives))
+    (λ d own. let same = own.node_is in record { index = 0; node = node; number_is = omega (arith, same); is = refl; ascends = own.ascends; within = own.within })
+    (node-own signals object number node.drives))
     (AllHold-each (IsDriveOf nodes (number + 1)) (IsDriveOf (node ∷ nodes) number) (drives_from signals object (number + 1) nodes)
-    (λ d own. let same = own.number_is in record { index = suc own.index; node = own.node; number_is = omega (arith, same); is = own.is; ascends = own.ascends; within = own.within }) (drives-own signals object (number + 1) nodes))
+    (λ d own. let same = own.number_is in record { index = suc own.index; node = own.node; number_is = omega (arith, same); is = own.is; ascends = own.ascends; within = own.within })
+    (drives-own signals object (number + 1) nodes))
 
 numbered-holds : (P : ObjectDrive → Type 0) (drives : List ObjectDrive) (i : ℕ) (drive : ObjectDrive) → AllHold P drives → drive_numbered drives i ≡ Some drive → P drive
 numbered-holds P [] i drive h e = absurd (cc)
@@ -204,7 +215,8 @@ then-some : {A B : Type 0} (f : A → Option B) (x : Option A) (y : B) → optio
 then-some f None y e = absurd (cc)
 then-some f (Some a) y e = (a, refl, e)
 
-driver-there : (bit : ℕ) (found : Option ObjectDrive) (driver : PieceDriver) → piece_driver bit found ≡ Some driver → (drive : ObjectDrive) × (at : ℕ) × (found ≡ Some drive) × (first_place (is_bit bit) drive.places ≡ Some at) × (driver.node ≡ drive.node) × (driver.place ≡ drive.offset + at)
+driver-there : (bit : ℕ) (found : Option ObjectDrive) (driver : PieceDriver) → piece_driver bit found ≡ Some driver →
+    (drive : ObjectDrive) × (at : ℕ) × (found ≡ Some drive) × (first_place (is_bit bit) drive.places ≡ Some at) × (driver.node ≡ drive.node) × (driver.place ≡ drive.offset + at)
 driver-there bit None driver e = absurd (cc)
 driver-there bit (Some drive) driver e =
     let outer = then-some (λ at. Some (record { node = drive.node; place = at })) (value_place bit drive) driver e in
@@ -212,7 +224,8 @@ driver-there bit (Some drive) driver e =
     let is : record { node = drive.node; place = outer.0 } ≡ driver = same_some (record { node = drive.node; place = outer.0 }) driver outer.2 in
     (drive, inner.0, refl, inner.1, ap (λ (d : PieceDriver). d.node) (sym is), ap (λ (d : PieceDriver). d.place) (sym is) ∙ sym (same_some (drive.offset + inner.0) outer.0 inner.2))
 
-piece-fits : (nodes : List WalkedNode) (signal : Signal) (drives : List ObjectDrive) → AllHold (IsDriveOf nodes 0) drives → (piece : CutPiece) → IsDrivenAlike (map run_of drives) piece → 1 ≤ piece.width → DriverFits nodes (piece_object signal drives piece)
+piece-fits : (nodes : List WalkedNode) (signal : Signal) (drives : List ObjectDrive) → AllHold (IsDriveOf nodes 0) drives → (piece : CutPiece) → IsDrivenAlike (map run_of drives) piece →
+    1 ≤ piece.width → DriverFits nodes (piece_object signal drives piece)
 piece-fits nodes signal drives own piece alike some driver e =
     let there = driver-there piece.low (option_and_then (drive_numbered drives) piece.driver) driver e in
     let numbered = then-some (drive_numbered drives) piece.driver there.0 there.2 in
@@ -241,13 +254,15 @@ both-hold : {A : Type 0} (P Q : A → Type 0) (xs : List A) → AllHold P xs →
 both-hold P Q [] h k = tt
 both-hold P Q (x ∷ xs) h k = ((h.0, k.0), both-hold P Q xs h.1 k.1)
 
-variables-fit : (nodes : List WalkedNode) (signal : Signal) (drives : List ObjectDrive) → AllHold (IsDriveOf nodes 0) drives → (driving : List Signal) → AllHold (DriverFits nodes) (pieces_or_variable signal drives driving)
+variables-fit : (nodes : List WalkedNode) (signal : Signal) (drives : List ObjectDrive) → AllHold (IsDriveOf nodes 0) drives → (driving : List Signal) →
+    AllHold (DriverFits nodes) (pieces_or_variable signal drives driving)
 variables-fit nodes signal drives own (first ∷ rest) = (λ driver e. absurd (cc), tt)
 variables-fit nodes signal drives own [] =
     let width = range_width signal.range in
     let runs = map run_of drives in
     AllHold-map (DriverFits nodes) (piece_object signal drives) (pieces_of width runs)
-    (AllHold-each (λ (piece : CutPiece). IsDrivenAlike runs piece × ((1 ≤ piece.width) × (piece.low + piece.width ≤ width))) (λ piece. DriverFits nodes (piece_object signal drives piece)) (pieces_of width runs)
+    (AllHold-each (λ (piece : CutPiece). IsDrivenAlike runs piece × ((1 ≤ piece.width) × (piece.low + piece.width ≤ width))) (λ piece. DriverFits nodes (piece_object signal drives piece))
+    (pieces_of width runs)
     (λ piece h. piece-fits nodes signal drives own piece h.0 h.1.0)
     (both-hold (IsDrivenAlike runs) (λ (piece : CutPiece). (1 ≤ piece.width) × (piece.low + piece.width ≤ width)) (pieces_of width runs) (pieces-alike width runs) (pieces-within width runs)))
 
@@ -257,7 +272,8 @@ signal-fits signals nodes false signal = tt
 
 part-fits : (signals : List Signal) (nodes : List WalkedNode) (part : Part) → AllHold (DriverFits nodes) (part_objects signals nodes part)
 part-fits signals nodes (SignalPart signal) = signal-fits signals nodes (is_unjoined signal) signal
-part-fits signals nodes (MemoryPart memory) = AllHold-map (DriverFits nodes) (word_object memory) _ (AllHold-all (λ address. DriverFits nodes (word_object memory address)) _ (λ address driver e. absurd (cc)))
+part-fits signals nodes (MemoryPart memory) = AllHold-map (DriverFits nodes) (word_object memory) _
+    (AllHold-all (λ address. DriverFits nodes (word_object memory address)) _ (λ address driver e. absurd (cc)))
 part-fits signals nodes (AssignPart drives value) = tt
 part-fits signals nodes (GatePart name kind drives path terminals) = tt
 part-fits signals nodes (ProcessPart process) = tt
@@ -266,4 +282,5 @@ part-fits signals nodes InstancePart = tt
 -- the drivers of all objects
 pub drivers-fit : (parts : List Part) (nodes : List WalkedNode) → AllHold (DriverFits nodes) (objects_of_parts parts nodes)
 drivers-fit parts nodes =
-    AllHold-flat_map (DriverFits nodes) (part_objects (signals_of parts) nodes) parts (AllHold-all (λ part. AllHold (DriverFits nodes) (part_objects (signals_of parts) nodes part)) parts (part-fits (signals_of parts) nodes))
+    AllHold-flat_map (DriverFits nodes) (part_objects (signals_of parts) nodes) parts (AllHold-all (λ part. AllHold (DriverFits nodes) (part_objects (signals_of parts) nodes part)) parts
+    (part-fits (signals_of parts) nodes))

@@ -114,7 +114,8 @@ none-loops objects nodes e object low between path short =
 -- Ranks, looking back over so many nodes
 
 -- a node stands above each that feeds it
-rank-fed : (depth : ℕ) (nodes : List FlatNode) (j : ℕ) (driver node : FlatNode) → slice_get nodes j ≡ Some driver → feeds driver node ≡ true → suc (rank_within depth nodes driver) ≤ rank_within (suc depth) nodes node
+rank-fed : (depth : ℕ) (nodes : List FlatNode) (j : ℕ) (driver node : FlatNode) → slice_get nodes j ≡ Some driver → feeds driver node ≡ true →
+    suc (rank_within depth nodes driver) ≤ rank_within (suc depth) nodes node
 rank-fed depth nodes j driver node at e =
     let kept = filter-at (λ (other : FlatNode). feeds other node) nodes j driver at e in
     le-greatest (map (λ (other : FlatNode). suc (rank_within depth nodes other)) (filter (λ (other : FlatNode). feeds other node) nodes)) (suc (rank_within depth nodes driver))
@@ -128,7 +129,8 @@ record Feeder (depth : ℕ) (nodes : List FlatNode) (node : FlatNode) (rank : �
   feeding : feeds driver node ≡ true
   gives : suc (rank_within depth nodes driver) ≡ rank
 
-feeder-of : (depth : ℕ) (nodes : List FlatNode) (node : FlatNode) (rank : ℕ) → has (map (λ (other : FlatNode). suc (rank_within depth nodes other)) (filter (λ (other : FlatNode). feeds other node) nodes)) rank ≡ true →
+feeder-of : (depth : ℕ) (nodes : List FlatNode) (node : FlatNode) (rank : ℕ) → has (map (λ (other : FlatNode). suc (rank_within depth nodes other))
+    (filter (λ (other : FlatNode). feeds other node) nodes)) rank ≡ true →
     Feeder depth nodes node rank
 feeder-of depth nodes node rank e =
     let r = at-map (λ (other : FlatNode). suc (rank_within depth nodes other)) (filter (λ (other : FlatNode). feeds other node) nodes) rank e in
@@ -178,7 +180,8 @@ rank-stable (suc depth) nodes node =
     ]
 
 -- over nodes that all stand among others
-rank-among : (xs ys : List FlatNode) → ((i : ℕ) (x : FlatNode) → slice_get xs i ≡ Some x → (j : ℕ) × (slice_get ys j ≡ Some x)) → (depth : ℕ) (node : FlatNode) → rank_within depth xs node ≤ rank_within depth ys node
+rank-among : (xs ys : List FlatNode) → ((i : ℕ) (x : FlatNode) → slice_get xs i ≡ Some x → (j : ℕ) × (slice_get ys j ≡ Some x)) → (depth : ℕ) (node : FlatNode) →
+    rank_within depth xs node ≤ rank_within depth ys node
 rank-among xs ys among zero node = omega arith
 rank-among xs ys among (suc depth) node =
     rank-at_most depth xs node (rank_within (suc depth) ys node)
@@ -213,12 +216,14 @@ input-among : (objects : ℕ) (nodes : List FlatNode) → InputsAmong objects no
 input-among objects nodes among k node o at e =
     AllHold-has (λ object. object < objects) node.inputs o (AllHold-slice_get (λ (other : FlatNode). AllHold (λ object. object < objects) other.inputs) nodes k node among at) e
 
-step-of : (nodes : List FlatNode) (k : ℕ) (node last : FlatNode) (from to : ℕ) → slice_get nodes k ≡ Some node → slice_get nodes k ≡ Some last → has node.inputs from ≡ true → has last.outputs to ≡ true → IsStep nodes from to
+step-of : (nodes : List FlatNode) (k : ℕ) (node last : FlatNode) (from to : ℕ) → slice_get nodes k ≡ Some node → slice_get nodes k ≡ Some last → has node.inputs from ≡ true →
+    has last.outputs to ≡ true → IsStep nodes from to
 step-of nodes k node last from to at again reads drives =
     record { number = k; node = node; is = at; reads = reads; drives = ap (λ (n : FlatNode). has n.outputs to) (same_some node last (sym at ∙ again)) ∙ drives }
 
 -- a node leads to the one that it feeds
-leads-one : (objects : ℕ) (nodes : List FlatNode) → InputsAmong objects nodes → (most j k : ℕ) (driver node : FlatNode) → slice_get nodes j ≡ Some driver → slice_get nodes k ≡ Some node → feeds driver node ≡ true → Leads objects nodes (suc most) j k
+leads-one : (objects : ℕ) (nodes : List FlatNode) → InputsAmong objects nodes → (most j k : ℕ) (driver node : FlatNode) → slice_get nodes j ≡ Some driver → slice_get nodes k ≡ Some node →
+    feeds driver node ≡ true → Leads objects nodes (suc most) j k
 leads-one objects nodes among most j k driver node at_j at_k e =
     let over = any-at (has node.inputs) driver.outputs e in
     record {
@@ -231,7 +236,8 @@ leads-one objects nodes among most j k driver node at_j at_k e =
     }
 
 -- and so does a node that leads to it
-leads-more : (objects : ℕ) (nodes : List FlatNode) (most p j k : ℕ) (driver node : FlatNode) → slice_get nodes j ≡ Some driver → slice_get nodes k ≡ Some node → feeds driver node ≡ true → Leads objects nodes most p j →
+leads-more : (objects : ℕ) (nodes : List FlatNode) (most p j k : ℕ) (driver node : FlatNode) → slice_get nodes j ≡ Some driver → slice_get nodes k ≡ Some node → feeds driver node ≡ true →
+    Leads objects nodes most p j →
     Leads objects nodes (suc most) p k
 leads-more objects nodes most p j k driver node at_j at_k e first =
     let over = any-at (has node.inputs) driver.outputs e in
@@ -281,7 +287,8 @@ chain-start objects nodes k node at = record {
   leads = λ p e. elim (or_cases (nat_eq k p) false e) [ inl same ↦ inl (sym (eqb-true k p same)) | inr none ↦ absurd (cc) ];
 }
 
-chain-more : (objects : ℕ) (nodes : List FlatNode) → NoneLoops objects nodes → InputsAmong objects nodes → (most j k : ℕ) (driver node : FlatNode) → suc most ≤ length nodes → slice_get nodes j ≡ Some driver →
+chain-more : (objects : ℕ) (nodes : List FlatNode) → NoneLoops objects nodes → InputsAmong objects nodes → (most j k : ℕ) (driver node : FlatNode) → suc most ≤ length nodes →
+    slice_get nodes j ≡ Some driver →
     slice_get nodes k ≡ Some node → feeds driver node ≡ true → Chain objects nodes most j → Chain objects nodes (suc most) k
 unfolding IsDistinct
 chain-more objects nodes none among most j k driver node few at_j at_k e below = record {
@@ -303,7 +310,8 @@ chain-more objects nodes none among most j k driver node few at_j at_k e below =
         ]
 
 -- behind a rank stands a chain of as many nodes
-chain-of : (objects : ℕ) (nodes : List FlatNode) → NoneLoops objects nodes → InputsAmong objects nodes → (most k : ℕ) (node : FlatNode) → most ≤ length nodes → slice_get nodes k ≡ Some node → rank_within most nodes node ≡ most →
+chain-of : (objects : ℕ) (nodes : List FlatNode) → NoneLoops objects nodes → InputsAmong objects nodes → (most k : ℕ) (node : FlatNode) → most ≤ length nodes → slice_get nodes k ≡ Some node →
+    rank_within most nodes node ≡ most →
     Chain objects nodes most k
 chain-of objects nodes none among zero k node few at is = chain-start objects nodes k node at
 chain-of objects nodes none among (suc most) k node few at is =
@@ -331,7 +339,8 @@ rank-below objects nodes are k node at =
     ]
 
 -- a node that feeds another has a lesser rank
-pub rank-above : (objects : ℕ) (nodes : List FlatNode) → AreAcyclic objects nodes → (j k : ℕ) (driver node : FlatNode) → slice_get nodes j ≡ Some driver → slice_get nodes k ≡ Some node → feeds driver node ≡ true →
+pub rank-above : (objects : ℕ) (nodes : List FlatNode) → AreAcyclic objects nodes → (j k : ℕ) (driver node : FlatNode) → slice_get nodes j ≡ Some driver → slice_get nodes k ≡ Some node →
+    feeds driver node ≡ true →
     rank_among nodes driver < rank_among nodes node
 rank-above objects nodes are j k driver node at_j at_k e =
     let up : suc (rank_among nodes driver) ≤ rank_within (suc (length nodes)) nodes node = rank-fed (length nodes) nodes j driver node at_j e in
@@ -349,7 +358,8 @@ rank-above objects nodes are j k driver node at_j at_k e =
 pub by_rank-permutation : (objects : ℕ) (nodes : List FlatNode) → AreAcyclic objects nodes → IsPermutation nodes (by_rank nodes)
 by_rank-permutation objects nodes are =
     by_number-permutation (rank_among nodes) 0 (length nodes) nodes
-    (AllHold-from (λ node. (0 ≤ rank_among nodes node) × (rank_among nodes node < 0 + length nodes)) nodes (λ k node at. let low = rank-below objects nodes are k node at in (omega arith, omega (arith, low))))
+    (AllHold-from (λ node. (0 ≤ rank_among nodes node) × (rank_among nodes node < 0 + length nodes)) nodes
+    (λ k node at. let low = rank-below objects nodes are k node at in (omega arith, omega (arith, low))))
 
 -- no node reads what a later one drives, or it itself
 pub by_rank-below : (objects : ℕ) (nodes : List FlatNode) → AreAcyclic objects nodes → AreBelow (by_rank nodes)
@@ -370,8 +380,10 @@ pub by_rank-rank : (objects : ℕ) (nodes : List FlatNode) → AreAcyclic object
 by_rank-rank objects nodes are node =
     let moved = by_rank-permutation objects nodes are in
     let back = IsPermutation-sym nodes (by_rank nodes) moved in
-    let one : rank_within (length nodes) (by_rank nodes) node ≤ rank_within (length nodes) nodes node = rank-among (by_rank nodes) nodes (at-permutation (by_rank nodes) nodes back) (length nodes) node in
-    let other : rank_within (length nodes) nodes node ≤ rank_within (length nodes) (by_rank nodes) node = rank-among nodes (by_rank nodes) (at-permutation nodes (by_rank nodes) moved) (length nodes) node in
+    let one : rank_within (length nodes) (by_rank nodes) node ≤ rank_within (length nodes) nodes node =
+    rank-among (by_rank nodes) nodes (at-permutation (by_rank nodes) nodes back) (length nodes) node in
+    let other : rank_within (length nodes) nodes node ≤ rank_within (length nodes) (by_rank nodes) node =
+    rank-among nodes (by_rank nodes) (at-permutation nodes (by_rank nodes) moved) (length nodes) node in
     let same : rank_within (length nodes) (by_rank nodes) node ≡ rank_within (length nodes) nodes node = omega (arith, one, other) in
     ap (λ depth. rank_within depth (by_rank nodes) node) (length_permutation nodes (by_rank nodes) moved) ∙ same
 

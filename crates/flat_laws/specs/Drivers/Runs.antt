@@ -32,7 +32,8 @@ second-none place None other e = (refl, e)
 second-none place (Some bit) other e = absurd (cc)
 
 -- a bit that is taken is none of a driver's
-pub taken-apart : (taken : List ℕ) (runs : List DrivenRun) (j : ℕ) (run : DrivenRun) (bit : ℕ) → second_driver taken runs ≡ None → slice_get runs j ≡ Some run → has run.bits bit ≡ true → has taken bit ≡ false
+pub taken-apart : (taken : List ℕ) (runs : List DrivenRun) (j : ℕ) (run : DrivenRun) (bit : ℕ) → second_driver taken runs ≡ None → slice_get runs j ≡ Some run → has run.bits bit ≡ true →
+    has taken bit ≡ false
 taken-apart taken [] j run bit e at there = absurd (cc)
 taken-apart taken (first ∷ runs) zero run bit e at there =
     let none = second-none first.place (least_among taken first.bits) (second_driver (taken ++ first.bits) runs) e in
@@ -46,7 +47,8 @@ taken-apart taken (first ∷ runs) (suc j) run bit e at there =
     ]
 
 -- the driver of a bit is the one that has it
-pub driver-is : (taken : List ℕ) (number : ℕ) (runs : List DrivenRun) (j : ℕ) (run : DrivenRun) (bit : ℕ) → second_driver taken runs ≡ None → slice_get runs j ≡ Some run → has run.bits bit ≡ true → driver_of_bit number runs bit ≡ Some (number + j)
+pub driver-is : (taken : List ℕ) (number : ℕ) (runs : List DrivenRun) (j : ℕ) (run : DrivenRun) (bit : ℕ) → second_driver taken runs ≡ None → slice_get runs j ≡ Some run → has run.bits bit ≡ true →
+    driver_of_bit number runs bit ≡ Some (number + j)
 driver-is taken number [] j run bit e at there = absurd (cc)
 driver-is taken number (first ∷ runs) zero run bit e at there =
     let same : number + 0 ≡ number = omega arith in
@@ -78,7 +80,8 @@ one-piece runs driver start (suc count) each =
     let here = each start (omega arith) (omega arith) in
     let width : suc count + 1 ≡ suc (suc count) = omega arith in
     ap (bit_before start (driver_of_bit 0 runs start)) rest ∙ ap (λ d. bit_before start d (record { low = start + 1; width = suc count; driver = driver } ∷ [])) here
-    ∙ ap (λ b. grown_or_new b start driver (record { low = start + 1; width = suc count; driver = driver }) []) (same-self driver) ∙ ap (λ w. record { low = start; width = w; driver = driver } ∷ []) width
+    ∙ ap (λ b. grown_or_new b start driver (record { low = start + 1; width = suc count; driver = driver }) []) (same-self driver)
+    ∙ ap (λ w. record { low = start; width = w; driver = driver } ∷ []) width
 
 pub bits-whole : (bits : List ℕ) → bits_within (map Some bits) ≡ bits
 bits-whole [] = refl

@@ -12,7 +12,8 @@ use Rattle.v_design.specs.WellFormed.{width_is}
 use Rattle.v_tree.specs.Trees.{Identifier, same_name}
 use Rattle.v_elab.specs.Parts.{Signal, WalkedMemory, Part, SignalPart, MemoryPart}
 use Rattle.v_elab.specs.Drivers.{signals_of, outermost, WalkedNode, is_driving, insert_here, insert_by_depth, by_depth, object_drives}
-use Rattle.v_elab.specs.Objects.{HeldObject, variable_object, pieces_or_variable, signal_objects, word_object, word_objects, part_objects, objects_of_parts, piece_if, pieces_held, memories_of, memory_vector, memory_if, memory_of_name}
+use Rattle.v_elab.specs.Objects.{HeldObject, variable_object, pieces_or_variable, signal_objects, word_object, word_objects, part_objects, objects_of_parts, piece_if, pieces_held, memories_of}
+use Rattle.v_elab.specs.Objects.{memory_vector, memory_if, memory_of_name}
 use Rattle.v_elab.specs.Statements.{first_object, variable_of}
 use Rattle.graph_order.specs.ListLaws.{AllHold-slice_get}
 use Rattle.flat_laws.specs.Lists.{same_some, AllHold-from, filter-at}
@@ -40,8 +41,15 @@ piece-at objects holder i piece at =
     let same : 0 + r.0 ≡ r.0 = omega arith in
     by_test r.0 r.1 r.2 (same_name r.1.holder holder) refl r.3 (ap (λ k. slice_get (piece_if (same_name r.1.holder holder) k r.1) r.2) (sym same) ∙ r.4)
   where
-    by_test : (number : ℕ) (held : HeldObject) (m : ℕ) (test : Bool) → same_name held.holder holder ≡ test → slice_get objects number ≡ Some held → slice_get (piece_if test number held) m ≡ Some piece → IsHeldAt objects holder piece
-    by_test number held zero true e is d = record { number = number; held = held; is = is; holds = equal-name held.holder holder e; piece_is = sym (same_some (record { object = number; width = held.object.width }) piece d) }
+    by_test : (number : ℕ) (held : HeldObject) (m : ℕ) (test : Bool) → same_name held.holder holder ≡ test → slice_get objects number ≡ Some held →
+        slice_get (piece_if test number held) m ≡ Some piece → IsHeldAt objects holder piece
+    by_test number held zero true e is d = record {
+      number = number;
+      held = held;
+      is = is;
+      holds = equal-name held.holder holder e;
+      piece_is = sym (same_some (record { object = number; width = held.object.width }) piece d);
+    }
     by_test number held (suc m) true e is d = absurd (cc)
     by_test number held m false e is d = absurd (cc)
 
@@ -66,7 +74,8 @@ one-long (x ∷ []) e = (x, refl)
 one-long (x ∷ y ∷ xs) e = absurd (omega (arith, e))
 
 -- a part that makes one object
-pub one-held : (parts : List Part) (nodes : List WalkedNode) → IsHierarchy parts → (k : ℕ) (part : Part) (holder : Identifier) (held : HeldObject) → slice_get parts k ≡ Some part → part_name part ≡ Some holder → held.holder ≡ holder →
+pub one-held : (parts : List Part) (nodes : List WalkedNode) → IsHierarchy parts → (k : ℕ) (part : Part) (holder : Identifier) (held : HeldObject) → slice_get parts k ≡ Some part →
+    part_name part ≡ Some holder → held.holder ≡ holder →
     part_objects (signals_of parts) nodes part ≡ held ∷ [] → IsOneObject (objects_of_parts parts nodes) holder held
 one-held parts nodes hierarchy k part holder held at name holds one =
     let objects = objects_of_parts parts nodes in
@@ -89,7 +98,8 @@ one-held parts nodes hierarchy k part holder held at name holds one =
     alone x y (suc m) e = absurd (cc)
 
 -- a vector that one object holds is a variable
-pub one-fits : (design : FlatDesign) (Q : ℕ → Type 0) (objects : List HeldObject) → map (λ (held : HeldObject). held.object) objects ≡ design.objects → (holder : Identifier) (held : HeldObject) → (one : IsOneObject objects holder held) → Q one.number →
+pub one-fits : (design : FlatDesign) (Q : ℕ → Type 0) (objects : List HeldObject) → map (λ (held : HeldObject). held.object) objects ≡ design.objects → (holder : Identifier) (held : HeldObject) →
+    (one : IsOneObject objects holder held) → Q one.number →
     (v : Vector) → v.pieces ≡ pieces_held objects holder → FitsVariable design Q (variable_of v)
 one-fits design Q objects is holder held one q v pieces =
     let P : List Piece → Type 0 = λ all. (width_is (pieces_width all) (slice_get design.objects (first_object all)) ≡ true) × Q (first_object all) in
@@ -97,7 +107,8 @@ one-fits design Q objects is holder held one q v pieces =
     single-piece (record { object = one.number; width = held.object.width }) in
     let found : slice_get design.objects one.number ≡ Some held.object = ap (λ all. slice_get all one.number) (sym is) ∙ object-at objects one.number held one.is in
     subst P (sym (pieces ∙ one.pieces)) (
-      ap (width_is (pieces_width (record { object = one.number; width = held.object.width } ∷ []))) found ∙ eq-eqb held.object.width (pieces_width (record { object = one.number; width = held.object.width } ∷ [])) (sym wide),
+      ap (width_is (pieces_width (record { object = one.number; width = held.object.width } ∷ []))) found
+          ∙ eq-eqb held.object.width (pieces_width (record { object = one.number; width = held.object.width } ∷ [])) (sym wide),
       q,
     )
   where
@@ -128,7 +139,8 @@ driving-held parts nodes hierarchy i signal at drives =
     let signals = signals_of parts in
     let last = outermost-is parts hierarchy i signal at in
     let test : Signal → Bool = λ s. is_driving nodes s && same_name (outermost signals s.name) last.outer.name in
-    let passes : test signal ≡ true = both-true (is_driving nodes signal) (same_name (outermost signals signal.name) last.outer.name) drives (ap (λ n. same_name n last.outer.name) last.name_is ∙ name-same last.outer.name) in
+    let passes : test signal ≡ true = both-true (is_driving nodes signal) (same_name (outermost signals signal.name) last.outer.name) drives
+    (ap (λ n. same_name n last.outer.name) last.name_is ∙ name-same last.outer.name) in
     let kept = filter-at test signals i signal at passes in
     let some = depth-some (filter test signals) kept.0 signal kept.1 in
     let part = signal-part parts last.number last.outer last.is in
@@ -141,7 +153,8 @@ driving-held parts nodes hierarchy i signal at drives =
 -- Net pieces
 
 -- the number of an object that passes a test
-numbers-pass : (test : FlatObject → Bool) (start o : ℕ) (objects : List FlatObject) → has (numbers_of test start objects) o ≡ true → (i : ℕ) × (object : FlatObject) × (slice_get objects i ≡ Some object) × (o ≡ start + i) × (test object ≡ true)
+numbers-pass : (test : FlatObject → Bool) (start o : ℕ) (objects : List FlatObject) → has (numbers_of test start objects) o ≡ true →
+    (i : ℕ) × (object : FlatObject) × (slice_get objects i ≡ Some object) × (o ≡ start + i) × (test object ≡ true)
 numbers-pass test start o [] e = absurd (cc)
 numbers-pass test start o (object ∷ objects) e =
     elim (cases_Bool (test object)) [
@@ -173,7 +186,8 @@ no-piece design number object at kind =
     ]
 
 -- the words of a memory are none
-pub words-none : (design : FlatDesign) (parts : List Part) (nodes : List WalkedNode) → IsHierarchy parts → map (λ (held : HeldObject). held.object) (objects_of_parts parts nodes) ≡ design.objects → (full : Identifier) →
+pub words-none : (design : FlatDesign) (parts : List Part) (nodes : List WalkedNode) → IsHierarchy parts → map (λ (held : HeldObject). held.object) (objects_of_parts parts nodes) ≡ design.objects →
+    (full : Identifier) →
     AllHold (λ o. has (net_pieces design) o ≡ false) (memory_of_name (objects_of_parts parts nodes) (memories_of parts) full).words
 words-none design parts nodes hierarchy is full = each (memories_of parts) (memory-part parts)
   where
@@ -189,7 +203,8 @@ words-none design parts nodes hierarchy is full = each (memories_of parts) (memo
         let among = held-of parts nodes hierarchy k (MemoryPart memory) memory.name at refl there.number there.held there.is there.holds in
         let word : is_net there.held.object.kind ≡ false =
         AllHold-slice_get (λ (h : HeldObject). is_net h.object.kind ≡ false) (word_objects memory) among.0 there.held
-        (AllHold-map (λ (h : HeldObject). is_net h.object.kind ≡ false) (word_object memory) _ (AllHold-all (λ address. is_net (word_object memory address).object.kind ≡ false) _ (λ address. refl))) among.1 in
+        (AllHold-map (λ (h : HeldObject). is_net h.object.kind ≡ false) (word_object memory) _ (AllHold-all (λ address. is_net (word_object memory address).object.kind ≡ false) _ (λ address. refl)))
+        among.1 in
         ap (λ (p : Piece). has (net_pieces design) p.object) there.piece_is
         ∙ no-piece design there.number there.held.object (ap (λ all. slice_get all there.number) (sym is) ∙ object-at objects there.number there.held there.is) word))
 

@@ -9,7 +9,9 @@ use Rattle.v_names.specs.Scopes.{looked_up, is_reg}
 use Rattle.v_names.specs.SizedLaws.{and-left, and-right}
 use Rattle.v_comb.specs.CombinationalForm.{assigned_names}
 use Rattle.v_elab.specs.Parts.{Signal, Drive, WalkedProcess, Part, SignalPart, MemoryPart, AssignPart, GatePart, ProcessPart, InstancePart}
-use Rattle.v_elab.specs.Drivers.{signals_of, outermost, target_signals, variables_assigned, drives_some, drive_signals, writes_object, other_writes, port_writes, is_own_target, reads_by_other_name, NodeFunction, AssignFunction, GateFunction, BlockFunction, WalkedNode, Behaviour, IsNode, IsProcess, block_drive, block_or_process, process_behaviour, part_behaviour, behaviours_of, nodes_of, processes_of, block_signals, is_driving}
+use Rattle.v_elab.specs.Drivers.{signals_of, outermost, target_signals, variables_assigned, drives_some, drive_signals, writes_object, other_writes, port_writes, is_own_target, reads_by_other_name}
+use Rattle.v_elab.specs.Drivers.{NodeFunction, AssignFunction, GateFunction, BlockFunction, WalkedNode, Behaviour, IsNode, IsProcess, block_drive, block_or_process, process_behaviour}
+use Rattle.v_elab.specs.Drivers.{part_behaviour, behaviours_of, nodes_of, processes_of, block_signals, is_driving}
 use Rattle.flat_laws.specs.Made.{nodes_in, processes_in}
 use Rattle.flat_laws.specs.Lists.{same_some, at-append, filter-at}
 use Rattle.flat_laws.specs.Hierarchy.Given.{equal-name, name-same, both-true}
@@ -77,7 +79,8 @@ named-append (x ∷ xs) ys name = ap (λ b. same_name x name || b) (named-append
     assoc true b c = refl
     assoc false b c = refl
 
-named-flat : {A : Type 0} (f : A → List Identifier) (xs : List A) (name : Identifier) → has_name (flat_map f xs) name ≡ true → (i : ℕ) × (x : A) × (slice_get xs i ≡ Some x) × (has_name (f x) name ≡ true)
+named-flat : {A : Type 0} (f : A → List Identifier) (xs : List A) (name : Identifier) → has_name (flat_map f xs) name ≡ true →
+    (i : ℕ) × (x : A) × (slice_get xs i ≡ Some x) × (has_name (f x) name ≡ true)
 named-flat f [] name e = absurd (cc)
 named-flat f (x ∷ xs) name e =
     elim (or_cases (has_name (f x) name) (has_name (flat_map f xs) name) (sym (named-append (f x) (flat_map f xs) name) ∙ e)) [
@@ -87,7 +90,8 @@ named-flat f (x ∷ xs) name e =
 
 -- Parts and behaviours
 
-behaviour-at : (parts : List Part) (i : ℕ) (b : Behaviour) → slice_get (behaviours_of parts) i ≡ Some b → (k : ℕ) × (part : Part) × (m : ℕ) × (slice_get parts k ≡ Some part) × (slice_get (part_behaviour parts k part) m ≡ Some b)
+behaviour-at : (parts : List Part) (i : ℕ) (b : Behaviour) → slice_get (behaviours_of parts) i ≡ Some b →
+    (k : ℕ) × (part : Part) × (m : ℕ) × (slice_get parts k ≡ Some part) × (slice_get (part_behaviour parts k part) m ≡ Some b)
 behaviour-at parts i b at =
     let r = at-joined (part_behaviour parts) 0 parts i b at in
     let same : 0 + r.0 ≡ r.0 = omega arith in
@@ -142,7 +146,8 @@ process-part parts i process at =
         let same = behaviour-process parts k one process one.targets b in
         record { number = k; is = is ∙ ap (λ p. Some (ProcessPart p)) same; stays = ap (λ (p : WalkedProcess). process_behaviour parts k p p.targets) (sym same) ∙ b }
     by_part k (AssignPart drives value) m is e = let b = one-of (IsNode (record { name = []; drives = drives; function = AssignFunction value })) (IsProcess process) m e in absurd (cc)
-    by_part k (GatePart name kind drives path terminals) m is e = let b = one-of (IsNode (record { name = name; drives = drives; function = GateFunction kind path terminals })) (IsProcess process) m e in absurd (cc)
+    by_part k (GatePart name kind drives path terminals) m is e =
+        let b = one-of (IsNode (record { name = name; drives = drives; function = GateFunction kind path terminals })) (IsProcess process) m e in absurd (cc)
     by_part k (SignalPart signal) m is e = absurd (cc)
     by_part k (MemoryPart memory) m is e = absurd (cc)
     by_part k InstancePart m is e = absurd (cc)
@@ -163,7 +168,8 @@ not-true true e = absurd (cc)
 not-true false e = refl
 
 -- a block of the walk's nodes
-pub block-part : (parts : List Part) (i : ℕ) (node : WalkedNode) (process : WalkedProcess) → slice_get (nodes_in parts) i ≡ Some node → node.function ≡ BlockFunction process → IsBlockPart parts node process
+pub block-part : (parts : List Part) (i : ℕ) (node : WalkedNode) (process : WalkedProcess) → slice_get (nodes_in parts) i ≡ Some node → node.function ≡ BlockFunction process →
+    IsBlockPart parts node process
 block-part parts i node process at function =
     let j = nodes-at (behaviours_of parts) i node at in
     let r = behaviour-at parts j.0 (IsNode node) j.1 in
@@ -187,28 +193,33 @@ block-part parts i node process at function =
           is = is ∙ ap (λ p. Some (ProcessPart p)) same;
           targets = targets;
           targets_is = ap (λ (p : WalkedProcess). p.targets) (sym same) ∙ t;
-          own = ap (λ (p : WalkedProcess). list_all (is_own_target parts k) (target_signals p targets)) (sym same) ∙ and-left (list_all (is_own_target parts k) (target_signals one targets)) (not (reads_by_other_name signals one targets)) tests;
+          own = ap (λ (p : WalkedProcess). list_all (is_own_target parts k) (target_signals p targets)) (sym same)
+              ∙ and-left (list_all (is_own_target parts k) (target_signals one targets)) (not (reads_by_other_name signals one targets)) tests;
           apart = ap (λ (p : WalkedProcess). reads_by_other_name signals p targets) (sym same)
               ∙ not-true (reads_by_other_name signals one targets) (and-right (list_all (is_own_target parts k) (target_signals one targets)) (not (reads_by_other_name signals one targets)) tests);
           drives = ap (λ (n : WalkedNode). n.drives) (sym made) ∙ ap (λ (p : WalkedProcess). map (block_drive signals p) targets) same;
           moves = ap (λ (p : WalkedProcess). process_behaviour parts k p p.targets) (sym same) ∙ moves;
         }
 
-    by_targets : (k : ℕ) (one : WalkedProcess) (targets : Option (List Identifier)) → slice_get parts k ≡ Some (ProcessPart one) → one.targets ≡ targets → process_behaviour parts k one targets ≡ IsNode node →
+    by_targets : (k : ℕ) (one : WalkedProcess) (targets : Option (List Identifier)) → slice_get parts k ≡ Some (ProcessPart one) → one.targets ≡ targets →
+        process_behaviour parts k one targets ≡ IsNode node →
         process_behaviour parts k one one.targets ≡ IsNode node → IsBlockPart parts node process
     by_targets k one None is t e moves = absurd (cc)
-    by_targets k one (Some targets) is t e moves = by_test k one targets (list_all (is_own_target parts k) (target_signals one targets) && not (reads_by_other_name signals one targets)) is t refl e moves
+    by_targets k one (Some targets) is t e moves = by_test k one targets (list_all (is_own_target parts k) (target_signals one targets) && not (reads_by_other_name signals one targets)) is t refl e
+        moves
 
     by_part : (k : ℕ) (part : Part) (m : ℕ) → slice_get parts k ≡ Some part → slice_get (part_behaviour parts k part) m ≡ Some (IsNode node) → IsBlockPart parts node process
     by_part k (ProcessPart one) m is e =
         let b = one-of (process_behaviour parts k one one.targets) (IsNode node) m e in
         by_targets k one one.targets is refl b b
     by_part k (AssignPart drives value) m is e =
-        let made = same-node (record { name = []; drives = drives; function = AssignFunction value }) node (one-of (IsNode (record { name = []; drives = drives; function = AssignFunction value })) (IsNode node) m e) in
+        let made = same-node (record { name = []; drives = drives; function = AssignFunction value }) node
+        (one-of (IsNode (record { name = []; drives = drives; function = AssignFunction value })) (IsNode node) m e) in
         let wrong : AssignFunction value ≡ BlockFunction process = ap (λ (n : WalkedNode). n.function) made ∙ function in
         absurd (cc)
     by_part k (GatePart name kind drives path terminals) m is e =
-        let made = same-node (record { name = name; drives = drives; function = GateFunction kind path terminals }) node (one-of (IsNode (record { name = name; drives = drives; function = GateFunction kind path terminals })) (IsNode node) m e) in
+        let made = same-node (record { name = name; drives = drives; function = GateFunction kind path terminals }) node
+        (one-of (IsNode (record { name = name; drives = drives; function = GateFunction kind path terminals })) (IsNode node) m e) in
         let wrong : GateFunction kind path terminals ≡ BlockFunction process = ap (λ (n : WalkedNode). n.function) made ∙ function in
         absurd (cc)
     by_part k (SignalPart signal) m is e = absurd (cc)
@@ -217,23 +228,27 @@ block-part parts i node process at function =
 
 -- Variables that processes assign
 
-driven-named : (drive : Identifier → Drive) (name : Identifier) (names : List Identifier) → has_name (drive_signals (map drive names)) name ≡ true → has_name (map (λ n. (drive n).signal) names) name ≡ true
+driven-named : (drive : Identifier → Drive) (name : Identifier) (names : List Identifier) → has_name (drive_signals (map drive names)) name ≡ true →
+    has_name (map (λ n. (drive n).signal) names) name ≡ true
 driven-named drive name [] e = absurd (cc)
 driven-named drive name (first ∷ names) e =
     elim (cases_Bool (drives_some (drive first))) [
       | inl some ↦
-          let kept = ap (λ l. has_name (map (λ (d : Drive). d.signal) l) name) (sym (cond-true (drives_some (drive first)) (drive first ∷ filter drives_some (map drive names)) (filter drives_some (map drive names)) some)) ∙ e in
+          let kept = ap (λ l. has_name (map (λ (d : Drive). d.signal) l) name) (sym (cond-true (drives_some (drive first)) (drive first ∷ filter drives_some (map drive names))
+          (filter drives_some (map drive names)) some)) ∙ e in
           elim (or_cases (same_name (drive first).signal name) (has_name (drive_signals (map drive names)) name) kept) [
             | inl here ↦ or_left (same_name (drive first).signal name) (has_name (map (λ n. (drive n).signal) names) name) here
             | inr later ↦ or_right (same_name (drive first).signal name) (has_name (map (λ n. (drive n).signal) names) name) (driven-named drive name names later)
           ]
       | inr none ↦
-          let lost = ap (λ l. has_name (map (λ (d : Drive). d.signal) l) name) (sym (cond-false (drives_some (drive first)) (drive first ∷ filter drives_some (map drive names)) (filter drives_some (map drive names)) none)) ∙ e in
+          let lost = ap (λ l. has_name (map (λ (d : Drive). d.signal) l) name) (sym (cond-false (drives_some (drive first)) (drive first ∷ filter drives_some (map drive names))
+          (filter drives_some (map drive names)) none)) ∙ e in
           or_right (same_name (drive first).signal name) (has_name (map (λ n. (drive n).signal) names) name) (driven-named drive name names lost)
     ]
 
 -- a part that writes an object and isn't the one of a number
-other-writes : (signals : List Signal) (number : ℕ) (object : Identifier) (start k : ℕ) (parts : List Part) (part : Part) → slice_get parts k ≡ Some part → (start + k ≡ number → ⊥) → writes_object signals object part ≡ true →
+other-writes : (signals : List Signal) (number : ℕ) (object : Identifier) (start k : ℕ) (parts : List Part) (part : Part) → slice_get parts k ≡ Some part → (start + k ≡ number → ⊥) →
+    writes_object signals object part ≡ true →
     other_writes signals number object start parts ≡ true
 other-writes signals number object start k [] part at other writes = absurd (cc)
 other-writes signals number object start zero (first ∷ parts) part at other writes =
@@ -249,7 +264,8 @@ other-writes signals number object start (suc k) (first ∷ parts) part at other
     (other-writes signals number object (start + 1) k parts part at (λ e. other (omega (arith, e))) writes)
 
 -- a variable that a statement assigns is among those of its process
-assigned-variable : (process : WalkedProcess) (i : ℕ) (n : NamedPlace) → slice_get (assigned_names process.body) i ≡ Some n → is_reg (looked_up process.scope n.name) ≡ true → has_name (variables_assigned process) (process.path ++ n.name) ≡ true
+assigned-variable : (process : WalkedProcess) (i : ℕ) (n : NamedPlace) → slice_get (assigned_names process.body) i ≡ Some n → is_reg (looked_up process.scope n.name) ≡ true →
+    has_name (variables_assigned process) (process.path ++ n.name) ≡ true
 assigned-variable process i n at reg =
     let names = map (λ (m : NamedPlace). m.name) (assigned_names process.body) in
     let test : Identifier → Bool = λ name. is_reg (looked_up process.scope name) in
@@ -257,7 +273,8 @@ assigned-variable process i n at reg =
     name-there (map (λ name. process.path ++ name) (filter test names)) kept.0 (process.path ++ n.name) (at-map (λ name. process.path ++ name) (filter test names) kept.0 n.name kept.1)
 
 -- a block that is a node assigns no variable that a process assigns
-pub process-apart : (parts : List Part) (process : WalkedProcess) → IsProcessPart parts process → (node : WalkedNode) (block : WalkedProcess) (moves : IsBlockPart parts node block) (name : Identifier) →
+pub process-apart : (parts : List Part) (process : WalkedProcess) → IsProcessPart parts process →
+    (node : WalkedNode) (block : WalkedProcess) (moves : IsBlockPart parts node block) (name : Identifier) →
     has_name (variables_assigned process) name ≡ true → has_name (target_signals block moves.targets) name ≡ true → ⊥
 process-apart parts process stays node block moves name writes target =
     let signals = signals_of parts in
@@ -269,7 +286,8 @@ process-apart parts process stays node block moves name writes target =
     let number : stays.number ≡ moves.number = omega (arith, e) in
     let part : ProcessPart process ≡ ProcessPart block = same_some (ProcessPart process) (ProcessPart block) (sym stays.is ∙ ap (slice_get parts) number ∙ moves.is) in
     let same : process ≡ block = same-part process block part in
-    let wrong : IsProcess process ≡ IsNode node = sym stays.stays ∙ ap (λ k. process_behaviour parts k process process.targets) number ∙ ap (λ (p : WalkedProcess). process_behaviour parts moves.number p p.targets) same ∙ moves.moves in
+    let wrong : IsProcess process ≡ IsNode node = sym stays.stays ∙ ap (λ k. process_behaviour parts k process process.targets) number
+    ∙ ap (λ (p : WalkedProcess). process_behaviour parts moves.number p p.targets) same ∙ moves.moves in
     never process node wrong in
     let both : true ≡ false = sym (other-writes signals moves.number object 0 stays.number parts (ProcessPart process) stays.is differs written) ∙ none in
     absurd (cc)
@@ -281,7 +299,8 @@ process-apart parts process stays node block moves name writes target =
     never process node e = absurd (cc)
 
 -- the signals that a node's block drives are its targets
-block-named : (parts : List Part) (node : WalkedNode) (name : Identifier) → has_name (block_signals node) name ≡ true → (process : WalkedProcess) × (node.function ≡ BlockFunction process) × (has_name (drive_signals node.drives) name ≡ true)
+block-named : (parts : List Part) (node : WalkedNode) (name : Identifier) → has_name (block_signals node) name ≡ true →
+    (process : WalkedProcess) × (node.function ≡ BlockFunction process) × (has_name (drive_signals node.drives) name ≡ true)
 block-named parts node name e = by_function node.function refl
   where
     by_function : (function : NodeFunction) → node.function ≡ function → (process : WalkedProcess) × (node.function ≡ BlockFunction process) × (has_name (drive_signals node.drives) name ≡ true)
@@ -290,7 +309,8 @@ block-named parts node name e = by_function node.function refl
     by_function (BlockFunction process) is = (process, is, sym (ap (λ f. has_name (block_signals (record node { function = f })) name) is) ∙ e)
 
 -- a variable that a process assigns drives its object
-pub process-drives : (parts : List Part) (process : WalkedProcess) → IsProcessPart parts process → (signal : Signal) → signal.is_reg ≡ true → has_name (variables_assigned process) signal.name ≡ true → is_driving (nodes_in parts) signal ≡ true
+pub process-drives : (parts : List Part) (process : WalkedProcess) → IsProcessPart parts process → (signal : Signal) → signal.is_reg ≡ true →
+    has_name (variables_assigned process) signal.name ≡ true → is_driving (nodes_in parts) signal ≡ true
 process-drives parts process stays signal reg writes =
     both-true signal.is_reg (not (has_name (flat_map block_signals (nodes_in parts)) signal.name)) reg
     (elim (cases_Bool (has_name (flat_map block_signals (nodes_in parts)) signal.name)) [
@@ -304,6 +324,8 @@ process-drives parts process stays signal reg writes =
     ])
 
 -- and so does one that a statement of it assigns
-pub assigned-drives : (parts : List Part) (process : WalkedProcess) → IsProcessPart parts process → (i : ℕ) (n : NamedPlace) → slice_get (assigned_names process.body) i ≡ Some n → is_reg (looked_up process.scope n.name) ≡ true →
+pub assigned-drives : (parts : List Part) (process : WalkedProcess) → IsProcessPart parts process → (i : ℕ) (n : NamedPlace) → slice_get (assigned_names process.body) i ≡ Some n →
+    is_reg (looked_up process.scope n.name) ≡ true →
     (signal : Signal) → signal.is_reg ≡ true → signal.name ≡ process.path ++ n.name → is_driving (nodes_in parts) signal ≡ true
-assigned-drives parts process stays i n at reg signal is_reg name = process-drives parts process stays signal is_reg (ap (has_name (variables_assigned process)) name ∙ assigned-variable process i n at reg)
+assigned-drives parts process stays i n at reg signal is_reg name = process-drives parts process stays signal is_reg
+    (ap (has_name (variables_assigned process)) name ∙ assigned-variable process i n at reg)

@@ -77,7 +77,8 @@ part-signal : (one other : Signal) → SignalPart one ≡ SignalPart other → o
 part-signal one other e = cc
 
 -- two signals of one name are one
-pub signals-once : (parts : List Part) → IsHierarchy parts → (i j : ℕ) (one other : Signal) → slice_get (signals_of parts) i ≡ Some one → slice_get (signals_of parts) j ≡ Some other → one.name ≡ other.name → one ≡ other
+pub signals-once : (parts : List Part) → IsHierarchy parts → (i j : ℕ) (one other : Signal) → slice_get (signals_of parts) i ≡ Some one → slice_get (signals_of parts) j ≡ Some other →
+    one.name ≡ other.name → one ≡ other
 signals-once parts hierarchy i j one other at_i at_j e =
     let first = signal-part parts i one at_i in
     let second = signal-part parts j other at_j in
@@ -91,7 +92,8 @@ named-at (first ∷ signals) name signal e =
     by_test (same_name first.name name) refl (ap (λ b. signal_if b first (signal_named signals name)) refl ∙ e) (λ rest. named-at signals name signal rest)
   where
     by_test : (test : Bool) → same_name first.name name ≡ test → signal_if test first (signal_named signals name) ≡ Some signal →
-        (signal_named signals name ≡ Some signal → (i : ℕ) × (slice_get signals i ≡ Some signal) × (signal.name ≡ name)) → (i : ℕ) × (slice_get (first ∷ signals) i ≡ Some signal) × (signal.name ≡ name)
+        (signal_named signals name ≡ Some signal → (i : ℕ) × (slice_get signals i ≡ Some signal) × (signal.name ≡ name)) →
+        (i : ℕ) × (slice_get (first ∷ signals) i ≡ Some signal) × (signal.name ≡ name)
     by_test true is d rest = let same = same_some first signal d in (0, d, ap (λ (s : Signal). s.name) (sym same) ∙ equal-name first.name name is)
     by_test false is d rest = let r = rest d in (suc r.0, r.1, r.2)
 
@@ -124,7 +126,8 @@ pub record IsAtLast (signals : List Signal) (signal : Signal) (name : Identifier
   pub unjoined : outer.joined ≡ None
   pub width : range_width outer.range ≡ range_width signal.range
 
-at-last : (parts : List Part) → IsHierarchy parts → (levels i : ℕ) (signal : Signal) → slice_get (signals_of parts) i ≡ Some signal → signal.depth ≤ levels → IsAtLast (signals_of parts) signal (outermost_within levels (signals_of parts) signal.name)
+at-last : (parts : List Part) → IsHierarchy parts → (levels i : ℕ) (signal : Signal) → slice_get (signals_of parts) i ≡ Some signal → signal.depth ≤ levels →
+    IsAtLast (signals_of parts) signal (outermost_within levels (signals_of parts) signal.name)
 at-last parts hierarchy zero i signal at low = by_joined signal.joined refl
   where
     by_joined : (joined : Option Joining) → signal.joined ≡ joined → IsAtLast (signals_of parts) signal signal.name
@@ -140,7 +143,8 @@ at-last parts hierarchy (suc levels) i signal at low = by_joined signal.joined r
     signals = signals_of parts
 
     step : (joined : Option Joining) → signal.joined ≡ joined → outermost_within (suc levels) signals signal.name ≡ up_or (outermost_within levels signals) signal.name joined
-    step joined e = ap (λ found. up_or (outermost_within levels signals) signal.name (joined_into found)) (signal-found parts hierarchy i signal at) ∙ ap (up_or (outermost_within levels signals) signal.name) e
+    step joined e = ap (λ found. up_or (outermost_within levels signals) signal.name (joined_into found)) (signal-found parts hierarchy i signal at)
+        ∙ ap (up_or (outermost_within levels signals) signal.name) e
 
     by_joined : (joined : Option Joining) → signal.joined ≡ joined →
         ((k : ℕ) (outer : Signal) → slice_get signals k ≡ Some outer → outer.depth ≤ levels → IsAtLast signals outer (outermost_within levels signals outer.name)) →
@@ -161,6 +165,7 @@ at-last parts hierarchy (suc levels) i signal at low = by_joined signal.joined r
         }
 
 -- the name that a signal's name is at last joined into is that of an unjoined signal of its width
-pub outermost-is : (parts : List Part) → IsHierarchy parts → (i : ℕ) (signal : Signal) → slice_get (signals_of parts) i ≡ Some signal → IsAtLast (signals_of parts) signal (outermost (signals_of parts) signal.name)
+pub outermost-is : (parts : List Part) → IsHierarchy parts → (i : ℕ) (signal : Signal) → slice_get (signals_of parts) i ≡ Some signal →
+    IsAtLast (signals_of parts) signal (outermost (signals_of parts) signal.name)
 outermost-is parts hierarchy i signal at =
     let part = signal-part parts i signal at in at-last parts hierarchy most_depth i signal at (hierarchy.signals part.0 signal part.1).depth

@@ -4,14 +4,23 @@ use Rattle.std.specs.Prelude.{map}
 use Rattle.vf_base.specs.Base.{SourcePlace}
 use Rattle.four_value.specs.declared.operator.UnaryOperator.{UnaryOperator}
 use Rattle.four_value.specs.declared.operator.BinaryOperator.{BinaryOperator}
-use Rattle.v_design.specs.Sized.{span, most_bits, UnarySizing, OperandWithWhole, OperandAlone, unary_sizing, BinarySizing, BothWithWhole, LeftWithWhole, BothTogether, EachAlone, binary_sizing, levels_of, levels_of_parts, levels_of_target, levels_of_targets, levels_of_statement, levels_of_statements, levels_of_items}
-use Rattle.v_tree.specs.Trees.{Identifier, SourceExpression, Number, Selected, Parenthesised, Prefixed, Infixed, Chosen, Concatenated, Replicated, SourceIndex, NoIndex, IndexAt, IndexRange, SourceExpressions, no_parts, more_parts, place_of_expression, SourceSelect, SourceTarget, OneSelect, JoinedSelects, SourceStatement, NullStatement, BlockStatement, IfStatement, IfElseStatement, CaseStatement, ForStatement, WhileStatement, RepeatStatement, ForeverStatement, WaitStatement, EventStatement, DelayStatement, BlockingStatement, NonblockingStatement, IgnoredTask, FinishTask, SourceStatements, no_source_statements, more_source_statements, SourceCaseItems, no_source_items, labelled, otherwise}
+use Rattle.v_design.specs.Sized.{span, most_bits, UnarySizing, OperandWithWhole, OperandAlone, unary_sizing, BinarySizing, BothWithWhole, LeftWithWhole, BothTogether, EachAlone, binary_sizing}
+use Rattle.v_design.specs.Sized.{levels_of, levels_of_parts, levels_of_target, levels_of_targets, levels_of_statement, levels_of_statements, levels_of_items}
+use Rattle.v_tree.specs.Trees.{Identifier, SourceExpression, Number, Selected, Parenthesised, Prefixed, Infixed, Chosen, Concatenated, Replicated, SourceIndex, NoIndex, IndexAt, IndexRange}
+use Rattle.v_tree.specs.Trees.{SourceExpressions, no_parts, more_parts, place_of_expression, SourceSelect, SourceTarget, OneSelect, JoinedSelects, SourceStatement, NullStatement, BlockStatement}
+use Rattle.v_tree.specs.Trees.{IfStatement, IfElseStatement, CaseStatement, ForStatement, WhileStatement, RepeatStatement, ForeverStatement, WaitStatement, EventStatement, DelayStatement}
+use Rattle.v_tree.specs.Trees.{BlockingStatement, NonblockingStatement, IgnoredTask, FinishTask, SourceStatements, no_source_statements, more_source_statements, SourceCaseItems, no_source_items}
+use Rattle.v_tree.specs.Trees.{labelled, otherwise}
 use Rattle.v_names.specs.Faults.{Fault}
-use Rattle.v_names.specs.Scopes.{DeclaredRange, ScopeEntry, ParameterEntry, RefusedParameter, WaitingParameter, NetEntry, RegEntry, MemoryEntry, GateEntry, InstanceEntry, Scope, looked_up, is_memory, range_width}
+use Rattle.v_names.specs.Scopes.{DeclaredRange, ScopeEntry, ParameterEntry, RefusedParameter, WaitingParameter, NetEntry, RegEntry, MemoryEntry, GateEntry, InstanceEntry, Scope, looked_up}
+use Rattle.v_names.specs.Scopes.{is_memory, range_width}
 use Rattle.v_names.specs.SizedTrees.{SizedExpression, SizedConstant, SizedExpressions, Holders, over_objects, all_over_objects}
-use Rattle.v_names.specs.Readings.{Size, Reading, size_or_bit, larger_size, alone_faults, sized_if, sized_reading, is_signed_number, name_reading, bit_reading, indexed_reading, runs_alike, part_if, part_between, part_reading, ranged_reading, unary_reading, binary_reading, choice_reading, PartsReading, is_unsized_number, part_before, concatenation_reading, replication_reading, reading_of, select_reading, parts_reading, constant_reading, natural_constant}
+use Rattle.v_names.specs.Readings.{Size, Reading, size_or_bit, larger_size, alone_faults, sized_if, sized_reading, is_signed_number, name_reading, bit_reading, indexed_reading, runs_alike, part_if}
+use Rattle.v_names.specs.Readings.{part_between, part_reading, ranged_reading, unary_reading, binary_reading, choice_reading, PartsReading, is_unsized_number, part_before, concatenation_reading}
+use Rattle.v_names.specs.Readings.{replication_reading, reading_of, select_reading, parts_reading, constant_reading, natural_constant}
 use Rattle.v_width.specs.Targets.{ByProcess, target_width_in}
-use Rattle.v_elab.specs.Statements.{Meaning, alone_expression, assigned_expression, indexed_target, target_by_index, targets_over, items_size, label_expressions, statement_over, statements_over, items_over, default_over}
+use Rattle.v_elab.specs.Statements.{Meaning, alone_expression, assigned_expression, indexed_target, target_by_index, targets_over, items_size, label_expressions, statement_over, statements_over}
+use Rattle.v_elab.specs.Statements.{items_over, default_over}
 use Rattle.v_expr.specs.Heights.{height_of, index_height, heights_of, select_heights, target_height}
 use Rattle.v_stmt.specs.Heights.{statement_height, body_height, items_height}
 
@@ -33,7 +42,8 @@ reading-within holders most place width signed complete inside tree some h =
 
 name-within : (holders : Holders) (most : ℕ) → 1 ≤ most → (entry : Option ScopeEntry) (place : SourcePlace) (name : Identifier) → AreWithin holders most (name_reading entry place name)
 name-within holders most some None place name = λ width signed. some
-name-within holders most some (Some (ParameterEntry value signed)) place name = reading-within holders most place (length value) signed true [] (λ width whole. SizedConstant width whole value) some (λ width whole. some)
+name-within holders most some (Some (ParameterEntry value signed)) place name = reading-within holders most place (length value) signed true [] (λ width whole. SizedConstant width whole value) some
+    (λ width whole. some)
 name-within holders most some (Some RefusedParameter) place name = λ width signed. some
 name-within holders most some (Some WaitingParameter) place name = λ width signed. some
 name-within holders most some (Some (NetEntry range signed)) place name = reading-within holders most place (range_width range) signed true [] _ some (λ width whole. some)
@@ -42,11 +52,13 @@ name-within holders most some (Some (MemoryEntry range first last signed)) place
 name-within holders most some (Some GateEntry) place name = λ width signed. some
 name-within holders most some (Some InstanceEntry) place name = λ width signed. some
 
-bit-within : (holders : Holders) (most : ℕ) (ranged : Bool) (place : SourcePlace) (name : Identifier) (index : Reading) → AreWithin holders most index → AreWithin holders (suc most) (bit_reading ranged place name index)
+bit-within : (holders : Holders) (most : ℕ) (ranged : Bool) (place : SourcePlace) (name : Identifier) (index : Reading) → AreWithin holders most index →
+    AreWithin holders (suc most) (bit_reading ranged place name index)
 bit-within holders most true place name index h width signed = let low = h (size_or_bit index.size).width (size_or_bit index.size).signed in omega (arith, low)
 bit-within holders most false place name index h width signed = omega arith
 
-indexed-within : (holders : Holders) (most : ℕ) (entry : Option ScopeEntry) (place : SourcePlace) (name : Identifier) (index : Reading) → AreWithin holders most index → AreWithin holders (suc most) (indexed_reading entry place name index)
+indexed-within : (holders : Holders) (most : ℕ) (entry : Option ScopeEntry) (place : SourcePlace) (name : Identifier) (index : Reading) → AreWithin holders most index →
+    AreWithin holders (suc most) (indexed_reading entry place name index)
 indexed-within holders most None place name index h = λ width signed. omega arith
 indexed-within holders most (Some (NetEntry range signed)) place name index h = bit-within holders most range.ranged place name index h
 indexed-within holders most (Some (RegEntry range signed)) place name index h = bit-within holders most range.ranged place name index h
@@ -59,20 +71,24 @@ indexed-within holders most (Some WaitingParameter) place name index h = λ widt
 indexed-within holders most (Some GateEntry) place name index h = λ width whole. omega arith
 indexed-within holders most (Some InstanceEntry) place name index h = λ width whole. omega arith
 
-part_if-within : (holders : Holders) (most : ℕ) → 1 ≤ most → (alike : Bool) (place : SourcePlace) (name : Identifier) (inside : List Fault) (from to : ℕ) → AreWithin holders most (part_if alike place name inside from to)
+part_if-within : (holders : Holders) (most : ℕ) → 1 ≤ most → (alike : Bool) (place : SourcePlace) (name : Identifier) (inside : List Fault) (from to : ℕ) →
+    AreWithin holders most (part_if alike place name inside from to)
 part_if-within holders most some true place name inside from to = reading-within holders most place (span from to) false true inside _ some (λ width whole. some)
 part_if-within holders most some false place name inside from to = λ width whole. some
 
-part_between-within : (holders : Holders) (most : ℕ) → 1 ≤ most → (range : DeclaredRange) (place : SourcePlace) (name : Identifier) (inside : List Fault) (from to : Option ℕ) → AreWithin holders most (part_between range place name inside from to)
+part_between-within : (holders : Holders) (most : ℕ) → 1 ≤ most → (range : DeclaredRange) (place : SourcePlace) (name : Identifier) (inside : List Fault) (from to : Option ℕ) →
+    AreWithin holders most (part_between range place name inside from to)
 part_between-within holders most some range place name inside None to = λ width whole. some
 part_between-within holders most some range place name inside (Some from) None = λ width whole. some
 part_between-within holders most some range place name inside (Some from) (Some to) = part_if-within holders most some (runs_alike range from to) place name inside from to
 
-part-within : (holders : Holders) (most : ℕ) → 1 ≤ most → (ranged : Bool) (range : DeclaredRange) (place : SourcePlace) (name : Identifier) (inside : List Fault) (from to : Option ℕ) → AreWithin holders most (part_reading ranged range place name inside from to)
+part-within : (holders : Holders) (most : ℕ) → 1 ≤ most → (ranged : Bool) (range : DeclaredRange) (place : SourcePlace) (name : Identifier) (inside : List Fault) (from to : Option ℕ) →
+    AreWithin holders most (part_reading ranged range place name inside from to)
 part-within holders most some true range place name inside from to = part_between-within holders most some range place name inside from to
 part-within holders most some false range place name inside from to = λ width whole. some
 
-ranged-within : (holders : Holders) (most : ℕ) → 1 ≤ most → (entry : Option ScopeEntry) (place : SourcePlace) (name : Identifier) (inside : List Fault) (from to : Option ℕ) → AreWithin holders most (ranged_reading entry place name inside from to)
+ranged-within : (holders : Holders) (most : ℕ) → 1 ≤ most → (entry : Option ScopeEntry) (place : SourcePlace) (name : Identifier) (inside : List Fault) (from to : Option ℕ) →
+    AreWithin holders most (ranged_reading entry place name inside from to)
 ranged-within holders most some None place name inside from to = λ width whole. some
 ranged-within holders most some (Some (NetEntry range signed)) place name inside from to = part-within holders most some range.ranged range place name inside from to
 ranged-within holders most some (Some (RegEntry range signed)) place name inside from to = part-within holders most some range.ranged range place name inside from to
@@ -85,11 +101,13 @@ ranged-within holders most some (Some InstanceEntry) place name inside from to =
 
 -- Operators
 
-unary-within : (holders : Holders) (most : ℕ) (sizing : UnarySizing) (operator : UnaryOperator) (a : Reading) → AreWithin holders most a → AreWithin holders (suc most) (unary_reading sizing operator a)
+unary-within : (holders : Holders) (most : ℕ) (sizing : UnarySizing) (operator : UnaryOperator) (a : Reading) → AreWithin holders most a →
+    AreWithin holders (suc most) (unary_reading sizing operator a)
 unary-within holders most OperandWithWhole operator a h width signed = let low = h width signed in omega (arith, low)
 unary-within holders most OperandAlone operator a h width signed = let low = h (size_or_bit a.size).width (size_or_bit a.size).signed in omega (arith, low)
 
-binary-within : (holders : Holders) (most : ℕ) (sizing : BinarySizing) (operator : BinaryOperator) (a b : Reading) → AreWithin holders most a → AreWithin holders most b → AreWithin holders (suc most) (binary_reading sizing operator a b)
+binary-within : (holders : Holders) (most : ℕ) (sizing : BinarySizing) (operator : BinaryOperator) (a b : Reading) → AreWithin holders most a → AreWithin holders most b →
+    AreWithin holders (suc most) (binary_reading sizing operator a b)
 binary-within holders most BothWithWhole operator a b h k width signed = let one = h width signed in let other = k width signed in omega (arith, one, other)
 binary-within holders most LeftWithWhole operator a b h k width signed = let one = h width signed in let other = k (size_or_bit b.size).width (size_or_bit b.size).signed in omega (arith, one, other)
 binary-within holders most BothTogether operator a b h k width signed =
@@ -106,16 +124,19 @@ choice-within holders most c a b g h k width signed =
 abbrev PartsWithin : Holders → ℕ → PartsReading → Type 0
 PartsWithin holders most read = levels_of_parts (all_over_objects holders read.trees) ≤ most
 
-parts-before : (holders : Holders) (most : ℕ) (unsized : Bool) (place : SourcePlace) (reading : Reading) (rest : PartsReading) → AreWithin holders most reading → PartsWithin holders most rest → PartsWithin holders most (part_before unsized place reading rest)
+parts-before : (holders : Holders) (most : ℕ) (unsized : Bool) (place : SourcePlace) (reading : Reading) (rest : PartsReading) → AreWithin holders most reading → PartsWithin holders most rest →
+    PartsWithin holders most (part_before unsized place reading rest)
 parts-before holders most true place reading rest h k = let one = h (size_or_bit reading.size).width (size_or_bit reading.size).signed in omega (arith, one, k)
 parts-before holders most false place reading rest h k = let one = h (size_or_bit reading.size).width (size_or_bit reading.size).signed in omega (arith, one, k)
 
-concatenation-within : (holders : Holders) (most : ℕ) (place : SourcePlace) (width : Option ℕ) (complete : Bool) (inside : List Fault) (trees : SizedExpressions) → levels_of_parts (all_over_objects holders trees) ≤ most →
+concatenation-within : (holders : Holders) (most : ℕ) (place : SourcePlace) (width : Option ℕ) (complete : Bool) (inside : List Fault) (trees : SizedExpressions) →
+    levels_of_parts (all_over_objects holders trees) ≤ most →
     AreWithin holders (suc most) (concatenation_reading place width complete inside trees)
 concatenation-within holders most place None complete inside trees h = λ width signed. omega arith
 concatenation-within holders most place (Some total) complete inside trees h = reading-within holders (suc most) place total false complete inside _ (omega arith) (λ width whole. omega (arith, h))
 
-replication-within : (holders : Holders) (most : ℕ) (place : SourcePlace) (count width : Option ℕ) (complete : Bool) (inside : List Fault) (trees : SizedExpressions) → levels_of_parts (all_over_objects holders trees) ≤ most →
+replication-within : (holders : Holders) (most : ℕ) (place : SourcePlace) (count width : Option ℕ) (complete : Bool) (inside : List Fault) (trees : SizedExpressions) →
+    levels_of_parts (all_over_objects holders trees) ≤ most →
     AreWithin holders (suc most) (replication_reading place count width complete inside trees)
 replication-within holders most place None width complete inside trees h = λ size signed. omega arith
 replication-within holders most place (Some count) None complete inside trees h = λ size signed. omega arith
@@ -134,8 +155,10 @@ mutual
   tree-within holders scope (Number place form value) =
       reading-within holders 1 place (length value) (is_signed_number form value) true [] (λ width signed. SizedConstant width signed value) (omega arith) (λ width whole. omega arith)
   tree-within holders scope (Selected place name index) = select-within holders scope place name index
-  tree-within holders scope (Parenthesised place inner) = within-more holders (suc (height_of inner)) (suc (suc (height_of inner))) (reading_of scope inner) (omega arith) (tree-within holders scope inner)
-  tree-within holders scope (Prefixed place operator operand) = unary-within holders (suc (height_of operand)) (unary_sizing operator) operator (reading_of scope operand) (tree-within holders scope operand)
+  tree-within holders scope (Parenthesised place inner) = within-more holders (suc (height_of inner)) (suc (suc (height_of inner))) (reading_of scope inner) (omega arith)
+      (tree-within holders scope inner)
+  tree-within holders scope (Prefixed place operator operand) = unary-within holders (suc (height_of operand)) (unary_sizing operator) operator (reading_of scope operand)
+      (tree-within holders scope operand)
   tree-within holders scope (Infixed place operator left right) =
       let most = suc (max (height_of left) (height_of right)) in
       binary-within holders most (binary_sizing operator) operator (reading_of scope left) (reading_of scope right)
@@ -154,9 +177,11 @@ mutual
       let read = parts_reading scope parts in
       let times = reading_of scope count in
       within-more holders (suc (suc (heights_of parts))) (suc (suc (max (height_of count) (heights_of parts)))) (reading_of scope (Replicated place count parts)) (omega arith)
-      (replication-within holders (suc (heights_of parts)) place (natural_constant (constant_reading scope 0 count times)) read.width read.complete (read.inside ++ alone_faults times) read.trees (parts-within holders scope parts))
+      (replication-within holders (suc (heights_of parts)) place (natural_constant (constant_reading scope 0 count times)) read.width read.complete (read.inside ++ alone_faults times) read.trees
+      (parts-within holders scope parts))
 
-  select-within : (holders : Holders) (scope : Scope) (place : SourcePlace) (name : Identifier) (index : SourceIndex) → AreWithin holders (suc (index_height index)) (select_reading scope place name index)
+  select-within : (holders : Holders) (scope : Scope) (place : SourcePlace) (name : Identifier) (index : SourceIndex) →
+      AreWithin holders (suc (index_height index)) (select_reading scope place name index)
   select-within holders scope place name NoIndex = name-within holders 1 (omega arith) (looked_up scope name) place name
   select-within holders scope place name (IndexAt index) = indexed-within holders (suc (height_of index)) (looked_up scope name) place name (reading_of scope index) (tree-within holders scope index)
   select-within holders scope place name (IndexRange from to) =

@@ -10,17 +10,20 @@ use Rattle.v_design.specs.Reads.{node_reads, named_by_node}
 use Rattle.v_design.specs.WellFormed.{have_widths}
 use Rattle.v_tree.specs.declared.item.Direction.{Direction}
 use Rattle.v_tree.specs.declared.item.Direction.TheVariants.{Input, Output}
-use Rattle.v_tree.specs.Trees.{Identifier, SourceExpression, SourceTarget, SourceParameters, SourcePorts, SourceWire, SourceAssignment, SourceGate, SourceConnection, SourceItem, ParameterItem, PortItem, WireItem, RegItem, IntegerItem, AssignItem, GateItem, InstanceItem, InitialItem, AlwaysItem, SourceHeads, PlainHeads, DeclaredHeads, SourceModule}
+use Rattle.v_tree.specs.Trees.{Identifier, SourceExpression, SourceTarget, SourceParameters, SourcePorts, SourceWire, SourceAssignment, SourceGate, SourceConnection, SourceItem, ParameterItem}
+use Rattle.v_tree.specs.Trees.{PortItem, WireItem, RegItem, IntegerItem, AssignItem, GateItem, InstanceItem, InitialItem, AlwaysItem, SourceHeads, PlainHeads, DeclaredHeads, SourceModule}
 use Rattle.v_names.specs.Faults.{Fault, unless_faulty, same_place}
 use Rattle.v_names.specs.Scopes.{ScopeEntry, ParameterEntry, RefusedParameter, WaitingParameter, NetEntry, RegEntry, MemoryEntry, GateEntry, InstanceEntry, Scope, looked_up}
-use Rattle.v_names.specs.Names.{Declaration, names_declared, of_name, item_declarations, declarations_of, GivenParameter, scope_of, names, twice_faults, heads_faults, statement_name_faults, parameters_faults, item_name_faults, module_name_faults}
+use Rattle.v_names.specs.Names.{Declaration, names_declared, of_name, item_declarations, declarations_of, GivenParameter, scope_of, names, twice_faults, heads_faults, statement_name_faults}
+use Rattle.v_names.specs.Names.{parameters_faults, item_name_faults, module_name_faults}
 use Rattle.v_width.specs.Targets.{target_of}
 use Rattle.v_elab.specs.declared.Mode.{Mode}
 use Rattle.v_elab.specs.ItemFaults.{item_faults, statement_faults}
 use Rattle.v_elab.specs.Parts.{Signal, WalkedProcess, Part, SignalPart, MemoryPart, AssignPart, GatePart, ProcessPart, InstancePart}
 use Rattle.v_elab.specs.Connections.{Child, Paths, joined_name, port_direction, actual_parts, output_parts, connection_parts, connections_parts, connected_name, head_names}
 use Rattle.v_elab.specs.Walk.{Here, part_by_entry, parts_of_own, declared_parts, assign_part, wire_parts, gate_parts, item_parts, child_of, paths_of, head_items, walked_from}
-use Rattle.v_elab.specs.Drivers.{signals_of, NodeFunction, AssignFunction, GateFunction, BlockFunction, Behaviour, IsNode, IsProcess, block_or_process, process_behaviour, part_behaviour, behaviours_of, processes_of}
+use Rattle.v_elab.specs.Drivers.{signals_of, NodeFunction, AssignFunction, GateFunction, BlockFunction, Behaviour, IsNode, IsProcess, block_or_process, process_behaviour, part_behaviour}
+use Rattle.v_elab.specs.Drivers.{behaviours_of, processes_of}
 use Rattle.v_elab.specs.Objects.{HeldObject, holders_at}
 use Rattle.v_elab.specs.Flat.{NodeOutput, meaning_in, flat_process, outputs_of, node_kind, flat_node}
 use Rattle.graph_order.specs.ListLaws.{AllHold-slice_get}
@@ -57,7 +60,8 @@ items-named m given scope e item of =
     let all = scope_of m given in
     let ok = unless_faulty-ok (module_name_faults all m) all scope e in
     let none : module_name_faults scope m ≡ [] = ap (λ s. module_name_faults s m) (sym ok.1) ∙ ok.0 in
-    let first = append-none (twice_faults scope [] (declarations_of m)) (flat_map (parameters_faults scope) m.parameters ++ (heads_faults scope m.heads ++ flat_map (item_name_faults scope) m.items)) none in
+    let first = append-none (twice_faults scope [] (declarations_of m)) (flat_map (parameters_faults scope) m.parameters ++ (heads_faults scope m.heads ++ flat_map (item_name_faults scope) m.items))
+    none in
     let second = append-none (flat_map (parameters_faults scope) m.parameters) (heads_faults scope m.heads ++ flat_map (item_name_faults scope) m.items) first.1 in
     let third = append-none (heads_faults scope m.heads) (flat_map (item_name_faults scope) m.items) second.1 in
     let each : AllHold (λ other. item_name_faults scope other ≡ []) (items_of m) =
@@ -94,8 +98,10 @@ declared-faultless here item =
     AllHold-flat_map IsFaultlessPart (parts_of_own here (names_declared here.instance.inner)) (item_declarations item)
     (AllHold-all (λ d. AllHold IsFaultlessPart (parts_of_own here (names_declared here.instance.inner) d)) (item_declarations item)
     (λ d.
-    AllHold-flat_map IsFaultlessPart (λ (own : Declaration). part_by_entry here own (looked_up here.scope own.name)) (filter (λ (own : Declaration). same_place own.place d.place) (of_name d.name (names_declared here.instance.inner)))
-    (AllHold-all (λ (own : Declaration). AllHold IsFaultlessPart (part_by_entry here own (looked_up here.scope own.name))) (filter (λ (own : Declaration). same_place own.place d.place) (of_name d.name (names_declared here.instance.inner)))
+    AllHold-flat_map IsFaultlessPart (λ (own : Declaration). part_by_entry here own (looked_up here.scope own.name))
+    (filter (λ (own : Declaration). same_place own.place d.place) (of_name d.name (names_declared here.instance.inner)))
+    (AllHold-all (λ (own : Declaration). AllHold IsFaultlessPart (part_by_entry here own (looked_up here.scope own.name)))
+    (filter (λ (own : Declaration). same_place own.place d.place) (of_name d.name (names_declared here.instance.inner)))
     (λ own. entry-faultless here own (looked_up here.scope own.name)))))
 
 wire-faultless : (here : Here) (wire : SourceWire) (value : Option SourceExpression) → AllHold IsFaultlessPart (wire_parts here (record wire { value = value }))
@@ -110,7 +116,8 @@ port-faultless : (child : Child) (paths : Paths) (port : Identifier) (e : Source
 port-faultless child paths port e None = tt
 port-faultless child paths port e (Some target) = (tt, tt)
 
-actual-faultless : (child : Child) (paths : Paths) (port : Identifier) (e : SourceExpression) (joined : Option Identifier) (direction : Option Direction) → AllHold IsFaultlessPart (actual_parts child paths port e joined direction)
+actual-faultless : (child : Child) (paths : Paths) (port : Identifier) (e : SourceExpression) (joined : Option Identifier) (direction : Option Direction) →
+    AllHold IsFaultlessPart (actual_parts child paths port e joined direction)
 actual-faultless child paths port e (Some joined) direction = tt
 actual-faultless child paths port e None (Some Input) = (tt, tt)
 actual-faultless child paths port e None (Some Output) = port-faultless child paths port e (target_of e)
@@ -124,10 +131,12 @@ connection-faultless child paths (Some port) (Some e) = actual-faultless child p
 connections-faultless : (child : Child) (paths : Paths) (position : ℕ) (connections : List SourceConnection) → AllHold IsFaultlessPart (connections_parts child paths position connections)
 connections-faultless child paths position [] = tt
 connections-faultless child paths position (connection ∷ rest) =
-    AllHold-append IsFaultlessPart (connection_parts child paths (connected_name (head_names child.inner.heads) position connection.name) connection.actual) (connections_parts child paths (position + 1) rest)
+    AllHold-append IsFaultlessPart (connection_parts child paths (connected_name (head_names child.inner.heads) position connection.name) connection.actual)
+    (connections_parts child paths (position + 1) rest)
     (connection-faultless child paths (connected_name (head_names child.inner.heads) position connection.name) connection.actual) (connections-faultless child paths (position + 1) rest)
 
-item-faultless : (modules : List SourceModule) → IsSourceUnit modules → (mode : Mode) (here : Here) → IsHere (IsModule modules) modules mode here → (gates : ℕ) (item : SourceItem) → IsOf here.instance.inner item → item_faults here.scope item ≡ [] →
+item-faultless : (modules : List SourceModule) → IsSourceUnit modules → (mode : Mode) (here : Here) → IsHere (IsModule modules) modules mode here → (gates : ℕ) (item : SourceItem) →
+    IsOf here.instance.inner item → item_faults here.scope item ≡ [] →
     AllHold IsFaultlessPart (item_parts here gates item)
 item-faultless modules source mode here is gates (ParameterItem group) of none = tt
 item-faultless modules source mode here is gates (PortItem group) of none = declared-faultless here (PortItem group)
@@ -137,7 +146,8 @@ item-faultless modules source mode here is gates (WireItem place signed range wi
 item-faultless modules source mode here is gates (RegItem place signed range regs) of none = declared-faultless here (RegItem place signed range regs)
 item-faultless modules source mode here is gates (IntegerItem place regs) of none = declared-faultless here (IntegerItem place regs)
 item-faultless modules source mode here is gates (AssignItem place assignments) of none =
-    AllHold-map IsFaultlessPart (λ (a : SourceAssignment). assign_part here a.target a.value) assignments (AllHold-all (λ (a : SourceAssignment). IsFaultlessPart (assign_part here a.target a.value)) assignments (λ a. tt))
+    AllHold-map IsFaultlessPart (λ (a : SourceAssignment). assign_part here a.target a.value) assignments
+    (AllHold-all (λ (a : SourceAssignment). IsFaultlessPart (assign_part here a.target a.value)) assignments (λ a. tt))
 item-faultless modules source mode here is gates (GateItem place kind all) of none = gates-faultless here kind (gates + 1) all
 item-faultless modules source mode here is gates (InstanceItem place module_name parameters instances) of none = tt
 item-faultless modules source mode here is gates (InitialItem place body) of none =
@@ -148,7 +158,8 @@ item-faultless modules source mode here is gates (AlwaysItem place body) of none
     (record { selects = text.0; names = items-named here.instance.inner here.instance.given here.scope is.scope (AlwaysItem place body) of; sizes = none }, tt)
 
 -- nothing is wrong with the processes of a walk
-pub parts-faultless : (modules : List SourceModule) → IsSourceUnit modules → (mode : Mode) (top : SourceModule) → (i : ℕ) → slice_get modules i ≡ Some top → (parts : List Part) → walked_from modules mode top ≡ Ok parts → AllHold IsFaultlessPart parts
+pub parts-faultless : (modules : List SourceModule) → IsSourceUnit modules → (mode : Mode) (top : SourceModule) → (i : ℕ) → slice_get modules i ≡ Some top → (parts : List Part) →
+    walked_from modules mode top ≡ Ok parts → AllHold IsFaultlessPart parts
 parts-faultless modules source mode top i at parts e =
     walk-holds IsFaultlessPart (IsModule modules) modules mode
     (record {
@@ -168,11 +179,13 @@ abbrev pub OfPart : (WalkedProcess → Type 0) → Part → Type 0
 OfPart P (ProcessPart process) = P process
 OfPart P _ = Unit {0}
 
-block-of : (P : WalkedProcess → Type 0) (signals : List Signal) (process : WalkedProcess) (test : Bool) (targets : List Identifier) → P process → OfBehaviour P (block_or_process signals process test targets)
+block-of : (P : WalkedProcess → Type 0) (signals : List Signal) (process : WalkedProcess) (test : Bool) (targets : List Identifier) → P process →
+    OfBehaviour P (block_or_process signals process test targets)
 block-of P signals process true targets h = tt
 block-of P signals process false targets h = h
 
-process-of : (P : WalkedProcess → Type 0) (parts : List Part) (number : ℕ) (process : WalkedProcess) (targets : Option (List Identifier)) → P process → OfBehaviour P (process_behaviour parts number process targets)
+process-of : (P : WalkedProcess → Type 0) (parts : List Part) (number : ℕ) (process : WalkedProcess) (targets : Option (List Identifier)) → P process →
+    OfBehaviour P (process_behaviour parts number process targets)
 process-of P parts number process None h = h
 process-of P parts number process (Some targets) h = block-of P (signals_of parts) process _ targets h
 
@@ -184,10 +197,12 @@ part-of P parts number (SignalPart signal) h = tt
 part-of P parts number (MemoryPart memory) h = tt
 part-of P parts number InstancePart h = tt
 
-pub behaviours-of : (P : WalkedProcess → Type 0) (parts : List Part) (number : ℕ) (some : List Part) → AllHold (OfPart P) some → AllHold (OfBehaviour P) (joined (map_numbered (part_behaviour parts) number some))
+pub behaviours-of : (P : WalkedProcess → Type 0) (parts : List Part) (number : ℕ) (some : List Part) → AllHold (OfPart P) some →
+    AllHold (OfBehaviour P) (joined (map_numbered (part_behaviour parts) number some))
 behaviours-of P parts number [] h = tt
 behaviours-of P parts number (part ∷ rest) h =
-    AllHold-append (OfBehaviour P) (part_behaviour parts number part) (joined (map_numbered (part_behaviour parts) (number + 1) rest)) (part-of P parts number part h.0) (behaviours-of P parts (number + 1) rest h.1)
+    AllHold-append (OfBehaviour P) (part_behaviour parts number part) (joined (map_numbered (part_behaviour parts) (number + 1) rest)) (part-of P parts number part h.0)
+    (behaviours-of P parts (number + 1) rest h.1)
 
 pub among-processes : (P : WalkedProcess → Type 0) (behaviours : List Behaviour) → AllHold (OfBehaviour P) behaviours → AllHold P (processes_of behaviours)
 among-processes P [] h = tt
@@ -203,7 +218,8 @@ faultless-of (MemoryPart memory) h = tt
 faultless-of InstancePart h = tt
 
 -- each process is sized, where its names are held by objects
-pub processes-sized : (parts : List Part) (design : FlatDesign) → IsMadeOf parts design → AllHold IsFaultlessPart parts → AllHold (λ (process : WalkedProcess). IsMeant (meaning_in parts (objects_in parts) process)) (processes_in parts) →
+pub processes-sized : (parts : List Part) (design : FlatDesign) → IsMadeOf parts design → AllHold IsFaultlessPart parts →
+    AllHold (λ (process : WalkedProcess). IsMeant (meaning_in parts (objects_in parts) process)) (processes_in parts) →
     AllHold (λ (process : FlatProcess). IsSizedStatement process.body) design.processes
 processes-sized parts design made faultless meant =
     let none = among-processes IsFaultless (behaviours_of parts) (behaviours-of IsFaultless parts 0 parts (AllHold-each IsFaultlessPart (OfPart IsFaultless) parts faultless-of faultless)) in
@@ -222,7 +238,8 @@ pub record IsNamed (design : FlatDesign) (node : FlatNode) : Type 0 where
   pub names : IsTrue (have_widths design (named_by_node node.kind))
   pub inputs : (object : ℕ) → has node.inputs object ≡ has (node_reads node.kind node.outputs) object
 
-kind-named : (design : FlatDesign) (parts : List Part) → IsHierarchy parts → map (λ (held : HeldObject). held.object) (objects_in parts) ≡ design.objects → (outputs : List NodeOutput) (function : NodeFunction) →
+kind-named : (design : FlatDesign) (parts : List Part) → IsHierarchy parts → map (λ (held : HeldObject). held.object) (objects_in parts) ≡ design.objects →
+    (outputs : List NodeOutput) (function : NodeFunction) →
     IsAssignOrGate (node_kind parts (objects_in parts) outputs function) → IsTrue (have_widths design (named_by_node (node_kind parts (objects_in parts) outputs function)))
 kind-named design parts hierarchy is outputs (AssignFunction value) which =
     tree-there design (holders_at parts (objects_in parts) value.path) (holders-there design parts (nodes_in parts) hierarchy is value.path) value.value
@@ -230,7 +247,8 @@ kind-named design parts hierarchy is outputs (GateFunction kind path terminals) 
     trees-there design (holders_at parts (objects_in parts) path) (holders-there design parts (nodes_in parts) hierarchy is path) terminals
 kind-named design parts hierarchy is outputs (BlockFunction process) which = absurd which
 
-pub objects-long : (parts : List Part) (design : FlatDesign) → map (λ (held : HeldObject). held.object) (objects_in parts) ≡ design.objects → (o : ℕ) → o < length design.objects → o < length (objects_in parts)
+pub objects-long : (parts : List Part) (design : FlatDesign) → map (λ (held : HeldObject). held.object) (objects_in parts) ≡ design.objects → (o : ℕ) → o < length design.objects →
+    o < length (objects_in parts)
 objects-long parts design is o low =
     let same : length (map (λ (held : HeldObject). held.object) (objects_in parts)) ≡ length design.objects = ap length is in
     let long : length (map (λ (held : HeldObject). held.object) (objects_in parts)) ≡ length (objects_in parts) = length-map (objects_in parts) (λ (held : HeldObject). held.object) in

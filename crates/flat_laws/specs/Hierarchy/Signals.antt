@@ -8,16 +8,19 @@ use Rattle.four_value.specs.declared.operator.GateKind.{GateKind}
 use Rattle.vf_base.specs.Lists.{AllHold}
 use Rattle.v_tree.specs.declared.item.Direction.{Direction}
 use Rattle.v_tree.specs.declared.item.Direction.TheVariants.{Input, Output}
-use Rattle.v_tree.specs.Trees.{Identifier, SourceExpression, SourceTarget, SourceWire, SourceAssignment, SourceGate, SourceConnection, SourceInstance, SourceItem, ParameterItem, PortItem, WireItem, RegItem, IntegerItem, AssignItem, GateItem, InstanceItem, InitialItem, AlwaysItem, SourceModule}
+use Rattle.v_tree.specs.Trees.{Identifier, SourceExpression, SourceTarget, SourceWire, SourceAssignment, SourceGate, SourceConnection, SourceInstance, SourceItem, ParameterItem, PortItem, WireItem}
+use Rattle.v_tree.specs.Trees.{RegItem, IntegerItem, AssignItem, GateItem, InstanceItem, InitialItem, AlwaysItem, SourceModule}
 use Rattle.v_names.specs.Faults.{same_place}
-use Rattle.v_names.specs.Scopes.{SignedValue, ScopeEntry, ParameterEntry, RefusedParameter, WaitingParameter, NetEntry, RegEntry, MemoryEntry, GateEntry, InstanceEntry, Scope, looked_up, range_width, declared_width}
+use Rattle.v_names.specs.Scopes.{SignedValue, ScopeEntry, ParameterEntry, RefusedParameter, WaitingParameter, NetEntry, RegEntry, MemoryEntry, GateEntry, InstanceEntry, Scope, looked_up}
+use Rattle.v_names.specs.Scopes.{range_width, declared_width}
 use Rattle.v_names.specs.Readings.{constant_of}
 use Rattle.v_names.specs.Names.{Declaration, names_declared, of_name, item_declarations, GivenParameter, scope_of, module_name_faults}
 use Rattle.v_width.specs.Targets.{target_of}
 use Rattle.v_elab.specs.declared.Mode.{Mode}
 use Rattle.v_elab.specs.Parts.{Joining, Signal, Part, SignalPart}
 use Rattle.v_elab.specs.Connections.{most_depth, Child, Paths, joined_name, port_direction, actual_parts, output_parts, connection_parts, connections_parts, connected_name, head_names}
-use Rattle.v_elab.specs.Walk.{Entered, Here, joining_of, first_content_of, content_value, content_of, part_by_entry, parts_of_own, declared_parts, assign_part, wire_parts, gate_parts, item_parts, child_of, paths_of, entered, walked_from}
+use Rattle.v_elab.specs.Walk.{Entered, Here, joining_of, first_content_of, content_value, content_of, part_by_entry, parts_of_own, declared_parts, assign_part, wire_parts, gate_parts, item_parts}
+use Rattle.v_elab.specs.Walk.{child_of, paths_of, entered, walked_from}
 use Rattle.flat_laws.specs.Lists.{same_some}
 use Rattle.flat_laws.specs.Numbered.{AllHold-append, AllHold-flat_map, AllHold-map, AllHold-all}
 use Rattle.flat_laws.specs.Hierarchy.Walks.{IsHere, IsInstance, walk-holds}
@@ -67,7 +70,8 @@ module _ (modules : List SourceModule) (mode : Mode) (top : SourceModule) (parts
   entry-signal here is d (Some (NetEntry range signed)) found =
       (record { first = content-long here.scope (range_width range) (first_content_of d.declared); depth = is.entered.depth; joins = joined here is d (NetEntry range signed) found }, tt)
     where
-      joined : (here : Here) → IsHere Q modules mode here → (d : Declaration) (entry : ScopeEntry) → looked_up here.scope d.name ≡ Some entry → (joining : Joining) → joining_of here.instance.joins d.name ≡ Some joining →
+      joined : (here : Here) → IsHere Q modules mode here → (d : Declaration) (entry : ScopeEntry) → looked_up here.scope d.name ≡ Some entry → (joining : Joining) →
+          joining_of here.instance.joins d.name ≡ Some joining →
           (above : ℕ) × (above < here.instance.depth) × IsOuter parts joining.into above (declared_width (Some entry))
       joined here is d entry found joining e =
           let r = is.entered.joins d.name joining e in
@@ -77,7 +81,8 @@ module _ (modules : List SourceModule) (mode : Mode) (top : SourceModule) (parts
   entry-signal here is d (Some (RegEntry range signed)) found =
       (record { first = content-long here.scope (range_width range) (first_content_of d.declared); depth = is.entered.depth; joins = joined here is d (RegEntry range signed) found }, tt)
     where
-      joined : (here : Here) → IsHere Q modules mode here → (d : Declaration) (entry : ScopeEntry) → looked_up here.scope d.name ≡ Some entry → (joining : Joining) → joining_of here.instance.joins d.name ≡ Some joining →
+      joined : (here : Here) → IsHere Q modules mode here → (d : Declaration) (entry : ScopeEntry) → looked_up here.scope d.name ≡ Some entry → (joining : Joining) →
+          joining_of here.instance.joins d.name ≡ Some joining →
           (above : ℕ) × (above < here.instance.depth) × IsOuter parts joining.into above (declared_width (Some entry))
       joined here is d entry found joining e =
           let r = is.entered.joins d.name joining e in
@@ -96,8 +101,10 @@ module _ (modules : List SourceModule) (mode : Mode) (top : SourceModule) (parts
       AllHold-flat_map P (parts_of_own here (names_declared here.instance.inner)) (item_declarations item)
       (AllHold-all (λ d. AllHold P (parts_of_own here (names_declared here.instance.inner) d)) (item_declarations item)
       (λ d.
-      AllHold-flat_map P (λ (own : Declaration). part_by_entry here own (looked_up here.scope own.name)) (filter (λ (own : Declaration). same_place own.place d.place) (of_name d.name (names_declared here.instance.inner)))
-      (AllHold-all (λ (own : Declaration). AllHold P (part_by_entry here own (looked_up here.scope own.name))) (filter (λ (own : Declaration). same_place own.place d.place) (of_name d.name (names_declared here.instance.inner)))
+      AllHold-flat_map P (λ (own : Declaration). part_by_entry here own (looked_up here.scope own.name))
+      (filter (λ (own : Declaration). same_place own.place d.place) (of_name d.name (names_declared here.instance.inner)))
+      (AllHold-all (λ (own : Declaration). AllHold P (part_by_entry here own (looked_up here.scope own.name)))
+      (filter (λ (own : Declaration). same_place own.place d.place) (of_name d.name (names_declared here.instance.inner)))
       (λ own. entry-signal here is own (looked_up here.scope own.name) refl))))
 
   wire-signal : (here : Here) (wire : SourceWire) (value : Option SourceExpression) → AllHold P (wire_parts here (record wire { value = value }))
@@ -112,7 +119,8 @@ module _ (modules : List SourceModule) (mode : Mode) (top : SourceModule) (parts
   port-signal child paths port e None = tt
   port-signal child paths port e (Some target) = (tt, tt)
 
-  actual-signal : (child : Child) (paths : Paths) (port : Identifier) (e : SourceExpression) (joined : Option Identifier) (direction : Option Direction) → AllHold P (actual_parts child paths port e joined direction)
+  actual-signal : (child : Child) (paths : Paths) (port : Identifier) (e : SourceExpression) (joined : Option Identifier) (direction : Option Direction) →
+      AllHold P (actual_parts child paths port e joined direction)
   actual-signal child paths port e (Some joined) direction = tt
   actual-signal child paths port e None (Some Input) = (tt, tt)
   actual-signal child paths port e None (Some Output) = port-signal child paths port e (target_of e)
@@ -144,7 +152,8 @@ module _ (modules : List SourceModule) (mode : Mode) (top : SourceModule) (parts
   item-signal here is gates (InitialItem place body) = (tt, tt)
   item-signal here is gates (AlwaysItem place body) = (tt, tt)
 
-  child-joined : walked_from modules mode top ≡ Ok parts → (here : Here) → IsHere Q modules mode here → (inner : SourceModule) (given : List GivenParameter) (i : SourceInstance) → IsInstance here inner given i → Q (entered here inner given i)
+  child-joined : walked_from modules mode top ≡ Ok parts → (here : Here) → IsHere Q modules mode here → (inner : SourceModule) (given : List GivenParameter) (i : SourceInstance) →
+      IsInstance here inner given i → Q (entered here inner given i)
   child-joined e here is inner given i of = record {
     visited = below here is.scope is.same_modules is.same_mode is.entered.visited inner given i of;
     depth = instance-depth (child_of here inner given) (here.instance.depth + 1) i of.faultless;

@@ -6,7 +6,8 @@ use Rattle.vf_base.specs.Lists.{AllHold}
 use Rattle.v_design.specs.WellFormed.{TerminalsFit}
 use Rattle.v_tree.specs.declared.item.Direction.{Direction}
 use Rattle.v_tree.specs.declared.item.Direction.TheVariants.{Input, Output}
-use Rattle.v_tree.specs.Trees.{Identifier, SourceExpression, SourceTarget, SourceWire, SourceAssignment, SourceGate, SourceConnection, SourceInstance, SourceStatement, SourceItem, ParameterItem, PortItem, WireItem, RegItem, IntegerItem, AssignItem, GateItem, InstanceItem, InitialItem, AlwaysItem, SourceModule}
+use Rattle.v_tree.specs.Trees.{Identifier, SourceExpression, SourceTarget, SourceWire, SourceAssignment, SourceGate, SourceConnection, SourceInstance, SourceStatement, SourceItem, ParameterItem}
+use Rattle.v_tree.specs.Trees.{PortItem, WireItem, RegItem, IntegerItem, AssignItem, GateItem, InstanceItem, InitialItem, AlwaysItem, SourceModule}
 use Rattle.v_names.specs.Faults.{same_place}
 use Rattle.v_names.specs.Scopes.{ScopeEntry, ParameterEntry, RefusedParameter, WaitingParameter, NetEntry, RegEntry, MemoryEntry, GateEntry, InstanceEntry, Scope, looked_up}
 use Rattle.v_names.specs.Constants.{name_faults}
@@ -19,7 +20,8 @@ use Rattle.v_elab.specs.Blocks.{block_targets}
 use Rattle.v_elab.specs.ItemFaults.{output_faults, terminal_faults, gate_faults, item_faults, statement_faults}
 use Rattle.v_elab.specs.Parts.{WalkedProcess, Part, GatePart, ProcessPart}
 use Rattle.v_elab.specs.Connections.{Child, Paths, joined_name, port_direction, actual_parts, output_parts, connection_parts, connections_parts, connected_name, head_names}
-use Rattle.v_elab.specs.Walk.{Entered, Here, part_by_entry, parts_of_own, declared_parts, assign_part, wire_parts, terminals_of, gate_parts, targets_by_mode, item_parts, child_of, paths_of, entered, walked_from}
+use Rattle.v_elab.specs.Walk.{Entered, Here, part_by_entry, parts_of_own, declared_parts, assign_part, wire_parts, terminals_of, gate_parts, targets_by_mode, item_parts, child_of, paths_of, entered}
+use Rattle.v_elab.specs.Walk.{walked_from}
 use Rattle.v_expr.specs.Heights.{height_of}
 use Rattle.flat_laws.specs.Numbered.{AllHold-append, AllHold-flat_map, AllHold-map, AllHold-all}
 use Rattle.flat_laws.specs.Sizes.Complete.{append-none}
@@ -32,7 +34,8 @@ use Rattle.flat_laws.specs.Hierarchy.Processes.{items-named}
 -- an instance that a walk comes to: the top, or one of an item of such an instance
 pub data IsVisited (modules : List SourceModule) (mode : Mode) (top : SourceModule) : Entered → Type 0 where
   at_top : IsVisited modules mode top (top_entered top)
-  below : (here : Here) → names here.instance.inner here.instance.given ≡ Ok here.scope → here.modules ≡ modules → here.mode ≡ mode → IsVisited modules mode top here.instance → (inner : SourceModule) (given : List GivenParameter) (i : SourceInstance) →
+  below : (here : Here) → names here.instance.inner here.instance.given ≡ Ok here.scope → here.modules ≡ modules → here.mode ≡ mode → IsVisited modules mode top here.instance →
+      (inner : SourceModule) (given : List GivenParameter) (i : SourceInstance) →
       IsInstance here inner given i → IsVisited modules mode top (entered here inner given i)
 
 -- an instance with its path and its scope
@@ -53,7 +56,8 @@ pub record IsReadGate (modules : List SourceModule) (mode : Mode) (top : SourceM
   pub names : flat_map (name_faults scope) inputs ≡ []
   pub sizes : flat_map (terminal_faults scope) inputs ≡ []
 
-form-of : (mode : Mode) (always : Bool) (scope : Scope) (body : SourceStatement) (targets : List Identifier) → targets_by_mode mode always scope body ≡ Some targets → block_targets scope body ≡ Some targets
+form-of : (mode : Mode) (always : Bool) (scope : Scope) (body : SourceStatement) (targets : List Identifier) → targets_by_mode mode always scope body ≡ Some targets →
+    block_targets scope body ≡ Some targets
 form-of Usual true scope body targets e = e
 form-of Usual false scope body targets e = absurd (cc)
 form-of Strict always scope body targets e = absurd (cc)
@@ -97,8 +101,10 @@ module _ (modules : List SourceModule) (mode : Mode) (top : SourceModule) where
       AllHold-flat_map P (parts_of_own here (names_declared here.instance.inner)) (item_declarations item)
       (AllHold-all (λ d. AllHold P (parts_of_own here (names_declared here.instance.inner) d)) (item_declarations item)
       (λ d.
-      AllHold-flat_map P (λ (own : Declaration). part_by_entry here own (looked_up here.scope own.name)) (filter (λ (own : Declaration). same_place own.place d.place) (of_name d.name (names_declared here.instance.inner)))
-      (AllHold-all (λ (own : Declaration). AllHold P (part_by_entry here own (looked_up here.scope own.name))) (filter (λ (own : Declaration). same_place own.place d.place) (of_name d.name (names_declared here.instance.inner)))
+      AllHold-flat_map P (λ (own : Declaration). part_by_entry here own (looked_up here.scope own.name))
+      (filter (λ (own : Declaration). same_place own.place d.place) (of_name d.name (names_declared here.instance.inner)))
+      (AllHold-all (λ (own : Declaration). AllHold P (part_by_entry here own (looked_up here.scope own.name)))
+      (filter (λ (own : Declaration). same_place own.place d.place) (of_name d.name (names_declared here.instance.inner)))
       (λ own. entry-read here own (looked_up here.scope own.name)))))
 
   wire-read : (here : Here) (wire : SourceWire) (value : Option SourceExpression) → AllHold P (wire_parts here (record wire { value = value }))
@@ -109,7 +115,8 @@ module _ (modules : List SourceModule) (mode : Mode) (top : SourceModule) where
   port-read child paths port e None = tt
   port-read child paths port e (Some target) = (tt, tt)
 
-  actual-read : (child : Child) (paths : Paths) (port : Identifier) (e : SourceExpression) (joined : Option Identifier) (direction : Option Direction) → AllHold P (actual_parts child paths port e joined direction)
+  actual-read : (child : Child) (paths : Paths) (port : Identifier) (e : SourceExpression) (joined : Option Identifier) (direction : Option Direction) →
+      AllHold P (actual_parts child paths port e joined direction)
   actual-read child paths port e (Some joined) direction = tt
   actual-read child paths port e None (Some Input) = (tt, tt)
   actual-read child paths port e None (Some Output) = port-read child paths port e (target_of e)
@@ -127,7 +134,8 @@ module _ (modules : List SourceModule) (mode : Mode) (top : SourceModule) where
       (connection-read child paths (connected_name (head_names child.inner.heads) position connection.name) connection.actual) (connections-read child paths (position + 1) rest)
 
   gates-read : (here : Here) → IsAt modules mode top here.instance.path here.scope → (kind : GateKind) (number : ℕ) (gates : List SourceGate) →
-      AllHold (λ (g : SourceGate). HasSelects g.output × TerminalsFit kind (length g.inputs) × AllHold (λ (e : SourceExpression). height_of e ≤ most_height) g.inputs × (length g.inputs < 2 ^ 64)) gates → flat_map (gate_name_faults here.scope) gates ≡ [] →
+      AllHold (λ (g : SourceGate). HasSelects g.output × TerminalsFit kind (length g.inputs) × AllHold (λ (e : SourceExpression). height_of e ≤ most_height) g.inputs × (length g.inputs < 2 ^ 64))
+      gates → flat_map (gate_name_faults here.scope) gates ≡ [] →
       flat_map (gate_faults here.scope) gates ≡ [] → AllHold P (gate_parts here kind number gates)
   gates-read here at kind number [] text names sizes = tt
   gates-read here at kind number (gate ∷ rest) text names sizes =
@@ -140,7 +148,8 @@ module _ (modules : List SourceModule) (mode : Mode) (top : SourceModule) where
   here-at : (here : Here) → IsHere (IsKnown modules mode top) modules mode here → IsAt modules mode top here.instance.path here.scope
   here-at here is = record { instance = here.instance; visited = is.entered.visited; named = is.scope; path_is = refl }
 
-  item-read : IsSourceUnit modules → (here : Here) → IsHere (IsKnown modules mode top) modules mode here → (gates : ℕ) (item : SourceItem) → IsOf here.instance.inner item → item_faults here.scope item ≡ [] → AllHold P (item_parts here gates item)
+  item-read : IsSourceUnit modules → (here : Here) → IsHere (IsKnown modules mode top) modules mode here → (gates : ℕ) (item : SourceItem) → IsOf here.instance.inner item →
+      item_faults here.scope item ≡ [] → AllHold P (item_parts here gates item)
   item-read source here is gates (ParameterItem group) of none = tt
   item-read source here is gates (PortItem group) of none = declared-read here (PortItem group)
   item-read source here is gates (WireItem place signed range wires) of none =
@@ -157,21 +166,39 @@ module _ (modules : List SourceModule) (mode : Mode) (top : SourceModule) where
   item-read source here is gates (InstanceItem place module_name parameters instances) of none = tt
   item-read source here is gates (InitialItem place body) of none =
       let module_at = is.entered.in_unit in
-      let text = source.items module_at.0 here.instance.inner module_at.1 (InitialItem place body) of in
-      (record { at = here-at here is; selects = text.0; names = items-named here.instance.inner here.instance.given here.scope is.scope (InitialItem place body) of; sizes = none; form = λ targets e. form-of here.mode false here.scope body targets e }, tt)
+      let text = source.items module_at.0 here.instance.inner module_at.1 (InitialItem place body) of in (
+        record {
+          at = here-at here is;
+          selects = text.0;
+          names = items-named here.instance.inner here.instance.given here.scope is.scope (InitialItem place body) of;
+          sizes = none;
+          form = λ targets e. form-of here.mode false here.scope body targets e;
+        },
+        tt,
+      )
   item-read source here is gates (AlwaysItem place body) of none =
       let module_at = is.entered.in_unit in
-      let text = source.items module_at.0 here.instance.inner module_at.1 (AlwaysItem place body) of in
-      (record { at = here-at here is; selects = text.0; names = items-named here.instance.inner here.instance.given here.scope is.scope (AlwaysItem place body) of; sizes = none; form = λ targets e. form-of here.mode true here.scope body targets e }, tt)
+      let text = source.items module_at.0 here.instance.inner module_at.1 (AlwaysItem place body) of in (
+        record {
+          at = here-at here is;
+          selects = text.0;
+          names = items-named here.instance.inner here.instance.given here.scope is.scope (AlwaysItem place body) of;
+          sizes = none;
+          form = λ targets e. form-of here.mode true here.scope body targets e;
+        },
+        tt,
+      )
 
-  child-known : (here : Here) → IsHere (IsKnown modules mode top) modules mode here → (inner : SourceModule) (given : List GivenParameter) (i : SourceInstance) → IsInstance here inner given i → IsKnown modules mode top (entered here inner given i)
+  child-known : (here : Here) → IsHere (IsKnown modules mode top) modules mode here → (inner : SourceModule) (given : List GivenParameter) (i : SourceInstance) → IsInstance here inner given i →
+      IsKnown modules mode top (entered here inner given i)
   child-known here is inner given i of = record {
     in_unit = enters-module modules mode here (record { scope = is.scope; entered = is.entered.in_unit; same_modules = is.same_modules; same_mode = is.same_mode }) inner given i of;
     visited = below here is.scope is.same_modules is.same_mode is.entered.visited inner given i of;
   }
 
   -- the gates and processes of a walk are read from items of instances that it comes to, of which nothing is wrong
-  pub parts-read : IsSourceUnit modules → (i : ℕ) → slice_get modules i ≡ Some top → (parts : List Part) → walked_from modules mode top ≡ Ok parts → AllHold (λ part. IsReadPart modules mode top part) parts
+  pub parts-read : IsSourceUnit modules → (i : ℕ) → slice_get modules i ≡ Some top → (parts : List Part) → walked_from modules mode top ≡ Ok parts →
+      AllHold (λ part. IsReadPart modules mode top part) parts
   parts-read source i at parts e =
       walk-holds P (IsKnown modules mode top) modules mode
       (record {

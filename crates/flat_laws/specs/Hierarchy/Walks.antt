@@ -3,7 +3,8 @@ use Rattle.std.proofs.Common.{◌≡◌, ℕ, zero, suc, ◌+◌, List, [], ◌�
 use Rattle.std.specs.Prelude.{slice_get, flat_map}
 use Rattle.vf_base.specs.Base.{SourcePlace}
 use Rattle.vf_base.specs.Lists.{AllHold}
-use Rattle.v_tree.specs.Trees.{Identifier, SourceConnection, SourceInstance, SourceItem, ParameterItem, PortItem, WireItem, RegItem, IntegerItem, AssignItem, GateItem, InstanceItem, InitialItem, AlwaysItem, SourceModule}
+use Rattle.v_tree.specs.Trees.{Identifier, SourceConnection, SourceInstance, SourceItem, ParameterItem, PortItem, WireItem, RegItem, IntegerItem, AssignItem, GateItem, InstanceItem, InitialItem}
+use Rattle.v_tree.specs.Trees.{AlwaysItem, SourceModule}
 use Rattle.v_elab.specs.declared.Mode.{Mode}
 use Rattle.v_names.specs.Faults.{Fault}
 use Rattle.v_names.specs.Names.{GivenParameter, names}
@@ -12,7 +13,8 @@ use Rattle.v_elab.specs.ItemFaults.{item_faults}
 use Rattle.v_elab.specs.Connections.{most_depth, open_parameters, given_faults, given_parameters, instance_faults, connections_parts}
 use Rattle.v_elab.specs.Parts.{Part, InstancePart, too_many_parts}
 use Rattle.v_elab.specs.ReadCounts.{reads_refused, item_reads, connections_reads}
-use Rattle.v_elab.specs.Walk.{Entered, Here, item_parts, gates_in, checked_item, added, Walker, child_of, paths_of, entered, instance_parts, checked_instance, walked_instance, walked_instances, module_named, instance_item_faults, walked_instance_item, walked_item, walked_items, head_items, not_port_faults, walked_module, walked, walked_from}
+use Rattle.v_elab.specs.Walk.{Entered, Here, item_parts, gates_in, checked_item, added, Walker, child_of, paths_of, entered, instance_parts, checked_instance, walked_instance, walked_instances}
+use Rattle.v_elab.specs.Walk.{module_named, instance_item_faults, walked_instance_item, walked_item, walked_items, head_items, not_port_faults, walked_module, walked, walked_from}
 use Rattle.flat_laws.specs.Lists.{AllHold-from}
 use Rattle.flat_laws.specs.Numbered.{AllHold-append}
 use Rattle.flat_laws.specs.Made.{then_go-ok, unless_refused-ok}
@@ -36,7 +38,8 @@ pub added-ok : (parts more result : List Part) → added parts more ≡ Ok resul
 added-ok parts more result e = (unless_refused-ok (too_many_parts (parts ++ more)) (parts ++ more) result e).1
 
 -- an item that isn't refused has no faults
-pub checked_item-ok : (here : Here) (gates : ℕ) (item : SourceItem) (answer : List Part) → checked_item here gates item ≡ Ok answer → (item_faults here.scope item ≡ []) × (item_parts here gates item ≡ answer)
+pub checked_item-ok : (here : Here) (gates : ℕ) (item : SourceItem) (answer : List Part) → checked_item here gates item ≡ Ok answer →
+    (item_faults here.scope item ≡ []) × (item_parts here gates item ≡ answer)
 checked_item-ok here gates item answer e =
     let refused = reads_refused here.scope (item_reads here.mode here.scope item) in
     let step = then_go-ok (checked (item_faults here.scope item) (item_parts here gates item)) (unless_refused refused) answer e in
@@ -44,7 +47,8 @@ checked_item-ok here gates item answer e =
     (none.0, none.1 ∙ (unless_refused-ok refused step.0 answer step.2).1)
 
 -- an instance that isn't refused is added, then what stands in it
-pub instance-steps : (walker : Walker) (here : Here) (inner : SourceModule) (given : List GivenParameter) (i : SourceInstance) (parts result : List Part) → walked_instance walker here inner given i parts ≡ Ok result →
+pub instance-steps : (walker : Walker) (here : Here) (inner : SourceModule) (given : List GivenParameter) (i : SourceInstance) (parts result : List Part) →
+    walked_instance walker here inner given i parts ≡ Ok result →
     (middle : List Part) × (added parts (instance_parts here inner given i) ≡ Ok middle) × (walker (entered here inner given i) middle ≡ Ok result)
 instance-steps walker here inner given i parts result e =
     let refused = reads_refused here.scope (connections_reads (child_of here inner given) 0 i.connections) in
@@ -113,16 +117,20 @@ pub record HoldsOfEach (P : Part → Type 0) (Q : Entered → Type 0) (modules :
 abbrev Keeps : (Part → Type 0) → (Entered → Type 0) → Walker → Type 0
 Keeps P Q walker = (instance : Entered) → Q instance → (parts result : List Part) → walker instance parts ≡ Ok result → AllHold P parts → AllHold P result
 
-instance-keeps : (P : Part → Type 0) (Q : Entered → Type 0) (modules : List SourceModule) (mode : Mode) → HoldsOfEach P Q modules mode → (walker : Walker) → Keeps P Q walker → (here : Here) → IsHere Q modules mode here →
-    (inner : SourceModule) (given : List GivenParameter) (i : SourceInstance) → IsInstance here inner given i → (parts result : List Part) → walked_instance walker here inner given i parts ≡ Ok result → AllHold P parts → AllHold P result
+instance-keeps : (P : Part → Type 0) (Q : Entered → Type 0) (modules : List SourceModule) (mode : Mode) → HoldsOfEach P Q modules mode → (walker : Walker) → Keeps P Q walker → (here : Here) →
+    IsHere Q modules mode here →
+    (inner : SourceModule) (given : List GivenParameter) (i : SourceInstance) → IsInstance here inner given i → (parts result : List Part) →
+    walked_instance walker here inner given i parts ≡ Ok result → AllHold P parts → AllHold P result
 instance-keeps P Q modules mode each walker keeps here is inner given i of parts result e h =
     let more = instance_parts here inner given i in
     let step = instance-steps walker here inner given i parts result e in
     let first : AllHold P step.0 = subst (AllHold P) (added-ok parts more step.0 step.1) (AllHold-append P parts more h (each.of_instance, each.of_connections here is inner given i of)) in
     keeps (entered here inner given i) (each.enters here is inner given i of) step.0 result step.2 first
 
-instances-keep : (P : Part → Type 0) (Q : Entered → Type 0) (modules : List SourceModule) (mode : Mode) → HoldsOfEach P Q modules mode → (walker : Walker) → Keeps P Q walker → (here : Here) → IsHere Q modules mode here →
-    (inner : SourceModule) (given : List GivenParameter) (instances : List SourceInstance) → AllHold (IsInstance here inner given) instances → (parts result : List Part) → walked_instances walker here inner given instances parts ≡ Ok result →
+instances-keep : (P : Part → Type 0) (Q : Entered → Type 0) (modules : List SourceModule) (mode : Mode) → HoldsOfEach P Q modules mode → (walker : Walker) → Keeps P Q walker → (here : Here) →
+    IsHere Q modules mode here →
+    (inner : SourceModule) (given : List GivenParameter) (instances : List SourceInstance) → AllHold (IsInstance here inner given) instances → (parts result : List Part) →
+    walked_instances walker here inner given instances parts ≡ Ok result →
     AllHold P parts → AllHold P result
 instances-keep P Q modules mode each walker keeps here is inner given [] of parts result e h = subst (AllHold P) (same_parts parts result (Ok parts) refl e) h
 instances-keep P Q modules mode each walker keeps here is inner given (i ∷ rest) of parts result e h =
@@ -135,16 +143,20 @@ flat-none f [] e i x at = absurd (cc)
 flat-none f (y ∷ xs) e zero x at = let same : y ≡ x = cc in ap f (sym same) ∙ (append-none (f y) (flat_map f xs) e).0
 flat-none f (y ∷ xs) e (suc i) x at = flat-none f xs (append-none (f y) (flat_map f xs) e).1 i x at
 
-instance_item-keeps : (P : Part → Type 0) (Q : Entered → Type 0) (modules : List SourceModule) (mode : Mode) → HoldsOfEach P Q modules mode → (walker : Walker) → Keeps P Q walker → (here : Here) → IsHere Q modules mode here →
-    (found : Option SourceModule) (place : SourcePlace) (module_name : Identifier) (parameters : List SourceConnection) (instances : List SourceInstance) → module_named here.modules module_name ≡ found →
-    IsOf here.instance.inner (InstanceItem place module_name parameters instances) → (parts result : List Part) → walked_instance_item walker here found place parameters instances parts ≡ Ok result → AllHold P parts → AllHold P result
+instance_item-keeps : (P : Part → Type 0) (Q : Entered → Type 0) (modules : List SourceModule) (mode : Mode) → HoldsOfEach P Q modules mode → (walker : Walker) → Keeps P Q walker → (here : Here) →
+    IsHere Q modules mode here →
+    (found : Option SourceModule) (place : SourcePlace) (module_name : Identifier) (parameters : List SourceConnection) (instances : List SourceInstance) →
+    module_named here.modules module_name ≡ found →
+    IsOf here.instance.inner (InstanceItem place module_name parameters instances) → (parts result : List Part) →
+    walked_instance_item walker here found place parameters instances parts ≡ Ok result → AllHold P parts → AllHold P result
 instance_item-keeps P Q modules mode each walker keeps here is None place module_name parameters instances named of parts result e h = absurd (cc)
 instance_item-keeps P Q modules mode each walker keeps here is (Some inner) place module_name parameters instances named of parts result e h =
     let wanted = given_parameters here.scope (open_parameters inner) 0 parameters in
     let faults = instance_item_faults here inner parameters instances in
     let step = then_go-ok (checked faults wanted) (λ given. walked_instances walker here inner given instances parts) result e in
     let none = checked-ok faults wanted step.0 step.1 in
-    let each_none = (append-none (given_faults here.scope (open_parameters inner) 0 [] parameters) (flat_map (instance_faults (child_of here inner wanted) (here.instance.depth + 1)) instances) none.0).1 in
+    let each_none = (append-none (given_faults here.scope (open_parameters inner) 0 [] parameters)
+    (flat_map (instance_faults (child_of here inner wanted) (here.instance.depth + 1)) instances) none.0).1 in
     let all : AllHold (IsInstance here inner wanted) instances =
     AllHold-from (IsInstance here inner wanted) instances
     (λ k i at.
@@ -162,40 +174,50 @@ instance_item-keeps P Q modules mode each walker keeps here is (Some inner) plac
     }) in
     instances-keep P Q modules mode each walker keeps here is inner wanted instances all parts result (ap (λ given. walked_instances walker here inner given instances parts) none.1 ∙ step.2) h
 
-plain-keeps : (P : Part → Type 0) (Q : Entered → Type 0) (modules : List SourceModule) (mode : Mode) → HoldsOfEach P Q modules mode → (here : Here) → IsHere Q modules mode here → (gates : ℕ) (item : SourceItem) → IsOf here.instance.inner item →
+plain-keeps : (P : Part → Type 0) (Q : Entered → Type 0) (modules : List SourceModule) (mode : Mode) → HoldsOfEach P Q modules mode → (here : Here) → IsHere Q modules mode here →
+    (gates : ℕ) (item : SourceItem) → IsOf here.instance.inner item →
     (parts result : List Part) → then_go (checked_item here gates item) (added parts) ≡ Ok result → AllHold P parts → AllHold P result
 plain-keeps P Q modules mode each here is gates item of parts result e h =
     let step = then_go-ok (checked_item here gates item) (added parts) result e in
     let none = checked_item-ok here gates item step.0 step.1 in
     subst (AllHold P) (added-ok parts step.0 result step.2) (AllHold-append P parts step.0 h (subst (AllHold P) none.1 (each.of_item here is gates item of none.0)))
 
-item-keeps : (P : Part → Type 0) (Q : Entered → Type 0) (modules : List SourceModule) (mode : Mode) → HoldsOfEach P Q modules mode → (walker : Walker) → Keeps P Q walker → (here : Here) → IsHere Q modules mode here → (gates : ℕ) (item : SourceItem) →
+item-keeps : (P : Part → Type 0) (Q : Entered → Type 0) (modules : List SourceModule) (mode : Mode) → HoldsOfEach P Q modules mode → (walker : Walker) → Keeps P Q walker → (here : Here) →
+    IsHere Q modules mode here → (gates : ℕ) (item : SourceItem) →
     IsOf here.instance.inner item → (parts result : List Part) → walked_item walker here gates item parts ≡ Ok result → AllHold P parts → AllHold P result
 item-keeps P Q modules mode each walker keeps here is gates (InstanceItem place module_name parameters instances) of parts result e h =
     instance_item-keeps P Q modules mode each walker keeps here is (module_named here.modules module_name) place module_name parameters instances refl of parts result e h
 item-keeps P Q modules mode each walker keeps here is gates (ParameterItem group) of parts result e h = plain-keeps P Q modules mode each here is gates (ParameterItem group) of parts result e h
 item-keeps P Q modules mode each walker keeps here is gates (PortItem group) of parts result e h = plain-keeps P Q modules mode each here is gates (PortItem group) of parts result e h
-item-keeps P Q modules mode each walker keeps here is gates (WireItem place signed range wires) of parts result e h = plain-keeps P Q modules mode each here is gates (WireItem place signed range wires) of parts result e h
-item-keeps P Q modules mode each walker keeps here is gates (RegItem place signed range regs) of parts result e h = plain-keeps P Q modules mode each here is gates (RegItem place signed range regs) of parts result e h
+item-keeps P Q modules mode each walker keeps here is gates (WireItem place signed range wires) of parts result e h =
+    plain-keeps P Q modules mode each here is gates (WireItem place signed range wires) of parts result e h
+item-keeps P Q modules mode each walker keeps here is gates (RegItem place signed range regs) of parts result e h =
+    plain-keeps P Q modules mode each here is gates (RegItem place signed range regs) of parts result e h
 item-keeps P Q modules mode each walker keeps here is gates (IntegerItem place regs) of parts result e h = plain-keeps P Q modules mode each here is gates (IntegerItem place regs) of parts result e h
-item-keeps P Q modules mode each walker keeps here is gates (AssignItem place assignments) of parts result e h = plain-keeps P Q modules mode each here is gates (AssignItem place assignments) of parts result e h
-item-keeps P Q modules mode each walker keeps here is gates (GateItem place kind all) of parts result e h = plain-keeps P Q modules mode each here is gates (GateItem place kind all) of parts result e h
+item-keeps P Q modules mode each walker keeps here is gates (AssignItem place assignments) of parts result e h =
+    plain-keeps P Q modules mode each here is gates (AssignItem place assignments) of parts result e h
+item-keeps P Q modules mode each walker keeps here is gates (GateItem place kind all) of parts result e h =
+    plain-keeps P Q modules mode each here is gates (GateItem place kind all) of parts result e h
 item-keeps P Q modules mode each walker keeps here is gates (InitialItem place body) of parts result e h = plain-keeps P Q modules mode each here is gates (InitialItem place body) of parts result e h
 item-keeps P Q modules mode each walker keeps here is gates (AlwaysItem place body) of parts result e h = plain-keeps P Q modules mode each here is gates (AlwaysItem place body) of parts result e h
 
-items-keep : (P : Part → Type 0) (Q : Entered → Type 0) (modules : List SourceModule) (mode : Mode) → HoldsOfEach P Q modules mode → (walker : Walker) → Keeps P Q walker → (here : Here) → IsHere Q modules mode here → (gates : ℕ) (items : List SourceItem) →
+items-keep : (P : Part → Type 0) (Q : Entered → Type 0) (modules : List SourceModule) (mode : Mode) → HoldsOfEach P Q modules mode → (walker : Walker) → Keeps P Q walker → (here : Here) →
+    IsHere Q modules mode here → (gates : ℕ) (items : List SourceItem) →
     AllHold (IsOf here.instance.inner) items → (parts result : List Part) → walked_items walker here gates items parts ≡ Ok result → AllHold P parts → AllHold P result
 items-keep P Q modules mode each walker keeps here is gates [] of parts result e h = subst (AllHold P) (same_parts parts result (Ok parts) refl e) h
 items-keep P Q modules mode each walker keeps here is gates (item ∷ rest) of parts result e h =
     let step = then_go-ok (walked_item walker here gates item parts) (walked_items walker here (gates + gates_in item) rest) result e in
-    items-keep P Q modules mode each walker keeps here is (gates + gates_in item) rest of.1 step.0 result step.2 (item-keeps P Q modules mode each walker keeps here is gates item of.0 parts step.0 step.1 h)
+    items-keep P Q modules mode each walker keeps here is (gates + gates_in item) rest of.1 step.0 result step.2
+    (item-keeps P Q modules mode each walker keeps here is gates item of.0 parts step.0 step.1 h)
 
-module-keeps : (P : Part → Type 0) (Q : Entered → Type 0) (modules : List SourceModule) (mode : Mode) → HoldsOfEach P Q modules mode → (walker : Walker) → Keeps P Q walker → (here : Here) → IsHere Q modules mode here → (parts result : List Part) →
+module-keeps : (P : Part → Type 0) (Q : Entered → Type 0) (modules : List SourceModule) (mode : Mode) → HoldsOfEach P Q modules mode → (walker : Walker) → Keeps P Q walker → (here : Here) →
+    IsHere Q modules mode here → (parts result : List Part) →
     walked_module walker here here.instance.inner parts ≡ Ok result → AllHold P parts → AllHold P result
 module-keeps P Q modules mode each walker keeps here is parts result e h =
     let m = here.instance.inner in
     let rest : List Part → Result (List Part) Refusal = walked_items walker here 0 (head_items m.heads ++ m.items) in
-    let first = then_go-ok (walked_items walker here 0 (map ParameterItem m.parameters) parts) (λ behind. then_go (checked (not_port_faults m m.heads) behind) (walked_items walker here 0 (head_items m.heads ++ m.items))) result e in
+    let first = then_go-ok (walked_items walker here 0 (map ParameterItem m.parameters) parts)
+    (λ behind. then_go (checked (not_port_faults m m.heads) behind) (walked_items walker here 0 (head_items m.heads ++ m.items))) result e in
     let ports = then_go-ok (checked (not_port_faults m m.heads) first.0) (walked_items walker here 0 (head_items m.heads ++ m.items)) result first.2 in
     let none = checked-ok (not_port_faults m m.heads) first.0 ports.0 ports.1 in
     let parameters = items-keep P Q modules mode each walker keeps here is 0 (map ParameterItem m.parameters) (parameters-of m) parts first.0 first.1 h in
@@ -204,7 +226,8 @@ module-keeps P Q modules mode each walker keeps here is parts result e h =
 walked-keeps : (P : Part → Type 0) (Q : Entered → Type 0) (modules : List SourceModule) (mode : Mode) → HoldsOfEach P Q modules mode → (levels : ℕ) → Keeps P Q (walked modules mode levels)
 walked-keeps P Q modules mode each zero = λ instance q parts result e h. subst (AllHold P) (same_parts parts result (Ok parts) refl e) h
 walked-keeps P Q modules mode each (suc levels) = λ instance q parts result e h.
-    let step = then_go-ok (as_refusal (names instance.inner instance.given)) (λ scope. walked_module (walked modules mode levels) (record { modules = modules; mode = mode; instance = instance; scope = scope }) instance.inner parts) result e in
+    let step = then_go-ok (as_refusal (names instance.inner instance.given)) (λ scope. walked_module (walked modules mode levels)
+    (record { modules = modules; mode = mode; instance = instance; scope = scope }) instance.inner parts) result e in
     module-keeps P Q modules mode each (walked modules mode levels) (walked-keeps P Q modules mode each levels) (record { modules = modules; mode = mode; instance = instance; scope = step.0 })
     (record { scope = as_refusal-ok (names instance.inner instance.given) step.0 step.1; entered = q; same_modules = refl; same_mode = refl }) parts result step.2 h
 
@@ -213,6 +236,7 @@ abbrev pub top_entered : SourceModule → Entered
 top_entered top = record { inner = top; given = []; path = []; depth = 0; joins = [] }
 
 -- what holds of each part that an item or a connection gives holds of all parts of the walk
-pub walk-holds : (P : Part → Type 0) (Q : Entered → Type 0) (modules : List SourceModule) (mode : Mode) → HoldsOfEach P Q modules mode → (top : SourceModule) → Q (top_entered top) → (parts : List Part) → walked_from modules mode top ≡ Ok parts →
+pub walk-holds : (P : Part → Type 0) (Q : Entered → Type 0) (modules : List SourceModule) (mode : Mode) → HoldsOfEach P Q modules mode → (top : SourceModule) → Q (top_entered top) →
+    (parts : List Part) → walked_from modules mode top ≡ Ok parts →
     AllHold P parts
 walk-holds P Q modules mode each top q parts e = walked-keeps P Q modules mode each (most_depth + 1) (top_entered top) q [] parts e tt

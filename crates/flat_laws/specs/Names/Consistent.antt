@@ -29,18 +29,22 @@ pub record IsBounded (modules : List SourceModule) (mode : Mode) (top : SourceMo
   pub settled : AllSettled modules mode top
 
 -- such a walk is consistent, since no two of its names are the same
-pub bounded-consistent : (modules : List SourceModule) → IsNamedUnit modules → (mode : Mode) (top : SourceModule) → (k : ℕ) → slice_get modules k ≡ Some top → (parts : List Part) → walked_from modules mode top ≡ Ok parts → IsBounded modules mode top parts →
+pub bounded-consistent : (modules : List SourceModule) → IsNamedUnit modules → (mode : Mode) (top : SourceModule) → (k : ℕ) → slice_get modules k ≡ Some top → (parts : List Part) →
+    walked_from modules mode top ≡ Ok parts → IsBounded modules mode top parts →
     IsConsistent modules mode top parts
 bounded-consistent modules unit mode top k at parts e is = record { once = names-once modules unit mode top k at parts e; signals = is.signals; memories = is.memories; settled = is.settled }
 
-gate-sized : (design : FlatDesign) (kind : FlatNodeKind) (outputs : List ℕ) → IsSizedInside kind → (length outputs ≤ 1) × AllHold (λ object. width_in design object ≡ 1) outputs → IsGate kind → IsSizedNode design kind outputs × WritesOutputs kind outputs
+gate-sized : (design : FlatDesign) (kind : FlatNodeKind) (outputs : List ℕ) → IsSizedInside kind → (length outputs ≤ 1) × AllHold (λ object. width_in design object ≡ 1) outputs → IsGate kind →
+    IsSizedNode design kind outputs × WritesOutputs kind outputs
 gate-sized design (AssignNode value places) outputs inside one gate = absurd gate
 gate-sized design (GateNode kind terminals) outputs inside one gate = ((inside.0, inside.1, one.1), one.0)
 gate-sized design (BlockNode statement) outputs inside one gate = absurd gate
 
 -- the gates of a design that are sized inside are sized, with one output at most
-pub gates-sized : (modules : List SourceModule) (mode : Mode) (top : SourceModule) (parts : List Part) → walked_from modules mode top ≡ Ok parts → AllSettled modules mode top → (design : FlatDesign) → IsMadeOf parts design → IsHierarchy parts →
-    AllHold (λ (node : FlatNode). IsSizedInside node.kind) design.nodes → AllHold (λ (node : FlatNode). IsGate node.kind → IsSizedNode design node.kind node.outputs × WritesOutputs node.kind node.outputs) design.nodes
+pub gates-sized : (modules : List SourceModule) (mode : Mode) (top : SourceModule) (parts : List Part) → walked_from modules mode top ≡ Ok parts → AllSettled modules mode top →
+    (design : FlatDesign) → IsMadeOf parts design → IsHierarchy parts →
+    AllHold (λ (node : FlatNode). IsSizedInside node.kind) design.nodes → AllHold (λ (node : FlatNode). IsGate node.kind →
+    IsSizedNode design node.kind node.outputs × WritesOutputs node.kind node.outputs) design.nodes
 gates-sized modules mode top parts e settled design made hierarchy inside =
     let ones = gates-one parts design made hierarchy (parts-narrow modules mode top settled parts e) in
     AllHold-from (λ (node : FlatNode). IsGate node.kind → IsSizedNode design node.kind node.outputs × WritesOutputs node.kind node.outputs) design.nodes

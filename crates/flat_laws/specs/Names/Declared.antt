@@ -3,11 +3,13 @@ use Rattle.std.proofs.Common.{◌≡◌, ℕ, zero, suc, ◌+◌, Bool, true, fa
 use Rattle.std.specs.Prelude.{slice_get, flat_map}
 use Rattle.std.proofs.lemmas.Grind.{flat_map-append}
 use Rattle.std.proofs.lemmas.List.Folds.{flat_map-map}
-use Rattle.v_tree.specs.Trees.{Identifier, SourceItem, ParameterItem, PortItem, WireItem, RegItem, IntegerItem, AssignItem, GateItem, InstanceItem, InitialItem, AlwaysItem, SourceHeads, PlainHeads, DeclaredHeads, SourceModule, same_name}
+use Rattle.v_tree.specs.Trees.{Identifier, SourceItem, ParameterItem, PortItem, WireItem, RegItem, IntegerItem, AssignItem, GateItem, InstanceItem, InitialItem, AlwaysItem, SourceHeads, PlainHeads}
+use Rattle.v_tree.specs.Trees.{DeclaredHeads, SourceModule, same_name}
 use Rattle.v_names.specs.Faults.{Fault}
 use Rattle.v_names.specs.Scopes.{ScopeEntry, Scope, looked_up, entry_if}
 use Rattle.v_names.specs.Readings.{is_empty}
-use Rattle.v_names.specs.Names.{Declaration, parameter_declarations, item_declarations, head_declarations, declarations_of, of_name, joined_declaration, first_of_name, first_declarations, names_declared, GivenParameter, meaning_of, meanings, scope_after, parameter_count, scope_of, names}
+use Rattle.v_names.specs.Names.{Declaration, parameter_declarations, item_declarations, head_declarations, declarations_of, of_name, joined_declaration, first_of_name, first_declarations}
+use Rattle.v_names.specs.Names.{names_declared, GivenParameter, meaning_of, meanings, scope_after, parameter_count, scope_of, names}
 use Rattle.v_elab.specs.declared.Mode.{Mode}
 use Rattle.v_elab.specs.ItemFaults.{item_faults}
 use Rattle.v_elab.specs.Refusals.{as_refusal, then_go}
@@ -36,12 +38,14 @@ items-declare m =
     (flat_map-append item_declarations (head_items m.heads) m.items ∙ ap (λ l. l ++ flat_map item_declarations m.items) (heads-declared m.heads))
 
 -- a declaration stands in an item
-pub declaration-item : (m : SourceModule) (k : ℕ) (d : Declaration) → slice_get (declarations_of m) k ≡ Some d → (item : SourceItem) × IsOf m item × ((j : ℕ) × (slice_get (item_declarations item) j ≡ Some d))
+pub declaration-item : (m : SourceModule) (k : ℕ) (d : Declaration) → slice_get (declarations_of m) k ≡ Some d →
+    (item : SourceItem) × IsOf m item × ((j : ℕ) × (slice_get (item_declarations item) j ≡ Some d))
 declaration-item m k d at =
     let r = at-flat_map item_declarations (items_of m) k d (ap (λ l. slice_get l k) (items-declare m) ∙ at) in (r.1, (r.0, r.3), (r.2, r.4))
 
 -- a declared name is that of a declaration, with what a second one adds
-pub first-of : (all earlier rest : List Declaration) (k : ℕ) (d : Declaration) → slice_get (first_declarations all earlier rest) k ≡ Some d → (j : ℕ) × (own : Declaration) × (slice_get rest j ≡ Some own) × (joined_declaration all own ≡ d)
+pub first-of : (all earlier rest : List Declaration) (k : ℕ) (d : Declaration) → slice_get (first_declarations all earlier rest) k ≡ Some d →
+    (j : ℕ) × (own : Declaration) × (slice_get rest j ≡ Some own) × (joined_declaration all own ≡ d)
 first-of all earlier [] k d at = absurd (cc)
 first-of all earlier (first ∷ rest) k d at = by_test (is_empty (of_name first.name earlier)) k at (λ i there. first-of all (first ∷ earlier) rest i d there)
   where
@@ -59,7 +63,8 @@ looked-declared s given [] name entry e = absurd (cc)
 looked-declared s given (d ∷ declarations) name entry e = by_test (same_name d.name name) refl e (λ h. looked-declared s given declarations name entry h)
   where
     by_test : (test : Bool) → same_name d.name name ≡ test → entry_if test (meaning_of s given d.name d.declared) (looked_up (meanings s given declarations) name) ≡ Some entry →
-        (looked_up (meanings s given declarations) name ≡ Some entry → (k : ℕ) × (own : Declaration) × (slice_get declarations k ≡ Some own) × (own.name ≡ name) × (meaning_of s given own.name own.declared ≡ entry)) →
+        (looked_up (meanings s given declarations) name ≡ Some entry → (k : ℕ) × (own : Declaration) × (slice_get declarations k ≡ Some own) × (own.name ≡ name)
+        × (meaning_of s given own.name own.declared ≡ entry)) →
         (k : ℕ) × (own : Declaration) × (slice_get (d ∷ declarations) k ≡ Some own) × (own.name ≡ name) × (meaning_of s given own.name own.declared ≡ entry)
     by_test true is h more = (0, d, refl, equal-name d.name name is, same_some (meaning_of s given d.name d.declared) entry h)
     by_test false is h more = let r = more h in (suc r.0, r.1, r.2, r.3, r.4)
@@ -113,7 +118,8 @@ abbrev pub IsNoInstance : SourceItem → Type 0
 IsNoInstance (InstanceItem place module_name parameters instances) = ⊥
 IsNoInstance _ = Unit {0}
 
-plain-there : (here : Here) (gates : ℕ) (item : SourceItem) (before after parts : List Part) → then_go (checked_item here gates item) (added before) ≡ Ok after → Grows after parts → ItemThere here item parts
+plain-there : (here : Here) (gates : ℕ) (item : SourceItem) (before after parts : List Part) → then_go (checked_item here gates item) (added before) ≡ Ok after → Grows after parts →
+    ItemThere here item parts
 plain-there here gates item before after parts e g =
     let step = then_go-ok (checked_item here gates item) (added before) after e in
     let none = checked_item-ok here gates item step.0 step.1 in
@@ -125,12 +131,14 @@ plain-there here gates item before after parts e g =
           (r.0, at-grown after parts g r.0 part (ap (λ l. slice_get l r.0) (sym (added-ok before step.0 after step.2)) ∙ r.1));
     }
 
-walked_item-there : (modules : List SourceModule) (mode : Mode) (levels : ℕ) (here : Here) (gates : ℕ) (item : SourceItem) → IsNoInstance item → (before after parts : List Part) → walked_item (walked modules mode levels) here gates item before ≡ Ok after →
+walked_item-there : (modules : List SourceModule) (mode : Mode) (levels : ℕ) (here : Here) (gates : ℕ) (item : SourceItem) → IsNoInstance item → (before after parts : List Part) →
+    walked_item (walked modules mode levels) here gates item before ≡ Ok after →
     Grows after parts → ItemThere here item parts
 walked_item-there modules mode levels here gates (InstanceItem place module_name parameters instances) no_instance before after parts e g = absurd no_instance
 walked_item-there modules mode levels here gates (ParameterItem group) no_instance before after parts e g = plain-there here gates (ParameterItem group) before after parts e g
 walked_item-there modules mode levels here gates (PortItem group) no_instance before after parts e g = plain-there here gates (PortItem group) before after parts e g
-walked_item-there modules mode levels here gates (WireItem place signed range wires) no_instance before after parts e g = plain-there here gates (WireItem place signed range wires) before after parts e g
+walked_item-there modules mode levels here gates (WireItem place signed range wires) no_instance before after parts e g =
+    plain-there here gates (WireItem place signed range wires) before after parts e g
 walked_item-there modules mode levels here gates (RegItem place signed range regs) no_instance before after parts e g = plain-there here gates (RegItem place signed range regs) before after parts e g
 walked_item-there modules mode levels here gates (IntegerItem place regs) no_instance before after parts e g = plain-there here gates (IntegerItem place regs) before after parts e g
 walked_item-there modules mode levels here gates (AssignItem place assignments) no_instance before after parts e g = plain-there here gates (AssignItem place assignments) before after parts e g
@@ -139,11 +147,14 @@ walked_item-there modules mode levels here gates (InitialItem place body) no_ins
 walked_item-there modules mode levels here gates (AlwaysItem place body) no_instance before after parts e g = plain-there here gates (AlwaysItem place body) before after parts e g
 
 -- each item of an instance that a walk comes to
-pub item-there : (modules : List SourceModule) (mode : Mode) (top : SourceModule) (parts : List Part) → walked_from modules mode top ≡ Ok parts → (instance : Entered) → IsVisited modules mode top instance → (scope : Scope) →
-    names instance.inner instance.given ≡ Ok scope → (item : SourceItem) → IsOf instance.inner item → IsNoInstance item → ItemThere (record { modules = modules; mode = mode; instance = instance; scope = scope }) item parts
+pub item-there : (modules : List SourceModule) (mode : Mode) (top : SourceModule) (parts : List Part) → walked_from modules mode top ≡ Ok parts → (instance : Entered) →
+    IsVisited modules mode top instance → (scope : Scope) →
+    names instance.inner instance.given ≡ Ok scope → (item : SourceItem) → IsOf instance.inner item → IsNoInstance item →
+    ItemThere (record { modules = modules; mode = mode; instance = instance; scope = scope }) item parts
 item-there modules mode top parts e instance visited scope named item of no_instance =
     let w = visited-walked modules mode top parts e instance visited in
-    let step = then_go-ok (as_refusal (names instance.inner instance.given)) (λ s. walked_module (walked modules mode w.levels) (record { modules = modules; mode = mode; instance = instance; scope = s }) instance.inner w.before) w.after w.is in
+    let step = then_go-ok (as_refusal (names instance.inner instance.given)) (λ s. walked_module (walked modules mode w.levels)
+    (record { modules = modules; mode = mode; instance = instance; scope = s }) instance.inner w.before) w.after w.is in
     let own : step.0 ≡ scope = same_answer step.0 scope (names instance.inner instance.given) (as_refusal-ok (names instance.inner instance.given) step.0 step.1) named in
     let here : Here = record { modules = modules; mode = mode; instance = instance; scope = scope } in
     let whole : walked_module (walked modules mode w.levels) here instance.inner w.before ≡ Ok w.after =

@@ -4,13 +4,17 @@ use Rattle.std.specs.Prelude.{slice_get, flat_map, nat_lt, if◌then◌else◌}
 use Rattle.std.proofs.lemmas.Bool.{cases_Bool, ltb-true, ltb-false}
 use Rattle.vf_base.specs.Lists.{AllHold}
 use Rattle.v_design.specs.Sized.{span, most_bits}
-use Rattle.v_tree.specs.Trees.{SourceExpression, NamedPlace, SourceRange, SourceParameter, SourceWire, SourceContent, NoContent, FirstContent, MemoryBounds, SourceReg, SourceGate, SourceInstance, SourceItem, ParameterItem, PortItem, WireItem, RegItem, IntegerItem, AssignItem, GateItem, InstanceItem, InitialItem, AlwaysItem, SourceModule, place_of_expression}
+use Rattle.v_tree.specs.Trees.{SourceExpression, NamedPlace, SourceRange, SourceParameter, SourceWire, SourceContent, NoContent, FirstContent, MemoryBounds, SourceReg, SourceGate, SourceInstance}
+use Rattle.v_tree.specs.Trees.{SourceItem, ParameterItem, PortItem, WireItem, RegItem, IntegerItem, AssignItem, GateItem, InstanceItem, InitialItem, AlwaysItem, SourceModule, place_of_expression}
 use Rattle.four_value.specs.Values.{natural_number}
 use Rattle.v_names.specs.Faults.{NoConstant, BadWidth, fault_if}
 use Rattle.v_names.specs.Scopes.{SignedValue, DeclaredRange, Scope, range_width}
 use Rattle.v_names.specs.Readings.{is_empty, natural_constant, number_or, constant_of}
-use Rattle.v_names.specs.Constants.{ParameterValue, BoundUpTo, most_bound, exceeds, is_unfit_if_some, all_parameters, some_waiting, value_faults_within, value_faults, constant_name_faults, constant_faults, optional_faults, bound_faults}
-use Rattle.v_names.specs.Names.{Bounds, Unbounded, IntegerBounds, RangeBounds, bounds_of, Declared, DeclaredParameter, DeclaredPort, DeclaredNet, DeclaredReg, DeclaredMemory, DeclaredGate, DeclaredInstance, Declaration, reg_declared, reg_declarations, gate_declarations, item_declarations, declarations_of, plain_of_name, joined_declared, names_declared, bound_number, range_of, most_kept, kept_bound, kept_range, bounds_wait, context_width, parameter_faults_within, item_name_faults, content_faults, names}
+use Rattle.v_names.specs.Constants.{ParameterValue, BoundUpTo, most_bound, exceeds, is_unfit_if_some, all_parameters, some_waiting, value_faults_within, value_faults, constant_name_faults}
+use Rattle.v_names.specs.Constants.{constant_faults, optional_faults, bound_faults}
+use Rattle.v_names.specs.Names.{Bounds, Unbounded, IntegerBounds, RangeBounds, bounds_of, Declared, DeclaredParameter, DeclaredPort, DeclaredNet, DeclaredReg, DeclaredMemory, DeclaredGate}
+use Rattle.v_names.specs.Names.{DeclaredInstance, Declaration, reg_declared, reg_declarations, gate_declarations, item_declarations, declarations_of, plain_of_name, joined_declared, names_declared}
+use Rattle.v_names.specs.Names.{bound_number, range_of, most_kept, kept_bound, kept_range, bounds_wait, context_width, parameter_faults_within, item_name_faults, content_faults, names}
 use Rattle.v_elab.specs.declared.Mode.{Mode}
 use Rattle.v_elab.specs.ItemFaults.{size_faults, bounds_size_faults, bound_of, range_faults, declared_range_faults, wire_faults, content_size_faults, item_faults}
 use Rattle.v_elab.specs.Parts.{Part}
@@ -63,7 +67,8 @@ content-faultless scope signed bounds h NoContent = h
 content-faultless scope signed bounds h (FirstContent value) = h
 content-faultless scope signed bounds h (MemoryBounds addresses) = h
 
-regs-faultless : (scope : Scope) (signed : Bool) (bounds : Bounds) → HasBounds scope bounds → (regs : List SourceReg) → AllHold (λ (d : Declaration). IsFaultless scope d.declared) (reg_declarations signed bounds regs)
+regs-faultless : (scope : Scope) (signed : Bool) (bounds : Bounds) → HasBounds scope bounds → (regs : List SourceReg) →
+    AllHold (λ (d : Declaration). IsFaultless scope d.declared) (reg_declarations signed bounds regs)
 regs-faultless scope signed bounds h [] = tt
 regs-faultless scope signed bounds h (r ∷ regs) = (content-faultless scope signed bounds h r.content, regs-faultless scope signed bounds h regs)
 
@@ -77,13 +82,15 @@ gates-faultless scope [] = tt
 gates-faultless scope (gate ∷ gates) = gate-faultless scope gate gate.name gates (gates-faultless scope gates)
 
 -- nothing is wrong with what an item declares, if nothing is with the item
-pub item-declares : (scope : Scope) (item : SourceItem) → item_name_faults scope item ≡ [] → item_faults scope item ≡ [] → AllHold (λ (d : Declaration). IsFaultless scope d.declared) (item_declarations item)
+pub item-declares : (scope : Scope) (item : SourceItem) → item_name_faults scope item ≡ [] → item_faults scope item ≡ [] →
+    AllHold (λ (d : Declaration). IsFaultless scope d.declared) (item_declarations item)
 item-declares scope (ParameterItem group) names sizes =
     let bounds = bounds_of group.range in
     let width = context_width (range_of scope bounds) in
     let n = append-none (optional_faults (bound_faults scope most_bound) group.range) (flat_map (parameter_faults_within width scope) group.parameters) names in
     let s = append-none (declared_range_faults scope group.range) (flat_map (λ (p : SourceParameter). size_faults scope p.value) group.parameters) sizes in
-    AllHold-map (λ (d : Declaration). IsFaultless scope d.declared) _ group.parameters (parameters-faultless scope group.is_local group.signed bounds (has-bounds scope group.range n.0 s.0) group.parameters n.1 s.1)
+    AllHold-map (λ (d : Declaration). IsFaultless scope d.declared) _ group.parameters (parameters-faultless scope group.is_local group.signed bounds
+    (has-bounds scope group.range n.0 s.0) group.parameters n.1 s.1)
 item-declares scope (PortItem group) names sizes =
     let bounds = has-bounds scope group.range names sizes in AllHold-map (λ (d : Declaration). IsFaultless scope d.declared) _ group.names (AllHold-all _ group.names (λ (n : NamedPlace). bounds))
 item-declares scope (WireItem place signed range wires) names sizes =
@@ -105,7 +112,8 @@ item-declares scope (AlwaysItem place body) names sizes = tt
 
 -- Declarations of a module
 
-again-faultless : (scope : Scope) (declared : Declared) (again : Declaration) (kind : Declared) (others : List Declaration) → IsFaultless scope declared → IsFaultless scope (joined_declared declared (record again { declared = kind } ∷ others))
+again-faultless : (scope : Scope) (declared : Declared) (again : Declaration) (kind : Declared) (others : List Declaration) → IsFaultless scope declared →
+    IsFaultless scope (joined_declared declared (record again { declared = kind } ∷ others))
 again-faultless scope (DeclaredPort direction is_reg signed bounds first) again (DeclaredNet signed' bounds') others h = h
 again-faultless scope (DeclaredPort direction is_reg signed bounds first) again (DeclaredReg signed' bounds' first') others h = h
 again-faultless scope (DeclaredPort direction is_reg signed bounds first) again (DeclaredParameter is_local signed' bounds' value) others h = h
@@ -126,21 +134,30 @@ joined-faultless scope declared [] h = h
 joined-faultless scope declared (again ∷ others) h = again-faultless scope declared again again.declared others h
 
 -- nothing is wrong with an item of an instance that a walk comes to
-pub item-faultless : (modules : List SourceModule) (mode : Mode) (top : SourceModule) (parts : List Part) → walked_from modules mode top ≡ Ok parts → (instance : Entered) → IsVisited modules mode top instance → (scope : Scope) →
+pub item-faultless : (modules : List SourceModule) (mode : Mode) (top : SourceModule) (parts : List Part) → walked_from modules mode top ≡ Ok parts → (instance : Entered) →
+    IsVisited modules mode top instance → (scope : Scope) →
     names instance.inner instance.given ≡ Ok scope → (item : SourceItem) → IsOf instance.inner item → item_faults scope item ≡ []
 item-faultless modules mode top parts e instance visited scope named (InstanceItem place module_name parameters instances) of = refl
 item-faultless modules mode top parts e instance visited scope named (ParameterItem group) of = (item-there modules mode top parts e instance visited scope named (ParameterItem group) of tt).faultless
 item-faultless modules mode top parts e instance visited scope named (PortItem group) of = (item-there modules mode top parts e instance visited scope named (PortItem group) of tt).faultless
-item-faultless modules mode top parts e instance visited scope named (WireItem place signed range wires) of = (item-there modules mode top parts e instance visited scope named (WireItem place signed range wires) of tt).faultless
-item-faultless modules mode top parts e instance visited scope named (RegItem place signed range regs) of = (item-there modules mode top parts e instance visited scope named (RegItem place signed range regs) of tt).faultless
-item-faultless modules mode top parts e instance visited scope named (IntegerItem place regs) of = (item-there modules mode top parts e instance visited scope named (IntegerItem place regs) of tt).faultless
-item-faultless modules mode top parts e instance visited scope named (AssignItem place assignments) of = (item-there modules mode top parts e instance visited scope named (AssignItem place assignments) of tt).faultless
-item-faultless modules mode top parts e instance visited scope named (GateItem place kind gates) of = (item-there modules mode top parts e instance visited scope named (GateItem place kind gates) of tt).faultless
-item-faultless modules mode top parts e instance visited scope named (InitialItem place body) of = (item-there modules mode top parts e instance visited scope named (InitialItem place body) of tt).faultless
-item-faultless modules mode top parts e instance visited scope named (AlwaysItem place body) of = (item-there modules mode top parts e instance visited scope named (AlwaysItem place body) of tt).faultless
+item-faultless modules mode top parts e instance visited scope named (WireItem place signed range wires) of =
+    (item-there modules mode top parts e instance visited scope named (WireItem place signed range wires) of tt).faultless
+item-faultless modules mode top parts e instance visited scope named (RegItem place signed range regs) of =
+    (item-there modules mode top parts e instance visited scope named (RegItem place signed range regs) of tt).faultless
+item-faultless modules mode top parts e instance visited scope named (IntegerItem place regs) of =
+    (item-there modules mode top parts e instance visited scope named (IntegerItem place regs) of tt).faultless
+item-faultless modules mode top parts e instance visited scope named (AssignItem place assignments) of =
+    (item-there modules mode top parts e instance visited scope named (AssignItem place assignments) of tt).faultless
+item-faultless modules mode top parts e instance visited scope named (GateItem place kind gates) of =
+    (item-there modules mode top parts e instance visited scope named (GateItem place kind gates) of tt).faultless
+item-faultless modules mode top parts e instance visited scope named (InitialItem place body) of =
+    (item-there modules mode top parts e instance visited scope named (InitialItem place body) of tt).faultless
+item-faultless modules mode top parts e instance visited scope named (AlwaysItem place body) of =
+    (item-there modules mode top parts e instance visited scope named (AlwaysItem place body) of tt).faultless
 
 -- nor with what its module declares
-pub declared-faultless : (modules : List SourceModule) (mode : Mode) (top : SourceModule) (parts : List Part) → walked_from modules mode top ≡ Ok parts → (instance : Entered) → IsVisited modules mode top instance → (scope : Scope) →
+pub declared-faultless : (modules : List SourceModule) (mode : Mode) (top : SourceModule) (parts : List Part) → walked_from modules mode top ≡ Ok parts → (instance : Entered) →
+    IsVisited modules mode top instance → (scope : Scope) →
     names instance.inner instance.given ≡ Ok scope → (number : ℕ) (d : Declaration) → slice_get (names_declared instance.inner) number ≡ Some d → IsFaultless scope d.declared
 declared-faultless modules mode top parts e instance visited scope named number d at =
     let m = instance.inner in
@@ -148,7 +165,8 @@ declared-faultless modules mode top parts e instance visited scope named number 
     let item = declaration-item m own.0 own.1 own.2 in
     let names_none = items-named m instance.given scope named item.0 item.1 in
     let sizes_none = item-faultless modules mode top parts e instance visited scope named item.0 item.1 in
-    let own_none = AllHold-slice_get (λ (other : Declaration). IsFaultless scope other.declared) (item_declarations item.0) item.2.0 own.1 (item-declares scope item.0 names_none sizes_none) item.2.1 in
+    let own_none = AllHold-slice_get (λ (other : Declaration). IsFaultless scope other.declared) (item_declarations item.0) item.2.0 own.1
+    (item-declares scope item.0 names_none sizes_none) item.2.1 in
     subst (λ (other : Declaration). IsFaultless scope other.declared) own.3 (joined-faultless scope own.1.declared (plain_of_name own.1.name (declarations_of m)) own_none)
 
 -- Bounds
@@ -207,4 +225,5 @@ kept-bounds scope (RangeBounds range) h =
 
 pub bounds-fit : (scope : Scope) (bounds : Bounds) → HasBounds scope bounds → range_width (kept_range (range_of scope bounds)) ≤ most_bits
 bounds-fit scope bounds h =
-    let fits = ltb-false most_bits (range_width (range_of scope bounds)) (bounds-narrow scope bounds h) in subst (λ (r : DeclaredRange). range_width r ≤ most_bits) (sym (kept-bounds scope bounds h)) fits
+    let fits = ltb-false most_bits (range_width (range_of scope bounds)) (bounds-narrow scope bounds h) in
+    subst (λ (r : DeclaredRange). range_width r ≤ most_bits) (sym (kept-bounds scope bounds h)) fits

@@ -22,14 +22,16 @@ named-walks modules unit mode k top parts at e =
 
 -- the flat design of such a unit is sized
 abbrev pub NamedDesignsAreSized : Type 0
-NamedDesignsAreSized = (unit : SourceUnit) (top : Identifier) (mode : Mode) (design : FlatDesign) → IsSourceUnit unit.modules → IsNamedUnit unit.modules → flat unit top mode ≡ Ok design → HasSizes design
+NamedDesignsAreSized = (unit : SourceUnit) (top : Identifier) (mode : Mode) (design : FlatDesign) → IsSourceUnit unit.modules → IsNamedUnit unit.modules → flat unit top mode ≡ Ok design →
+    HasSizes design
 
 pub named-sized : NamedDesignsAreSized
 named-sized unit top mode design source named e = consistent-sized unit top mode design source (named-walks unit.modules named mode) e
 
 -- and names and writes what it may
 abbrev pub NamedDesignsAreWritten : Type 0
-NamedDesignsAreWritten = (unit : SourceUnit) (top : Identifier) (mode : Mode) (design : FlatDesign) → IsSourceUnit unit.modules → IsNamedUnit unit.modules → flat unit top mode ≡ Ok design → IsWritten design
+NamedDesignsAreWritten = (unit : SourceUnit) (top : Identifier) (mode : Mode) (design : FlatDesign) → IsSourceUnit unit.modules → IsNamedUnit unit.modules → flat unit top mode ≡ Ok design →
+    IsWritten design
 
 pub named-written : NamedDesignsAreWritten
 named-written unit top mode design source named e = consistent-written unit top mode design source (named-walks unit.modules named mode) e

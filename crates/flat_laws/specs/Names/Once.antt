@@ -11,7 +11,8 @@ use Rattle.v_design.specs.Expressions.{up_from}
 use Rattle.v_design.specs.WellFormed.{most_parts}
 use Rattle.v_tree.specs.declared.item.Direction.{Direction}
 use Rattle.v_tree.specs.declared.item.Direction.TheVariants.{Input, Output}
-use Rattle.v_tree.specs.Trees.{Identifier, SourceExpression, SourceTarget, NamedPlace, SourceParameters, SourceWire, SourceAssignment, SourceGate, SourceConnection, SourceInstance, SourceItem, ParameterItem, PortItem, WireItem, RegItem, IntegerItem, AssignItem, GateItem, InstanceItem, InitialItem, AlwaysItem, SourceModule, same_name}
+use Rattle.v_tree.specs.Trees.{Identifier, SourceExpression, SourceTarget, NamedPlace, SourceParameters, SourceWire, SourceAssignment, SourceGate, SourceConnection, SourceInstance, SourceItem}
+use Rattle.v_tree.specs.Trees.{ParameterItem, PortItem, WireItem, RegItem, IntegerItem, AssignItem, GateItem, InstanceItem, InitialItem, AlwaysItem, SourceModule, same_name}
 use Rattle.v_names.specs.Faults.{same_place}
 use Rattle.v_names.specs.Scopes.{ScopeEntry, ParameterEntry, RefusedParameter, WaitingParameter, NetEntry, RegEntry, MemoryEntry, GateEntry, InstanceEntry, Scope, looked_up}
 use Rattle.v_names.specs.Names.{DeclaredGate, DeclaredInstance, Declaration, gate_declarations, item_declarations, declarations_of, is_plain, of_name, names_declared, GivenParameter, names}
@@ -20,8 +21,11 @@ use Rattle.v_elab.specs.declared.Mode.{Mode}
 use Rattle.v_elab.specs.declared.What.TheVariants.{Objects, Nodes}
 use Rattle.v_elab.specs.Refusals.{as_refusal, checked, then_go}
 use Rattle.v_elab.specs.Parts.{Part, SignalPart, MemoryPart, AssignPart, GatePart, ProcessPart, InstancePart, objects_of_part, nodes_of_part, over_limit, too_many_parts}
-use Rattle.v_elab.specs.Connections.{most_depth, open_parameters, given_parameters, Child, Paths, joined_name, port_direction, actual_parts, output_parts, connection_parts, connections_parts, connected_name, head_names, drives_of}
-use Rattle.v_elab.specs.Walk.{Entered, Here, part_by_entry, parts_of_own, declared_parts, assign_part, wire_parts, terminals_of, gate_name, gate_parts, item_parts, gates_in, checked_item, added, Walker, child_of, paths_of, entered, instance_parts, walked_instance, walked_instances, module_named, instance_item_faults, walked_instance_item, walked_item, walked_items, head_items, walked_module, walked, walked_from}
+use Rattle.v_elab.specs.Connections.{most_depth, open_parameters, given_parameters, Child, Paths, joined_name, port_direction, actual_parts, output_parts, connection_parts, connections_parts}
+use Rattle.v_elab.specs.Connections.{connected_name, head_names, drives_of}
+use Rattle.v_elab.specs.Walk.{Entered, Here, part_by_entry, parts_of_own, declared_parts, assign_part, wire_parts, terminals_of, gate_name, gate_parts, item_parts, gates_in, checked_item, added}
+use Rattle.v_elab.specs.Walk.{Walker, child_of, paths_of, entered, instance_parts, walked_instance, walked_instances, module_named, instance_item_faults, walked_instance_item, walked_item}
+use Rattle.v_elab.specs.Walk.{walked_items, head_items, walked_module, walked, walked_from}
 use Rattle.graph_order.specs.ListLaws.{AllHold-slice_get}
 use Rattle.flat_laws.specs.Lists.{AllHold-from, at-filter, two-counted}
 use Rattle.flat_laws.specs.Numbered.{AllHold-append, AllHold-filter}
@@ -80,7 +84,8 @@ record Adds (parts result : List Part) (gates : ℕ) (bound : Identifier → ℕ
 adds-none : (parts result : List Part) (bound : Identifier → ℕ) → sum_by nodes_of_part parts ≤ most_parts → parts ≡ result → Adds parts result 0 bound
 adds-none parts result bound few e = subst (λ r. Adds parts r 0 bound) e (record { few = few; more = omega arith; named = λ name. omega arith })
 
-adds-then : (parts middle result : List Part) (one other gates : ℕ) (first second bound : Identifier → ℕ) → Adds parts middle one first → Adds middle result other second → gates ≤ one + other → ((name : Identifier) → first name + second name ≤ bound name) →
+adds-then : (parts middle result : List Part) (one other gates : ℕ) (first second bound : Identifier → ℕ) → Adds parts middle one first → Adds middle result other second → gates ≤ one + other →
+    ((name : Identifier) → first name + second name ≤ bound name) →
     Adds parts result gates bound
 adds-then parts middle result one other gates first second bound h k least most = record {
   few = k.few;
@@ -95,7 +100,8 @@ few-parts parts e =
     let nodes = refusal_or-none (over_limit Nodes most_parts (sum_by nodes_of_part parts)) _ objects.1 in
     over_limit-none Nodes most_parts (sum_by nodes_of_part parts) nodes.0
 
-adds-added : (parts more result : List Part) (gates : ℕ) (bound : Identifier → ℕ) → added parts more ≡ Ok result → gates ≤ sum_by nodes_of_part more → ((name : Identifier) → count_named name more ≤ bound name) → Adds parts result gates bound
+adds-added : (parts more result : List Part) (gates : ℕ) (bound : Identifier → ℕ) → added parts more ≡ Ok result → gates ≤ sum_by nodes_of_part more →
+    ((name : Identifier) → count_named name more ≤ bound name) → Adds parts result gates bound
 adds-added parts more result gates bound e least most =
     let is = unless_refused-ok (too_many_parts (parts ++ more)) (parts ++ more) result e in
     let few = few-parts (parts ++ more) is.0 in
@@ -127,7 +133,8 @@ own-weight m d dotless =
     ∙ ap (λ b. number_if b (length (first_places m d))) (name-same d.name)
 
 -- an instance's names stand behind its own
-instance-weight : (m : SourceModule) (d : Declaration) (path whole : Identifier) → IsDotless d.name → 1 ≤ length (first_places m d) → begins (behind ((path ++ d.name) ++ codes ".") whole) ≤ weight_behind m (behind path whole) d
+instance-weight : (m : SourceModule) (d : Declaration) (path whole : Identifier) → IsDotless d.name → 1 ≤ length (first_places m d) →
+    begins (behind ((path ++ d.name) ++ codes ".") whole) ≤ weight_behind m (behind path whole) d
 instance-weight m d path whole dotless some = by_rest (behind ((path ++ d.name) ++ codes ".") whole) refl
   where
     by_rest : (rest : Option Identifier) → behind ((path ++ d.name) ++ codes ".") whole ≡ rest → begins rest ≤ weight_behind m (behind path whole) d
@@ -152,35 +159,42 @@ entry-named here d (Some WaitingParameter) name = omega arith
 entry-named here d (Some GateEntry) name = omega arith
 entry-named here d (Some InstanceEntry) name = omega arith
 
-count-flat : {A : Type 0} (f : A → List Part) (name : Identifier) (most : Bool) (xs : List A) → AllHold (λ x. count_named name (f x) ≤ one_if most) xs → count_named name (flat_map f xs) ≤ number_if most (length xs)
+count-flat : {A : Type 0} (f : A → List Part) (name : Identifier) (most : Bool) (xs : List A) → AllHold (λ x. count_named name (f x) ≤ one_if most) xs →
+    count_named name (flat_map f xs) ≤ number_if most (length xs)
 count-flat f name true [] h = omega arith
 count-flat f name false [] h = omega arith
 count-flat f name true (x ∷ xs) h = omega (arith, count-append name (f x) (flat_map f xs), h.0, count-flat f name true xs h.1)
 count-flat f name false (x ∷ xs) h = omega (arith, count-append name (f x) (flat_map f xs), h.0, count-flat f name false xs h.1)
 
-own-named : (here : Here) (d : Declaration) → IsDotless d.name → (name : Identifier) → count_named name (parts_of_own here (names_declared here.instance.inner) d) ≤ weight_behind here.instance.inner (behind here.instance.path name) d
+own-named : (here : Here) (d : Declaration) → IsDotless d.name → (name : Identifier) → count_named name (parts_of_own here (names_declared here.instance.inner) d) ≤ weight_behind here.instance.inner
+    (behind here.instance.path name) d
 own-named here d dotless name = by_name (same_name (here.instance.path ++ d.name) name) refl
   where
     m : SourceModule
     m = here.instance.inner
 
-    each : AllHold (λ (own : Declaration). count_named name (part_by_entry here own (looked_up here.scope own.name)) ≤ one_if (same_name (here.instance.path ++ d.name) name)) (first_places here.instance.inner d)
+    each : AllHold (λ (own : Declaration). count_named name (part_by_entry here own (looked_up here.scope own.name)) ≤ one_if (same_name (here.instance.path ++ d.name) name))
+        (first_places here.instance.inner d)
     each =
-        AllHold-filter (λ (own : Declaration). count_named name (part_by_entry here own (looked_up here.scope own.name)) ≤ one_if (same_name (here.instance.path ++ d.name) name)) (λ (own : Declaration). same_place own.place d.place)
+        AllHold-filter (λ (own : Declaration). count_named name (part_by_entry here own (looked_up here.scope own.name)) ≤ one_if (same_name (here.instance.path ++ d.name) name))
+        (λ (own : Declaration). same_place own.place d.place)
         (of_name d.name (names_declared here.instance.inner))
-        (AllHold-from (λ (own : Declaration). count_named name (part_by_entry here own (looked_up here.scope own.name)) ≤ one_if (same_name (here.instance.path ++ d.name) name)) (of_name d.name (names_declared here.instance.inner))
+        (AllHold-from (λ (own : Declaration). count_named name (part_by_entry here own (looked_up here.scope own.name)) ≤ one_if (same_name (here.instance.path ++ d.name) name))
+        (of_name d.name (names_declared here.instance.inner))
         (λ i own at.
         let r = at-filter (λ (o : Declaration). same_name o.name d.name) (names_declared here.instance.inner) i own at in
         subst (λ (n : Identifier). count_named name (part_by_entry here own (looked_up here.scope own.name)) ≤ one_if (same_name (here.instance.path ++ n) name)) (equal-name own.name d.name r.2)
         (entry-named here own (looked_up here.scope own.name) name)))
 
-    by_name : (test : Bool) → same_name (here.instance.path ++ d.name) name ≡ test → count_named name (parts_of_own here (names_declared here.instance.inner) d) ≤ weight_behind here.instance.inner (behind here.instance.path name) d
+    by_name : (test : Bool) → same_name (here.instance.path ++ d.name) name ≡ test → count_named name (parts_of_own here (names_declared here.instance.inner) d) ≤ weight_behind here.instance.inner
+        (behind here.instance.path name) d
     by_name test same =
         let counted = count-flat (λ (own : Declaration). part_by_entry here own (looked_up here.scope own.name)) name test (first_places here.instance.inner d)
         (subst (λ b. AllHold (λ (own : Declaration). count_named name (part_by_entry here own (looked_up here.scope own.name)) ≤ one_if b) (first_places here.instance.inner d)) same each) in
         by_test test same counted
       where
-        by_test : (t : Bool) → same_name (here.instance.path ++ d.name) name ≡ t → count_named name (parts_of_own here (names_declared here.instance.inner) d) ≤ number_if t (length (first_places here.instance.inner d)) →
+        by_test : (t : Bool) → same_name (here.instance.path ++ d.name) name ≡ t → count_named name (parts_of_own here (names_declared here.instance.inner) d) ≤ number_if t
+            (length (first_places here.instance.inner d)) →
             count_named name (parts_of_own here (names_declared here.instance.inner) d) ≤ weight_behind here.instance.inner (behind here.instance.path name) d
         by_test true e counted =
             let is : weight_behind here.instance.inner (behind here.instance.path name) d ≡ length (first_places here.instance.inner d) =
@@ -222,9 +236,11 @@ gates-named here kind number (gate ∷ gates) known name = by_name gate.name kno
   where
     by_name : (own : Option NamedPlace) → AllHold (IsKnownIn here.instance.inner) (gate_declarations (record gate { name = own } ∷ gates)) →
         (AllHold (IsKnownIn here.instance.inner) (gate_declarations gates) → count_named name (gate_parts here kind (number + 1) gates)
-        ≤ sum_by (weight_behind here.instance.inner (behind here.instance.path name)) (gate_declarations gates) + sum_by (gate_weight (behind here.instance.path name)) (up_from (number + 1) (length gates))) →
+        ≤ sum_by (weight_behind here.instance.inner (behind here.instance.path name)) (gate_declarations gates) + sum_by (gate_weight (behind here.instance.path name))
+        (up_from (number + 1) (length gates))) →
         count_named name (gate_parts here kind number (record gate { name = own } ∷ gates))
-        ≤ sum_by (weight_behind here.instance.inner (behind here.instance.path name)) (gate_declarations (record gate { name = own } ∷ gates)) + sum_by (gate_weight (behind here.instance.path name)) (up_from number (suc (length gates)))
+        ≤ sum_by (weight_behind here.instance.inner (behind here.instance.path name)) (gate_declarations (record gate { name = own } ∷ gates)) + sum_by (gate_weight (behind here.instance.path name))
+        (up_from number (suc (length gates)))
     by_name None h rest =
         let own = codes "$g" ++ decimal number in
         let is : gate_weight (Some own) number ≡ 1 = ap one_if (name-same own) in
@@ -268,7 +284,8 @@ assigns-nameless : (here : Here) (assignments : List SourceAssignment) → AllHo
 assigns-nameless here [] = tt
 assigns-nameless here (a ∷ assignments) = (refl, assigns-nameless here assignments)
 
-item-named : (here : Here) (gates : ℕ) (item : SourceItem) → AllHold (IsKnownIn here.instance.inner) (item_declarations item) → (name : Identifier) → count_named name (item_parts here gates item) ≤ named_by_item here gates item name
+item-named : (here : Here) (gates : ℕ) (item : SourceItem) → AllHold (IsKnownIn here.instance.inner) (item_declarations item) → (name : Identifier) →
+    count_named name (item_parts here gates item) ≤ named_by_item here gates item name
 item-named here gates (ParameterItem group) known name = omega arith
 item-named here gates (PortItem group) known name = omega (arith, declared-named here (item_declarations (PortItem group)) known name)
 item-named here gates (WireItem place signed range wires) known name =
@@ -298,7 +315,8 @@ item-nodes here gates (InstanceItem place module_name parameters instances) = om
 item-nodes here gates (InitialItem place body) = omega arith
 item-nodes here gates (AlwaysItem place body) = omega arith
 
-plain-adds : (here : Here) (gates : ℕ) (item : SourceItem) → AllHold (IsKnownIn here.instance.inner) (item_declarations item) → (parts result : List Part) → then_go (checked_item here gates item) (added parts) ≡ Ok result →
+plain-adds : (here : Here) (gates : ℕ) (item : SourceItem) → AllHold (IsKnownIn here.instance.inner) (item_declarations item) → (parts result : List Part) →
+    then_go (checked_item here gates item) (added parts) ≡ Ok result →
     Adds parts result (gates_in item) (named_by_item here gates item)
 plain-adds here gates item known parts result e =
     let step = then_go-ok (checked_item here gates item) (added parts) result e in
@@ -312,7 +330,8 @@ output-nameless : (child : Child) (paths : Paths) (port : Identifier) (e : Sourc
 output-nameless child paths port e None = tt
 output-nameless child paths port e (Some target) = (refl, tt)
 
-actual-nameless : (child : Child) (paths : Paths) (port : Identifier) (e : SourceExpression) (joined : Option Identifier) (direction : Option Direction) → AllHold IsNameless (actual_parts child paths port e joined direction)
+actual-nameless : (child : Child) (paths : Paths) (port : Identifier) (e : SourceExpression) (joined : Option Identifier) (direction : Option Direction) →
+    AllHold IsNameless (actual_parts child paths port e joined direction)
 actual-nameless child paths port e (Some joined) direction = tt
 actual-nameless child paths port e None (Some Input) = (refl, tt)
 actual-nameless child paths port e None (Some Output) = output-nameless child paths port e (target_of e)
@@ -326,7 +345,8 @@ connection-nameless child paths (Some port) (Some e) = actual-nameless child pat
 connections-nameless : (child : Child) (paths : Paths) (position : ℕ) (connections : List SourceConnection) → AllHold IsNameless (connections_parts child paths position connections)
 connections-nameless child paths position [] = tt
 connections-nameless child paths position (connection ∷ rest) =
-    AllHold-append IsNameless (connection_parts child paths (connected_name (head_names child.inner.heads) position connection.name) connection.actual) (connections_parts child paths (position + 1) rest)
+    AllHold-append IsNameless (connection_parts child paths (connected_name (head_names child.inner.heads) position connection.name) connection.actual)
+    (connections_parts child paths (position + 1) rest)
     (connection-nameless child paths (connected_name (head_names child.inner.heads) position connection.name) connection.actual) (connections-nameless child paths (position + 1) rest)
 
 -- The walk
@@ -336,15 +356,19 @@ abbrev begins_at : Identifier → Identifier → ℕ
 begins_at path name = begins (behind path name)
 
 abbrev WalkerAdds : List SourceModule → Walker → Type 0
-WalkerAdds modules walker = (instance : Entered) → IsModule modules instance → (parts result : List Part) → walker instance parts ≡ Ok result → sum_by nodes_of_part parts ≤ most_parts → Adds parts result 0 (begins_at instance.path)
+WalkerAdds modules walker = (instance : Entered) → IsModule modules instance → (parts result : List Part) → walker instance parts ≡ Ok result → sum_by nodes_of_part parts ≤ most_parts →
+    Adds parts result 0 (begins_at instance.path)
 
 abbrev declaration_of_instance : SourceInstance → Declaration
 declaration_of_instance i = record { name = i.name; place = i.place; declared = DeclaredInstance }
 
-instances-add : (modules : List SourceModule) (walker : Walker) → WalkerAdds modules walker → (here : Here) (inner : SourceModule) → (k : ℕ) → slice_get modules k ≡ Some inner → (given : List GivenParameter) (instances : List SourceInstance) →
-    AllHold (IsKnownIn here.instance.inner) (map declaration_of_instance instances) → (parts result : List Part) → walked_instances walker here inner given instances parts ≡ Ok result → sum_by nodes_of_part parts ≤ most_parts →
+instances-add : (modules : List SourceModule) (walker : Walker) → WalkerAdds modules walker → (here : Here) (inner : SourceModule) → (k : ℕ) → slice_get modules k ≡ Some inner →
+    (given : List GivenParameter) (instances : List SourceInstance) →
+    AllHold (IsKnownIn here.instance.inner) (map declaration_of_instance instances) → (parts result : List Part) → walked_instances walker here inner given instances parts ≡ Ok result →
+    sum_by nodes_of_part parts ≤ most_parts →
     Adds parts result 0 (λ name. sum_by (weight_behind here.instance.inner (behind here.instance.path name)) (map declaration_of_instance instances))
-instances-add modules walker adds here inner k at given [] known parts result e few = adds-none parts result (λ name. sum_by (weight_behind here.instance.inner (behind here.instance.path name)) []) few (same_parts parts result (Ok parts) refl e)
+instances-add modules walker adds here inner k at given [] known parts result e few = adds-none parts result
+    (λ name. sum_by (weight_behind here.instance.inner (behind here.instance.path name)) []) few (same_parts parts result (Ok parts) refl e)
 instances-add modules walker adds here inner k at given (i ∷ rest) known parts result e few =
     let m = here.instance.inner in
     let step = then_go-ok (walked_instance walker here inner given i parts) (walked_instances walker here inner given rest) result e in
@@ -357,12 +381,15 @@ instances-add modules walker adds here inner k at given (i ∷ rest) known parts
     let later = instances-add modules walker adds here inner k at given rest known.1 step.0 result step.2 inside.few in
     let first = adds-then parts own.0 step.0 0 0 0 (λ name. 0) (begins_at (paths_of here i).inner) (λ name. weight_behind m (behind here.instance.path name) d) own_few inside (omega arith)
     (λ name. omega (arith, instance-weight m d here.instance.path name (spelled-dotless i.name known.0.spelled) (known.0.first refl))) in
-    adds-then parts step.0 result 0 0 0 (λ name. weight_behind m (behind here.instance.path name) d) (λ name. sum_by (weight_behind m (behind here.instance.path name)) (map declaration_of_instance rest))
+    adds-then parts step.0 result 0 0 0 (λ name. weight_behind m (behind here.instance.path name) d)
+    (λ name. sum_by (weight_behind m (behind here.instance.path name)) (map declaration_of_instance rest))
     (λ name. sum_by (weight_behind m (behind here.instance.path name)) (map declaration_of_instance (i ∷ rest))) first later (omega arith)
     (λ name. omega (arith, sum_by-cons (weight_behind m (behind here.instance.path name)) d (map declaration_of_instance rest)))
 
-instance_item-adds : (modules : List SourceModule) (walker : Walker) → WalkerAdds modules walker → (here : Here) → here.modules ≡ modules → (gates : ℕ) (found : Option SourceModule) (place : SourcePlace) (module_name : Identifier)
-    (parameters : List SourceConnection) (instances : List SourceInstance) → module_named here.modules module_name ≡ found → AllHold (IsKnownIn here.instance.inner) (map declaration_of_instance instances) →
+instance_item-adds : (modules : List SourceModule) (walker : Walker) → WalkerAdds modules walker → (here : Here) → here.modules ≡ modules →
+    (gates : ℕ) (found : Option SourceModule) (place : SourcePlace) (module_name : Identifier)
+    (parameters : List SourceConnection) (instances : List SourceInstance) → module_named here.modules module_name ≡ found →
+    AllHold (IsKnownIn here.instance.inner) (map declaration_of_instance instances) →
     (parts result : List Part) → walked_instance_item walker here found place parameters instances parts ≡ Ok result → sum_by nodes_of_part parts ≤ most_parts →
     Adds parts result 0 (named_by_item here gates (InstanceItem place module_name parameters instances))
 instance_item-adds modules walker adds here same gates None place module_name parameters instances named known parts result e few = absurd (cc)
@@ -373,7 +400,8 @@ instance_item-adds modules walker adds here same gates (Some inner) place module
     let h = instances-add modules walker adds here inner at.0 at.1 step.0 instances known parts result step.2 few in
     record { few = h.few; more = h.more; named = λ name. omega (arith, h.named name) }
 
-item-adds : (modules : List SourceModule) (walker : Walker) → WalkerAdds modules walker → (here : Here) → here.modules ≡ modules → (gates : ℕ) (item : SourceItem) → AllHold (IsKnownIn here.instance.inner) (item_declarations item) →
+item-adds : (modules : List SourceModule) (walker : Walker) → WalkerAdds modules walker → (here : Here) → here.modules ≡ modules → (gates : ℕ) (item : SourceItem) →
+    AllHold (IsKnownIn here.instance.inner) (item_declarations item) →
     (parts result : List Part) → walked_item walker here gates item parts ≡ Ok result → sum_by nodes_of_part parts ≤ most_parts → Adds parts result (gates_in item) (named_by_item here gates item)
 item-adds modules walker adds here same gates (InstanceItem place module_name parameters instances) known parts result e few =
     instance_item-adds modules walker adds here same gates (module_named here.modules module_name) place module_name parameters instances refl known parts result e few
@@ -390,24 +418,29 @@ item-adds modules walker adds here same gates (AlwaysItem place body) known part
 -- the names of some items, from so many gates on
 abbrev named_by_items : Here → ℕ → List SourceItem → Identifier → ℕ
 named_by_items here gates items name =
-    sum_by (weight_behind here.instance.inner (behind here.instance.path name)) (flat_map item_declarations items) + sum_by (gate_weight (behind here.instance.path name)) (up_from (gates + 1) (sum_by gates_in items))
+    sum_by (weight_behind here.instance.inner (behind here.instance.path name)) (flat_map item_declarations items) + sum_by (gate_weight (behind here.instance.path name))
+    (up_from (gates + 1) (sum_by gates_in items))
 
 items-add : (modules : List SourceModule) (walker : Walker) → WalkerAdds modules walker → (here : Here) → here.modules ≡ modules → (gates : ℕ) (items : List SourceItem) →
     AllHold (λ item. AllHold (IsKnownIn here.instance.inner) (item_declarations item)) items →
-    (parts result : List Part) → walked_items walker here gates items parts ≡ Ok result → sum_by nodes_of_part parts ≤ most_parts → Adds parts result (sum_by gates_in items) (named_by_items here gates items)
+    (parts result : List Part) → walked_items walker here gates items parts ≡ Ok result → sum_by nodes_of_part parts ≤ most_parts →
+    Adds parts result (sum_by gates_in items) (named_by_items here gates items)
 items-add modules walker adds here same gates [] known parts result e few = adds-none parts result (named_by_items here gates []) few (same_parts parts result (Ok parts) refl e)
 items-add modules walker adds here same gates (item ∷ rest) known parts result e few =
     let step = then_go-ok (walked_item walker here gates item parts) (walked_items walker here (gates + gates_in item) rest) result e in
     let first = item-adds modules walker adds here same gates item known.0 parts step.0 step.1 few in
     let later = items-add modules walker adds here same (gates + gates_in item) rest known.1 step.0 result step.2 first.few in
-    adds-then parts step.0 result (gates_in item) (sum_by gates_in rest) (sum_by gates_in (item ∷ rest)) (named_by_item here gates item) (named_by_items here (gates + gates_in item) rest) (named_by_items here gates (item ∷ rest)) first later
+    adds-then parts step.0 result (gates_in item) (sum_by gates_in rest) (sum_by gates_in (item ∷ rest)) (named_by_item here gates item) (named_by_items here (gates + gates_in item) rest)
+    (named_by_items here gates (item ∷ rest)) first later
     (omega (arith, sum_by-cons gates_in item rest))
     (λ name.
     let f = weight_behind here.instance.inner (behind here.instance.path name) in
     let g = gate_weight (behind here.instance.path name) in
     let moved : (gates + 1) + gates_in item ≡ (gates + gates_in item) + 1 = omega arith in
-    let numbers : sum_by g (up_from ((gates + 1) + gates_in item) (sum_by gates_in rest)) ≡ sum_by g (up_from ((gates + gates_in item) + 1) (sum_by gates_in rest)) = ap (λ s. sum_by g (up_from s (sum_by gates_in rest))) moved in
-    let count : sum_by g (up_from (gates + 1) (sum_by gates_in (item ∷ rest))) ≡ sum_by g (up_from (gates + 1) (gates_in item + sum_by gates_in rest)) = ap (λ n. sum_by g (up_from (gates + 1) n)) (sum_by-cons gates_in item rest) in
+    let numbers : sum_by g (up_from ((gates + 1) + gates_in item) (sum_by gates_in rest)) ≡ sum_by g (up_from ((gates + gates_in item) + 1) (sum_by gates_in rest)) =
+    ap (λ s. sum_by g (up_from s (sum_by gates_in rest))) moved in
+    let count : sum_by g (up_from (gates + 1) (sum_by gates_in (item ∷ rest))) ≡ sum_by g (up_from (gates + 1) (gates_in item + sum_by gates_in rest)) =
+    ap (λ n. sum_by g (up_from (gates + 1) n)) (sum_by-cons gates_in item rest) in
     omega (arith, sum_by-append f (item_declarations item) (flat_map item_declarations rest), sum-up_from g (gates + 1) (gates_in item) (sum_by gates_in rest), numbers, count))
 
 parameters-gateless : (groups : List SourceParameters) → sum_by gates_in (map ParameterItem groups) ≡ 0
@@ -422,7 +455,8 @@ at-back : {A : Type 0} (P : A → Type 0) (one other : List A) → AllHold P (on
 at-back P [] other h = h
 at-back P (x ∷ one) other h = at-back P one other h.1
 
-module-adds : (modules : List SourceModule) → IsNamedUnit modules → (walker : Walker) → WalkerAdds modules walker → (here : Here) → here.modules ≡ modules → IsModule modules here.instance → names here.instance.inner here.instance.given ≡ Ok here.scope →
+module-adds : (modules : List SourceModule) → IsNamedUnit modules → (walker : Walker) → WalkerAdds modules walker → (here : Here) → here.modules ≡ modules → IsModule modules here.instance →
+    names here.instance.inner here.instance.given ≡ Ok here.scope →
     (parts result : List Part) → walked_module walker here here.instance.inner parts ≡ Ok result → sum_by nodes_of_part parts ≤ most_parts → Adds parts result 0 (begins_at here.instance.path)
 module-adds modules unit walker adds here same in_unit named parts result e few =
     let m = here.instance.inner in
@@ -434,7 +468,8 @@ module-adds modules unit walker adds here same in_unit named parts result e few 
     let s = module-steps walker here m parts result e in
     let first = items-add modules walker adds here same 0 heads (at-front Known heads others known) parts s.behind s.parameters few in
     let second = items-add modules walker adds here same 0 others (at-back Known heads others known) s.behind result s.rest first.few in
-    adds-then parts s.behind result (sum_by gates_in heads) (sum_by gates_in others) 0 (named_by_items here 0 heads) (named_by_items here 0 others) (begins_at here.instance.path) first second (omega arith)
+    adds-then parts s.behind result (sum_by gates_in heads) (sum_by gates_in others) 0 (named_by_items here 0 heads) (named_by_items here 0 others) (begins_at here.instance.path) first second
+    (omega arith)
     (λ name.
     let f = weight_behind m (behind here.instance.path name) in
     let g = gate_weight (behind here.instance.path name) in
@@ -446,7 +481,8 @@ module-adds modules unit walker adds here same in_unit named parts result e few 
 walked-adds : (modules : List SourceModule) → IsNamedUnit modules → (mode : Mode) (levels : ℕ) → WalkerAdds modules (walked modules mode levels)
 walked-adds modules unit mode zero = λ instance in_unit parts result e few. adds-none parts result (begins_at instance.path) few (same_parts parts result (Ok parts) refl e)
 walked-adds modules unit mode (suc levels) = λ instance in_unit parts result e few.
-    let step = then_go-ok (as_refusal (names instance.inner instance.given)) (λ scope. walked_module (walked modules mode levels) (record { modules = modules; mode = mode; instance = instance; scope = scope }) instance.inner parts) result e in
+    let step = then_go-ok (as_refusal (names instance.inner instance.given)) (λ scope. walked_module (walked modules mode levels)
+    (record { modules = modules; mode = mode; instance = instance; scope = scope }) instance.inner parts) result e in
     module-adds modules unit (walked modules mode levels) (walked-adds modules unit mode levels) (record { modules = modules; mode = mode; instance = instance; scope = step.0 }) refl in_unit
     (as_refusal-ok (names instance.inner instance.given) step.0 step.1) parts result step.2 few
 
@@ -456,12 +492,14 @@ label-counted : (part : Part) (name : Identifier) → label part ≡ Some name �
 label-counted part name e = let is : is_named name (label part) ≡ 1 = ap (is_named name) e ∙ ap one_if (name-same name) in omega (arith, is)
 
 -- of each name there is one net, variable, memory or gate of a walk at most
-pub labels-few : (modules : List SourceModule) → IsNamedUnit modules → (mode : Mode) (top : SourceModule) → (k : ℕ) → slice_get modules k ≡ Some top → (parts : List Part) → walked_from modules mode top ≡ Ok parts → (name : Identifier) →
+pub labels-few : (modules : List SourceModule) → IsNamedUnit modules → (mode : Mode) (top : SourceModule) → (k : ℕ) → slice_get modules k ≡ Some top → (parts : List Part) →
+    walked_from modules mode top ≡ Ok parts → (name : Identifier) →
     count_named name parts ≤ 1
 labels-few modules unit mode top k at parts e name = let adds = walked-adds modules unit mode (most_depth + 1) (top_entered top) (k, at) [] parts e (omega arith) in adds.named name
 
 -- and so no two have one name
-pub labels-once : (modules : List SourceModule) → IsNamedUnit modules → (mode : Mode) (top : SourceModule) → (k : ℕ) → slice_get modules k ≡ Some top → (parts : List Part) → walked_from modules mode top ≡ Ok parts →
+pub labels-once : (modules : List SourceModule) → IsNamedUnit modules → (mode : Mode) (top : SourceModule) → (k : ℕ) → slice_get modules k ≡ Some top → (parts : List Part) →
+    walked_from modules mode top ≡ Ok parts →
     (i j : ℕ) (one other : Part) (name : Identifier) → slice_get parts i ≡ Some one → slice_get parts j ≡ Some other → label one ≡ Some name → label other ≡ Some name → i ≡ j
 labels-once modules unit mode top k at parts e i j one other name at_one at_other is_one is_other =
     let most = labels-few modules unit mode top k at parts e name in
@@ -480,7 +518,8 @@ part-label (ProcessPart process) name e = absurd (cc)
 part-label InstancePart name e = absurd (cc)
 
 -- nor do two nets, variables or memories
-pub names-once : (modules : List SourceModule) → IsNamedUnit modules → (mode : Mode) (top : SourceModule) → (k : ℕ) → slice_get modules k ≡ Some top → (parts : List Part) → walked_from modules mode top ≡ Ok parts →
+pub names-once : (modules : List SourceModule) → IsNamedUnit modules → (mode : Mode) (top : SourceModule) → (k : ℕ) → slice_get modules k ≡ Some top → (parts : List Part) →
+    walked_from modules mode top ≡ Ok parts →
     (i j : ℕ) (one other : Part) (name : Identifier) → slice_get parts i ≡ Some one → slice_get parts j ≡ Some other → part_name one ≡ Some name → part_name other ≡ Some name → i ≡ j
 names-once modules unit mode top k at parts e i j one other name at_one at_other is_one is_other =
     labels-once modules unit mode top k at parts e i j one other name at_one at_other (part-label one name is_one) (part-label other name is_other)

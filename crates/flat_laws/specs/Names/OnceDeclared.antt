@@ -13,7 +13,8 @@ use Rattle.v_names.specs.Faults.{DeclaredTwice, fault_if, same_place}
 use Rattle.v_names.specs.Readings.{is_empty}
 use Rattle.v_names.specs.Scopes.{Scope}
 use Rattle.v_names.specs.SizedLaws.{and-left, and-right}
-use Rattle.v_names.specs.Names.{Declaration, declarations_of, is_port, is_plain, of_name, joined_declaration, first_of_name, first_declarations, names_declared, GivenParameter, scope_of, may_follow, declared_bounds, range_of, same_range, twice_faults, module_name_faults, names}
+use Rattle.v_names.specs.Names.{Declaration, declarations_of, is_port, is_plain, of_name, joined_declaration, first_of_name, first_declarations, names_declared, GivenParameter, scope_of, may_follow}
+use Rattle.v_names.specs.Names.{declared_bounds, range_of, same_range, twice_faults, module_name_faults, names}
 use Rattle.graph_order.specs.ListLaws.{sum_by-none, AllHold-slice_get}
 use Rattle.flat_laws.specs.Lists.{same_some, AllHold-from, filter-at}
 use Rattle.flat_laws.specs.Sizes.Complete.{append-none}
@@ -24,7 +25,8 @@ use Rattle.flat_laws.specs.Names.Spelled.{IsSpelled, dot_or, up_to_dot, one_if, 
 -- the names of a unit that is read from a text are spelled as names are, and each declaration of a module has a place of its own
 pub record IsNamedUnit (modules : List SourceModule) : Type 0 where
   pub spelled : (i : ℕ) (m : SourceModule) → slice_get modules i ≡ Some m → AllHold (λ (d : Declaration). IsSpelled d.name) (declarations_of m)
-  pub placed : (i : ℕ) (m : SourceModule) → slice_get modules i ≡ Some m → (k l : ℕ) (one other : Declaration) → slice_get (declarations_of m) k ≡ Some one → slice_get (declarations_of m) l ≡ Some other → one.place ≡ other.place → k ≡ l
+  pub placed : (i : ℕ) (m : SourceModule) → slice_get modules i ≡ Some m → (k l : ℕ) (one other : Declaration) → slice_get (declarations_of m) k ≡ Some one →
+      slice_get (declarations_of m) l ≡ Some other → one.place ≡ other.place → k ≡ l
 
 -- a module of such a unit, in which nothing is declared twice
 pub record IsOnceIn (m : SourceModule) (scope : Scope) : Type 0 where
@@ -32,7 +34,8 @@ pub record IsOnceIn (m : SourceModule) (scope : Scope) : Type 0 where
   pub placed : (k l : ℕ) (one other : Declaration) → slice_get (declarations_of m) k ≡ Some one → slice_get (declarations_of m) l ≡ Some other → one.place ≡ other.place → k ≡ l
   pub once : twice_faults scope [] (declarations_of m) ≡ []
 
-pub once-in : (modules : List SourceModule) → IsNamedUnit modules → (i : ℕ) (m : SourceModule) → slice_get modules i ≡ Some m → (given : List GivenParameter) (scope : Scope) → names m given ≡ Ok scope → IsOnceIn m scope
+pub once-in : (modules : List SourceModule) → IsNamedUnit modules → (i : ℕ) (m : SourceModule) → slice_get modules i ≡ Some m → (given : List GivenParameter) (scope : Scope) →
+    names m given ≡ Ok scope → IsOnceIn m scope
 once-in modules unit i m at given scope e =
     let all = scope_of m given in
     let ok = unless_faulty-ok (module_name_faults all m) all scope e in
@@ -74,7 +77,8 @@ first-once name all earlier (d ∷ rest) = by_name (same_name d.name name) refl 
         by_test : (t : Bool) → is_empty (of_name name earlier) ≡ t → (later : List Declaration) → of_name name (first_declarations all (d ∷ earlier) rest) ≡ later → length later ≤ 0 →
             length (of_name name (first_of_name t (joined_declaration all d) (first_declarations all (d ∷ earlier) rest))) ≤ one_if (is_empty (of_name name earlier))
         by_test true first later e few =
-            let kept = cond-true (same_name d.name name) (joined_declaration all d ∷ of_name name (first_declarations all (d ∷ earlier) rest)) (of_name name (first_declarations all (d ∷ earlier) rest)) same in
+            let kept = cond-true (same_name d.name name) (joined_declaration all d ∷ of_name name (first_declarations all (d ∷ earlier) rest))
+            (of_name name (first_declarations all (d ∷ earlier) rest)) same in
             let long : length (of_name name (joined_declaration all d ∷ first_declarations all (d ∷ earlier) rest)) ≡ suc (length later) = ap length kept ∙ ap (λ l. suc (length l)) e in
             omega (arith, long, few, ap one_if first)
         by_test false first later e few = omega (arith, ap length e, few)
@@ -85,7 +89,8 @@ first-once name all earlier (d ∷ rest) = by_name (same_name d.name name) refl 
         by_test : (t : Bool) → length (of_name name (first_declarations all (d ∷ earlier) rest)) ≤ one_if (is_empty (of_name name earlier)) →
             length (of_name name (first_of_name t (joined_declaration all d) (first_declarations all (d ∷ earlier) rest))) ≤ one_if (is_empty (of_name name earlier))
         by_test true more =
-            let kept = cond-false (same_name d.name name) (joined_declaration all d ∷ of_name name (first_declarations all (d ∷ earlier) rest)) (of_name name (first_declarations all (d ∷ earlier) rest)) same in
+            let kept = cond-false (same_name d.name name) (joined_declaration all d ∷ of_name name (first_declarations all (d ∷ earlier) rest))
+            (of_name name (first_declarations all (d ∷ earlier) rest)) same in
             omega (arith, more, ap length kept)
         by_test false more = more
 
@@ -96,7 +101,8 @@ name-once m name = first-once name (declarations_of m) [] (declarations_of m)
 follows-none : (scope : Scope) (before : List Declaration) (d : Declaration) → is_plain d.declared ≡ false → may_follow scope before d ≡ true → is_empty before ≡ true
 follows-none scope [] d plain e = refl
 follows-none scope (port ∷ []) d plain e =
-    let never : is_plain d.declared ≡ true = among (is_port port.declared) (is_plain d.declared) (same_range (range_of scope (declared_bounds port.declared)) (range_of scope (declared_bounds d.declared))) e in
+    let never : is_plain d.declared ≡ true = among (is_port port.declared) (is_plain d.declared)
+    (same_range (range_of scope (declared_bounds port.declared)) (range_of scope (declared_bounds d.declared))) e in
     absurd (cc)
   where
     among : (a b c : Bool) → (a && b && c) ≡ true → b ≡ true
@@ -115,7 +121,8 @@ first-own scope all earlier [] k d e at plain = absurd (cc)
 first-own scope all earlier (first ∷ rest) zero d e at plain =
     let is = same_some first d at in
     let none = append-none (fault_if (not (may_follow scope (of_name first.name earlier) first)) first.place DeclaredTwice) (twice_faults scope (first ∷ earlier) rest) e in
-    let empty = follows-none scope (of_name first.name earlier) first (ap (λ (o : Declaration). is_plain o.declared) is ∙ plain) (not-fault (may_follow scope (of_name first.name earlier) first) first none.0) in
+    let empty = follows-none scope (of_name first.name earlier) first (ap (λ (o : Declaration). is_plain o.declared) is ∙ plain)
+    (not-fault (may_follow scope (of_name first.name earlier) first) first none.0) in
     (0, ap (λ t. slice_get (first_of_name t (joined_declaration all first) (first_declarations all (first ∷ earlier) rest)) 0) empty ∙ ap (λ o. Some (joined_declaration all o)) is)
 first-own scope all earlier (first ∷ rest) (suc k) d e at plain =
     let none = append-none (fault_if (not (may_follow scope (of_name first.name earlier) first)) first.place DeclaredTwice) (twice_faults scope (first ∷ earlier) rest) e in
@@ -131,7 +138,8 @@ first-own scope all earlier (first ∷ rest) (suc k) d e at plain =
 abbrev pub first_places : SourceModule → Declaration → List Declaration
 first_places m d = filter (λ (own : Declaration). same_place own.place d.place) (of_name d.name (names_declared m))
 
-pub first-place : (m : SourceModule) (scope : Scope) → IsOnceIn m scope → (k : ℕ) (d : Declaration) → slice_get (declarations_of m) k ≡ Some d → is_plain d.declared ≡ false → 1 ≤ length (first_places m d)
+pub first-place : (m : SourceModule) (scope : Scope) → IsOnceIn m scope → (k : ℕ) (d : Declaration) → slice_get (declarations_of m) k ≡ Some d → is_plain d.declared ≡ false →
+    1 ≤ length (first_places m d)
 first-place m scope is k d at plain =
     let r = first-own scope (declarations_of m) [] (declarations_of m) k d is.once at plain in
     let own = joined_declaration (declarations_of m) d in

@@ -5,12 +5,16 @@ use Rattle.std.proofs.lemmas.Bool.{eq-eqb}
 use Rattle.vf_base.specs.Base.{SourcePlace}
 use Rattle.vf_base.specs.Lists.{AllHold}
 use Rattle.v_design.specs.Sized.{span, most_bits}
-use Rattle.v_tree.specs.Trees.{Identifier, SourceExpression, NamedPlace, SourceParameter, SourceGate, SourceInstance, SourceItem, ParameterItem, PortItem, WireItem, RegItem, IntegerItem, AssignItem, GateItem, InstanceItem, InitialItem, AlwaysItem, SourceModule, same_name}
+use Rattle.v_tree.specs.Trees.{Identifier, SourceExpression, NamedPlace, SourceParameter, SourceGate, SourceInstance, SourceItem, ParameterItem, PortItem, WireItem, RegItem, IntegerItem, AssignItem}
+use Rattle.v_tree.specs.Trees.{GateItem, InstanceItem, InitialItem, AlwaysItem, SourceModule, same_name}
 use Rattle.v_names.specs.Faults.{same_place}
-use Rattle.v_names.specs.Scopes.{SignedValue, DeclaredRange, ScopeEntry, ParameterEntry, RefusedParameter, WaitingParameter, NetEntry, RegEntry, MemoryEntry, GateEntry, InstanceEntry, Scope, looked_up, is_parameter, range_width}
+use Rattle.v_names.specs.Scopes.{SignedValue, DeclaredRange, ScopeEntry, ParameterEntry, RefusedParameter, WaitingParameter, NetEntry, RegEntry, MemoryEntry, GateEntry, InstanceEntry, Scope}
+use Rattle.v_names.specs.Scopes.{looked_up, is_parameter, range_width}
 use Rattle.v_names.specs.Readings.{constant_of}
 use Rattle.v_names.specs.Constants.{some_waiting}
-use Rattle.v_names.specs.Names.{Bounds, Declared, DeclaredParameter, DeclaredPort, DeclaredNet, DeclaredReg, DeclaredMemory, DeclaredGate, DeclaredInstance, Declaration, gate_declarations, item_declarations, declarations_of, of_name, plain_of_name, joined_declared, joined_declaration, names_declared, GivenParameter, given_of, range_of, bounds_wait, context_width, parameter_by_range, parameter_entry, waiting_or, parameter_of, meaning_of, scope_after, parameter_count, scope_of, module_name_faults, names}
+use Rattle.v_names.specs.Names.{Bounds, Declared, DeclaredParameter, DeclaredPort, DeclaredNet, DeclaredReg, DeclaredMemory, DeclaredGate, DeclaredInstance, Declaration, gate_declarations}
+use Rattle.v_names.specs.Names.{item_declarations, declarations_of, of_name, plain_of_name, joined_declared, joined_declaration, names_declared, GivenParameter, given_of, range_of, bounds_wait}
+use Rattle.v_names.specs.Names.{context_width, parameter_by_range, parameter_entry, waiting_or, parameter_of, meaning_of, scope_after, parameter_count, scope_of, module_name_faults, names}
 use Rattle.v_elab.specs.declared.Mode.{Mode}
 use Rattle.v_elab.specs.Parts.{Signal, WalkedMemory, Part, MemoryPart}
 use Rattle.v_elab.specs.Walk.{Entered, Here, first_content_of, content_of, joining_of, signal_part, part_by_entry, parts_of_own, declared_parts, item_parts, wire_parts, walked_from}
@@ -66,7 +70,8 @@ waiting-parameter : (waits : Bool) (entry : ScopeEntry) → is_parameter (Some e
 waiting-parameter true entry e = refl
 waiting-parameter false entry e = e
 
-ranged-parameter : (signed : Bool) (range : DeclaredRange) (c : SignedValue) (ranged wide : Bool) → range.ranged ≡ ranged → nat_lt most_bits (span range.high range.low) ≡ wide → is_parameter (Some (parameter_by_range signed range c)) ≡ true
+ranged-parameter : (signed : Bool) (range : DeclaredRange) (c : SignedValue) (ranged wide : Bool) → range.ranged ≡ ranged → nat_lt most_bits (span range.high range.low) ≡ wide →
+    is_parameter (Some (parameter_by_range signed range c)) ≡ true
 ranged-parameter signed range c false wide e d = rw e
 ranged-parameter signed range c true true e d = rw (e, d)
 ranged-parameter signed range c true false e d = rw (e, d)
@@ -93,9 +98,12 @@ HasNone (DeclaredNet signed bounds) = ⊥
 HasNone (DeclaredReg signed bounds first) = ⊥
 HasNone (DeclaredMemory signed bounds addresses) = ⊥
 
-declared-none : (scope : Scope) (given : List GivenParameter) (name : Identifier) (declared : Declared) (others : List Declaration) → HasNone declared → HasObjects (meaning_of scope given name (joined_declared declared others)) → ⊥
-declared-none scope given name (DeclaredParameter is_local signed bounds value) [] n h = parameter-none (parameter_of scope signed bounds value (given_of given name)) (is-parameter scope signed bounds value (given_of given name)) h
-declared-none scope given name (DeclaredParameter is_local signed bounds value) (again ∷ others) n h = parameter-none (parameter_of scope signed bounds value (given_of given name)) (is-parameter scope signed bounds value (given_of given name)) h
+declared-none : (scope : Scope) (given : List GivenParameter) (name : Identifier) (declared : Declared) (others : List Declaration) → HasNone declared →
+    HasObjects (meaning_of scope given name (joined_declared declared others)) → ⊥
+declared-none scope given name (DeclaredParameter is_local signed bounds value) [] n h = parameter-none (parameter_of scope signed bounds value (given_of given name))
+    (is-parameter scope signed bounds value (given_of given name)) h
+declared-none scope given name (DeclaredParameter is_local signed bounds value) (again ∷ others) n h =
+    parameter-none (parameter_of scope signed bounds value (given_of given name)) (is-parameter scope signed bounds value (given_of given name)) h
 declared-none scope given name DeclaredGate [] n h = h
 declared-none scope given name DeclaredGate (again ∷ others) n h = h
 declared-none scope given name DeclaredInstance [] n h = h
@@ -105,7 +113,8 @@ declared-none scope given name (DeclaredNet signed bounds) others n h = n
 declared-none scope given name (DeclaredReg signed bounds first) others n h = n
 declared-none scope given name (DeclaredMemory signed bounds addresses) others n h = n
 
-gate-none : (gate : SourceGate) (name : Option NamedPlace) (gates : List SourceGate) → AllHold (λ (d : Declaration). HasNone d.declared) (gate_declarations gates) → AllHold (λ (d : Declaration). HasNone d.declared) (gate_declarations (record gate { name = name } ∷ gates))
+gate-none : (gate : SourceGate) (name : Option NamedPlace) (gates : List SourceGate) → AllHold (λ (d : Declaration). HasNone d.declared) (gate_declarations gates) →
+    AllHold (λ (d : Declaration). HasNone d.declared) (gate_declarations (record gate { name = name } ∷ gates))
 gate-none gate None gates h = h
 gate-none gate (Some n) gates h = (tt, h)
 
@@ -121,7 +130,11 @@ declared-among : (here : Here) (gates : ℕ) (item : SourceItem) (place : ℕ) (
 declared-among here gates (PortItem group) place own at some = (tt, λ k part found. (k, found))
 declared-among here gates (RegItem at_place signed range regs) place own at some = (tt, λ k part found. (k, found))
 declared-among here gates (IntegerItem at_place regs) place own at some = (tt, λ k part found. (k, found))
-declared-among here gates (WireItem at_place signed range wires) place own at some = (tt, λ k part found. (k, front (declared_parts here (WireItem at_place signed range wires)) (flat_map (wire_parts here) wires) k part found))
+declared-among here gates (WireItem at_place signed range wires) place own at some = (
+  tt,
+  λ k part found.
+      (k, front (declared_parts here (WireItem at_place signed range wires)) (flat_map (wire_parts here) wires) k part found),
+)
   where
     front : (one two : List Part) (i : ℕ) (b : Part) → slice_get one i ≡ Some b → slice_get (one ++ two) i ≡ Some b
     front [] two i b e = absurd (cc)
@@ -130,7 +143,8 @@ declared-among here gates (WireItem at_place signed range wires) place own at so
 declared-among here gates (ParameterItem group) place own at some =
     absurd (some (AllHold-slice_get (λ (d : Declaration). HasNone d.declared) (item_declarations (ParameterItem group)) place own
     (AllHold-map (λ (d : Declaration). HasNone d.declared) _ group.parameters (AllHold-all _ group.parameters (λ (p : SourceParameter). tt))) at))
-declared-among here gates (GateItem at_place kind all) place own at some = absurd (some (AllHold-slice_get (λ (d : Declaration). HasNone d.declared) (gate_declarations all) place own (gates-none all) at))
+declared-among here gates (GateItem at_place kind all) place own at some = absurd (some (AllHold-slice_get (λ (d : Declaration). HasNone d.declared) (gate_declarations all) place own
+    (gates-none all) at))
 declared-among here gates (InstanceItem at_place module_name parameters instances) place own at some =
     absurd (some (AllHold-slice_get (λ (d : Declaration). HasNone d.declared) (item_declarations (InstanceItem at_place module_name parameters instances)) place own
     (AllHold-map (λ (d : Declaration). HasNone d.declared) _ instances (AllHold-all _ instances (λ (i : SourceInstance). tt))) at))
@@ -142,8 +156,10 @@ place-same : (place : SourcePlace) → same_place place place ≡ true
 place-same place = both-true (nat_eq place.line place.line) (nat_eq place.column place.column) (eq-eqb place.line place.line refl) (eq-eqb place.column place.column refl)
 
 -- the part of a declared name is one of the item of its declaration
-own-part : (here : Here) (declared own : Declaration) (number : ℕ) → slice_get (names_declared here.instance.inner) number ≡ Some declared → joined_declaration (declarations_of here.instance.inner) own ≡ declared → (item : SourceItem) (place : ℕ) →
-    slice_get (item_declarations item) place ≡ Some own → (part : Part) → part_by_entry here declared (looked_up here.scope declared.name) ≡ part ∷ [] → (k : ℕ) × (slice_get (declared_parts here item) k ≡ Some part)
+own-part : (here : Here) (declared own : Declaration) (number : ℕ) → slice_get (names_declared here.instance.inner) number ≡ Some declared →
+    joined_declaration (declarations_of here.instance.inner) own ≡ declared → (item : SourceItem) (place : ℕ) →
+    slice_get (item_declarations item) place ≡ Some own → (part : Part) → part_by_entry here declared (looked_up here.scope declared.name) ≡ part ∷ [] →
+    (k : ℕ) × (slice_get (declared_parts here item) k ≡ Some part)
 own-part here declared own number is joined item place at part parts =
     let all = names_declared here.instance.inner in
     let name : declared.name ≡ own.name = ap (λ (d : Declaration). d.name) (sym joined) in
@@ -152,11 +168,13 @@ own-part here declared own number is joined item place at part parts =
     let here_is : same_place declared.place own.place ≡ true = ap (same_place declared.place) (sym where_is) ∙ place-same declared.place in
     let named = filter-at (λ (d : Declaration). same_name d.name own.name) all number declared is same in
     let placed = filter-at (λ (d : Declaration). same_place d.place own.place) (of_name own.name all) named.0 declared named.1 here_is in
-    let found = at-flat (λ (d : Declaration). part_by_entry here d (looked_up here.scope d.name)) (filter (λ (d : Declaration). same_place d.place own.place) (of_name own.name all)) placed.0 declared 0 part placed.1 (ap (λ l. slice_get l 0) parts) in
+    let found = at-flat (λ (d : Declaration). part_by_entry here d (looked_up here.scope d.name))
+    (filter (λ (d : Declaration). same_place d.place own.place) (of_name own.name all)) placed.0 declared 0 part placed.1 (ap (λ l. slice_get l 0) parts) in
     at-flat (parts_of_own here all) (item_declarations item) place own found.0 part at found.1
 
 -- the part of a name of a scope that a walk comes to stands among all parts
-pub name-part : (modules : List SourceModule) (mode : Mode) (top : SourceModule) (parts : List Part) → walked_from modules mode top ≡ Ok parts → (instance : Entered) → IsVisited modules mode top instance → (scope : Scope) →
+pub name-part : (modules : List SourceModule) (mode : Mode) (top : SourceModule) (parts : List Part) → walked_from modules mode top ≡ Ok parts → (instance : Entered) →
+    IsVisited modules mode top instance → (scope : Scope) →
     names instance.inner instance.given ≡ Ok scope → (name : Identifier) (entry : ScopeEntry) → HasObjects entry → looked_up scope name ≡ Some entry → (make : Declaration → Part) →
     ((d : Declaration) → part_by_entry (record { modules = modules; mode = mode; instance = instance; scope = scope }) d (Some entry) ≡ make d ∷ []) →
     (d : Declaration) × (d.name ≡ name) × ((k : ℕ) × (slice_get parts k ≡ Some (make d)))
@@ -192,7 +210,8 @@ signal_record here d is_reg range = record {
 }
 
 -- a name of an instance that a walk comes to
-name-at : (modules : List SourceModule) (mode : Mode) (top : SourceModule) (parts : List Part) → walked_from modules mode top ≡ Ok parts → (path : Identifier) (scope : Scope) → IsAt modules mode top path scope → (name : Identifier) (entry : Option ScopeEntry) →
+name-at : (modules : List SourceModule) (mode : Mode) (top : SourceModule) (parts : List Part) → walked_from modules mode top ≡ Ok parts → (path : Identifier) (scope : Scope) →
+    IsAt modules mode top path scope → (name : Identifier) (entry : Option ScopeEntry) →
     looked_up scope name ≡ entry → IsDeclaredAs parts (path ++ name) entry
 name-at modules mode top parts e path scope at name (Some (NetEntry range signed)) found =
     let here : Here = record { modules = modules; mode = mode; instance = at.instance; scope = scope } in
@@ -215,5 +234,6 @@ name-at modules mode top parts e path scope at name (Some GateEntry) found = tt
 name-at modules mode top parts e path scope at name (Some InstanceEntry) found = tt
 
 -- what the names of a scope that a walk comes to mean stands among the parts
-pub scope-at : (modules : List SourceModule) (mode : Mode) (top : SourceModule) (parts : List Part) → walked_from modules mode top ≡ Ok parts → (path : Identifier) (scope : Scope) → IsAt modules mode top path scope → IsScopeAt parts path scope
+pub scope-at : (modules : List SourceModule) (mode : Mode) (top : SourceModule) (parts : List Part) → walked_from modules mode top ≡ Ok parts → (path : Identifier) (scope : Scope) →
+    IsAt modules mode top path scope → IsScopeAt parts path scope
 scope-at modules mode top parts e path scope at = λ name. name-at modules mode top parts e path scope at name (looked_up scope name) refl

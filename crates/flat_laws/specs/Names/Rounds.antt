@@ -3,7 +3,8 @@ use Rattle.std.proofs.Common.{◌≡◌, ℕ, zero, suc, ◌+◌, ◌≤◌, ◌
 use Rattle.std.specs.Prelude.{slice_get}
 use Rattle.v_tree.specs.Trees.{Identifier, SourceModule, same_name}
 use Rattle.v_names.specs.Scopes.{Scope, looked_up, is_waiting}
-use Rattle.v_names.specs.Names.{Declared, DeclaredParameter, DeclaredPort, DeclaredNet, DeclaredReg, DeclaredMemory, DeclaredGate, DeclaredInstance, Declaration, GivenParameter, names_declared, meaning_of, meanings, is_parameter_declared, waiting_entry, scope_after, parameter_count, scope_of}
+use Rattle.v_names.specs.Names.{Declared, DeclaredParameter, DeclaredPort, DeclaredNet, DeclaredReg, DeclaredMemory, DeclaredGate, DeclaredInstance, Declaration, GivenParameter, names_declared}
+use Rattle.v_names.specs.Names.{meaning_of, meanings, is_parameter_declared, waiting_entry, scope_after, parameter_count, scope_of}
 use Rattle.v_names.specs.SizedLaws.{and-left, and-right}
 use Rattle.flat_laws.specs.Lists.{same_some}
 use Rattle.flat_laws.specs.Hierarchy.Given.{equal-name, both-true}
@@ -111,7 +112,8 @@ module _ (given : List GivenParameter) (ds : List Declaration) where
       by true e =
           let it = waiting-parameter rounds given ds name e in
           let place = found-in ds name it.0 it.1 in
-          let here : waits rounds it.0 ≡ true = both-true (is_parameter_declared it.0.declared) (is_waiting (looked_up (after rounds) it.0.name)) it.2 (ap (λ n. is_waiting (looked_up (after rounds) n)) place.2 ∙ e) in
+          let here : waits rounds it.0 ≡ true = both-true (is_parameter_declared it.0.declared) (is_waiting (looked_up (after rounds) it.0.name)) it.2
+          (ap (λ n. is_waiting (looked_up (after rounds) n)) place.2 ∙ e) in
           let there = and-right (is_parameter_declared it.0.declared) (is_waiting (looked_up (after (suc rounds)) it.0.name)) (alike place.0 it.0 place.1 here) in
           waiting-part (looked_up (after rounds) name) e ∙ sym (waiting-part (looked_up (after (suc rounds)) name) (ap (λ n. is_waiting (looked_up (after (suc rounds)) n)) (sym place.2) ∙ there))
 
@@ -124,7 +126,8 @@ module _ (given : List GivenParameter) (ds : List Declaration) where
 
   falls : (rounds : ℕ) → (suc rounds + left (suc rounds) ≤ parameter_count ds) ⊎ Still rounds
   falls zero =
-      let h = fewer (waits 0) (λ (d : Declaration). is_parameter_declared d.declared) ds (λ x e. and-left (is_parameter_declared x.declared) (is_waiting (looked_up (after 0) x.name)) e) in step 0 (omega (arith, h))
+      let h = fewer (waits 0) (λ (d : Declaration). is_parameter_declared d.declared) ds (λ x e. and-left (is_parameter_declared x.declared) (is_waiting (looked_up (after 0) x.name)) e) in
+      step 0 (omega (arith, h))
   falls (suc rounds) =
       elim (falls rounds) [
         | inl bound ↦ step (suc rounds) bound
@@ -132,7 +135,8 @@ module _ (given : List GivenParameter) (ds : List Declaration) where
       ]
 
   -- after as many rounds as there are parameters one more gives none another value
-  pub rounds-suffice : (name : Identifier) → constant_part (looked_up (scope_after (parameter_count ds) given ds) name) ≡ constant_part (looked_up (scope_after (suc (parameter_count ds)) given ds) name)
+  pub rounds-suffice : (name : Identifier) → constant_part (looked_up (scope_after (parameter_count ds) given ds) name) ≡ constant_part
+      (looked_up (scope_after (suc (parameter_count ds)) given ds) name)
   rounds-suffice name =
       elim (falls (parameter_count ds)) [
         | inl bound ↦ absurd (omega (arith, bound))

@@ -4,10 +4,13 @@ use Rattle.std.specs.Prelude.{slice_get, nat_lt}
 use Rattle.std.specs.List.{list_all, list_any}
 use Rattle.v_design.specs.Sized.{span, most_bits}
 use Rattle.v_tree.specs.Trees.{Identifier, SourceExpression, NamedPlace, named_in, SourceModule}
-use Rattle.v_names.specs.Scopes.{SignedValue, DeclaredRange, ScopeEntry, ParameterEntry, RefusedParameter, WaitingParameter, NetEntry, RegEntry, MemoryEntry, GateEntry, InstanceEntry, Scope, looked_up, range_width, is_parameter, is_known, is_waiting}
+use Rattle.v_names.specs.Scopes.{SignedValue, DeclaredRange, ScopeEntry, ParameterEntry, RefusedParameter, WaitingParameter, NetEntry, RegEntry, MemoryEntry, GateEntry, InstanceEntry, Scope}
+use Rattle.v_names.specs.Scopes.{looked_up, range_width, is_parameter, is_known, is_waiting}
 use Rattle.v_names.specs.Readings.{constant_of}
 use Rattle.v_names.specs.Constants.{ParameterValue, some_waiting}
-use Rattle.v_names.specs.Names.{Bounds, Declared, DeclaredParameter, DeclaredPort, DeclaredNet, DeclaredReg, DeclaredMemory, DeclaredGate, DeclaredInstance, Declaration, names_declared, GivenParameter, given_of, range_of, bounds_wait, parameter_by_range, parameter_entry, waiting_or, context_width, parameter_of, meaning_of, waiting_entry, scope_after, parameter_count, scope_of, module_name_faults}
+use Rattle.v_names.specs.Names.{Bounds, Declared, DeclaredParameter, DeclaredPort, DeclaredNet, DeclaredReg, DeclaredMemory, DeclaredGate, DeclaredInstance, Declaration, names_declared}
+use Rattle.v_names.specs.Names.{GivenParameter, given_of, range_of, bounds_wait, parameter_by_range, parameter_entry, waiting_or, context_width, parameter_of, meaning_of, waiting_entry, scope_after}
+use Rattle.v_names.specs.Names.{parameter_count, scope_of, module_name_faults}
 use Rattle.v_names.specs.SizedLaws.{and-left, and-right}
 use Rattle.v_names.specs.ConstantLaws.{are_known}
 use Rattle.v_elab.specs.declared.Mode.{Mode}
@@ -60,7 +63,8 @@ entry-ready : (signed : Bool) (range : DeclaredRange) (c : Option SignedValue) �
 entry-ready signed range None d = refl
 entry-ready signed range (Some c) d = (by-range signed range c range.ranged refl d).0
 
-entry-valued : (signed : Bool) (range : DeclaredRange) (c : SignedValue) (found : Option SignedValue) → found ≡ Some c → nat_lt most_bits (range_width range) ≡ false → is_refused (Some (parameter_entry signed range found)) ≡ false
+entry-valued : (signed : Bool) (range : DeclaredRange) (c : SignedValue) (found : Option SignedValue) → found ≡ Some c → nat_lt most_bits (range_width range) ≡ false →
+    is_refused (Some (parameter_entry signed range found)) ≡ false
 entry-valued signed range c found e d = ap (λ f. is_refused (Some (parameter_entry signed range f))) e ∙ (by-range signed range c range.ranged refl d).1
 
 waiting-off : (waits : Bool) (entry : ScopeEntry) → waits ≡ false → waiting_or waits entry ≡ entry
@@ -92,8 +96,10 @@ meaning-ready scope given name DeclaredGate h = refl
 meaning-ready scope given name DeclaredInstance h = refl
 
 -- and it isn't refused, if the names in its value that wait in no round before it aren't
-parameter-sound : (scope before : Scope) (is_local signed : Bool) (bounds : Bounds) (value : SourceExpression) (c : Option SignedValue) → IsFaultless scope (DeclaredParameter is_local signed bounds value) →
-    (some_waiting before value ≡ false → are_known scope (named_in value) ≡ true) → is_waiting (Some (parameter_of before signed bounds value c)) ≡ false → is_refused (Some (parameter_of scope signed bounds value c)) ≡ false
+parameter-sound : (scope before : Scope) (is_local signed : Bool) (bounds : Bounds) (value : SourceExpression) (c : Option SignedValue) →
+    IsFaultless scope (DeclaredParameter is_local signed bounds value) →
+    (some_waiting before value ≡ false → are_known scope (named_in value) ≡ true) → is_waiting (Some (parameter_of before signed bounds value c)) ≡ false →
+    is_refused (Some (parameter_of scope signed bounds value c)) ≡ false
 parameter-sound scope before is_local signed bounds value (Some c) h known w =
     let range = range_of scope bounds in
     ap (λ (e : ScopeEntry). is_refused (Some e)) (waiting-off (bounds_wait scope bounds) (parameter_entry signed range (Some c)) (bounds-ready scope bounds h.0))
@@ -113,7 +119,8 @@ abbrev ReadsKnown : Scope → Scope → Declared → Type 0
 ReadsKnown scope before (DeclaredParameter is_local signed bounds value) = some_waiting before value ≡ false → are_known scope (named_in value) ≡ true
 ReadsKnown scope before _ = Unit {0}
 
-meaning-sound : (scope before : Scope) (given : List GivenParameter) (name : Identifier) (d : Declared) → IsFaultless scope d → ReadsKnown scope before d → is_waiting (Some (meaning_of before given name d)) ≡ false →
+meaning-sound : (scope before : Scope) (given : List GivenParameter) (name : Identifier) (d : Declared) → IsFaultless scope d → ReadsKnown scope before d →
+    is_waiting (Some (meaning_of before given name d)) ≡ false →
     is_refused (Some (meaning_of scope given name d)) ≡ false
 meaning-sound scope before given name (DeclaredParameter is_local signed bounds value) h known w = parameter-sound scope before is_local signed bounds value (given_of given name) h known w
 meaning-sound scope before given name (DeclaredPort direction true signed bounds first) h known w = refl
@@ -137,12 +144,14 @@ first-sound scope given name DeclaredInstance w = refl
 
 -- Names
 
-option-holds : (test : Option ScopeEntry → Bool) (f : Declaration → ScopeEntry) (d : Option Declaration) → test None ≡ false → ((x : Declaration) → d ≡ Some x → test (Some (f x)) ≡ false) → test (option_map f d) ≡ false
+option-holds : (test : Option ScopeEntry → Bool) (f : Declaration → ScopeEntry) (d : Option Declaration) → test None ≡ false → ((x : Declaration) → d ≡ Some x → test (Some (f x)) ≡ false) →
+    test (option_map f d) ≡ false
 option-holds test f None e h = e
 option-holds test f (Some x) e h = h x refl
 
 -- names that are parameters, wait neither in a scope nor in a round before it, and aren't refused if they don't wait in that round, are known
-all-known : (scope before : Scope) → ((name : Identifier) → is_waiting (looked_up scope name) ≡ false) → ((name : Identifier) → is_waiting (looked_up before name) ≡ false → is_refused (looked_up scope name) ≡ false) →
+all-known : (scope before : Scope) → ((name : Identifier) → is_waiting (looked_up scope name) ≡ false) →
+    ((name : Identifier) → is_waiting (looked_up before name) ≡ false → is_refused (looked_up scope name) ≡ false) →
     (names : List NamedPlace) → list_all (λ name. is_parameter (looked_up scope name)) (map (λ (n : NamedPlace). n.name) names) ≡ true →
     list_any (λ name. is_waiting (looked_up before name)) (map (λ (n : NamedPlace). n.name) names) ≡ false → are_known scope names ≡ true
 all-known scope before ready sound [] p w = refl
@@ -169,7 +178,8 @@ module _ (m : SourceModule) (given : List GivenParameter) (faultless : (number :
       ∙ option-holds is_waiting (λ (d : Declaration). meaning_of (scope_of m given) given d.name d.declared) (found (names_declared m) name) refl
       (λ d e. meaning-ready (scope_of m given) given d.name d.declared (found-faultless name d e))
 
-  reads-known : (rounds : ℕ) → ((name : Identifier) → is_waiting (looked_up (scope_after rounds given (names_declared m)) name) ≡ false → is_refused (looked_up (scope_of m given) name) ≡ false) → (d : Declared) →
+  reads-known : (rounds : ℕ) → ((name : Identifier) → is_waiting (looked_up (scope_after rounds given (names_declared m)) name) ≡ false → is_refused (looked_up (scope_of m given) name) ≡ false) →
+      (d : Declared) →
       IsFaultless (scope_of m given) d → ReadsKnown (scope_of m given) (scope_after rounds given (names_declared m)) d
   reads-known rounds sound (DeclaredParameter is_local signed bounds value) h = λ w.
       all-known (scope_of m given) (scope_after rounds given (names_declared m)) none-waits sound (named_in value) (names-parameters (scope_of m given) value h.1) w
@@ -202,7 +212,8 @@ module _ (m : SourceModule) (given : List GivenParameter) (faultless : (number :
   scope-settled name = entry-settled (looked_up (scope_of m given) name) (none-waits name) (none-refused (parameter_count (names_declared m) + 1) name (none-waits name))
 
 -- each parameter of an instance that a walk comes to has a value
-pub walk-settled : (modules : List SourceModule) (mode : Mode) (top : SourceModule) (parts : List Part) → walked_from modules mode top ≡ Ok parts → (path : Identifier) (scope : Scope) → IsAt modules mode top path scope → IsSettled scope
+pub walk-settled : (modules : List SourceModule) (mode : Mode) (top : SourceModule) (parts : List Part) → walked_from modules mode top ≡ Ok parts → (path : Identifier) (scope : Scope) →
+    IsAt modules mode top path scope → IsSettled scope
 walk-settled modules mode top parts e path scope at =
     let m = at.instance.inner in
     let given = at.instance.given in

@@ -124,7 +124,8 @@ own-bound path name whole bound some = by_test (same_name (path ++ name) whole) 
     by_test false same = omega arith
 
 -- a sum of numbers up to 1 of which no two are 1
-pub sum-once : {A : Type 0} (f : A → ℕ) (xs : List A) → AllHold (λ x. f x ≤ 1) xs → ((i j : ℕ) (x y : A) → slice_get xs i ≡ Some x → slice_get xs j ≡ Some y → i < j → 1 ≤ f x → 1 ≤ f y → ⊥) → sum_by f xs ≤ 1
+pub sum-once : {A : Type 0} (f : A → ℕ) (xs : List A) → AllHold (λ x. f x ≤ 1) xs → ((i j : ℕ) (x y : A) → slice_get xs i ≡ Some x → slice_get xs j ≡ Some y → i < j → 1 ≤ f x → 1 ≤ f y → ⊥) →
+    sum_by f xs ≤ 1
 sum-once f [] most apart = omega arith
 sum-once f (x ∷ xs) most apart = by_number (f x) refl (sum-once f xs most.1 (λ i j y z at_y at_z less one other. apart (suc i) (suc j) y z at_y at_z (omega (arith, less)) one other))
   where
@@ -140,7 +141,8 @@ sum-once f (x ∷ xs) most apart = by_number (f x) refl (sum-once f xs most.1 (�
 
 -- a sum over numbers upwards in two parts
 pub sum-up_from : (f : ℕ → ℕ) (start one other : ℕ) → sum_by f (up_from start (one + other)) ≡ sum_by f (up_from start one) + sum_by f (up_from (start + one) other)
-sum-up_from f start zero other = let same : start + 0 ≡ start = omega arith in let none : 0 + other ≡ other = omega arith in ap (λ n. sum_by f (up_from start n)) none ∙ ap (λ s. sum_by f (up_from s other)) (sym same) ∙ omega arith
+sum-up_from f start zero other = let same : start + 0 ≡ start = omega arith in let none : 0 + other ≡ other = omega arith in
+    ap (λ n. sum_by f (up_from start n)) none ∙ ap (λ s. sum_by f (up_from s other)) (sym same) ∙ omega arith
 sum-up_from f start (suc one) other =
     let more : suc one + other ≡ suc (one + other) = omega arith in
     let same : (start + 1) + one ≡ start + suc one = omega arith in

@@ -1,12 +1,15 @@
 -- A constant of which nothing is wrong, and whose names are parameters with values, has a value, whatever the other parameters of its scope are (IEEE 1364-2001, clause 4 for constants).
 use Rattle.std.proofs.Common.{◌≡◌, ℕ, Bool, true, false, ◌&&◌, ◌||◌, List, [], ◌∷◌, ◌++◌, map, Option, Some, None, option_map, refl, sym, ap, ap₂, ◌∙◌, subst}
 use Rattle.std.specs.List.{list_all, list_any}
-use Rattle.v_tree.specs.Trees.{Identifier, SourceExpression, Number, Selected, Parenthesised, Prefixed, Infixed, Chosen, Concatenated, Replicated, SourceIndex, NoIndex, IndexAt, IndexRange, SourceExpressions, no_parts, more_parts, NamedPlace, place_of_expression, named_in, named_in_index, named_in_parts, same_name}
+use Rattle.v_tree.specs.Trees.{Identifier, SourceExpression, Number, Selected, Parenthesised, Prefixed, Infixed, Chosen, Concatenated, Replicated, SourceIndex, NoIndex, IndexAt, IndexRange}
+use Rattle.v_tree.specs.Trees.{SourceExpressions, no_parts, more_parts, NamedPlace, place_of_expression, named_in, named_in_index, named_in_parts, same_name}
 use Rattle.vf_base.specs.Base.{SourcePlace}
 use Rattle.v_names.specs.Faults.{NoConstant, fault_if}
-use Rattle.v_names.specs.Scopes.{SignedValue, ScopeEntry, ParameterEntry, RefusedParameter, WaitingParameter, NetEntry, RegEntry, MemoryEntry, GateEntry, InstanceEntry, ScopeName, Scope, entry_if, looked_up, is_parameter, is_known, is_waiting}
+use Rattle.v_names.specs.Scopes.{SignedValue, ScopeEntry, ParameterEntry, RefusedParameter, WaitingParameter, NetEntry, RegEntry, MemoryEntry, GateEntry, InstanceEntry, ScopeName, Scope, entry_if}
+use Rattle.v_names.specs.Scopes.{looked_up, is_parameter, is_known, is_waiting}
 use Rattle.v_names.specs.Readings.{Reading, size_or_bit, tree_in, is_empty, alone_faults, value_if, all_known, constant_value, constant_of, reading_of}
-use Rattle.v_names.specs.Constants.{ConstantPlace, IndexOrCount, BoundUpTo, most_bound, is_unfit_if_some, all_parameters, some_waiting, value_faults_within, value_faults, parameter_faults, constant_name_faults, constant_index_faults, constant_part_faults}
+use Rattle.v_names.specs.Constants.{ConstantPlace, IndexOrCount, BoundUpTo, most_bound, is_unfit_if_some, all_parameters, some_waiting, value_faults_within, value_faults, parameter_faults}
+use Rattle.v_names.specs.Constants.{constant_name_faults, constant_index_faults, constant_part_faults}
 use Rattle.v_names.specs.OwnSizes.{own-size-is}
 use Rattle.v_names.specs.SizedLaws.{and-left, and-right}
 use Rattle.v_names.specs.ConstantLaws.{are_known}
@@ -76,7 +79,8 @@ mutual
       parameters-both scope (named_in first) (named_in_parts rest) (names-parameters scope first none.0) (parts-parameters scope rest none.1)
 
 -- no name of a constant of which nothing is wrong waits
-pub constant-ready : (width : ℕ) (scope : Scope) (kind : ConstantPlace) (e : SourceExpression) → constant_name_faults scope e ≡ [] → value_faults_within width scope kind e ≡ [] → some_waiting scope e ≡ false
+pub constant-ready : (width : ℕ) (scope : Scope) (kind : ConstantPlace) (e : SourceExpression) → constant_name_faults scope e ≡ [] → value_faults_within width scope kind e ≡ [] →
+    some_waiting scope e ≡ false
 constant-ready width scope kind e names values =
     let unfit = is_unfit_if_some kind (constant_of scope width e) in
     let test = fault_if-none (all_parameters scope e && (some_waiting scope e || unfit)) (place_of_expression e) NoConstant values in
@@ -96,7 +100,8 @@ some-alike test s t (n ∷ ns) h = ap₂ (λ a b. a || b) (ap test h.0) (some-al
 
 constant-alike : (s t : Scope) (width : ℕ) (e : SourceExpression) → Same s t (named_in e) → constant_of s width e ≡ constant_of t width e
 constant-alike s t width e h =
-    ap₂ (λ (known : Bool) (reading : Reading). value_if (known && is_empty (alone_faults reading) && reading.complete) reading.size (size_or_bit reading.size).signed (tree_in width reading)) (named-alike is_known s t (named_in e) h)
+    ap₂ (λ (known : Bool) (reading : Reading). value_if (known && is_empty (alone_faults reading) && reading.complete) reading.size (size_or_bit reading.size).signed (tree_in width reading))
+    (named-alike is_known s t (named_in e) h)
     (same-reading s t e h)
 
 values-alike : (s t : Scope) (kind : ConstantPlace) (e : SourceExpression) → Same s t (named_in e) → value_faults s kind e ≡ value_faults t kind e
@@ -193,7 +198,8 @@ known-same scope (n ∷ ns) h =
 
 -- Values
 
-constant-complete : (scope : Scope) (e : SourceExpression) → are_known scope (named_in e) ≡ true → constant_name_faults scope e ≡ [] → alone_faults (reading_of scope e) ≡ [] → (reading_of scope e).complete ≡ true
+constant-complete : (scope : Scope) (e : SourceExpression) → are_known scope (named_in e) ≡ true → constant_name_faults scope e ≡ [] → alone_faults (reading_of scope e) ≡ [] →
+    (reading_of scope e).complete ≡ true
 constant-complete scope e known names sizes =
     let other = settled_scope scope in
     let same = known-same scope (named_in e) known in
@@ -211,5 +217,8 @@ constant-valued scope width e known names sizes =
     let size = (own-size-is scope e).some_size complete in
     let test : (all_known scope e && is_empty (alone_faults reading) && reading.complete) ≡ true =
     both-true (all_known scope e && is_empty (alone_faults reading)) reading.complete (both-true (all_known scope e) (is_empty (alone_faults reading)) known (ap is_empty sizes)) complete in
-    let value : SignedValue = record { value = constant_value (tree_in width reading); signed = (size_or_bit reading.size).signed } in
-    (value, ap (λ b. value_if b reading.size (size_or_bit reading.size).signed (tree_in width reading)) test ∙ ap (λ z. value_if true z (size_or_bit reading.size).signed (tree_in width reading)) size.1)
+    let value : SignedValue = record { value = constant_value (tree_in width reading); signed = (size_or_bit reading.size).signed } in (
+      value,
+      ap (λ b. value_if b reading.size (size_or_bit reading.size).signed (tree_in width reading)) test
+          ∙ ap (λ z. value_if true z (size_or_bit reading.size).signed (tree_in width reading)) size.1,
+    )

@@ -9,12 +9,18 @@ use Rattle.four_value.specs.Values.{natural_number}
 use Rattle.four_value.specs.declared.operator.UnaryOperator.{UnaryOperator}
 use Rattle.four_value.specs.declared.operator.BinaryOperator.{BinaryOperator}
 use Rattle.v_design.specs.Sized.{span, most_bits, UnarySizing, OperandWithWhole, OperandAlone, unary_sizing, BinarySizing, BothWithWhole, LeftWithWhole, BothTogether, EachAlone, binary_sizing}
-use Rattle.v_tree.specs.Trees.{Identifier, SourceExpression, Number, Selected, Parenthesised, Prefixed, Infixed, Chosen, Concatenated, Replicated, SourceIndex, NoIndex, IndexAt, IndexRange, SourceExpressions, no_parts, more_parts, NamedPlace, place_of_expression, named_in, named_in_index, named_in_parts}
+use Rattle.v_tree.specs.Trees.{Identifier, SourceExpression, Number, Selected, Parenthesised, Prefixed, Infixed, Chosen, Concatenated, Replicated, SourceIndex, NoIndex, IndexAt, IndexRange}
+use Rattle.v_tree.specs.Trees.{SourceExpressions, no_parts, more_parts, NamedPlace, place_of_expression, named_in, named_in_index, named_in_parts}
 use Rattle.v_names.specs.Faults.{Wrong, UnknownName, DeclaredTwice, NoConstant, BadWidth, BadConnection, WrongKind, TooDeep, Fault, fault_at, fault_if}
-use Rattle.v_names.specs.Scopes.{SignedValue, DeclaredRange, ScopeEntry, ParameterEntry, RefusedParameter, WaitingParameter, NetEntry, RegEntry, MemoryEntry, GateEntry, InstanceEntry, Scope, looked_up, range_width, is_parameter, is_known}
+use Rattle.v_names.specs.Scopes.{SignedValue, DeclaredRange, ScopeEntry, ParameterEntry, RefusedParameter, WaitingParameter, NetEntry, RegEntry, MemoryEntry, GateEntry, InstanceEntry, Scope}
+use Rattle.v_names.specs.Scopes.{looked_up, range_width, is_parameter, is_known}
 use Rattle.v_names.specs.SizedTrees.{SizedExpression, SizedConstant, SizedExpressions}
-use Rattle.v_names.specs.Readings.{Size, Reading, is_wrong_kind, is_bad_width, group_faults, alone_faults, size_or_bit, sized_if, sized_reading, is_signed_number, is_empty, value_if, all_known, tree_in, natural_constant, name_reading, bit_reading, indexed_reading, runs_alike, part_if, part_between, part_reading, ranged_reading, unary_reading, binary_reading, choice_reading, PartsReading, width_with, is_unsized_number, part_before, concatenation_reading, replication_reading, reading_of, select_reading, parts_reading, constant_reading, constant_of, number_of_constant, constant_value}
-use Rattle.v_names.specs.Constants.{ConstantPlace, IndexOrCount, BoundUpTo, most_bound, exceeds, is_missing, is_unfit, is_unfit_if_some, all_parameters, some_waiting, value_faults, parameter_faults, known_faults, constant_name_faults, constant_index_faults, constant_part_faults, constant_faults, name_faults, index_faults, part_faults}
+use Rattle.v_names.specs.Readings.{Size, Reading, is_wrong_kind, is_bad_width, group_faults, alone_faults, size_or_bit, sized_if, sized_reading, is_signed_number, is_empty, value_if, all_known}
+use Rattle.v_names.specs.Readings.{tree_in, natural_constant, name_reading, bit_reading, indexed_reading, runs_alike, part_if, part_between, part_reading, ranged_reading, unary_reading}
+use Rattle.v_names.specs.Readings.{binary_reading, choice_reading, PartsReading, width_with, is_unsized_number, part_before, concatenation_reading, replication_reading, reading_of, select_reading}
+use Rattle.v_names.specs.Readings.{parts_reading, constant_reading, constant_of, number_of_constant, constant_value}
+use Rattle.v_names.specs.Constants.{ConstantPlace, IndexOrCount, BoundUpTo, most_bound, exceeds, is_missing, is_unfit, is_unfit_if_some, all_parameters, some_waiting, value_faults, parameter_faults}
+use Rattle.v_names.specs.Constants.{known_faults, constant_name_faults, constant_index_faults, constant_part_faults, constant_faults, name_faults, index_faults, part_faults}
 use Rattle.v_names.specs.OwnSizes.{own-size-is}
 use Rattle.v_names.specs.SizedLaws.{and-left, and-right}
 use Rattle.flat_laws.specs.Hierarchy.Given.{both-true}
@@ -81,11 +87,13 @@ IsFull reading = reading.here ≡ [] → reading.inside ≡ [] → reading.compl
 pub full-alone : (reading : Reading) → IsFull reading → alone_faults reading ≡ [] → reading.complete ≡ true
 full-alone reading full e = let none = group-none reading.here reading.inside e in full none.0 none.1
 
-sized_if-full : (test : Bool) (place : SourcePlace) (size : Size) (complete : Bool) (inside : List Fault) (tree : ℕ → Bool → SizedExpression) → (inside ≡ [] → complete ≡ true) → IsFull (sized_if test place size complete inside tree)
+sized_if-full : (test : Bool) (place : SourcePlace) (size : Size) (complete : Bool) (inside : List Fault) (tree : ℕ → Bool → SizedExpression) → (inside ≡ [] → complete ≡ true) →
+    IsFull (sized_if test place size complete inside tree)
 sized_if-full true place size complete inside tree f h i = f i
 sized_if-full false place size complete inside tree f h i = absurd (cc)
 
-sized-full : (place : SourcePlace) (width : ℕ) (signed complete : Bool) (inside : List Fault) (tree : ℕ → Bool → SizedExpression) → (inside ≡ [] → complete ≡ true) → IsFull (sized_reading place width signed complete inside tree)
+sized-full : (place : SourcePlace) (width : ℕ) (signed complete : Bool) (inside : List Fault) (tree : ℕ → Bool → SizedExpression) → (inside ≡ [] → complete ≡ true) →
+    IsFull (sized_reading place width signed complete inside tree)
 sized-full place width signed complete inside tree f = sized_if-full (nat_le 1 width && nat_le width most_bits) place (record { width = width; signed = signed }) complete inside tree f
 
 name-full : (entry : Option ScopeEntry) (place : SourcePlace) (name : Identifier) → known_faults entry place ≡ [] → IsFull (name_reading entry place name)
@@ -122,16 +130,19 @@ part_if-full : (alike : Bool) (place : SourcePlace) (name : Identifier) (inside 
 part_if-full true place name inside from to = sized-full place (span from to) false true inside _ (λ i. refl)
 part_if-full false place name inside from to = λ h i. absurd (cc)
 
-part_between-full : (range : DeclaredRange) (place : SourcePlace) (name : Identifier) (inside : List Fault) (from to : Option ℕ) → BoundsThere from to inside → IsFull (part_between range place name inside from to)
+part_between-full : (range : DeclaredRange) (place : SourcePlace) (name : Identifier) (inside : List Fault) (from to : Option ℕ) → BoundsThere from to inside →
+    IsFull (part_between range place name inside from to)
 part_between-full range place name inside None to f = λ h i. let there = (f i).0.1 in absurd (cc)
 part_between-full range place name inside (Some from) None f = λ h i. let there = (f i).1.1 in absurd (cc)
 part_between-full range place name inside (Some from) (Some to) f = part_if-full (runs_alike range from to) place name inside from to
 
-part-full : (ranged : Bool) (range : DeclaredRange) (place : SourcePlace) (name : Identifier) (inside : List Fault) (from to : Option ℕ) → BoundsThere from to inside → IsFull (part_reading ranged range place name inside from to)
+part-full : (ranged : Bool) (range : DeclaredRange) (place : SourcePlace) (name : Identifier) (inside : List Fault) (from to : Option ℕ) → BoundsThere from to inside →
+    IsFull (part_reading ranged range place name inside from to)
 part-full true range place name inside from to f = part_between-full range place name inside from to f
 part-full false range place name inside from to f = λ h i. absurd (cc)
 
-ranged-full : (entry : Option ScopeEntry) (place : SourcePlace) (name : Identifier) (inside : List Fault) (from to : Option ℕ) → known_faults entry place ≡ [] → BoundsThere from to inside → IsFull (ranged_reading entry place name inside from to)
+ranged-full : (entry : Option ScopeEntry) (place : SourcePlace) (name : Identifier) (inside : List Fault) (from to : Option ℕ) → known_faults entry place ≡ [] → BoundsThere from to inside →
+    IsFull (ranged_reading entry place name inside from to)
 ranged-full None place name inside from to e f = λ h i. absurd (cc)
 ranged-full (Some (NetEntry range signed)) place name inside from to e f = part-full range.ranged range place name inside from to f
 ranged-full (Some (RegEntry range signed)) place name inside from to e f = part-full range.ranged range place name inside from to f
@@ -171,10 +182,12 @@ PartsFull read = read.inside ≡ [] → read.complete ≡ true
 
 parts-full-before : (unsized : Bool) (place : SourcePlace) (reading : Reading) (rest : PartsReading) → IsFull reading → PartsFull rest → PartsFull (part_before unsized place reading rest)
 parts-full-before true place reading rest f g i = absurd (cc)
-parts-full-before false place reading rest f g i = let inside = append-none (alone_faults reading) rest.inside i in both-true reading.complete rest.complete (full-alone reading f inside.0) (g inside.1)
+parts-full-before false place reading rest f g i = let inside = append-none (alone_faults reading) rest.inside i in
+    both-true reading.complete rest.complete (full-alone reading f inside.0) (g inside.1)
 
 -- parts that are complete have a width together
-widths-before : (unsized : Bool) (place : SourcePlace) (reading : Reading) (rest : PartsReading) → (reading.complete ≡ true → (z : Size) × (reading.size ≡ Some z)) → (rest.complete ≡ true → (n : ℕ) × (rest.width ≡ Some n)) →
+widths-before : (unsized : Bool) (place : SourcePlace) (reading : Reading) (rest : PartsReading) → (reading.complete ≡ true → (z : Size) × (reading.size ≡ Some z)) →
+    (rest.complete ≡ true → (n : ℕ) × (rest.width ≡ Some n)) →
     (part_before unsized place reading rest).complete ≡ true → (n : ℕ) × ((part_before unsized place reading rest).width ≡ Some n)
 widths-before true place reading rest f g c = absurd (cc)
 widths-before false place reading rest f g c =
@@ -187,12 +200,14 @@ parts-width scope no_parts c = (0, refl)
 parts-width scope (more_parts first rest) c =
     widths-before (is_unsized_number first) (place_of_expression first) (reading_of scope first) (parts_reading scope rest) (own-size-is scope first).some_size (parts-width scope rest) c
 
-concatenation-full : (place : SourcePlace) (width : Option ℕ) (complete : Bool) (inside : List Fault) (trees : SizedExpressions) → (inside ≡ [] → complete ≡ true) → (complete ≡ true → (n : ℕ) × (width ≡ Some n)) →
+concatenation-full : (place : SourcePlace) (width : Option ℕ) (complete : Bool) (inside : List Fault) (trees : SizedExpressions) → (inside ≡ [] → complete ≡ true) →
+    (complete ≡ true → (n : ℕ) × (width ≡ Some n)) →
     IsFull (concatenation_reading place width complete inside trees)
 concatenation-full place None complete inside trees f g = λ h i. let there = (g (f i)).1 in absurd (cc)
 concatenation-full place (Some total) complete inside trees f g = sized-full place total false complete inside _ f
 
-replication-full : (place : SourcePlace) (count width : Option ℕ) (complete : Bool) (inside : List Fault) (trees : SizedExpressions) → (inside ≡ [] → complete ≡ true) → (complete ≡ true → (n : ℕ) × (width ≡ Some n)) →
+replication-full : (place : SourcePlace) (count width : Option ℕ) (complete : Bool) (inside : List Fault) (trees : SizedExpressions) → (inside ≡ [] → complete ≡ true) →
+    (complete ≡ true → (n : ℕ) × (width ≡ Some n)) →
     (inside ≡ [] → (n : ℕ) × (count ≡ Some n)) → IsFull (replication_reading place count width complete inside trees)
 replication-full place None width complete inside trees f g k = λ h i. let there = (k i).1 in absurd (cc)
 replication-full place (Some count) None complete inside trees f g k = λ h i. let there = (g (f i)).1 in absurd (cc)
@@ -255,7 +270,8 @@ mutual
   names-known scope settled (Number place form value) h = refl
   names-known scope settled (Selected place name index) h =
       let none = append-none (parameter_faults (looked_up scope name) place) (constant_index_faults scope index) h in
-      both-true (is_known (looked_up scope name)) (list_all (λ other. is_known (looked_up scope other)) (map (λ (n : NamedPlace). n.name) (named_in_index index))) (parameter-known (looked_up scope name) place (settled name) none.0)
+      both-true (is_known (looked_up scope name)) (list_all (λ other. is_known (looked_up scope other)) (map (λ (n : NamedPlace). n.name) (named_in_index index)))
+      (parameter-known (looked_up scope name) place (settled name) none.0)
       (index-known scope settled index none.1)
   names-known scope settled (Parenthesised place inner) h = names-known scope settled inner h
   names-known scope settled (Prefixed place operator operand) h = names-known scope settled operand h
@@ -312,7 +328,8 @@ mutual
   constant-names scope (Replicated place count parts) h =
       let none = append-none (constant_name_faults scope count) (value_faults scope IndexOrCount count ++ constant_part_faults scope parts) h in
       let rest = append-none (value_faults scope IndexOrCount count) (constant_part_faults scope parts) none.1 in
-      both-none (constant_faults scope IndexOrCount count) (part_faults scope parts) (both-none (constant_name_faults scope count) (value_faults scope IndexOrCount count) none.0 rest.0) (constant-parts scope parts rest.1)
+      both-none (constant_faults scope IndexOrCount count) (part_faults scope parts) (both-none (constant_name_faults scope count) (value_faults scope IndexOrCount count) none.0 rest.0)
+      (constant-parts scope parts rest.1)
 
   constant-index : (scope : Scope) (index : SourceIndex) → constant_index_faults scope index ≡ [] → index_faults scope index ≡ []
   constant-index scope NoIndex h = refl
@@ -320,7 +337,8 @@ mutual
   constant-index scope (IndexRange from to) h =
       let none = append-none (constant_name_faults scope from) (value_faults scope (BoundUpTo most_bound) from ++ (constant_name_faults scope to ++ value_faults scope (BoundUpTo most_bound) to)) h in
       let rest = append-none (value_faults scope (BoundUpTo most_bound) from) (constant_name_faults scope to ++ value_faults scope (BoundUpTo most_bound) to) none.1 in
-      both-none (constant_faults scope (BoundUpTo most_bound) from) (constant_faults scope (BoundUpTo most_bound) to) (both-none (constant_name_faults scope from) (value_faults scope (BoundUpTo most_bound) from) none.0 rest.0) rest.1
+      both-none (constant_faults scope (BoundUpTo most_bound) from) (constant_faults scope (BoundUpTo most_bound) to)
+      (both-none (constant_name_faults scope from) (value_faults scope (BoundUpTo most_bound) from) none.0 rest.0) rest.1
 
   constant-parts : (scope : Scope) (parts : SourceExpressions) → constant_part_faults scope parts ≡ [] → part_faults scope parts ≡ []
   constant-parts scope no_parts h = refl
@@ -331,7 +349,8 @@ mutual
 -- the names of such a constant are parameters
 pub all-parameters : (scope : Scope) → IsSettled scope → (e : SourceExpression) → constant_name_faults scope e ≡ [] → all_parameters scope e ≡ true
 all-parameters scope settled e h =
-    all-each (λ name. is_known (looked_up scope name)) (λ name. is_parameter (looked_up scope name)) (map (λ (n : NamedPlace). n.name) (named_in e)) (λ name k. known-parameter (looked_up scope name) k)
+    all-each (λ name. is_known (looked_up scope name)) (λ name. is_parameter (looked_up scope name)) (map (λ (n : NamedPlace). n.name) (named_in e))
+    (λ name k. known-parameter (looked_up scope name) k)
     (names-known scope settled e h)
 
 pub or-none : (a b : Bool) → (a || b) ≡ false → b ≡ false
@@ -363,17 +382,20 @@ empty-is : (faults : List Fault) → faults ≡ [] → is_empty faults ≡ true
 empty-is faults e = ap is_empty e
 
 -- a constant that is complete has a value
-valued : (scope : Scope) (e : SourceExpression) → all_known scope e ≡ true → alone_faults (reading_of scope e) ≡ [] → (reading_of scope e).complete ≡ true → (c : SignedValue) × (constant_of scope 0 e ≡ Some c)
+valued : (scope : Scope) (e : SourceExpression) → all_known scope e ≡ true → alone_faults (reading_of scope e) ≡ [] → (reading_of scope e).complete ≡ true →
+    (c : SignedValue) × (constant_of scope 0 e ≡ Some c)
 valued scope e known none complete =
     let reading = reading_of scope e in
     let size = (own-size-is scope e).some_size complete in
     let test : (all_known scope e && is_empty (alone_faults reading) && reading.complete) ≡ true =
-    both-true (all_known scope e && is_empty (alone_faults reading)) reading.complete (both-true (all_known scope e) (is_empty (alone_faults reading)) known (empty-is (alone_faults reading) none)) complete in
+    both-true (all_known scope e && is_empty (alone_faults reading)) reading.complete (both-true (all_known scope e) (is_empty (alone_faults reading)) known (empty-is (alone_faults reading) none))
+    complete in
     let value : SignedValue = record { value = constant_value (tree_in 0 reading); signed = (size_or_bit reading.size).signed } in
     (value, ap (λ b. value_if b reading.size (size_or_bit reading.size).signed (tree_in 0 reading)) test ∙ ap (λ z. value_if true z (size_or_bit reading.size).signed (tree_in 0 reading)) size.1)
 
 -- and so it has a number, where one must stand
-pub constant-number : (scope : Scope) → IsSettled scope → (kind : ConstantPlace) → IsNumberPlace kind → (e : SourceExpression) → constant_faults scope kind e ≡ [] → alone_faults (reading_of scope e) ≡ [] → (reading_of scope e).complete ≡ true →
+pub constant-number : (scope : Scope) → IsSettled scope → (kind : ConstantPlace) → IsNumberPlace kind → (e : SourceExpression) → constant_faults scope kind e ≡ [] →
+    alone_faults (reading_of scope e) ≡ [] → (reading_of scope e).complete ≡ true →
     (n : ℕ) × (number_of_constant scope e ≡ Some n)
 constant-number scope settled kind number e faults none complete =
     let split = append-none (constant_name_faults scope e) (value_faults scope kind e) faults in
@@ -382,7 +404,8 @@ constant-number scope settled kind number e faults none complete =
     let c = valued scope e known none complete in
     let test = fault_if-none (all_parameters scope e && (some_waiting scope e || is_unfit_if_some kind (constant_of scope 0 e))) (place_of_expression e) NoConstant split.1 in
     let unfit : is_unfit_if_some kind (constant_of scope 0 e) ≡ false =
-    or-none (some_waiting scope e) (is_unfit_if_some kind (constant_of scope 0 e)) (and-none (all_parameters scope e) (some_waiting scope e || is_unfit_if_some kind (constant_of scope 0 e)) parameters test) in
+    or-none (some_waiting scope e) (is_unfit_if_some kind (constant_of scope 0 e)) (and-none (all_parameters scope e)
+    (some_waiting scope e || is_unfit_if_some kind (constant_of scope 0 e)) parameters test) in
     let fit : is_unfit kind c.0 ≡ false = ap (is_unfit_if_some kind) (sym c.1) ∙ unfit in
     let n = fit-number kind c.0 number fit in
     (n.0, ap natural_constant c.1 ∙ n.1)
@@ -402,7 +425,8 @@ mutual
   expression-full scope settled (Chosen place condition first second) e =
       let none = append-none (name_faults scope condition) (name_faults scope first ++ name_faults scope second) e in
       let rest = append-none (name_faults scope first) (name_faults scope second) none.1 in
-      choice-full (reading_of scope condition) (reading_of scope first) (reading_of scope second) (expression-full scope settled condition none.0) (expression-full scope settled first rest.0) (expression-full scope settled second rest.1)
+      choice-full (reading_of scope condition) (reading_of scope first) (reading_of scope second) (expression-full scope settled condition none.0) (expression-full scope settled first rest.0)
+      (expression-full scope settled second rest.1)
   expression-full scope settled (Concatenated place parts) e =
       let read = parts_reading scope parts in
       concatenation-full place read.width read.complete read.inside read.trees (parts-full scope settled parts e) (parts-width scope parts)
@@ -418,7 +442,8 @@ mutual
       let alone = (append-none read.inside (alone_faults times) i).1 in
       constant-number scope settled IndexOrCount index_or_count count none.0 alone (full-alone times full alone))
 
-  pub select-full : (scope : Scope) → IsSettled scope → (place : SourcePlace) (name : Identifier) (index : SourceIndex) → known_faults (looked_up scope name) place ++ index_faults scope index ≡ [] → IsFull (select_reading scope place name index)
+  pub select-full : (scope : Scope) → IsSettled scope → (place : SourcePlace) (name : Identifier) (index : SourceIndex) → known_faults (looked_up scope name) place ++ index_faults scope index ≡ [] →
+      IsFull (select_reading scope place name index)
   select-full scope settled place name NoIndex e = name-full (looked_up scope name) place name (append-none (known_faults (looked_up scope name) place) [] e).0
   select-full scope settled place name (IndexAt index) e =
       let none = append-none (known_faults (looked_up scope name) place) (name_faults scope index) e in
@@ -432,7 +457,8 @@ mutual
       let high = append-none (constant_name_faults scope to) (value_faults scope (BoundUpTo most_bound) to) bounds.1 in
       let one = expression-full scope settled from (constant-names scope from low.0) in
       let other = expression-full scope settled to (constant-names scope to high.0) in
-      ranged-full (looked_up scope name) place name (alone_faults first ++ alone_faults second) (natural_constant (constant_reading scope 0 from first)) (natural_constant (constant_reading scope 0 to second)) none.0
+      ranged-full (looked_up scope name) place name (alone_faults first ++ alone_faults second) (natural_constant (constant_reading scope 0 from first))
+      (natural_constant (constant_reading scope 0 to second)) none.0
       (λ i.
       let alone = append-none (alone_faults first) (alone_faults second) i in (
         constant-number scope settled (BoundUpTo most_bound) (bound_up_to most_bound) from bounds.0 alone.0 (full-alone first one alone.0),
@@ -443,7 +469,8 @@ mutual
   parts-full scope settled no_parts e = λ i. refl
   parts-full scope settled (more_parts first rest) e =
       let none = append-none (name_faults scope first) (part_faults scope rest) e in
-      parts-full-before (is_unsized_number first) (place_of_expression first) (reading_of scope first) (parts_reading scope rest) (expression-full scope settled first none.0) (parts-full scope settled rest none.1)
+      parts-full-before (is_unsized_number first) (place_of_expression first) (reading_of scope first) (parts_reading scope rest) (expression-full scope settled first none.0)
+      (parts-full scope settled rest none.1)
 
 -- an expression without faults is complete
 pub expression-complete : (scope : Scope) → IsSettled scope → (e : SourceExpression) → name_faults scope e ≡ [] → alone_faults (reading_of scope e) ≡ [] → (reading_of scope e).complete ≡ true

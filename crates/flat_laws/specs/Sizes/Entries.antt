@@ -50,7 +50,10 @@ place-down high low index down =
     elim (leb_tells low high) [
       | inl holds ↦
           elim (cases_Bool (nat_le low index && nat_le index high)) [
-            | inl inside ↦ inr (leb-true low index (and-left (nat_le low index) (nat_le index high) inside), by_tests (nat_le low high) (nat_le low index && nat_le index high) true true holds.0 inside)
+            | inl inside ↦ inr (
+              leb-true low index (and-left (nat_le low index) (nat_le index high) inside),
+              by_tests (nat_le low high) (nat_le low index && nat_le index high) true true holds.0 inside,
+            )
             | inr outside ↦ inl (by_tests (nat_le low high) (nat_le low index && nat_le index high) true false holds.0 outside)
           ]
       | inr fails ↦ let less = fails.1 in absurd (omega (arith, less, down))
@@ -70,7 +73,10 @@ place-up high low index up =
       | inl holds ↦ let less = holds.1 in absurd (omega (arith, less, up))
       | inr fails ↦
           elim (cases_Bool (nat_le high index && nat_le index low)) [
-            | inl inside ↦ inr (leb-true index low (and-right (nat_le high index) (nat_le index low) inside), by_tests (nat_le low high) (nat_le high index && nat_le index low) false true fails.0 inside)
+            | inl inside ↦ inr (
+              leb-true index low (and-right (nat_le high index) (nat_le index low) inside),
+              by_tests (nat_le low high) (nat_le high index && nat_le index low) false true fails.0 inside,
+            )
             | inr outside ↦ inl (by_tests (nat_le low high) (nat_le high index && nat_le index low) false false fails.0 outside)
           ]
     ]
@@ -101,7 +107,8 @@ up-ascend high low up (suc zero) index least h short =
     ]
 up-ascend high low up (suc (suc count)) index least h short =
     elim (place-up high low index up) [
-      | inl none ↦ subst (λ p. Ascend least (p ∷ map (place_of high low) (down_from (index - 1) (suc count)))) (sym none) (up-ascend high low up (suc count) (index - 1) least (omega (arith, h)) (omega (arith, short)))
+      | inl none ↦ subst (λ p. Ascend least (p ∷ map (place_of high low) (down_from (index - 1) (suc count)))) (sym none)
+          (up-ascend high low up (suc count) (index - 1) least (omega (arith, h)) (omega (arith, short)))
       | inr some ↦
           let below = some.0 in
           subst (λ p. Ascend least (p ∷ map (place_of high low) (down_from (index - 1) (suc count)))) (sym some.1)
@@ -161,7 +168,8 @@ part-ascends range from to alike =
                 subst (λ indexes. Ascend 0 (map (place_of range.high range.low) indexes)) (sym (indexes-up from to least ∙ ap (up_from to) one)) (one-ascends (place_of range.high range.low to))
             | inr less ↦
                 let below = less.1 in
-                subst (λ indexes. Ascend 0 (map (place_of range.high range.low) indexes)) (sym (indexes-down from to below)) (up-ascend range.high range.low up.1 (to - from + 1) to 0 (omega arith) (omega arith))
+                subst (λ indexes. Ascend 0 (map (place_of range.high range.low) indexes)) (sym (indexes-down from to below))
+                (up-ascend range.high range.low up.1 (to - from + 1) to 0 (omega arith) (omega arith))
           ]
     ]
 
@@ -192,7 +200,8 @@ more-run : (low high place : ℕ) (places : List (Option ℕ)) (entry : Entry) �
     run_within low high (Some place ∷ places) (Some entry) ≡ run_within low high places (Some (record { object = 0; low = entry.low; width = entry.width + 1; edge = Any }))
 more-run low high place places entry e = rw e
 
-other-run : (low high place : ℕ) (places : List (Option ℕ)) (found : Option Entry) → (nat_le low place && nat_lt place high) ≡ false → run_within low high (Some place ∷ places) found ≡ run_within low high places found
+other-run : (low high place : ℕ) (places : List (Option ℕ)) (found : Option Entry) → (nat_le low place && nat_lt place high) ≡ false →
+    run_within low high (Some place ∷ places) found ≡ run_within low high places found
 other-run low high place places found e = rw e
 
 -- the bits of a piece that are among ascending places stand in the piece
@@ -215,9 +224,11 @@ run-within low high next (Some place ∷ places) (Some entry) up h =
       | inl inside ↦
           let most = ltb-true place high (and-right (nat_le low place) (nat_lt place high) inside) in
           subst (IsRun low high) (sym (more-run low high place places entry inside))
-          (run-within low high (place + 1) places (Some (record { object = 0; low = entry.low; width = entry.width + 1; edge = Any })) up.1 (omega arith, omega (arith, above, before), omega (arith, above, before, most)))
+          (run-within low high (place + 1) places (Some (record { object = 0; low = entry.low; width = entry.width + 1; edge = Any })) up.1
+          (omega arith, omega (arith, above, before), omega (arith, above, before, most)))
       | inr outside ↦
-          subst (IsRun low high) (sym (other-run low high place places (Some entry) outside)) (run-within low high (place + 1) places (Some entry) up.1 (found-later low high next (place + 1) (Some entry) (omega (arith, above)) h))
+          subst (IsRun low high) (sym (other-run low high place places (Some entry) outside))
+          (run-within low high (place + 1) places (Some entry) up.1 (found-later low high next (place + 1) (Some entry) (omega (arith, above)) h))
     ]
 
 -- Entries
@@ -250,7 +261,8 @@ piece-width design piece sized h = by_object (slice_get design.objects piece.obj
         let spans = bits.1 in
         record { width = width-at design.objects piece.object object is ∙ own; few = omega (arith, own, few); some = omega (arith, own, spans) }
 
-entry-there : (design : FlatDesign) (piece : Piece) (edge : Edge) (offset : ℕ) (found : Option Entry) → IsWidth design piece → IsRun offset (offset + piece.width) found → AllHold (IsEntryThere design) (entry_on piece edge found)
+entry-there : (design : FlatDesign) (piece : Piece) (edge : Edge) (offset : ℕ) (found : Option Entry) → IsWidth design piece → IsRun offset (offset + piece.width) found →
+    AllHold (IsEntryThere design) (entry_on piece edge found)
 entry-there design piece edge offset None is h = tt
 entry-there design piece edge offset (Some entry) is h =
     let some = h.0 in
@@ -260,12 +272,14 @@ entry-there design piece edge offset (Some entry) is h =
     (record { sized = (omega arith, h.0, omega (arith, within, few)); there = omega (arith, width, within) }, tt)
 
 -- the entries on ascending places of some pieces
-pub entries-there : (design : FlatDesign) → AllHold IsSizedObject design.objects → (edge : Edge) (places : List (Option ℕ)) → Ascend 0 places → (offset : ℕ) (pieces : List Piece) → list_all (has_width design) pieces ≡ true →
+pub entries-there : (design : FlatDesign) → AllHold IsSizedObject design.objects → (edge : Edge) (places : List (Option ℕ)) → Ascend 0 places → (offset : ℕ) (pieces : List Piece) →
+    list_all (has_width design) pieces ≡ true →
     AllHold (IsEntryThere design) (entries_on edge places offset pieces)
 entries-there design sized edge places up offset [] h = tt
 entries-there design sized edge places up offset (piece ∷ pieces) h =
     AllHold-append (IsEntryThere design) (entry_on piece edge (run_within offset (offset + piece.width) places None)) (entries_on edge places (offset + piece.width) pieces)
-    (entry-there design piece edge offset (run_within offset (offset + piece.width) places None) (piece-width design piece sized (and-left (has_width design piece) (list_all (has_width design) pieces) h))
+    (entry-there design piece edge offset (run_within offset (offset + piece.width) places None)
+    (piece-width design piece sized (and-left (has_width design piece) (list_all (has_width design) pieces) h))
     (run-within offset (offset + piece.width) 0 places None up tt))
     (entries-there design sized edge places up (offset + piece.width) pieces (and-right (has_width design piece) (list_all (has_width design) pieces) h))
 
@@ -281,7 +295,8 @@ pub whole-ascends : (width : ℕ) → Ascend 0 (whole_places width)
 whole-ascends width = whole-ascend 0 width
 
 -- the places of a part of which nothing is wrong
-pub between-ascends : (entry : Option ScopeEntry) (place : SourcePlace) (name : Identifier) (inside : List Fault) (from to : Option ℕ) → (ranged_reading entry place name inside from to).here ≡ [] → (ranged_reading entry place name inside from to).complete ≡ true →
+pub between-ascends : (entry : Option ScopeEntry) (place : SourcePlace) (name : Identifier) (inside : List Fault) (from to : Option ℕ) → (ranged_reading entry place name inside from to).here ≡ [] →
+    (ranged_reading entry place name inside from to).complete ≡ true →
     Ascend 0 (places_between (range_of_entry entry) from to)
 between-ascends entry place name inside None to h c = tt
 between-ascends entry place name inside (Some from) None h c = tt
@@ -295,7 +310,8 @@ between-ascends entry place name inside (Some from) (Some to) h c = part-ascends
     by_ranged true range e = by_alike (runs_alike range from to) e
     by_ranged false range e = absurd (cc)
 
-    alike : (found : Option ScopeEntry) → (ranged_reading found place name inside (Some from) (Some to)).here ≡ [] → (ranged_reading found place name inside (Some from) (Some to)).complete ≡ true → runs_alike (range_of_entry found) from to ≡ true
+    alike : (found : Option ScopeEntry) → (ranged_reading found place name inside (Some from) (Some to)).here ≡ [] → (ranged_reading found place name inside (Some from) (Some to)).complete ≡ true →
+        runs_alike (range_of_entry found) from to ≡ true
     alike None e d = absurd (cc)
     alike (Some (NetEntry range signed)) e d = by_ranged range.ranged range e
     alike (Some (RegEntry range signed)) e d = by_ranged range.ranged range e

@@ -5,7 +5,9 @@ use Rattle.v_design.specs.Sized.{most_bits, IsSizedEntry, IsSizedStatement}
 use Rattle.v_design.specs.Designs.{FlatObject, FlatProcess, FlatDesign}
 use Rattle.v_design.specs.Reads.{entries_in, entries_in_all, entries_in_items}
 use Rattle.v_design.specs.WellFormed.{IsSizedObject, IsEntryOf}
-use Rattle.v_tree.specs.Trees.{Identifier, SourceWaits, SourceStatement, NullStatement, BlockStatement, IfStatement, IfElseStatement, CaseStatement, ForStatement, WhileStatement, RepeatStatement, ForeverStatement, WaitStatement, EventStatement, DelayStatement, BlockingStatement, NonblockingStatement, IgnoredTask, FinishTask, SourceStatements, no_source_statements, more_source_statements, SourceCaseItems, no_source_items, labelled, otherwise}
+use Rattle.v_tree.specs.Trees.{Identifier, SourceWaits, SourceStatement, NullStatement, BlockStatement, IfStatement, IfElseStatement, CaseStatement, ForStatement, WhileStatement, RepeatStatement}
+use Rattle.v_tree.specs.Trees.{ForeverStatement, WaitStatement, EventStatement, DelayStatement, BlockingStatement, NonblockingStatement, IgnoredTask, FinishTask, SourceStatements}
+use Rattle.v_tree.specs.Trees.{no_source_statements, more_source_statements, SourceCaseItems, no_source_items, labelled, otherwise}
 use Rattle.v_names.specs.Scopes.{ScopeEntry, ParameterEntry, RefusedParameter, WaitingParameter, NetEntry, RegEntry, MemoryEntry, GateEntry, InstanceEntry, Scope, looked_up, range_width}
 use Rattle.v_names.specs.Readings.{Size, reading_of}
 use Rattle.v_names.specs.Constants.{DelayValue, name_faults, part_faults, constant_faults}
@@ -58,20 +60,24 @@ design-sized : (parts : List Part) (design : FlatDesign) → IsMadeOf parts desi
 design-sized parts design made hierarchy = subst (AllHold IsSizedObject) (design-objects parts design made) (objects-sized parts (nodes_in parts) hierarchy)
 
 -- what a process of the hierarchy waits for
-process-waits : (parts : List Part) (design : FlatDesign) → IsMadeOf parts design → IsHierarchy parts → (process : WalkedProcess) → IsPlaced parts process.path process.scope → (waits : SourceWaits) (body : SourceStatement) →
+process-waits : (parts : List Part) (design : FlatDesign) → IsMadeOf parts design → IsHierarchy parts → (process : WalkedProcess) → IsPlaced parts process.path process.scope →
+    (waits : SourceWaits) (body : SourceStatement) →
     entry_faults process.scope waits ≡ [] → waits_faults process.scope waits ≡ [] → AllHold (IsEntryThere design) (wait_entries (meaning_in parts (objects_in parts) process) waits body)
 process-waits parts design made hierarchy process placed waits body names wrong =
-    waits-there design (meaning_in parts (objects_in parts) process) (design-sized parts design made hierarchy) (holders-there design parts (nodes_in parts) hierarchy (design-objects parts design made) process.path) placed.settled
+    waits-there design (meaning_in parts (objects_in parts) process) (design-sized parts design made hierarchy)
+    (holders-there design parts (nodes_in parts) hierarchy (design-objects parts design made) process.path) placed.settled
     (ap (map (λ (o : FlatObject). o.width)) (sym (design-objects parts design made)) ∙ widths-are (objects_in parts)) waits body names wrong
 
 -- the names of a process of the hierarchy are held by objects
-pub process-meant : (parts : List Part) (design : FlatDesign) → IsMadeOf parts design → IsHierarchy parts → (process : WalkedProcess) → IsPlaced parts process.path process.scope → IsMeant (meaning_in parts (objects_in parts) process)
+pub process-meant : (parts : List Part) (design : FlatDesign) → IsMadeOf parts design → IsHierarchy parts → (process : WalkedProcess) → IsPlaced parts process.path process.scope →
+    IsMeant (meaning_in parts (objects_in parts) process)
 process-meant parts design made hierarchy process placed = record {
   held = λ name. entry-held parts (nodes_in parts) hierarchy process.path name (looked_up process.scope name) (placed.at name);
   settled = placed.settled;
   fits = λ name. entry-fits parts hierarchy (process.path ++ name) (looked_up process.scope name) (placed.at name);
   entries = λ waits body names wrong.
-      AllHold-each (IsEntryThere design) IsSizedEntry (wait_entries (meaning_in parts (objects_in parts) process) waits body) (λ entry h. h.sized) (process-waits parts design made hierarchy process placed waits body names wrong);
+      AllHold-each (IsEntryThere design) IsSizedEntry (wait_entries (meaning_in parts (objects_in parts) process) waits body) (λ entry h. h.sized)
+      (process-waits parts design made hierarchy process placed waits body names wrong);
 }
 
 -- Entries
@@ -83,7 +89,8 @@ WaitsThere design meaning =
 
 mutual
   -- the entries of a statement of which nothing is wrong are bits of their objects
-  statement-entries : (design : FlatDesign) (meaning : Meaning) → WaitsThere design meaning → (s : SourceStatement) → statement_name_faults meaning.scope s ≡ [] → statement_faults meaning.scope s ≡ [] →
+  statement-entries : (design : FlatDesign) (meaning : Meaning) → WaitsThere design meaning → (s : SourceStatement) → statement_name_faults meaning.scope s ≡ [] →
+      statement_faults meaning.scope s ≡ [] →
       AllHold (IsEntryOf design) (entries_in (statement_over meaning s))
   statement-entries design meaning there (NullStatement place) names sizes = tt
   statement-entries design meaning there (BlockStatement place statements) names sizes = statements-entries design meaning there statements names sizes
@@ -96,7 +103,8 @@ mutual
       let s = append-none (size_faults meaning.scope condition) (statement_faults meaning.scope first ++ statement_faults meaning.scope second) sizes in
       let m = append-none (statement_name_faults meaning.scope first) (statement_name_faults meaning.scope second) n.1 in
       let t = append-none (statement_faults meaning.scope first) (statement_faults meaning.scope second) s.1 in
-      AllHold-append (IsEntryOf design) (entries_in (statement_over meaning first)) (entries_in (statement_over meaning second)) (statement-entries design meaning there first m.0 t.0) (statement-entries design meaning there second m.1 t.1)
+      AllHold-append (IsEntryOf design) (entries_in (statement_over meaning first)) (entries_in (statement_over meaning second)) (statement-entries design meaning there first m.0 t.0)
+      (statement-entries design meaning there second m.1 t.1)
   statement-entries design meaning there (CaseStatement place kind value items) names sizes =
       let n = append-none (name_faults meaning.scope value) (case_name_faults meaning.scope items) names in
       let s = append-none (case_faults meaning.scope value items) (items_faults meaning.scope items) sizes in
@@ -104,56 +112,68 @@ mutual
       (items-entries design meaning there (items_size meaning.scope items (reading_of meaning.scope value).size) items n.1 s.1) (default-entries design meaning there items n.1 s.1)
   statement-entries design meaning there (ForStatement place first_target first condition next_target next body) names sizes =
       let scope = meaning.scope in
-      let n1 = append-none (target_faults scope first_target) (name_faults scope first ++ (name_faults scope condition ++ (target_faults scope next_target ++ (name_faults scope next ++ statement_name_faults scope body)))) names in
+      let n1 = append-none (target_faults scope first_target) (name_faults scope first ++ (name_faults scope condition
+      ++ (target_faults scope next_target ++ (name_faults scope next ++ statement_name_faults scope body)))) names in
       let n2 = append-none (name_faults scope first) (name_faults scope condition ++ (target_faults scope next_target ++ (name_faults scope next ++ statement_name_faults scope body))) n1.1 in
       let n3 = append-none (name_faults scope condition) (target_faults scope next_target ++ (name_faults scope next ++ statement_name_faults scope body)) n2.1 in
       let n4 = append-none (target_faults scope next_target) (name_faults scope next ++ statement_name_faults scope body) n3.1 in
       let n5 = append-none (name_faults scope next) (statement_name_faults scope body) n4.1 in
-      let s1 = append-none (assigned_faults ByProcess scope first_target first) (size_faults scope condition ++ (assigned_faults ByProcess scope next_target next ++ statement_faults scope body)) sizes in
+      let s1 = append-none (assigned_faults ByProcess scope first_target first) (size_faults scope condition ++ (assigned_faults ByProcess scope next_target next ++ statement_faults scope body))
+      sizes in
       let s2 = append-none (size_faults scope condition) (assigned_faults ByProcess scope next_target next ++ statement_faults scope body) s1.1 in
       let s3 = append-none (assigned_faults ByProcess scope next_target next) (statement_faults scope body) s2.1 in
       statement-entries design meaning there body n5.1 s3.1
   statement-entries design meaning there (WhileStatement place condition body) names sizes =
-      statement-entries design meaning there body (append-none (name_faults meaning.scope condition) (statement_name_faults meaning.scope body) names).1 (append-none (size_faults meaning.scope condition) (statement_faults meaning.scope body) sizes).1
+      statement-entries design meaning there body (append-none (name_faults meaning.scope condition) (statement_name_faults meaning.scope body) names).1
+      (append-none (size_faults meaning.scope condition) (statement_faults meaning.scope body) sizes).1
   statement-entries design meaning there (RepeatStatement place count body) names sizes =
-      statement-entries design meaning there body (append-none (name_faults meaning.scope count) (statement_name_faults meaning.scope body) names).1 (append-none (size_faults meaning.scope count) (statement_faults meaning.scope body) sizes).1
+      statement-entries design meaning there body (append-none (name_faults meaning.scope count) (statement_name_faults meaning.scope body) names).1
+      (append-none (size_faults meaning.scope count) (statement_faults meaning.scope body) sizes).1
   statement-entries design meaning there (ForeverStatement place body) names sizes = statement-entries design meaning there body names sizes
   statement-entries design meaning there (WaitStatement place condition body) names sizes =
-      statement-entries design meaning there body (append-none (name_faults meaning.scope condition) (statement_name_faults meaning.scope body) names).1 (append-none (wait_faults meaning.scope condition) (statement_faults meaning.scope body) sizes).1
+      statement-entries design meaning there body (append-none (name_faults meaning.scope condition) (statement_name_faults meaning.scope body) names).1
+      (append-none (wait_faults meaning.scope condition) (statement_faults meaning.scope body) sizes).1
   statement-entries design meaning there (EventStatement place waits body) names sizes =
       let n = append-none (entry_faults meaning.scope waits) (statement_name_faults meaning.scope body) names in
       let s = append-none (waits_faults meaning.scope waits) (statement_faults meaning.scope body) sizes in
-      AllHold-append (IsEntryOf design) (wait_entries meaning waits body) (entries_in (statement_over meaning body)) (AllHold-each (IsEntryThere design) (IsEntryOf design) (wait_entries meaning waits body) (λ entry h. h.there) (there waits body n.0 s.0))
+      AllHold-append (IsEntryOf design) (wait_entries meaning waits body) (entries_in (statement_over meaning body))
+      (AllHold-each (IsEntryThere design) (IsEntryOf design) (wait_entries meaning waits body) (λ entry h. h.there) (there waits body n.0 s.0))
       (statement-entries design meaning there body n.1 s.1)
   statement-entries design meaning there (DelayStatement place delay body) names sizes =
-      statement-entries design meaning there body (append-none (constant_faults meaning.scope DelayValue delay) (statement_name_faults meaning.scope body) names).1 (append-none (size_faults meaning.scope delay) (statement_faults meaning.scope body) sizes).1
+      statement-entries design meaning there body (append-none (constant_faults meaning.scope DelayValue delay) (statement_name_faults meaning.scope body) names).1
+      (append-none (size_faults meaning.scope delay) (statement_faults meaning.scope body) sizes).1
   statement-entries design meaning there (BlockingStatement place target delay value) names sizes = tt
   statement-entries design meaning there (NonblockingStatement place target delay value) names sizes = tt
   statement-entries design meaning there (IgnoredTask place) names sizes = tt
   statement-entries design meaning there (FinishTask place) names sizes = tt
 
-  statements-entries : (design : FlatDesign) (meaning : Meaning) → WaitsThere design meaning → (statements : SourceStatements) → statements_name_faults meaning.scope statements ≡ [] → statements_faults meaning.scope statements ≡ [] →
+  statements-entries : (design : FlatDesign) (meaning : Meaning) → WaitsThere design meaning → (statements : SourceStatements) → statements_name_faults meaning.scope statements ≡ [] →
+      statements_faults meaning.scope statements ≡ [] →
       AllHold (IsEntryOf design) (entries_in_all (statements_over meaning statements))
   statements-entries design meaning there no_source_statements names sizes = tt
   statements-entries design meaning there (more_source_statements first rest) names sizes =
       let n = append-none (statement_name_faults meaning.scope first) (statements_name_faults meaning.scope rest) names in
       let s = append-none (statement_faults meaning.scope first) (statements_faults meaning.scope rest) sizes in
-      AllHold-append (IsEntryOf design) (entries_in (statement_over meaning first)) (entries_in_all (statements_over meaning rest)) (statement-entries design meaning there first n.0 s.0) (statements-entries design meaning there rest n.1 s.1)
+      AllHold-append (IsEntryOf design) (entries_in (statement_over meaning first)) (entries_in_all (statements_over meaning rest)) (statement-entries design meaning there first n.0 s.0)
+      (statements-entries design meaning there rest n.1 s.1)
 
-  items-entries : (design : FlatDesign) (meaning : Meaning) → WaitsThere design meaning → (size : Option Size) (items : SourceCaseItems) → case_name_faults meaning.scope items ≡ [] → items_faults meaning.scope items ≡ [] →
+  items-entries : (design : FlatDesign) (meaning : Meaning) → WaitsThere design meaning → (size : Option Size) (items : SourceCaseItems) → case_name_faults meaning.scope items ≡ [] →
+      items_faults meaning.scope items ≡ [] →
       AllHold (IsEntryOf design) (entries_in_items (items_over meaning size items))
   items-entries design meaning there size no_source_items names sizes = tt
   items-entries design meaning there size (labelled labels statement rest) names sizes =
       let n = append-none (part_faults meaning.scope labels) (statement_name_faults meaning.scope statement ++ case_name_faults meaning.scope rest) names in
       let m = append-none (statement_name_faults meaning.scope statement) (case_name_faults meaning.scope rest) n.1 in
       let s = append-none (statement_faults meaning.scope statement) (items_faults meaning.scope rest) sizes in
-      AllHold-append (IsEntryOf design) (entries_in (statement_over meaning statement)) (entries_in_items (items_over meaning size rest)) (statement-entries design meaning there statement m.0 s.0) (items-entries design meaning there size rest m.1 s.1)
+      AllHold-append (IsEntryOf design) (entries_in (statement_over meaning statement)) (entries_in_items (items_over meaning size rest)) (statement-entries design meaning there statement m.0 s.0)
+      (items-entries design meaning there size rest m.1 s.1)
   items-entries design meaning there size (otherwise statement rest) names sizes =
       let m = append-none (statement_name_faults meaning.scope statement) (case_name_faults meaning.scope rest) names in
       let s = append-none (statement_faults meaning.scope statement) (items_faults meaning.scope rest) sizes in
       items-entries design meaning there size rest m.1 s.1
 
-  default-entries : (design : FlatDesign) (meaning : Meaning) → WaitsThere design meaning → (items : SourceCaseItems) → case_name_faults meaning.scope items ≡ [] → items_faults meaning.scope items ≡ [] →
+  default-entries : (design : FlatDesign) (meaning : Meaning) → WaitsThere design meaning → (items : SourceCaseItems) → case_name_faults meaning.scope items ≡ [] →
+      items_faults meaning.scope items ≡ [] →
       AllHold (IsEntryOf design) (entries_in (default_over meaning items))
   default-entries design meaning there no_source_items names sizes = tt
   default-entries design meaning there (labelled labels statement rest) names sizes =
@@ -186,18 +206,22 @@ pub record IsProcessSized (design : FlatDesign) (process : FlatProcess) : Type 0
   pub sized : IsSizedStatement process.body
   pub entries : AllHold (IsEntryOf design) (entries_in process.body)
 
-both : (design : FlatDesign) (processes : List FlatProcess) → AllHold (λ (process : FlatProcess). IsSizedStatement process.body) processes → AllHold (λ (process : FlatProcess). AllHold (IsEntryOf design) (entries_in process.body)) processes →
+both : (design : FlatDesign) (processes : List FlatProcess) → AllHold (λ (process : FlatProcess). IsSizedStatement process.body) processes →
+    AllHold (λ (process : FlatProcess). AllHold (IsEntryOf design) (entries_in process.body)) processes →
     AllHold (IsProcessSized design) processes
 both design [] h k = tt
 both design (process ∷ processes) h k = (record { sized = h.0; entries = k.0 }, both design processes h.1 k.1)
 
 -- the processes of a hierarchy
-pub processes-there : (parts : List Part) (design : FlatDesign) → IsMadeOf parts design → IsHierarchy parts → AllHold (IsPlacedPart parts) parts → AllHold IsFaultlessPart parts → AllHold (IsProcessSized design) design.processes
+pub processes-there : (parts : List Part) (design : FlatDesign) → IsMadeOf parts design → IsHierarchy parts → AllHold (IsPlacedPart parts) parts → AllHold IsFaultlessPart parts →
+    AllHold (IsProcessSized design) design.processes
 processes-there parts design made hierarchy placed faultless =
     let none = among-processes IsFaultless (behaviours_of parts) (behaviours-of IsFaultless parts 0 parts (AllHold-each IsFaultlessPart (OfPart IsFaultless) parts faultless-of faultless)) in
     let at = among-processes (λ process. IsPlaced parts process.path process.scope) (behaviours_of parts)
-    (behaviours-of (λ process. IsPlaced parts process.path process.scope) parts 0 parts (AllHold-each (IsPlacedPart parts) (OfPart (λ process. IsPlaced parts process.path process.scope)) parts (placed-of parts) placed)) in
-    let meant = AllHold-each (λ (process : WalkedProcess). IsPlaced parts process.path process.scope) (λ process. IsMeant (meaning_in parts (objects_in parts) process)) (processes_in parts) (process-meant parts design made hierarchy) at in
+    (behaviours-of (λ process. IsPlaced parts process.path process.scope) parts 0 parts (AllHold-each (IsPlacedPart parts) (OfPart (λ process. IsPlaced parts process.path process.scope)) parts
+    (placed-of parts) placed)) in
+    let meant = AllHold-each (λ (process : WalkedProcess). IsPlaced parts process.path process.scope) (λ process. IsMeant (meaning_in parts (objects_in parts) process)) (processes_in parts)
+    (process-meant parts design made hierarchy) at in
     both design design.processes (processes-sized parts design made faultless meant)
     (subst (AllHold (λ (process : FlatProcess). AllHold (IsEntryOf design) (entries_in process.body))) (design-processes parts design made)
     (AllHold-map (λ (process : FlatProcess). AllHold (IsEntryOf design) (entries_in process.body)) (flat_process parts (objects_in parts)) (processes_in parts)

@@ -9,12 +9,15 @@ use Rattle.v_design.specs.Sized.{span}
 use Rattle.v_design.specs.Expressions.{up_from, down_from, place_of, part_indexes, part_places}
 use Rattle.v_tree.specs.Trees.{Identifier, SourceExpression, SourceIndex, NoIndex, IndexAt, IndexRange, SourceSelect, SourceTarget, OneSelect, JoinedSelects, place_of_target}
 use Rattle.v_names.specs.Faults.{BadConnection, Fault}
-use Rattle.v_names.specs.Scopes.{DeclaredRange, ScopeEntry, ParameterEntry, RefusedParameter, WaitingParameter, NetEntry, RegEntry, MemoryEntry, GateEntry, InstanceEntry, Scope, looked_up, range_width}
+use Rattle.v_names.specs.Scopes.{DeclaredRange, ScopeEntry, ParameterEntry, RefusedParameter, WaitingParameter, NetEntry, RegEntry, MemoryEntry, GateEntry, InstanceEntry, Scope, looked_up}
+use Rattle.v_names.specs.Scopes.{range_width}
 use Rattle.v_names.specs.SizedTrees.{SizedExpression}
-use Rattle.v_names.specs.Readings.{Size, Reading, alone_faults, sized_if, bit_reading, runs_alike, part_if, part_between, part_reading, name_reading, indexed_reading, ranged_reading, reading_of, number_of_constant}
+use Rattle.v_names.specs.Readings.{Size, Reading, alone_faults, sized_if, bit_reading, runs_alike, part_if, part_between, part_reading, name_reading, indexed_reading, ranged_reading, reading_of}
+use Rattle.v_names.specs.Readings.{number_of_constant}
 use Rattle.v_names.specs.Constants.{IndexOrCount, BoundUpTo, most_bound, value_faults, known_faults, constant_name_faults, constant_faults, fixed_select_faults}
 use Rattle.v_names.specs.Names.{names, fixed_target_faults}
-use Rattle.v_width.specs.Targets.{ByNode, may_write, written_reading, target_select_reading, TargetReading, width_of_size, sum_of_widths, selects_reading, within_most, target_alone_faults, range_of_entry, whole_places, places_between, places_of_select}
+use Rattle.v_width.specs.Targets.{ByNode, may_write, written_reading, target_select_reading, TargetReading, width_of_size, sum_of_widths, selects_reading, within_most, target_alone_faults}
+use Rattle.v_width.specs.Targets.{range_of_entry, whole_places, places_between, places_of_select}
 use Rattle.v_elab.specs.ItemFaults.{is_not_one, output_faults}
 use Rattle.v_elab.specs.Drivers.{drives_width}
 use Rattle.v_elab.specs.Connections.{drives_of}
@@ -56,7 +59,8 @@ part-length high low from to =
 abbrev Fits : ℕ → Reading → Type 0
 Fits count reading = reading.here ≡ [] → reading.inside ≡ [] → (width : ℕ) × (width_of_size reading.size ≡ Some width) × (count ≤ width)
 
-sized-fits : (test : Bool) (place : SourcePlace) (size : Size) (complete : Bool) (inside : List Fault) (tree : ℕ → Bool → SizedExpression) (count : ℕ) → count ≤ size.width → Fits count (sized_if test place size complete inside tree)
+sized-fits : (test : Bool) (place : SourcePlace) (size : Size) (complete : Bool) (inside : List Fault) (tree : ℕ → Bool → SizedExpression) (count : ℕ) → count ≤ size.width →
+    Fits count (sized_if test place size complete inside tree)
 sized-fits true place size complete inside tree count within = λ h i. (size.width, refl, within)
 sized-fits false place size complete inside tree count within = λ h i. absurd (cc)
 
@@ -64,7 +68,8 @@ bit-fits : (ranged : Bool) (place : SourcePlace) (name : Identifier) (index : Re
 bit-fits true place name index = λ h i. (1, refl, omega arith)
 bit-fits false place name index = λ h i. absurd (cc)
 
-part-fits : (test : Bool) (range : DeclaredRange) (place : SourcePlace) (name : Identifier) (inside : List Fault) (from to : ℕ) → Fits (length (part_places range.high range.low from to)) (part_if test place name inside from to)
+part-fits : (test : Bool) (range : DeclaredRange) (place : SourcePlace) (name : Identifier) (inside : List Fault) (from to : ℕ) →
+    Fits (length (part_places range.high range.low from to)) (part_if test place name inside from to)
 part-fits true range place name inside from to = sized-fits _ place _ true inside _ (length (part_places range.high range.low from to)) (omega (arith, part-length range.high range.low from to))
 part-fits false range place name inside from to = λ h i. absurd (cc)
 
@@ -74,12 +79,14 @@ between-fits range place name inside None to numbers = λ h i. let n = (numbers 
 between-fits range place name inside (Some from) None numbers = λ h i. let n = (numbers i).1.1 in absurd (cc)
 between-fits range place name inside (Some from) (Some to) numbers = part-fits (runs_alike range from to) range place name inside from to
 
-ranged-fits : (ranged : Bool) (range : DeclaredRange) (place : SourcePlace) (name : Identifier) (inside : List Fault) (from to : Option ℕ) → (inside ≡ [] → ((n : ℕ) × (from ≡ Some n)) × ((n : ℕ) × (to ≡ Some n))) →
+ranged-fits : (ranged : Bool) (range : DeclaredRange) (place : SourcePlace) (name : Identifier) (inside : List Fault) (from to : Option ℕ) →
+    (inside ≡ [] → ((n : ℕ) × (from ≡ Some n)) × ((n : ℕ) × (to ≡ Some n))) →
     Fits (length (places_between range from to)) (part_reading ranged range place name inside from to)
 ranged-fits true range place name inside from to numbers = between-fits range place name inside from to numbers
 ranged-fits false range place name inside from to numbers = λ h i. absurd (cc)
 
-name-fits : (entry : Option ScopeEntry) (place : SourcePlace) (name : Identifier) → known_faults entry place ≡ [] → Fits (length (whole_places (range_width (range_of_entry entry)))) (written_reading (may_write ByNode entry) place (name_reading entry place name))
+name-fits : (entry : Option ScopeEntry) (place : SourcePlace) (name : Identifier) → known_faults entry place ≡ [] →
+    Fits (length (whole_places (range_width (range_of_entry entry)))) (written_reading (may_write ByNode entry) place (name_reading entry place name))
 name-fits None place name known = λ h i. absurd (cc)
 name-fits (Some (NetEntry range signed)) place name known = sized-fits _ place _ true [] _ (length (whole_places (range_width range))) (omega (arith, whole-length (range_width range)))
 name-fits (Some (RegEntry range signed)) place name known = λ h i. absurd (cc)
@@ -90,7 +97,8 @@ name-fits (Some WaitingParameter) place name known = λ h i. absurd (cc)
 name-fits (Some GateEntry) place name known = λ h i. absurd (cc)
 name-fits (Some InstanceEntry) place name known = λ h i. absurd (cc)
 
-index-fits : (entry : Option ScopeEntry) (place : SourcePlace) (name : Identifier) (index : Reading) → known_faults entry place ≡ [] → Fits 1 (written_reading (may_write ByNode entry) place (indexed_reading entry place name index))
+index-fits : (entry : Option ScopeEntry) (place : SourcePlace) (name : Identifier) (index : Reading) → known_faults entry place ≡ [] →
+    Fits 1 (written_reading (may_write ByNode entry) place (indexed_reading entry place name index))
 index-fits None place name index known = λ h i. absurd (cc)
 index-fits (Some (NetEntry range signed)) place name index known = bit-fits range.ranged place name index
 index-fits (Some (RegEntry range signed)) place name index known = λ h i. absurd (cc)
@@ -101,7 +109,8 @@ index-fits (Some WaitingParameter) place name index known = λ h i. absurd (cc)
 index-fits (Some GateEntry) place name index known = λ h i. absurd (cc)
 index-fits (Some InstanceEntry) place name index known = λ h i. absurd (cc)
 
-range-fits : (entry : Option ScopeEntry) (place : SourcePlace) (name : Identifier) (inside : List Fault) (from to : Option ℕ) → known_faults entry place ≡ [] → (inside ≡ [] → ((n : ℕ) × (from ≡ Some n)) × ((n : ℕ) × (to ≡ Some n))) →
+range-fits : (entry : Option ScopeEntry) (place : SourcePlace) (name : Identifier) (inside : List Fault) (from to : Option ℕ) → known_faults entry place ≡ [] →
+    (inside ≡ [] → ((n : ℕ) × (from ≡ Some n)) × ((n : ℕ) × (to ≡ Some n))) →
     Fits (length (places_between (range_of_entry entry) from to)) (written_reading (may_write ByNode entry) place (ranged_reading entry place name inside from to))
 range-fits None place name inside from to known numbers = λ h i. absurd (cc)
 range-fits (Some (NetEntry range signed)) place name inside from to known numbers = ranged-fits range.ranged range place name inside from to numbers
@@ -114,16 +123,20 @@ range-fits (Some GateEntry) place name inside from to known numbers = λ h i. ab
 range-fits (Some InstanceEntry) place name inside from to known numbers = λ h i. absurd (cc)
 
 -- a bound of which nothing is wrong has a number
-bound-number : (scope : Scope) → IsSettled scope → (e : SourceExpression) → constant_faults scope (BoundUpTo most_bound) e ≡ [] → alone_faults (reading_of scope e) ≡ [] → (n : ℕ) × (number_of_constant scope e ≡ Some n)
+bound-number : (scope : Scope) → IsSettled scope → (e : SourceExpression) → constant_faults scope (BoundUpTo most_bound) e ≡ [] → alone_faults (reading_of scope e) ≡ [] →
+    (n : ℕ) × (number_of_constant scope e ≡ Some n)
 bound-number scope settled e faults alone =
     let split = append-none (constant_name_faults scope e) (value_faults scope (BoundUpTo most_bound) e) faults in
-    constant-number scope settled (BoundUpTo most_bound) (bound_up_to most_bound) e faults alone (full-alone (reading_of scope e) (expression-full scope settled e (constant-names scope e split.0)) alone)
+    constant-number scope settled (BoundUpTo most_bound) (bound_up_to most_bound) e faults alone
+    (full-alone (reading_of scope e) (expression-full scope settled e (constant-names scope e split.0)) alone)
 
 -- a select of a net has at most as many places as it is wide
-select-fits : (scope : Scope) → IsSettled scope → (place : SourcePlace) (name : Identifier) (index : SourceIndex) → fixed_select_faults scope (record { place = place; name = name; index = index }) ≡ [] →
+select-fits : (scope : Scope) → IsSettled scope → (place : SourcePlace) (name : Identifier) (index : SourceIndex) →
+    fixed_select_faults scope (record { place = place; name = name; index = index }) ≡ [] →
     Fits (length (places_of_select scope (record { place = place; name = name; index = index }))) (target_select_reading ByNode scope (record { place = place; name = name; index = index }))
 select-fits scope settled place name NoIndex faults = name-fits (looked_up scope name) place name (append-none (known_faults (looked_up scope name) place) [] faults).0
-select-fits scope settled place name (IndexAt index) faults = index-fits (looked_up scope name) place name (reading_of scope index) (append-none (known_faults (looked_up scope name) place) (constant_faults scope IndexOrCount index) faults).0
+select-fits scope settled place name (IndexAt index) faults = index-fits (looked_up scope name) place name (reading_of scope index)
+    (append-none (known_faults (looked_up scope name) place) (constant_faults scope IndexOrCount index) faults).0
 select-fits scope settled place name (IndexRange from to) faults =
     let none = append-none (known_faults (looked_up scope name) place) (constant_faults scope (BoundUpTo most_bound) from ++ constant_faults scope (BoundUpTo most_bound) to) faults in
     let bounds = append-none (constant_faults scope (BoundUpTo most_bound) from) (constant_faults scope (BoundUpTo most_bound) to) none.1 in
@@ -137,7 +150,8 @@ select-fits scope settled place name (IndexRange from to) faults =
 abbrev selects_drives : Identifier → Scope → List SourceSelect → List Drive
 selects_drives path scope selects = map (λ (s : SourceSelect). record { signal = path ++ s.name; places = places_of_select scope s; place = s.place }) selects
 
-selects-narrow : (path : Identifier) (scope : Scope) → IsSettled scope → (selects : List SourceSelect) → flat_map (fixed_select_faults scope) selects ≡ [] → (selects_reading ByNode scope selects).here ≡ [] → (selects_reading ByNode scope selects).inside ≡ [] →
+selects-narrow : (path : Identifier) (scope : Scope) → IsSettled scope → (selects : List SourceSelect) → flat_map (fixed_select_faults scope) selects ≡ [] →
+    (selects_reading ByNode scope selects).here ≡ [] → (selects_reading ByNode scope selects).inside ≡ [] →
     (width : ℕ) × ((selects_reading ByNode scope selects).width ≡ Some width) × (drives_width (selects_drives path scope selects) ≤ width)
 selects-narrow path scope settled [] names h i = (0, refl, omega arith)
 selects-narrow path scope settled (s ∷ rest) names h i =
@@ -167,7 +181,8 @@ is-one width e = eqb-true width 1 (is_true (nat_eq width 1) e)
     is_true false d = absurd (cc)
 
 -- the output of a gate drives one bit at most
-pub output-narrow : (path : Identifier) (scope : Scope) → IsSettled scope → (target : SourceTarget) → fixed_target_faults scope target ≡ [] → output_faults scope target ≡ [] → drives_width (drives_of path scope target) ≤ 1
+pub output-narrow : (path : Identifier) (scope : Scope) → IsSettled scope → (target : SourceTarget) → fixed_target_faults scope target ≡ [] → output_faults scope target ≡ [] →
+    drives_width (drives_of path scope target) ≤ 1
 output-narrow path scope settled (OneSelect select) names faults =
     let reading = selects_reading ByNode scope (select ∷ []) in
     let none = append-none (target_alone_faults reading) _ faults in

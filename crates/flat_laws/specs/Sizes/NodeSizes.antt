@@ -9,7 +9,9 @@ use Rattle.v_design.specs.Sized.{IsSizedAlone, IsSizedStatement}
 use Rattle.v_design.specs.Sites.{expressions_count}
 use Rattle.v_design.specs.Designs.{FlatNodeKind, AssignNode, GateNode, BlockNode, FlatNode, FlatDesign}
 use Rattle.v_design.specs.WellFormed.{TerminalsFit, AreTerminals}
-use Rattle.v_tree.specs.Trees.{Identifier, SourceExpression, place_of_expression, SourceStatement, NullStatement, BlockStatement, IfStatement, IfElseStatement, CaseStatement, ForStatement, WhileStatement, RepeatStatement, ForeverStatement, WaitStatement, EventStatement, DelayStatement, BlockingStatement, NonblockingStatement, IgnoredTask, FinishTask, SourceModule}
+use Rattle.v_tree.specs.Trees.{Identifier, SourceExpression, place_of_expression, SourceStatement, NullStatement, BlockStatement, IfStatement, IfElseStatement, CaseStatement, ForStatement}
+use Rattle.v_tree.specs.Trees.{WhileStatement, RepeatStatement, ForeverStatement, WaitStatement, EventStatement, DelayStatement, BlockingStatement, NonblockingStatement, IgnoredTask, FinishTask}
+use Rattle.v_tree.specs.Trees.{SourceModule}
 use Rattle.v_names.specs.Faults.{BadConnection}
 use Rattle.v_names.specs.Scopes.{Scope}
 use Rattle.v_names.specs.SizedTrees.{Holders, over_objects, all_over_objects}
@@ -22,7 +24,8 @@ use Rattle.v_elab.specs.declared.Mode.{Mode}
 use Rattle.v_elab.specs.ItemFaults.{is_not_one, terminal_faults, waits_faults, statement_faults}
 use Rattle.v_elab.specs.Parts.{Signal, WalkedProcess, Part, SignalPart, MemoryPart, AssignPart, GatePart, ProcessPart, InstancePart}
 use Rattle.v_elab.specs.Walk.{terminals_of}
-use Rattle.v_elab.specs.Drivers.{signals_of, NodeFunction, AssignFunction, GateFunction, BlockFunction, WalkedNode, Behaviour, IsNode, IsProcess, block_or_process, process_behaviour, part_behaviour, behaviours_of, nodes_of}
+use Rattle.v_elab.specs.Drivers.{signals_of, NodeFunction, AssignFunction, GateFunction, BlockFunction, WalkedNode, Behaviour, IsNode, IsProcess, block_or_process, process_behaviour, part_behaviour}
+use Rattle.v_elab.specs.Drivers.{behaviours_of, nodes_of}
 use Rattle.v_elab.specs.Objects.{holders_at}
 use Rattle.v_elab.specs.Statements.{Meaning, block_body}
 use Rattle.v_elab.specs.Flat.{NodeOutput, meaning_in, node_kind, outputs_of, flat_node}
@@ -153,11 +156,13 @@ IsReadBehaviour modules mode top (IsNode node) = IsReadFunction modules mode top
 IsReadBehaviour modules mode top (IsProcess process) = Unit {0}
 
 module _ (modules : List SourceModule) (mode : Mode) (top : SourceModule) where
-  block-read : (signals : List Signal) (process : WalkedProcess) (test : Bool) (targets : List Identifier) → IsReadProcess modules mode top process → IsReadBehaviour modules mode top (block_or_process signals process test targets)
+  block-read : (signals : List Signal) (process : WalkedProcess) (test : Bool) (targets : List Identifier) → IsReadProcess modules mode top process →
+      IsReadBehaviour modules mode top (block_or_process signals process test targets)
   block-read signals process true targets h = h
   block-read signals process false targets h = tt
 
-  process-read : (parts : List Part) (number : ℕ) (process : WalkedProcess) (targets : Option (List Identifier)) → IsReadProcess modules mode top process → IsReadBehaviour modules mode top (process_behaviour parts number process targets)
+  process-read : (parts : List Part) (number : ℕ) (process : WalkedProcess) (targets : Option (List Identifier)) → IsReadProcess modules mode top process →
+      IsReadBehaviour modules mode top (process_behaviour parts number process targets)
   process-read parts number process None h = tt
   process-read parts number process (Some targets) h = block-read (signals_of parts) process _ targets h
 
@@ -169,12 +174,15 @@ module _ (modules : List SourceModule) (mode : Mode) (top : SourceModule) where
   part-read parts number (MemoryPart memory) h = tt
   part-read parts number InstancePart h = tt
 
-  behaviours-read : (parts : List Part) (number : ℕ) (some : List Part) → AllHold (IsReadPart modules mode top) some → AllHold (IsReadBehaviour modules mode top) (joined (map_numbered (part_behaviour parts) number some))
+  behaviours-read : (parts : List Part) (number : ℕ) (some : List Part) → AllHold (IsReadPart modules mode top) some →
+      AllHold (IsReadBehaviour modules mode top) (joined (map_numbered (part_behaviour parts) number some))
   behaviours-read parts number [] h = tt
   behaviours-read parts number (part ∷ rest) h =
-      AllHold-append (IsReadBehaviour modules mode top) (part_behaviour parts number part) (joined (map_numbered (part_behaviour parts) (number + 1) rest)) (part-read parts number part h.0) (behaviours-read parts (number + 1) rest h.1)
+      AllHold-append (IsReadBehaviour modules mode top) (part_behaviour parts number part) (joined (map_numbered (part_behaviour parts) (number + 1) rest)) (part-read parts number part h.0)
+      (behaviours-read parts (number + 1) rest h.1)
 
-  nodes-read : (behaviours : List Behaviour) → AllHold (IsReadBehaviour modules mode top) behaviours → AllHold (λ (node : WalkedNode). IsReadFunction modules mode top node.function) (nodes_of behaviours)
+  nodes-read : (behaviours : List Behaviour) → AllHold (IsReadBehaviour modules mode top) behaviours →
+      AllHold (λ (node : WalkedNode). IsReadFunction modules mode top node.function) (nodes_of behaviours)
   nodes-read [] h = tt
   nodes-read (IsNode node ∷ rest) h = (h.0, nodes-read rest h.1)
   nodes-read (IsProcess process ∷ rest) h = nodes-read rest h.1
@@ -183,21 +191,27 @@ module _ (modules : List SourceModule) (mode : Mode) (top : SourceModule) where
   abbrev process_at : Identifier → Scope → WalkedProcess
   process_at path scope = let place : SourcePlace = record { line = 0; column = 0 } in record { always = false; place = place; path = path; scope = scope; body = NullStatement place; targets = None }
 
-  function-sized : (parts : List Part) (design : FlatDesign) → IsMadeOf parts design → IsHierarchy parts → AllPlaced modules mode top parts → (outputs : List NodeOutput) (function : NodeFunction) → IsReadFunction modules mode top function →
+  function-sized : (parts : List Part) (design : FlatDesign) → IsMadeOf parts design → IsHierarchy parts → AllPlaced modules mode top parts → (outputs : List NodeOutput) (function : NodeFunction) →
+      IsReadFunction modules mode top function →
       IsSizedInside (node_kind parts (objects_in parts) outputs function)
   function-sized parts design made hierarchy placed outputs (AssignFunction value) h = tt
   function-sized parts design made hierarchy placed outputs (GateFunction kind path terminals) h =
       let meant = process-meant parts design made hierarchy (process_at path h.scope) (placed path h.scope h.at) in
       let holders = holders_at parts (objects_in parts) path in
       let count = terminals-count holders h.scope h.inputs in
-      subst (λ t. TerminalsFit kind (expressions_count (all_over_objects holders t)) × AreTerminals (all_over_objects holders t) × (expressions_count (all_over_objects holders t) < 2 ^ 64)) h.is
-      (subst (TerminalsFit kind) (sym count) h.fit, terminals-are (meaning_in parts (objects_in parts) (process_at path h.scope)) meant h.inputs h.names h.sizes, subst (λ n. n < 2 ^ 64) (sym count) h.few)
+      subst (λ t. TerminalsFit kind (expressions_count (all_over_objects holders t)) × AreTerminals (all_over_objects holders t) × (expressions_count (all_over_objects holders t) < 2 ^ 64)) h.is (
+        subst (TerminalsFit kind) (sym count) h.fit,
+        terminals-are (meaning_in parts (objects_in parts) (process_at path h.scope)) meant h.inputs h.names h.sizes,
+        subst (λ n. n < 2 ^ 64) (sym count) h.few,
+      )
   function-sized parts design made hierarchy placed outputs (BlockFunction process) h =
-      statement-sound (meaning_in parts (objects_in parts) process) (process-meant parts design made hierarchy process (placed process.path process.scope h.at)) (block_body process.body) (body-selects process.body h.selects)
+      statement-sound (meaning_in parts (objects_in parts) process) (process-meant parts design made hierarchy process (placed process.path process.scope h.at)) (block_body process.body)
+      (body-selects process.body h.selects)
       (body-names process.scope process.body h.names) (body-sizes process.scope process.body h.sizes)
 
   -- the gates and blocks of a design are sized inside
-  pub nodes-sized : (parts : List Part) (design : FlatDesign) → IsMadeOf parts design → IsHierarchy parts → AllPlaced modules mode top parts → AllHold (IsReadPart modules mode top) parts → AllHold (λ (node : FlatNode). IsSizedInside node.kind) design.nodes
+  pub nodes-sized : (parts : List Part) (design : FlatDesign) → IsMadeOf parts design → IsHierarchy parts → AllPlaced modules mode top parts → AllHold (IsReadPart modules mode top) parts →
+      AllHold (λ (node : FlatNode). IsSizedInside node.kind) design.nodes
   nodes-sized parts design made hierarchy placed read =
       each-node (λ node. IsSizedInside node.kind) parts design made
       (AllHold-from (λ (node : FlatNode). IsSizedInside node.kind) (flat_nodes_in parts)

@@ -18,7 +18,8 @@ use Rattle.v_names.specs.SizedLaws.{and-left, and-right}
 use Rattle.v_ports.specs.Pieces.{CutPiece, pieces_of}
 use Rattle.v_elab.specs.Parts.{Signal, Part, SignalPart, MemoryPart, AssignPart, GatePart, ProcessPart, InstancePart}
 use Rattle.v_elab.specs.Drivers.{signals_of, outermost, is_unjoined, WalkedNode, is_driving, insert_here, insert_by_depth, by_depth, driving_variables, ObjectDrive, object_drives, run_of}
-use Rattle.v_elab.specs.Objects.{HeldObject, or_unknown, index_at, piece_object, pieces_or_variable, signal_objects, word_object, part_objects, objects_of_parts, piece_if, pieces_held, joined_if, names_joined}
+use Rattle.v_elab.specs.Objects.{HeldObject, or_unknown, index_at, piece_object, pieces_or_variable, signal_objects, word_object, part_objects, objects_of_parts, piece_if, pieces_held, joined_if}
+use Rattle.v_elab.specs.Objects.{names_joined}
 use Rattle.flat_laws.specs.Lists.{same_some, AllHold-from, at-filter}
 use Rattle.flat_laws.specs.Numbered.{AllHold-each, AllHold-flat_map, AllHold-map, AllHold-all}
 use Rattle.flat_laws.specs.Drivers.Pieces.{pieces-within}
@@ -60,7 +61,8 @@ piece-span range width first some within =
 abbrev IsSizedHeld : HeldObject → Type 0
 IsSizedHeld held = IsSizedObject held.object
 
-piece-sized : (signal : Signal) (drives : List ObjectDrive) (piece : CutPiece) → range_width signal.range ≤ most_bits → (1 ≤ piece.width) × (piece.low + piece.width ≤ range_width signal.range) → IsSizedHeld (piece_object signal drives piece)
+piece-sized : (signal : Signal) (drives : List ObjectDrive) (piece : CutPiece) → range_width signal.range ≤ most_bits → (1 ≤ piece.width) × (piece.low + piece.width ≤ range_width signal.range) →
+    IsSizedHeld (piece_object signal drives piece)
 piece-sized signal drives piece most within =
     let some = within.0 in
     let below = within.1 in
@@ -74,14 +76,17 @@ unknown-length width (Some value) h = h value refl
 abbrev FirstFits : Signal → Signal → Type 0
 FirstFits signal driving = (value : LogicValue) → driving.first ≡ Some value → length value ≡ range_width signal.range
 
-signal-pieces-sized : (signal : Signal) (drives : List ObjectDrive) (driving : List Signal) → range_width signal.range ≤ most_bits → AllHold (FirstFits signal) driving → AllHold IsSizedHeld (pieces_or_variable signal drives driving)
+signal-pieces-sized : (signal : Signal) (drives : List ObjectDrive) (driving : List Signal) → range_width signal.range ≤ most_bits → AllHold (FirstFits signal) driving →
+    AllHold IsSizedHeld (pieces_or_variable signal drives driving)
 signal-pieces-sized signal drives [] most fits =
     AllHold-map IsSizedHeld (piece_object signal drives) (pieces_of (range_width signal.range) (map run_of drives))
-    (AllHold-each (λ (piece : CutPiece). (1 ≤ piece.width) × (piece.low + piece.width ≤ range_width signal.range)) (λ (piece : CutPiece). IsSizedHeld (piece_object signal drives piece)) (pieces_of (range_width signal.range) (map run_of drives))
+    (AllHold-each (λ (piece : CutPiece). (1 ≤ piece.width) × (piece.low + piece.width ≤ range_width signal.range)) (λ (piece : CutPiece). IsSizedHeld (piece_object signal drives piece))
+    (pieces_of (range_width signal.range) (map run_of drives))
     (λ piece within. piece-sized signal drives piece most within) (pieces-within (range_width signal.range) (map run_of drives)))
 signal-pieces-sized signal drives (driving ∷ rest) most fits = ((unknown-length (range_width signal.range) driving.first fits.0, refl, most), tt)
 
-insert-holds : (P : Signal → Type 0) (test : Bool) (signal other : Signal) (others inserted : List Signal) → P signal → P other → AllHold P others → AllHold P inserted → AllHold P (insert_here test signal other others inserted)
+insert-holds : (P : Signal → Type 0) (test : Bool) (signal other : Signal) (others inserted : List Signal) → P signal → P other → AllHold P others → AllHold P inserted →
+    AllHold P (insert_here test signal other others inserted)
 insert-holds P true signal other others inserted h k rest more = (h, (k, rest))
 insert-holds P false signal other others inserted h k rest more = (k, more)
 
@@ -95,7 +100,8 @@ depth-holds : (P : Signal → Type 0) (signals : List Signal) → AllHold P sign
 depth-holds P [] h = tt
 depth-holds P (signal ∷ signals) h = depth-insert P signal (by_depth signals) h.0 (depth-holds P signals h.1)
 
-driving-fits : (parts : List Part) (nodes : List WalkedNode) → IsHierarchy parts → (i : ℕ) (signal : Signal) → slice_get (signals_of parts) i ≡ Some signal → AllHold (FirstFits signal) (driving_variables (signals_of parts) nodes signal.name)
+driving-fits : (parts : List Part) (nodes : List WalkedNode) → IsHierarchy parts → (i : ℕ) (signal : Signal) → slice_get (signals_of parts) i ≡ Some signal →
+    AllHold (FirstFits signal) (driving_variables (signals_of parts) nodes signal.name)
 driving-fits parts nodes hierarchy i signal at =
     depth-holds (FirstFits signal) (filter (λ (s : Signal). is_driving nodes s && same_name (outermost (signals_of parts) s.name) signal.name) (signals_of parts))
     (AllHold-from (FirstFits signal) (filter (λ (s : Signal). is_driving nodes s && same_name (outermost (signals_of parts) s.name) signal.name) (signals_of parts))
@@ -108,13 +114,16 @@ driving-fits parts nodes hierarchy i signal at =
     let part = signal-part parts kept.0 driving kept.1 in
     (hierarchy.signals part.0 driving part.1).first value first ∙ sym last.width ∙ ap (λ (s : Signal). range_width s.range) one))
 
-by-joining-sized : (parts : List Part) (nodes : List WalkedNode) → IsHierarchy parts → (unjoined : Bool) (i : ℕ) (signal : Signal) → slice_get (signals_of parts) i ≡ Some signal → AllHold IsSizedHeld (signal_objects (signals_of parts) nodes unjoined signal)
+by-joining-sized : (parts : List Part) (nodes : List WalkedNode) → IsHierarchy parts → (unjoined : Bool) (i : ℕ) (signal : Signal) → slice_get (signals_of parts) i ≡ Some signal →
+    AllHold IsSizedHeld (signal_objects (signals_of parts) nodes unjoined signal)
 by-joining-sized parts nodes hierarchy true i signal at =
     let part = signal-part parts i signal at in
-    signal-pieces-sized signal (object_drives (signals_of parts) nodes signal.name) (driving_variables (signals_of parts) nodes signal.name) (hierarchy.signals part.0 signal part.1).most (driving-fits parts nodes hierarchy i signal at)
+    signal-pieces-sized signal (object_drives (signals_of parts) nodes signal.name) (driving_variables (signals_of parts) nodes signal.name) (hierarchy.signals part.0 signal part.1).most
+    (driving-fits parts nodes hierarchy i signal at)
 by-joining-sized parts nodes hierarchy false i signal at = tt
 
-part-sized : (parts : List Part) (nodes : List WalkedNode) → IsHierarchy parts → (k : ℕ) (part : Part) → slice_get parts k ≡ Some part → AllHold IsSizedHeld (part_objects (signals_of parts) nodes part)
+part-sized : (parts : List Part) (nodes : List WalkedNode) → IsHierarchy parts → (k : ℕ) (part : Part) → slice_get parts k ≡ Some part →
+    AllHold IsSizedHeld (part_objects (signals_of parts) nodes part)
 part-sized parts nodes hierarchy k (SignalPart signal) at = let place = part-in-signals parts k signal at in by-joining-sized parts nodes hierarchy (is_unjoined signal) place.0 signal place.1
 part-sized parts nodes hierarchy k (MemoryPart memory) at =
     AllHold-map IsSizedHeld (word_object memory) (up_from (min memory.first memory.last) (span memory.first memory.last))
@@ -143,12 +152,14 @@ piece-there design true number held at =
     both-true (width_is held.object.width (slice_get design.objects number)) true (ap (width_is held.object.width) at ∙ eq-eqb held.object.width held.object.width refl) refl
 piece-there design false number held at = refl
 
-held-there : (design : FlatDesign) (holder : Identifier) (start : ℕ) (objects : List HeldObject) → ((i : ℕ) (held : HeldObject) → slice_get objects i ≡ Some held → slice_get design.objects (start + i) ≡ Some held.object) →
+held-there : (design : FlatDesign) (holder : Identifier) (start : ℕ) (objects : List HeldObject) →
+    ((i : ℕ) (held : HeldObject) → slice_get objects i ≡ Some held → slice_get design.objects (start + i) ≡ Some held.object) →
     list_all (has_width design) (joined (map_numbered (λ number (held : HeldObject). piece_if (same_name held.holder holder) number held) start objects)) ≡ true
 held-there design holder start [] there = refl
 held-there design holder start (held ∷ objects) there =
     let same : start + 0 ≡ start = omega arith in
-    all-append (has_width design) (piece_if (same_name held.holder holder) start held) (joined (map_numbered (λ number (h : HeldObject). piece_if (same_name h.holder holder) number h) (start + 1) objects))
+    all-append (has_width design) (piece_if (same_name held.holder holder) start held) (joined
+    (map_numbered (λ number (h : HeldObject). piece_if (same_name h.holder holder) number h) (start + 1) objects))
     (piece-there design (same_name held.holder holder) start held (ap (slice_get design.objects) (sym same) ∙ there 0 held refl))
     (held-there design holder (start + 1) objects (λ i other at. let moved : (start + 1) + i ≡ start + suc i = omega arith in ap (slice_get design.objects) moved ∙ there (suc i) other at))
 
@@ -158,14 +169,16 @@ object-at (first ∷ objects) zero held at = ap (λ (h : HeldObject). Some h.obj
 object-at (first ∷ objects) (suc i) held at = object-at objects i held at
 
 -- the pieces of a name are objects of the design with their widths
-pub pieces-there : (design : FlatDesign) (objects : List HeldObject) → map (λ (held : HeldObject). held.object) objects ≡ design.objects → (holder : Identifier) → IsTrue (have_widths design (pieces_held objects holder))
+pub pieces-there : (design : FlatDesign) (objects : List HeldObject) → map (λ (held : HeldObject). held.object) objects ≡ design.objects → (holder : Identifier) →
+    IsTrue (have_widths design (pieces_held objects holder))
 pieces-there design objects is holder =
     held-there design holder 0 objects
     (λ i held at. let same : 0 + i ≡ i = omega arith in ap (slice_get design.objects) same ∙ ap (λ all. slice_get all i) (sym is) ∙ object-at objects i held at)
 
 -- Joined names
 
-joined-sized : (design : FlatDesign) (parts : List Part) (nodes : List WalkedNode) → IsHierarchy parts → map (λ (held : HeldObject). held.object) (objects_of_parts parts nodes) ≡ design.objects → (unjoined : Bool) (i : ℕ) (signal : Signal) →
+joined-sized : (design : FlatDesign) (parts : List Part) (nodes : List WalkedNode) → IsHierarchy parts → map (λ (held : HeldObject). held.object) (objects_of_parts parts nodes) ≡ design.objects →
+    (unjoined : Bool) (i : ℕ) (signal : Signal) →
     slice_get (signals_of parts) i ≡ Some signal → AllHold (IsSizedName design) (joined_if unjoined (signals_of parts) (objects_of_parts parts nodes) signal)
 joined-sized design parts nodes hierarchy is true i signal at = tt
 joined-sized design parts nodes hierarchy is false i signal at =

@@ -12,9 +12,11 @@ use Rattle.v_design.specs.Assignments.{part_width, target_width, targets_width}
 use Rattle.v_design.specs.Sized.{span, most_bits, pieces_width, HasItsBits, IsSizedAlone, IsSizedVariable, IsSizedTarget, IsSizedEntry}
 use Rattle.v_tree.specs.Trees.{Identifier, SourceExpression, SourceIndex, NoIndex, IndexAt, IndexRange, SourceSelect, SourceWaits, SourceStatement}
 use Rattle.v_names.specs.Faults.{Fault}
-use Rattle.v_names.specs.Scopes.{DeclaredRange, ScopeEntry, ParameterEntry, RefusedParameter, WaitingParameter, NetEntry, RegEntry, MemoryEntry, GateEntry, InstanceEntry, looked_up, range_width, is_memory}
+use Rattle.v_names.specs.Scopes.{DeclaredRange, ScopeEntry, ParameterEntry, RefusedParameter, WaitingParameter, NetEntry, RegEntry, MemoryEntry, GateEntry, InstanceEntry, looked_up, range_width}
+use Rattle.v_names.specs.Scopes.{is_memory}
 use Rattle.v_names.specs.SizedTrees.{SizedExpression}
-use Rattle.v_names.specs.Readings.{Size, alone_faults, sized_if, name_reading, bit_reading, indexed_reading, runs_alike, part_if, part_reading, ranged_reading, reading_of, select_reading, number_of_constant, number_or}
+use Rattle.v_names.specs.Readings.{Size, alone_faults, sized_if, name_reading, bit_reading, indexed_reading, runs_alike, part_if, part_reading, ranged_reading, reading_of, select_reading}
+use Rattle.v_names.specs.Readings.{number_of_constant, number_or}
 use Rattle.v_names.specs.Constants.{known_faults, name_faults, index_faults, select_faults}
 use Rattle.v_names.specs.Names.{entry_faults}
 use Rattle.v_names.specs.SizedLaws.{IsHeld, HasSize, and-left, and-right, alone-sized, reading-sound}
@@ -86,7 +88,8 @@ pub record SizeHolds (test complete : Bool) (size : Size) (found : Option Size) 
   pub whole : complete ≡ true
   pub size_is : found ≡ Some size
 
-pub sized_if-holds : (test : Bool) (place : SourcePlace) (size : Size) (complete : Bool) (inside : List Fault) (tree : ℕ → Bool → SizedExpression) → (sized_if test place size complete inside tree).complete ≡ true →
+pub sized_if-holds : (test : Bool) (place : SourcePlace) (size : Size) (complete : Bool) (inside : List Fault) (tree : ℕ → Bool → SizedExpression) →
+    (sized_if test place size complete inside tree).complete ≡ true →
     SizeHolds test complete size (sized_if test place size complete inside tree).size
 sized_if-holds true place size complete inside tree c = record { passes = refl; whole = c; size_is = refl }
 sized_if-holds false place size complete inside tree c = absurd (cc)
@@ -94,11 +97,13 @@ sized_if-holds false place size complete inside tree c = absurd (cc)
 pub within-room : (width : ℕ) → (nat_le 1 width && nat_le width most_bits) ≡ true → (1 ≤ width) × (width ≤ most_bits)
 within-room width e = (leb-true 1 width (and-left (nat_le 1 width) (nat_le width most_bits) e), leb-true width most_bits (and-right (nat_le 1 width) (nat_le width most_bits) e))
 
-variable-sized : (meaning : Meaning) (name : Identifier) (range : DeclaredRange) → HasItsBits (meaning.holders.vector name) × (pieces_width (meaning.holders.vector name).pieces ≡ range_width range) → range_width range ≤ most_bits →
+variable-sized : (meaning : Meaning) (name : Identifier) (range : DeclaredRange) → HasItsBits (meaning.holders.vector name)
+    × (pieces_width (meaning.holders.vector name).pieces ≡ range_width range) → range_width range ≤ most_bits →
     IsSizedVariable (variable_of (meaning.holders.vector name))
 variable-sized meaning name range held fits = let e = held.1 in (held.0, omega (arith, e, fits))
 
-whole-fits : (meaning : Meaning) (name : Identifier) (place : SourcePlace) (entry : Option ScopeEntry) → IsHeld meaning.holders name entry → FitsVector entry → may_write ByProcess entry ≡ true → known_faults entry place ≡ [] →
+whole-fits : (meaning : Meaning) (name : Identifier) (place : SourcePlace) (entry : Option ScopeEntry) → IsHeld meaning.holders name entry → FitsVector entry → may_write ByProcess entry ≡ true →
+    known_faults entry place ≡ [] →
     (name_reading entry place name).complete ≡ true → TargetFits (target_by_index meaning name NoIndex) (name_reading entry place name).size
 whole-fits meaning name place (Some (RegEntry range signed)) held fits writes known c =
     let h = sized_if-holds (nat_le 1 (range_width range) && nat_le (range_width range) most_bits) place (record { width = range_width range; signed = signed }) true [] _ c in
@@ -113,23 +118,41 @@ whole-fits meaning name place (Some WaitingParameter) held fits writes known c =
 whole-fits meaning name place (Some GateEntry) held fits writes known c = absurd (cc)
 whole-fits meaning name place (Some InstanceEntry) held fits writes known c = absurd (cc)
 
-bit-fits : (meaning : Meaning) (name : Identifier) (place : SourcePlace) (range : DeclaredRange) (index : SourceExpression) (ranged : Bool) → IsSizedVariable (variable_of (meaning.holders.vector name)) →
+bit-fits : (meaning : Meaning) (name : Identifier) (place : SourcePlace) (range : DeclaredRange) (index : SourceExpression) (ranged : Bool) →
+    IsSizedVariable (variable_of (meaning.holders.vector name)) →
     ((reading_of meaning.scope index).complete ≡ true → IsSizedAlone (alone_expression meaning index)) → (bit_reading ranged place name (reading_of meaning.scope index)).complete ≡ true →
     TargetFits (indexed_target false meaning name index) (bit_reading ranged place name (reading_of meaning.scope index)).size
-bit-fits meaning name place range index true variable alone c = record { z = record { width = 1; signed = false }; size_is = refl; width = refl; some = omega arith; few = omega arith; sized = (variable, alone c) }
+bit-fits meaning name place range index true variable alone c = record {
+  z = record { width = 1; signed = false };
+  size_is = refl;
+  width = refl;
+  some = omega arith;
+  few = omega arith;
+  sized = (variable, alone c);
+}
 bit-fits meaning name place range index false variable alone c = absurd (cc)
 
-index-fits : (meaning : Meaning) (name : Identifier) (place : SourcePlace) (index : SourceExpression) (entry : Option ScopeEntry) → IsHeld meaning.holders name entry → FitsVector entry → may_write ByProcess entry ≡ true → known_faults entry place ≡ [] →
+index-fits : (meaning : Meaning) (name : Identifier) (place : SourcePlace) (index : SourceExpression) (entry : Option ScopeEntry) → IsHeld meaning.holders name entry → FitsVector entry →
+    may_write ByProcess entry ≡ true → known_faults entry place ≡ [] →
     ((reading_of meaning.scope index).complete ≡ true → IsSizedAlone (alone_expression meaning index)) → (indexed_reading entry place name (reading_of meaning.scope index)).complete ≡ true →
     TargetFits (indexed_target (is_memory entry) meaning name index) (indexed_reading entry place name (reading_of meaning.scope index)).size
-index-fits meaning name place index (Some (RegEntry range signed)) held fits writes known alone c = bit-fits meaning name place range index range.ranged (variable-sized meaning name range held fits) alone c
+index-fits meaning name place index (Some (RegEntry range signed)) held fits writes known alone c =
+    bit-fits meaning name place range index range.ranged (variable-sized meaning name range held fits) alone c
 index-fits meaning name place index (Some (MemoryEntry range first last signed)) held fits writes known alone c =
     let reading = reading_of meaning.scope index in
-    let h = sized_if-holds (nat_le 1 (range_width range) && nat_le (range_width range) most_bits) place (record { width = range_width range; signed = signed }) reading.complete (alone_faults reading) _ c in
+    let h = sized_if-holds (nat_le 1 (range_width range) && nat_le (range_width range) most_bits) place (record { width = range_width range; signed = signed }) reading.complete
+    (alone_faults reading) _ c in
     let room = within-room (range_width range) h.passes in
     let e = held.1 in
     let some = room.0 in
-    record { z = record { width = range_width range; signed = signed }; size_is = h.size_is; width = held.1; some = room.0; few = room.1; sized = ((omega arith, omega (arith, e, some), omega (arith, e, fits)), held.0, alone h.whole) }
+    record {
+      z = record { width = range_width range; signed = signed };
+      size_is = h.size_is;
+      width = held.1;
+      some = room.0;
+      few = room.1;
+      sized = ((omega arith, omega (arith, e, some), omega (arith, e, fits)), held.0, alone h.whole);
+    }
 index-fits meaning name place index None held fits writes known alone c = absurd (cc)
 index-fits meaning name place index (Some (NetEntry range signed)) held fits writes known alone c = absurd (cc)
 index-fits meaning name place index (Some (ParameterEntry value signed)) held fits writes known alone c = absurd (cc)
@@ -138,7 +161,8 @@ index-fits meaning name place index (Some WaitingParameter) held fits writes kno
 index-fits meaning name place index (Some GateEntry) held fits writes known alone c = absurd (cc)
 index-fits meaning name place index (Some InstanceEntry) held fits writes known alone c = absurd (cc)
 
-alike-fits : (meaning : Meaning) (name : Identifier) (place : SourcePlace) (inside : List Fault) (from to : ℕ) (alike : Bool) → IsSizedVariable (variable_of (meaning.holders.vector name)) → (part_if alike place name inside from to).complete ≡ true →
+alike-fits : (meaning : Meaning) (name : Identifier) (place : SourcePlace) (inside : List Fault) (from to : ℕ) (alike : Bool) → IsSizedVariable (variable_of (meaning.holders.vector name)) →
+    (part_if alike place name inside from to).complete ≡ true →
     (z : Size) × ((part_if alike place name inside from to).size ≡ Some z) × (part_width from to ≡ z.width) × (1 ≤ z.width) × (z.width ≤ most_bits)
 alike-fits meaning name place inside from to true variable c =
     let h = sized_if-holds (nat_le 1 (span from to) && nat_le (span from to) most_bits) place (record { width = span from to; signed = false }) true inside _ c in
@@ -146,7 +170,8 @@ alike-fits meaning name place inside from to true variable c =
     (record { width = span from to; signed = false }, h.size_is, part-long from to, room.0, room.1)
 alike-fits meaning name place inside from to false variable c = absurd (cc)
 
-between-fits : (meaning : Meaning) (name : Identifier) (place : SourcePlace) (range : DeclaredRange) (inside : List Fault) (ranged : Bool) (from to : Option ℕ) → IsSizedVariable (variable_of (meaning.holders.vector name)) →
+between-fits : (meaning : Meaning) (name : Identifier) (place : SourcePlace) (range : DeclaredRange) (inside : List Fault) (ranged : Bool) (from to : Option ℕ) →
+    IsSizedVariable (variable_of (meaning.holders.vector name)) →
     (part_reading ranged range place name inside from to).complete ≡ true →
     (z : Size) × ((part_reading ranged range place name inside from to).size ≡ Some z) × (part_width (number_or 0 from) (number_or 0 to) ≡ z.width) × (1 ≤ z.width) × (z.width ≤ most_bits)
 between-fits meaning name place range inside false from to variable c = absurd (cc)
@@ -154,7 +179,8 @@ between-fits meaning name place range inside true None to variable c = absurd (c
 between-fits meaning name place range inside true (Some from) None variable c = absurd (cc)
 between-fits meaning name place range inside true (Some from) (Some to) variable c = alike-fits meaning name place inside from to (runs_alike range from to) variable c
 
-range-fits : (meaning : Meaning) (name : Identifier) (place : SourcePlace) (from to : SourceExpression) (inside : List Fault) (entry : Option ScopeEntry) → IsHeld meaning.holders name entry → FitsVector entry → may_write ByProcess entry ≡ true →
+range-fits : (meaning : Meaning) (name : Identifier) (place : SourcePlace) (from to : SourceExpression) (inside : List Fault) (entry : Option ScopeEntry) → IsHeld meaning.holders name entry →
+    FitsVector entry → may_write ByProcess entry ≡ true →
     known_faults entry place ≡ [] → (ranged_reading entry place name inside (number_of_constant meaning.scope from) (number_of_constant meaning.scope to)).complete ≡ true →
     TargetFits (target_by_index meaning name (IndexRange from to)) (ranged_reading entry place name inside (number_of_constant meaning.scope from) (number_of_constant meaning.scope to)).size
 range-fits meaning name place from to inside (Some (RegEntry range signed)) held fits writes known c =
@@ -176,14 +202,18 @@ select-fits : (meaning : Meaning) → IsMeant meaning → (place : SourcePlace) 
 select-fits meaning meant place name NoIndex writes names c =
     whole-fits meaning name place (looked_up meaning.scope name) (meant.held name) (meant.fits name) writes (append-none (known_faults (looked_up meaning.scope name) place) [] names).0 c
 select-fits meaning meant place name (IndexAt index) writes names c =
-    index-fits meaning name place index (looked_up meaning.scope name) (meant.held name) (meant.fits name) writes (append-none (known_faults (looked_up meaning.scope name) place) (name_faults meaning.scope index) names).0
+    index-fits meaning name place index (looked_up meaning.scope name) (meant.held name) (meant.fits name) writes
+    (append-none (known_faults (looked_up meaning.scope name) place) (name_faults meaning.scope index) names).0
     (λ complete. complete-alone meaning meant index complete) c
 select-fits meaning meant place name (IndexRange from to) writes names c =
-    range-fits meaning name place from to (alone_faults (reading_of meaning.scope from) ++ alone_faults (reading_of meaning.scope to)) (looked_up meaning.scope name) (meant.held name) (meant.fits name) writes
+    range-fits meaning name place from to (alone_faults (reading_of meaning.scope from) ++ alone_faults (reading_of meaning.scope to)) (looked_up meaning.scope name) (meant.held name)
+    (meant.fits name) writes
     (append-none (known_faults (looked_up meaning.scope name) place) (index_faults meaning.scope (IndexRange from to)) names).0 c
 
-written-fits : (meaning : Meaning) → IsMeant meaning → (select : SourceSelect) (writes : Bool) → may_write ByProcess (looked_up meaning.scope select.name) ≡ writes → select_faults meaning.scope select ≡ [] →
-    (written_reading writes select.place (select_reading meaning.scope select.place select.name select.index)).here ≡ [] → (written_reading writes select.place (select_reading meaning.scope select.place select.name select.index)).inside ≡ [] →
+written-fits : (meaning : Meaning) → IsMeant meaning → (select : SourceSelect) (writes : Bool) → may_write ByProcess (looked_up meaning.scope select.name) ≡ writes →
+    select_faults meaning.scope select ≡ [] →
+    (written_reading writes select.place (select_reading meaning.scope select.place select.name select.index)).here ≡ [] →
+    (written_reading writes select.place (select_reading meaning.scope select.place select.name select.index)).inside ≡ [] →
     TargetFits (target_by_index meaning select.name select.index) (written_reading writes select.place (select_reading meaning.scope select.place select.name select.index)).size
 written-fits meaning meant select true e names h i =
     select-fits meaning meant select.place select.name select.index e names (select-full meaning.scope meant.settled select.place select.name select.index names h i)
@@ -196,8 +226,10 @@ pub record TargetsFit (targets : List Target) (width : Option ℕ) : Type 0 wher
   pub targets_is : targets_width targets ≡ total
   pub sized : AllHold IsSizedTarget targets
 
-pub selects-fit : (meaning : Meaning) → IsMeant meaning → (selects : List SourceSelect) → flat_map (select_faults meaning.scope) selects ≡ [] → (selects_reading ByProcess meaning.scope selects).here ≡ [] →
-    (selects_reading ByProcess meaning.scope selects).inside ≡ [] → TargetsFit (map (λ (s : SourceSelect). target_by_index meaning s.name s.index) selects) (selects_reading ByProcess meaning.scope selects).width
+pub selects-fit : (meaning : Meaning) → IsMeant meaning → (selects : List SourceSelect) → flat_map (select_faults meaning.scope) selects ≡ [] →
+    (selects_reading ByProcess meaning.scope selects).here ≡ [] →
+    (selects_reading ByProcess meaning.scope selects).inside ≡ [] → TargetsFit (map (λ (s : SourceSelect). target_by_index meaning s.name s.index) selects)
+    (selects_reading ByProcess meaning.scope selects).width
 selects-fit meaning meant [] names h i = record { total = 0; width_is = refl; targets_is = refl; sized = tt }
 selects-fit meaning meant (select ∷ selects) names h i =
     let none = append-none (select_faults meaning.scope select) (flat_map (select_faults meaning.scope) selects) names in
@@ -218,7 +250,8 @@ selects-fit meaning meant (select ∷ selects) names h i =
     }
 
 -- a target has at least one bit
-pub some-bits : (meaning : Meaning) → IsMeant meaning → (select : SourceSelect) (selects : List SourceSelect) → flat_map (select_faults meaning.scope) (select ∷ selects) ≡ [] → (selects_reading ByProcess meaning.scope (select ∷ selects)).here ≡ [] →
+pub some-bits : (meaning : Meaning) → IsMeant meaning → (select : SourceSelect) (selects : List SourceSelect) → flat_map (select_faults meaning.scope) (select ∷ selects) ≡ [] →
+    (selects_reading ByProcess meaning.scope (select ∷ selects)).here ≡ [] →
     (selects_reading ByProcess meaning.scope (select ∷ selects)).inside ≡ [] → 1 ≤ targets_width (map (λ (s : SourceSelect). target_by_index meaning s.name s.index) (select ∷ selects))
 some-bits meaning meant select selects names h i =
     let none = append-none (select_faults meaning.scope select) (flat_map (select_faults meaning.scope) selects) names in
@@ -233,14 +266,16 @@ some-bits meaning meant select selects names h i =
     omega (arith, sum, one, some)
 
 -- one select is at most as wide as a vector may be
-pub one-few : (meaning : Meaning) → IsMeant meaning → (select : SourceSelect) → flat_map (select_faults meaning.scope) (select ∷ []) ≡ [] → (selects_reading ByProcess meaning.scope (select ∷ [])).here ≡ [] →
+pub one-few : (meaning : Meaning) → IsMeant meaning → (select : SourceSelect) → flat_map (select_faults meaning.scope) (select ∷ []) ≡ [] →
+    (selects_reading ByProcess meaning.scope (select ∷ [])).here ≡ [] →
     (selects_reading ByProcess meaning.scope (select ∷ [])).inside ≡ [] → targets_width (target_by_index meaning select.name select.index ∷ []) ≤ most_bits
 one-few meaning meant select names h i =
     let none = append-none (select_faults meaning.scope select) [] names in
     let here = append-none (target_select_reading ByProcess meaning.scope select).here [] h in
     let inside = append-none (target_select_reading ByProcess meaning.scope select).inside [] i in
     let first = written-fits meaning meant select (may_write ByProcess (looked_up meaning.scope select.name)) refl none.0 here.0 inside.0 in
-    let sum : targets_width (target_by_index meaning select.name select.index ∷ []) ≡ target_width (target_by_index meaning select.name select.index) + targets_width [] = sum_by-cons target_width (target_by_index meaning select.name select.index) [] in
+    let sum : targets_width (target_by_index meaning select.name select.index ∷ []) ≡ target_width (target_by_index meaning select.name select.index) + targets_width [] =
+    sum_by-cons target_width (target_by_index meaning select.name select.index) [] in
     let nothing : targets_width [] ≡ 0 = refl in
     let one = first.width in
     let few = first.few in

@@ -39,7 +39,8 @@ pub record HasSizes (design : FlatDesign) : Type 0 where
   -- processes are sized, and wait for bits of their objects
   pub processes : AllHold (IsProcessSized design) design.processes
 
-node-sized : (design : FlatDesign) (kind : FlatNodeKind) (outputs : List ℕ) → IsSizedInside kind → IsAssignSized design kind outputs → (IsGate kind → IsSizedNode design kind outputs × WritesOutputs kind outputs) → IsSizedNode design kind outputs
+node-sized : (design : FlatDesign) (kind : FlatNodeKind) (outputs : List ℕ) → IsSizedInside kind → IsAssignSized design kind outputs →
+    (IsGate kind → IsSizedNode design kind outputs × WritesOutputs kind outputs) → IsSizedNode design kind outputs
 node-sized design (AssignNode value places) outputs inside assign gate = assign
 node-sized design (GateNode kind terminals) outputs inside assign gate = (gate tt).0
 node-sized design (BlockNode statement) outputs inside assign gate = inside
@@ -51,7 +52,8 @@ node-terminals (BlockNode statement) inside = omega arith
 
 -- the flat design of such a unit is sized
 abbrev pub ConsistentDesignsAreSized : Type 0
-ConsistentDesignsAreSized = (unit : SourceUnit) (top : Identifier) (mode : Mode) (design : FlatDesign) → IsSourceUnit unit.modules → WalksAreConsistent unit.modules mode → flat unit top mode ≡ Ok design → HasSizes design
+ConsistentDesignsAreSized = (unit : SourceUnit) (top : Identifier) (mode : Mode) (design : FlatDesign) → IsSourceUnit unit.modules → WalksAreConsistent unit.modules mode →
+    flat unit top mode ≡ Ok design → HasSizes design
 
 process-faultless : (modules : List SourceModule) (mode : Mode) (top : SourceModule) (part : Part) → IsReadPart modules mode top part → IsFaultlessPart part
 process-faultless modules mode top (ProcessPart process) h = record { selects = h.selects; names = h.names; sizes = h.sizes }
@@ -61,7 +63,8 @@ process-faultless modules mode top (SignalPart signal) h = tt
 process-faultless modules mode top (MemoryPart memory) h = tt
 process-faultless modules mode top InstancePart h = tt
 
-process-placed : (modules : List SourceModule) (mode : Mode) (top : SourceModule) (parts : List Part) → AllPlaced modules mode top parts → (part : Part) → IsReadPart modules mode top part → IsPlacedPart parts part
+process-placed : (modules : List SourceModule) (mode : Mode) (top : SourceModule) (parts : List Part) → AllPlaced modules mode top parts → (part : Part) → IsReadPart modules mode top part →
+    IsPlacedPart parts part
 process-placed modules mode top parts placed (ProcessPart process) h = placed process.path process.scope h.at
 process-placed modules mode top parts placed (GatePart name kind drives path terminals) h = tt
 process-placed modules mode top parts placed (AssignPart drives value) h = tt

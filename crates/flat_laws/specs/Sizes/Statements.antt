@@ -7,18 +7,25 @@ use Rattle.four_value.specs.Values.{number_of}
 use Rattle.vf_base.specs.Lists.{AllHold}
 use Rattle.v_design.specs.Expressions.{width_of, sign_of}
 use Rattle.v_design.specs.Assignments.{targets_width}
-use Rattle.v_design.specs.Sized.{most_bits, own_width, IsSized, IsSizedTarget, IsSizedAssignment, greatest_own, greatest_label, AreLabels, IsDelay, IsDelayIf, IsSizedStatement, AreSizedStatements, AreSizedItems}
-use Rattle.v_tree.specs.Trees.{SourceExpression, SourceExpressions, no_parts, more_parts, place_of_expression, SourceTarget, OneSelect, JoinedSelects, SourceStatement, NullStatement, BlockStatement, IfStatement, IfElseStatement, CaseStatement, ForStatement, WhileStatement, RepeatStatement, ForeverStatement, WaitStatement, EventStatement, DelayStatement, BlockingStatement, NonblockingStatement, IgnoredTask, FinishTask, SourceStatements, no_source_statements, more_source_statements, SourceCaseItems, no_source_items, labelled, otherwise}
+use Rattle.v_design.specs.Sized.{most_bits, own_width, IsSized, IsSizedTarget, IsSizedAssignment, greatest_own, greatest_label, AreLabels, IsDelay, IsDelayIf, IsSizedStatement, AreSizedStatements}
+use Rattle.v_design.specs.Sized.{AreSizedItems}
+use Rattle.v_tree.specs.Trees.{SourceExpression, SourceExpressions, no_parts, more_parts, place_of_expression, SourceTarget, OneSelect, JoinedSelects, SourceStatement, NullStatement, BlockStatement}
+use Rattle.v_tree.specs.Trees.{IfStatement, IfElseStatement, CaseStatement, ForStatement, WhileStatement, RepeatStatement, ForeverStatement, WaitStatement, EventStatement, DelayStatement}
+use Rattle.v_tree.specs.Trees.{BlockingStatement, NonblockingStatement, IgnoredTask, FinishTask, SourceStatements, no_source_statements, more_source_statements, SourceCaseItems, no_source_items}
+use Rattle.v_tree.specs.Trees.{labelled, otherwise}
 use Rattle.v_names.specs.Faults.{NoConstant, BadWidth, fault_at}
 use Rattle.v_names.specs.Scopes.{SignedValue}
 use Rattle.v_names.specs.SizedTrees.{over_objects}
 use Rattle.v_names.specs.Readings.{Size, size_or_bit, larger_size, tree_at, tree_in, reading_of, constant_of, number_or}
-use Rattle.v_names.specs.Constants.{DelayValue, most_delay, exceeds, is_unfit_if_some, all_parameters, some_waiting, value_faults, constant_name_faults, constant_faults, name_faults, part_faults, optional_faults}
+use Rattle.v_names.specs.Constants.{DelayValue, most_delay, exceeds, is_unfit_if_some, all_parameters, some_waiting, value_faults, constant_name_faults, constant_faults, name_faults, part_faults}
+use Rattle.v_names.specs.Constants.{optional_faults}
 use Rattle.v_names.specs.Names.{entry_faults, target_faults, statement_name_faults, statements_name_faults, case_name_faults}
 use Rattle.v_names.specs.SizedLaws.{IsSizedTo, HasSize, and-left, and-right}
 use Rattle.v_width.specs.Targets.{ByProcess, TargetReading, selects_reading, within_most, target_reading, target_width_in}
-use Rattle.v_elab.specs.ItemFaults.{size_faults, assigned_faults, memory_faults, wait_faults, waits_faults, GroupFaults, labels_faults, items_labels_faults, case_faults, statement_faults, statements_faults, items_faults}
-use Rattle.v_elab.specs.Statements.{Meaning, assigned_expression, targets_over, unsigned_number, delay_number, delay_or_zero, labels_size, items_size, label_expressions, statement_over, statements_over, items_over, default_over}
+use Rattle.v_elab.specs.ItemFaults.{size_faults, assigned_faults, memory_faults, wait_faults, waits_faults, GroupFaults, labels_faults, items_labels_faults, case_faults, statement_faults}
+use Rattle.v_elab.specs.ItemFaults.{statements_faults, items_faults}
+use Rattle.v_elab.specs.Statements.{Meaning, assigned_expression, targets_over, unsigned_number, delay_number, delay_or_zero, labels_size, items_size, label_expressions, statement_over}
+use Rattle.v_elab.specs.Statements.{statements_over, items_over, default_over}
 use Rattle.flat_laws.specs.Sizes.Complete.{append-none, group-none, expression-full, fault_if-none, or-none, and-none, all-parameters}
 use Rattle.flat_laws.specs.Sizes.Sized.{IsMeant, complete-size, complete-alone, alone-sound, selects-fit, some-bits, one-few}
 
@@ -44,7 +51,8 @@ within-few place reading total is h = by_test (nat_le total most_bits) refl
     moved : within_most place reading ≡ within_most place (record reading { width = Some total })
     moved = ap (λ w. within_most place (record reading { width = w })) is
 
-    by_test : (test : Bool) → nat_le total most_bits ≡ test → (total ≤ most_bits) × ((within_most place reading).width ≡ Some total) × (reading.here ≡ []) × ((within_most place reading).inside ≡ reading.inside)
+    by_test : (test : Bool) → nat_le total most_bits ≡ test → (total ≤ most_bits) × ((within_most place reading).width ≡ Some total) × (reading.here ≡ [])
+        × ((within_most place reading).inside ≡ reading.inside)
     by_test true e =
         let fits : within_most place (record reading { width = Some total }) ≡ record reading { width = Some total } = rw e refl in
         let all = moved ∙ fits in
@@ -54,7 +62,8 @@ within-few place reading total is h = by_test (nat_le total most_bits) refl
         let none : fault_at place BadWidth ∷ reading.here ≡ [] = sym wide ∙ sym (ap (λ (r : TargetReading). r.here) moved) ∙ h in
         absurd (cc)
 
-whole-target : (meaning : Meaning) → IsMeant meaning → (target : SourceTarget) → HasSelects target → target_faults meaning.scope target ≡ [] → (target_reading ByProcess meaning.scope target).here ≡ [] →
+whole-target : (meaning : Meaning) → IsMeant meaning → (target : SourceTarget) → HasSelects target → target_faults meaning.scope target ≡ [] →
+    (target_reading ByProcess meaning.scope target).here ≡ [] →
     (target_reading ByProcess meaning.scope target).inside ≡ [] → WholeTarget meaning target
 whole-target meaning meant (OneSelect select) there names h i =
     let fit = selects-fit meaning meant (select ∷ []) names h i in
@@ -92,11 +101,13 @@ value-in meaning meant e width complete few =
     let reading = reading_of meaning.scope e in
     let h = complete-size meaning meant e complete in
     let most = h.most in
-    let P : Option Size → Type 0 = λ z. IsSizedTo (over_objects meaning.holders (reading.tree (max width (size_or_bit z).width) (size_or_bit z).signed)) h.size.width (max width h.size.width) h.size.signed in
+    let P : Option Size → Type 0 = λ z. IsSizedTo (over_objects meaning.holders (reading.tree (max width (size_or_bit z).width) (size_or_bit z).signed)) h.size.width
+    (max width h.size.width) h.size.signed in
     (h.size, subst P (sym h.size_is) (h.gives (max width h.size.width) h.size.signed (omega arith) (omega (arith, few, most)) (λ s. s)))
 
 -- an assignment of which nothing is wrong
-pub assignment-sound : (meaning : Meaning) → IsMeant meaning → (target : SourceTarget) (value : SourceExpression) → HasSelects target → target_faults meaning.scope target ≡ [] → name_faults meaning.scope value ≡ [] →
+pub assignment-sound : (meaning : Meaning) → IsMeant meaning → (target : SourceTarget) (value : SourceExpression) → HasSelects target → target_faults meaning.scope target ≡ [] →
+    name_faults meaning.scope value ≡ [] →
     assigned_faults ByProcess meaning.scope target value ≡ [] → IsSizedAssignment (targets_over meaning target) (assigned_expression meaning target value)
 assignment-sound meaning meant target value there names value_names faults =
     let t = target_reading ByProcess meaning.scope target in
@@ -128,13 +139,16 @@ delay-sound meaning meant e faults =
     let parameters = all-parameters scope meant.settled e split.0 in
     let test = fault_if-none (all_parameters scope e && (some_waiting scope e || is_unfit_if_some DelayValue (constant_of scope 0 e))) (place_of_expression e) NoConstant split.1 in
     constant-fits (constant_of scope 0 e)
-    (or-none (some_waiting scope e) (is_unfit_if_some DelayValue (constant_of scope 0 e)) (and-none (all_parameters scope e) (some_waiting scope e || is_unfit_if_some DelayValue (constant_of scope 0 e)) parameters test))
+    (or-none (some_waiting scope e) (is_unfit_if_some DelayValue (constant_of scope 0 e)) (and-none (all_parameters scope e)
+    (some_waiting scope e || is_unfit_if_some DelayValue (constant_of scope 0 e)) parameters test))
 
-delay_if-sound : (meaning : Meaning) → IsMeant meaning → (delay : Option SourceExpression) → optional_faults (constant_faults meaning.scope DelayValue) delay ≡ [] → IsDelayIf (option_map (delay_number meaning) delay)
+delay_if-sound : (meaning : Meaning) → IsMeant meaning → (delay : Option SourceExpression) → optional_faults (constant_faults meaning.scope DelayValue) delay ≡ [] →
+    IsDelayIf (option_map (delay_number meaning) delay)
 delay_if-sound meaning meant None e = tt
 delay_if-sound meaning meant (Some delay) e = delay-sound meaning meant delay e
 
-delay_or-sound : (meaning : Meaning) → IsMeant meaning → (delay : Option SourceExpression) → optional_faults (constant_faults meaning.scope DelayValue) delay ≡ [] → IsDelay (delay_or_zero meaning delay)
+delay_or-sound : (meaning : Meaning) → IsMeant meaning → (delay : Option SourceExpression) → optional_faults (constant_faults meaning.scope DelayValue) delay ≡ [] →
+    IsDelay (delay_or_zero meaning delay)
 delay_or-sound meaning meant None e = omega arith
 delay_or-sound meaning meant (Some delay) e = delay-sound meaning meant delay e
 
@@ -172,8 +186,10 @@ labels-sign meaning no_parts h signed e = e
 labels-sign meaning (more_parts label rest) h signed e = labels-sign meaning rest h.1 signed (and-right h.0.size.signed (sign_with meaning rest h.1 signed) e)
 
 -- labels at a size that is theirs at least
-labels-are : (meaning : Meaning) (labels : SourceExpressions) (h : LabelsHave meaning labels) (width : ℕ) (signed : Bool) (z : Size) → z.width ≤ most_bits → width_with meaning labels h width ≤ z.width →
-    (z.signed ≡ true → sign_with meaning labels h signed ≡ true) → AreLabels z.width z.signed (label_expressions meaning (Some z) labels) × (width_with meaning labels h width ≡ max (greatest_own (label_expressions meaning (Some z) labels)) width)
+labels-are : (meaning : Meaning) (labels : SourceExpressions) (h : LabelsHave meaning labels) (width : ℕ) (signed : Bool) (z : Size) → z.width ≤ most_bits →
+    width_with meaning labels h width ≤ z.width →
+    (z.signed ≡ true → sign_with meaning labels h signed ≡ true) → AreLabels z.width z.signed (label_expressions meaning (Some z) labels)
+    × (width_with meaning labels h width ≡ max (greatest_own (label_expressions meaning (Some z) labels)) width)
 labels-are meaning no_parts h width signed z few below sign = (tt, omega arith)
 labels-are meaning (more_parts label rest) h width signed z few below sign =
     let own = h.0 in
@@ -204,7 +220,8 @@ items-sized : (meaning : Meaning) (items : SourceCaseItems) (h : ItemsHave meani
     items_size meaning.scope items (Some size) ≡ Some (record { width = items_width meaning items h size.width; signed = items_sign meaning items h size.signed })
 items-sized meaning no_source_items h size = refl
 items-sized meaning (labelled labels statement rest) h size =
-    ap (labels_size meaning.scope labels) (items-sized meaning rest h.1 size) ∙ labels-sized meaning labels h.0 (record { width = items_width meaning rest h.1 size.width; signed = items_sign meaning rest h.1 size.signed })
+    ap (labels_size meaning.scope labels) (items-sized meaning rest h.1 size) ∙ labels-sized meaning labels h.0
+    (record { width = items_width meaning rest h.1 size.width; signed = items_sign meaning rest h.1 size.signed })
 items-sized meaning (otherwise statement rest) h size = items-sized meaning rest h size
 
 items-above : (meaning : Meaning) (items : SourceCaseItems) (h : ItemsHave meaning items) (width : ℕ) → width ≤ items_width meaning items h width
@@ -223,7 +240,8 @@ items-sign meaning no_source_items h signed e = e
 items-sign meaning (labelled labels statement rest) h signed e = items-sign meaning rest h.1 signed (labels-sign meaning labels h.0 (items_sign meaning rest h.1 signed) e)
 items-sign meaning (otherwise statement rest) h signed e = items-sign meaning rest h signed e
 
-labels-have : (meaning : Meaning) → IsMeant meaning → (labels : SourceExpressions) (group : GroupFaults) → part_faults meaning.scope labels ≡ [] → (labels_faults meaning.scope labels group).here ≡ [] →
+labels-have : (meaning : Meaning) → IsMeant meaning → (labels : SourceExpressions) (group : GroupFaults) → part_faults meaning.scope labels ≡ [] →
+    (labels_faults meaning.scope labels group).here ≡ [] →
     (labels_faults meaning.scope labels group).inside ≡ [] → LabelsHave meaning labels × (group.here ≡ []) × (group.inside ≡ [])
 labels-have meaning meant no_parts group names h i = (tt, h, i)
 labels-have meaning meant (more_parts label rest) group names h i =
@@ -234,7 +252,8 @@ labels-have meaning meant (more_parts label rest) group names h i =
     let later = labels-have meaning meant rest group none.1 here.1 inside.1 in
     ((complete-size meaning meant label (expression-full meaning.scope meant.settled label none.0 here.0 inside.0), later.0), later.1, later.2)
 
-items-have : (meaning : Meaning) → IsMeant meaning → (items : SourceCaseItems) → case_name_faults meaning.scope items ≡ [] → (items_labels_faults meaning.scope items).here ≡ [] → (items_labels_faults meaning.scope items).inside ≡ [] →
+items-have : (meaning : Meaning) → IsMeant meaning → (items : SourceCaseItems) → case_name_faults meaning.scope items ≡ [] → (items_labels_faults meaning.scope items).here ≡ [] →
+    (items_labels_faults meaning.scope items).inside ≡ [] →
     ItemsHave meaning items
 items-have meaning meant no_source_items names h i = tt
 items-have meaning meant (labelled labels statement rest) names h i =
@@ -281,7 +300,8 @@ record CaseFits (meaning : Meaning) (value : SourceExpression) (items : SourceCa
   own : HasSize meaning.holders (reading_of meaning.scope value)
   have : ItemsHave meaning items
 
-case-fits : (meaning : Meaning) → IsMeant meaning → (value : SourceExpression) (items : SourceCaseItems) → name_faults meaning.scope value ≡ [] → case_name_faults meaning.scope items ≡ [] → case_faults meaning.scope value items ≡ [] →
+case-fits : (meaning : Meaning) → IsMeant meaning → (value : SourceExpression) (items : SourceCaseItems) → name_faults meaning.scope value ≡ [] → case_name_faults meaning.scope items ≡ [] →
+    case_faults meaning.scope value items ≡ [] →
     CaseFits meaning value items
 case-fits meaning meant value items names item_names faults =
     let reading = reading_of meaning.scope value in
@@ -296,7 +316,8 @@ recast Q {width = width} {other = other} {signed = signed} {whole = whole} e d q
 
 mutual
   -- a statement of which nothing is wrong is sized
-  pub statement-sound : (meaning : Meaning) → IsMeant meaning → (s : SourceStatement) → HaveSelects s → statement_name_faults meaning.scope s ≡ [] → statement_faults meaning.scope s ≡ [] → IsSizedStatement (statement_over meaning s)
+  pub statement-sound : (meaning : Meaning) → IsMeant meaning → (s : SourceStatement) → HaveSelects s → statement_name_faults meaning.scope s ≡ [] → statement_faults meaning.scope s ≡ [] →
+      IsSizedStatement (statement_over meaning s)
   statement-sound meaning meant (NullStatement place) there names sizes = tt
   statement-sound meaning meant (BlockStatement place statements) there names sizes = statements-sound meaning meant statements there names sizes
   statement-sound meaning meant (IfStatement place condition first) there names sizes =
@@ -322,8 +343,10 @@ mutual
       let x = own.gives z.width z.signed above few (λ e. items-sign meaning items fits.have own.size.signed e) in
       let rest = items-sound meaning meant items fits.have own.size.width own.size.signed z few (omega arith) (λ e. e) there n.1 s.1 in
       let P : Option Size → Type 0 = λ all.
-      IsSized (over_objects meaning.holders (tree_at reading all)) × (width_of (over_objects meaning.holders (tree_at reading all)) ≡ max (own_width (over_objects meaning.holders (tree_at reading all))) (greatest_label (items_over meaning all items)))
-      × AreSizedItems (width_of (over_objects meaning.holders (tree_at reading all))) (sign_of (over_objects meaning.holders (tree_at reading all))) (items_over meaning all items) × IsSizedStatement (default_over meaning items) in
+      IsSized (over_objects meaning.holders (tree_at reading all)) × (width_of (over_objects meaning.holders (tree_at reading all)) ≡ max
+      (own_width (over_objects meaning.holders (tree_at reading all))) (greatest_label (items_over meaning all items)))
+      × AreSizedItems (width_of (over_objects meaning.holders (tree_at reading all))) (sign_of (over_objects meaning.holders (tree_at reading all))) (items_over meaning all items)
+      × IsSizedStatement (default_over meaning items) in
       let top = rest.1 in
       let own_is = x.own_is in
       let width_is = x.width_is in
@@ -331,12 +354,14 @@ mutual
       subst P (sym size) (x.sized, omega (arith, width_is, own_is, top), recast Q (sym x.width_is) (sym x.sign_is) rest.0, default-sound meaning meant items there n.1 s.1)
   statement-sound meaning meant (ForStatement place first_target first condition next_target next body) there names sizes =
       let scope = meaning.scope in
-      let n1 = append-none (target_faults scope first_target) (name_faults scope first ++ (name_faults scope condition ++ (target_faults scope next_target ++ (name_faults scope next ++ statement_name_faults scope body)))) names in
+      let n1 = append-none (target_faults scope first_target) (name_faults scope first ++ (name_faults scope condition
+      ++ (target_faults scope next_target ++ (name_faults scope next ++ statement_name_faults scope body)))) names in
       let n2 = append-none (name_faults scope first) (name_faults scope condition ++ (target_faults scope next_target ++ (name_faults scope next ++ statement_name_faults scope body))) n1.1 in
       let n3 = append-none (name_faults scope condition) (target_faults scope next_target ++ (name_faults scope next ++ statement_name_faults scope body)) n2.1 in
       let n4 = append-none (target_faults scope next_target) (name_faults scope next ++ statement_name_faults scope body) n3.1 in
       let n5 = append-none (name_faults scope next) (statement_name_faults scope body) n4.1 in
-      let s1 = append-none (assigned_faults ByProcess scope first_target first) (size_faults scope condition ++ (assigned_faults ByProcess scope next_target next ++ statement_faults scope body)) sizes in
+      let s1 = append-none (assigned_faults ByProcess scope first_target first) (size_faults scope condition ++ (assigned_faults ByProcess scope next_target next ++ statement_faults scope body))
+      sizes in
       let s2 = append-none (size_faults scope condition) (assigned_faults ByProcess scope next_target next ++ statement_faults scope body) s1.1 in
       let s3 = append-none (assigned_faults ByProcess scope next_target next) (statement_faults scope body) s2.1 in (
         assignment-sound meaning meant first_target first there.0 n1.0 n2.0 s1.0,
@@ -381,7 +406,8 @@ mutual
   statement-sound meaning meant (IgnoredTask place) there names sizes = tt
   statement-sound meaning meant (FinishTask place) there names sizes = tt
 
-  statements-sound : (meaning : Meaning) → IsMeant meaning → (statements : SourceStatements) → AllHaveSelects statements → statements_name_faults meaning.scope statements ≡ [] → statements_faults meaning.scope statements ≡ [] →
+  statements-sound : (meaning : Meaning) → IsMeant meaning → (statements : SourceStatements) → AllHaveSelects statements → statements_name_faults meaning.scope statements ≡ [] →
+      statements_faults meaning.scope statements ≡ [] →
       AreSizedStatements (statements_over meaning statements)
   statements-sound meaning meant no_source_statements there names sizes = tt
   statements-sound meaning meant (more_source_statements first rest) there names sizes =
@@ -389,7 +415,8 @@ mutual
       let s = append-none (statement_faults meaning.scope first) (statements_faults meaning.scope rest) sizes in
       (statement-sound meaning meant first there.0 n.0 s.0, statements-sound meaning meant rest there.1 n.1 s.1)
 
-  items-sound : (meaning : Meaning) → IsMeant meaning → (items : SourceCaseItems) (h : ItemsHave meaning items) (width : ℕ) (signed : Bool) (z : Size) → z.width ≤ most_bits → items_width meaning items h width ≤ z.width →
+  items-sound : (meaning : Meaning) → IsMeant meaning → (items : SourceCaseItems) (h : ItemsHave meaning items) (width : ℕ) (signed : Bool) (z : Size) → z.width ≤ most_bits →
+      items_width meaning items h width ≤ z.width →
       (z.signed ≡ true → items_sign meaning items h signed ≡ true) → ItemsHaveSelects items → case_name_faults meaning.scope items ≡ [] → items_faults meaning.scope items ≡ [] →
       AreSizedItems z.width z.signed (items_over meaning (Some z) items) × (items_width meaning items h width ≡ max (greatest_label (items_over meaning (Some z) items)) width)
   items-sound meaning meant no_source_items h width signed z few below sign there names sizes = (tt, omega arith)
@@ -400,7 +427,8 @@ mutual
       let inner = items_width meaning rest h.1 width in
       let all = labels-are meaning labels h.0 inner (items_sign meaning rest h.1 signed) z few below sign in
       let more = labels-above meaning labels h.0 inner in
-      let later = items-sound meaning meant rest h.1 width signed z few (omega (arith, more, below)) (λ e. labels-sign meaning labels h.0 (items_sign meaning rest h.1 signed) (sign e)) there.1 m.1 s.1 in
+      let later = items-sound meaning meant rest h.1 width signed z few (omega (arith, more, below))
+      (λ e. labels-sign meaning labels h.0 (items_sign meaning rest h.1 signed) (sign e)) there.1 m.1 s.1 in
       let one = all.1 in
       let other = later.1 in
       ((all.0, statement-sound meaning meant statement there.0 m.0 s.0, later.0), omega (arith, one, other))
@@ -409,7 +437,8 @@ mutual
       let s = append-none (statement_faults meaning.scope statement) (items_faults meaning.scope rest) sizes in
       items-sound meaning meant rest h width signed z few below sign there.1 m.1 s.1
 
-  default-sound : (meaning : Meaning) → IsMeant meaning → (items : SourceCaseItems) → ItemsHaveSelects items → case_name_faults meaning.scope items ≡ [] → items_faults meaning.scope items ≡ [] → IsSizedStatement (default_over meaning items)
+  default-sound : (meaning : Meaning) → IsMeant meaning → (items : SourceCaseItems) → ItemsHaveSelects items → case_name_faults meaning.scope items ≡ [] → items_faults meaning.scope items ≡ [] →
+      IsSizedStatement (default_over meaning items)
   default-sound meaning meant no_source_items there names sizes = tt
   default-sound meaning meant (labelled labels statement rest) there names sizes =
       let n = append-none (part_faults meaning.scope labels) (statement_name_faults meaning.scope statement ++ case_name_faults meaning.scope rest) names in

@@ -6,10 +6,13 @@ use Rattle.vf_base.specs.Lists.{AllHold}
 use Rattle.v_design.specs.Sized.{most_bits}
 use Rattle.v_tree.specs.declared.item.Direction.{Direction}
 use Rattle.v_tree.specs.declared.item.Direction.TheVariants.{Input, Output}
-use Rattle.v_tree.specs.Trees.{Identifier, SourceExpression, SourceTarget, SourceWire, SourceAssignment, SourceGate, SourceConnection, SourceItem, ParameterItem, PortItem, WireItem, RegItem, IntegerItem, AssignItem, GateItem, InstanceItem, InitialItem, AlwaysItem, SourceModule}
+use Rattle.v_tree.specs.Trees.{Identifier, SourceExpression, SourceTarget, SourceWire, SourceAssignment, SourceGate, SourceConnection, SourceItem, ParameterItem, PortItem, WireItem, RegItem}
+use Rattle.v_tree.specs.Trees.{IntegerItem, AssignItem, GateItem, InstanceItem, InitialItem, AlwaysItem, SourceModule}
 use Rattle.v_names.specs.Faults.{same_place}
-use Rattle.v_names.specs.Scopes.{ScopeEntry, ParameterEntry, RefusedParameter, WaitingParameter, NetEntry, RegEntry, MemoryEntry, GateEntry, InstanceEntry, Scope, looked_up, range_width, declared_width, is_parameter}
-use Rattle.v_names.specs.Names.{Declared, DeclaredParameter, DeclaredPort, DeclaredNet, DeclaredReg, DeclaredMemory, DeclaredGate, DeclaredInstance, Declaration, names_declared, of_name, item_declarations, GivenParameter, parameter_of, meaning_of, given_of, scope_of, module_name_faults, names}
+use Rattle.v_names.specs.Scopes.{ScopeEntry, ParameterEntry, RefusedParameter, WaitingParameter, NetEntry, RegEntry, MemoryEntry, GateEntry, InstanceEntry, Scope, looked_up, range_width}
+use Rattle.v_names.specs.Scopes.{declared_width, is_parameter}
+use Rattle.v_names.specs.Names.{Declared, DeclaredParameter, DeclaredPort, DeclaredNet, DeclaredReg, DeclaredMemory, DeclaredGate, DeclaredInstance, Declaration, names_declared, of_name}
+use Rattle.v_names.specs.Names.{item_declarations, GivenParameter, parameter_of, meaning_of, given_of, scope_of, module_name_faults, names}
 use Rattle.v_width.specs.Targets.{target_of}
 use Rattle.v_elab.specs.declared.Mode.{Mode}
 use Rattle.v_elab.specs.Parts.{Signal, WalkedMemory, Part, SignalPart, MemoryPart}
@@ -52,18 +55,21 @@ option-narrow : (f : Declaration → ScopeEntry) (d : Option Declaration) → ((
 option-narrow f None h = omega arith
 option-narrow f (Some x) h = h x refl
 
-module-narrow : (m : SourceModule) (given : List GivenParameter) → ((number : ℕ) (d : Declaration) → slice_get (names_declared m) number ≡ Some d → IsFaultless (scope_of m given) d.declared) → (name : Identifier) →
+module-narrow : (m : SourceModule) (given : List GivenParameter) → ((number : ℕ) (d : Declaration) → slice_get (names_declared m) number ≡ Some d → IsFaultless (scope_of m given) d.declared) →
+    (name : Identifier) →
     declared_width (looked_up (scope_of m given) name) ≤ most_bits
 module-narrow m given faultless name =
     let scope = scope_of m given in
     let all = names_declared m in
-    let own : looked_up scope name ≡ option_map (λ (d : Declaration). meaning_of scope given d.name d.declared) (found all name) = ap (λ s. looked_up s name) (scope-fixed m given) ∙ in-meanings scope given all name in
+    let own : looked_up scope name ≡ option_map (λ (d : Declaration). meaning_of scope given d.name d.declared) (found all name) = ap (λ s. looked_up s name) (scope-fixed m given)
+    ∙ in-meanings scope given all name in
     subst (λ (entry : Option ScopeEntry). declared_width entry ≤ most_bits) (sym own)
     (option-narrow (λ (d : Declaration). meaning_of scope given d.name d.declared) (found all name)
     (λ d e. let place = found-in all name d e in meaning-narrow scope given d.name d.declared (faultless place.0 d place.1)))
 
 -- no name of an instance that a walk comes to is wider than a vector may be
-pub scope-narrow : (modules : List SourceModule) (mode : Mode) (top : SourceModule) (parts : List Part) → walked_from modules mode top ≡ Ok parts → (instance : Entered) → IsVisited modules mode top instance → (scope : Scope) →
+pub scope-narrow : (modules : List SourceModule) (mode : Mode) (top : SourceModule) (parts : List Part) → walked_from modules mode top ≡ Ok parts → (instance : Entered) →
+    IsVisited modules mode top instance → (scope : Scope) →
     names instance.inner instance.given ≡ Ok scope → (name : Identifier) → declared_width (looked_up scope name) ≤ most_bits
 scope-narrow modules mode top parts e instance visited scope named name =
     let m = instance.inner in
@@ -100,8 +106,10 @@ declared-narrow here narrow item =
     AllHold-flat_map IsNarrow (parts_of_own here (names_declared here.instance.inner)) (item_declarations item)
     (AllHold-all (λ d. AllHold IsNarrow (parts_of_own here (names_declared here.instance.inner) d)) (item_declarations item)
     (λ d.
-    AllHold-flat_map IsNarrow (λ (own : Declaration). part_by_entry here own (looked_up here.scope own.name)) (filter (λ (own : Declaration). same_place own.place d.place) (of_name d.name (names_declared here.instance.inner)))
-    (AllHold-all (λ (own : Declaration). AllHold IsNarrow (part_by_entry here own (looked_up here.scope own.name))) (filter (λ (own : Declaration). same_place own.place d.place) (of_name d.name (names_declared here.instance.inner)))
+    AllHold-flat_map IsNarrow (λ (own : Declaration). part_by_entry here own (looked_up here.scope own.name))
+    (filter (λ (own : Declaration). same_place own.place d.place) (of_name d.name (names_declared here.instance.inner)))
+    (AllHold-all (λ (own : Declaration). AllHold IsNarrow (part_by_entry here own (looked_up here.scope own.name)))
+    (filter (λ (own : Declaration). same_place own.place d.place) (of_name d.name (names_declared here.instance.inner)))
     (λ own. entry-narrow here own (looked_up here.scope own.name) (narrow own.name)))))
 
 wire-narrow : (here : Here) (wire : SourceWire) (value : Option SourceExpression) → AllHold IsNarrow (wire_parts here (record wire { value = value }))
@@ -121,7 +129,8 @@ item-narrow here narrow gates (WireItem place signed range wires) =
 item-narrow here narrow gates (RegItem place signed range regs) = declared-narrow here narrow (RegItem place signed range regs)
 item-narrow here narrow gates (IntegerItem place regs) = declared-narrow here narrow (IntegerItem place regs)
 item-narrow here narrow gates (AssignItem place assignments) =
-    AllHold-map IsNarrow (λ (a : SourceAssignment). assign_part here a.target a.value) assignments (AllHold-all (λ (a : SourceAssignment). IsNarrow (assign_part here a.target a.value)) assignments (λ a. tt))
+    AllHold-map IsNarrow (λ (a : SourceAssignment). assign_part here a.target a.value) assignments
+    (AllHold-all (λ (a : SourceAssignment). IsNarrow (assign_part here a.target a.value)) assignments (λ a. tt))
 item-narrow here narrow gates (GateItem place kind all) = gates-narrow here kind (gates + 1) all
 item-narrow here narrow gates (InstanceItem place module_name parameters instances) = tt
 item-narrow here narrow gates (InitialItem place body) = (tt, tt)
@@ -131,7 +140,8 @@ port-narrow : (child : Child) (paths : Paths) (port : Identifier) (e : SourceExp
 port-narrow child paths port e None = tt
 port-narrow child paths port e (Some target) = (tt, tt)
 
-actual-narrow : (child : Child) (paths : Paths) (port : Identifier) (e : SourceExpression) (joined : Option Identifier) (direction : Option Direction) → AllHold IsNarrow (actual_parts child paths port e joined direction)
+actual-narrow : (child : Child) (paths : Paths) (port : Identifier) (e : SourceExpression) (joined : Option Identifier) (direction : Option Direction) →
+    AllHold IsNarrow (actual_parts child paths port e joined direction)
 actual-narrow child paths port e (Some joined) direction = tt
 actual-narrow child paths port e None (Some Input) = (tt, tt)
 actual-narrow child paths port e None (Some Output) = port-narrow child paths port e (target_of e)
@@ -145,7 +155,8 @@ connection-narrow child paths (Some port) (Some e) = actual-narrow child paths p
 connections-narrow : (child : Child) (paths : Paths) (position : ℕ) (connections : List SourceConnection) → AllHold IsNarrow (connections_parts child paths position connections)
 connections-narrow child paths position [] = tt
 connections-narrow child paths position (connection ∷ rest) =
-    AllHold-append IsNarrow (connection_parts child paths (connected_name (head_names child.inner.heads) position connection.name) connection.actual) (connections_parts child paths (position + 1) rest)
+    AllHold-append IsNarrow (connection_parts child paths (connected_name (head_names child.inner.heads) position connection.name) connection.actual)
+    (connections_parts child paths (position + 1) rest)
     (connection-narrow child paths (connected_name (head_names child.inner.heads) position connection.name) connection.actual) (connections-narrow child paths (position + 1) rest)
 
 parts-narrow : (modules : List SourceModule) (mode : Mode) (top : SourceModule) (parts : List Part) → walked_from modules mode top ≡ Ok parts → AllHold IsNarrow parts

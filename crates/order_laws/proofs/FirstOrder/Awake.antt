@@ -9,8 +9,12 @@ use Rattle.v_design.specs.Trees.{Expression, Statement, Null, Block, If, Case, F
 use Rattle.v_design.specs.Expressions.{Progress, Needs, Has, read_expression, sign_of}
 use Rattle.v_design.specs.Designs.{FlatNode, FlatProcess, Machine}
 use Rattle.v_design.specs.Assignments.{ValueUpdate, read_assignment, value_at}
-use Rattle.v_design.specs.Processes.{Task, Run, Turns, Writes, Appends, Activity, Ready, Waiting, Asleep, Postponed, Done, Action, ReadsObject, WritesObject, AppendsUpdate, TouchesNothing, ProcessStep, opened, after_delay, reads_or, write_step, append_step, assignment_step, turns_step, wait_step, statement_step, end_step, process_step, writes_left, turns_to, either_statement, read_case, loop_of, turns_of}
-use Rattle.v_design.specs.States.{State, ProcessState, Event, Step, LaneStep, Evaluation, NetUpdate, TurnKind, PostponedTurn, UpdatesTurn, TimeTurn, start, after, turned, found_or, idle_process, process_at, source_at, some_entry, entry_matches, ready_if, woken, woken_process, with_value, with_values, with_process, written_if, value_written, write_of, first_update, after_lane_step, after_step, activity_step, step_of, next_activity, evaluated, nets_updated, resumed, awake_at}
+use Rattle.v_design.specs.Processes.{Task, Run, Turns, Writes, Appends, Activity, Ready, Waiting, Asleep, Postponed, Done, Action, ReadsObject, WritesObject, AppendsUpdate, TouchesNothing}
+use Rattle.v_design.specs.Processes.{ProcessStep, opened, after_delay, reads_or, write_step, append_step, assignment_step, turns_step, wait_step, statement_step, end_step, process_step, writes_left}
+use Rattle.v_design.specs.Processes.{turns_to, either_statement, read_case, loop_of, turns_of}
+use Rattle.v_design.specs.States.{State, ProcessState, Event, Step, LaneStep, Evaluation, NetUpdate, TurnKind, PostponedTurn, UpdatesTurn, TimeTurn, start, after, turned, found_or, idle_process}
+use Rattle.v_design.specs.States.{process_at, source_at, some_entry, entry_matches, ready_if, woken, woken_process, with_value, with_values, with_process, written_if, value_written, write_of}
+use Rattle.v_design.specs.States.{first_update, after_lane_step, after_step, activity_step, step_of, next_activity, evaluated, nets_updated, resumed, awake_at}
 use Rattle.order_laws.proofs.Runs.{time-after}
 
 -- who sleeps wakes later than now
@@ -31,7 +35,8 @@ AwakeLater state = AllLater state.time state
 
 -- A step
 
-reads-later : {A : Type 0} (now line : ℕ) (tasks : List Task) (operands : List LogicValue) (found : Progress A) (act : A → ProcessStep) → ((a : A) → Later now (act a).next) → Later now (reads_or line tasks operands found act).next
+reads-later : {A : Type 0} (now line : ℕ) (tasks : List Task) (operands : List LogicValue) (found : Progress A) (act : A → ProcessStep) → ((a : A) → Later now (act a).next) →
+    Later now (reads_or line tasks operands found act).next
 reads-later now line tasks operands (Needs object) act h = tt
 reads-later now line tasks operands (Has answer left) act h = h answer
 
@@ -66,7 +71,8 @@ statement-later now operands (Case place kind value items default) tasks =
     (λ statement. turns_to place.line (opened statement tasks)) (λ a. tt)
 statement-later now operands (For place first_targets first condition next_targets next body) tasks =
     reads-later now place.line (Run (For place first_targets first condition next_targets next body) ∷ tasks) operands (read_assignment place.line first_targets first operands)
-    (λ updates. write_step place updates (Run (loop_of place condition next_targets next body) ∷ tasks)) (λ updates. write-later now place updates (Run (loop_of place condition next_targets next body) ∷ tasks))
+    (λ updates. write_step place updates (Run (loop_of place condition next_targets next body) ∷ tasks))
+    (λ updates. write-later now place updates (Run (loop_of place condition next_targets next body) ∷ tasks))
 statement-later now operands (While place condition body) tasks =
     reads-later now place.line (Run (While place condition body) ∷ tasks) operands (read_expression condition operands)
     (λ value. turns_to place.line (opened (either_statement (is_true value) (Block (more_statements body (more_statements (While place condition body) no_statements))) Null) tasks)) (λ a. tt)
@@ -181,7 +187,8 @@ all-after : (machine : Machine) (state : State) (event : Event) → AwakeLater s
 all-after machine state (Step number) h =
     written-later state.time machine (write_of (step_of machine state number).action) (with_process number (after_step state (step_of machine state number)) state)
     (changed-later state.time state.processes number (after_step state (step_of machine state number))
-    (next-later state.time state.values (step_of machine state number).action (step_of machine state number).next (activity-later machine state number (process_at state number).activity (h number))) h)
+    (next-later state.time state.values (step_of machine state number).action (step_of machine state number).next (activity-later machine state number (process_at state number).activity (h number)))
+    h)
 all-after machine state (LaneStep number) h =
     written-later state.time machine (first_update (process_at state number).lane) (with_process number after_lane_step state)
     (changed-later state.time state.processes number after_lane_step (h number) h)
@@ -190,7 +197,8 @@ all-after machine state (NetUpdate number) h = nets-later state.time machine num
 
 -- each event keeps it
 pub later-after : (machine : Machine) (state : State) (event : Event) → AwakeLater state → AwakeLater (after machine state event)
-later-after machine state event h number = subst (λ now. Later now (process_at (after machine state event) number).activity) (sym (time-after machine state event)) (all-after machine state event h number)
+later-after machine state event h number = subst (λ now. Later now (process_at (after machine state event) number).activity) (sym (time-after machine state event))
+    (all-after machine state event h number)
 
 awake-later : (now : ℕ) (activity : Activity) → Later now (awake_at now activity)
 awake-later now (Ready tasks operands) = tt
@@ -205,7 +213,8 @@ awake-later now Done = tt
 
 -- each turn brings it or keeps it
 pub later-turned : (turn : TurnKind) (state : State) → AwakeLater state → AwakeLater (turned turn state)
-later-turned PostponedTurn state h = mapped-later state.time state.time state.processes (λ process. record process { activity = resumed process.activity }) (λ x i. resumed-later state.time x.activity i) h
+later-turned PostponedTurn state h = mapped-later state.time state.time state.processes (λ process. record process { activity = resumed process.activity })
+    (λ x i. resumed-later state.time x.activity i) h
 later-turned UpdatesTurn state h = mapped-later state.time state.time state.processes _ (λ x i. i) h
 later-turned (TimeTurn time) state h = mapped-later state.time time state.processes (λ process. record process { activity = awake_at time process.activity }) (λ x i. awake-later time x.activity) h
 

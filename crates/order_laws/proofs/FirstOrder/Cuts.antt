@@ -13,7 +13,8 @@ hold-append P [] ys h i = i
 hold-append P (x ∷ xs) ys h i = (h.0, hold-append P xs ys h.1 i)
 
 -- the turn that a phase begins with says nothing of its conflicts
-pub free_turn : (machine : Machine) (turn other : Option TurnKind) (moves : List Move) (begins : State) (events : List Event) (state : State) → NoConflicts machine (cut machine turn begins events state moves) →
+pub free_turn : (machine : Machine) (turn other : Option TurnKind) (moves : List Move) (begins : State) (events : List Event) (state : State) →
+    NoConflicts machine (cut machine turn begins events state moves) →
     NoConflicts machine (cut machine other begins events state moves)
 free_turn machine turn other [] begins events state h = h
 free_turn machine turn other (Happens event ∷ moves) begins events state h = free_turn machine turn other moves begins (events ++ event ∷ []) (after machine state event) h
@@ -28,7 +29,8 @@ race_turn machine turn other number (Turns ∷ moves) begins events state = refl
 -- the phases of moves, a turn and more moves
 pub cut_on : (machine : Machine) (rest : List Move) (moves : List Move) (turn : Option TurnKind) (begins : State) (events : List Event) (state : State) →
     cut machine turn begins events state (moves ++ Turns ∷ rest)
-    ≡ cut machine turn begins events state moves ++ cut machine (turn_of (all_made machine state moves)) (made machine (all_made machine state moves) Turns) [] (made machine (all_made machine state moves) Turns) rest
+    ≡ cut machine turn begins events state moves ++ cut machine (turn_of (all_made machine state moves)) (made machine (all_made machine state moves) Turns) []
+    (made machine (all_made machine state moves) Turns) rest
 cut_on machine rest [] turn begins events state = refl
 cut_on machine rest (Happens event ∷ moves) turn begins events state = cut_on machine rest moves turn begins (events ++ event ∷ []) (after machine state event)
 cut_on machine rest (Turns ∷ moves) turn begins events state =

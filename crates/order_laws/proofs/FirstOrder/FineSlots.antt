@@ -32,7 +32,8 @@ pub slot_begins : (machine : Machine) (time : ℕ) → KeepsRules machine.design
     slice_get (first_slots count machine time state) number ≡ Some slot → SlotBegins machine state.time slot
 slot_begins machine time rules zero state b number slot e = cc
 slot_begins machine time rules (suc count) state b zero slot e = record { state = state; from = sym (some_eq (slot_from machine state) slot e); begins = b; since = omega arith }
-slot_begins machine time rules (suc count) state b (suc number) slot e = go (next_slot machine time (slot_from machine state)) refl e (λ next c f. slot_begins machine time rules count next c number slot f)
+slot_begins machine time rules (suc count) state b (suc number) slot e = go (next_slot machine time (slot_from machine state)) refl e
+    (λ next c f. slot_begins machine time rules count next c number slot f)
   where
     go : (found : Option State) → next_slot machine time (slot_from machine state) ≡ found → slice_get (slots_on count machine time found) number ≡ Some slot →
         ((next : State) → Begins machine next → slice_get (first_slots count machine time next) number ≡ Some slot → SlotBegins machine next.time slot) → SlotBegins machine state.time slot
@@ -60,7 +61,8 @@ race-none : (machine : Machine) (number : ℕ) (phases : List Phase) → first_r
 race-none machine number [] e = tt
 race-none machine number (phase ∷ rest) e = go (phase_race machine phase.begins phase.events) refl e (race-none machine (number + 1) rest)
   where
-    go : (found : Option (PhaseAccess × PhaseAccess)) → phase_race machine phase.begins phase.events ≡ found → race_on machine number phase rest found ≡ None → (first_race machine (number + 1) rest ≡ None → NoConflicts machine rest) →
+    go : (found : Option (PhaseAccess × PhaseAccess)) → phase_race machine phase.begins phase.events ≡ found → race_on machine number phase rest found ≡ None →
+        (first_race machine (number + 1) rest ≡ None → NoConflicts machine rest) →
         NoConflicts machine (phase ∷ rest)
     go None h f next = (h, next f)
     go (Some pair) h f next = cc
@@ -82,7 +84,8 @@ fine_calm machine slot e = go (is_hyper slot) refl e
 
 -- The law
 
-fine-alike : (machine : Machine) (state : State) → KeepsRules machine.design → Begins machine state → slot_outcome machine (slot_from machine state) ≡ Fine → (moves : List Move) (final : State) → Leads machine state.time state moves final →
+fine-alike : (machine : Machine) (state : State) → KeepsRules machine.design → Begins machine state → slot_outcome machine (slot_from machine state) ≡ Fine → (moves : List Move) (final : State) →
+    Leads machine state.time state moves final →
     ends_by state.time final ≡ true → final ≡ end_from machine state
 fine-alike machine state rules b fine moves final leads ends =
     let f = fine_calm machine (slot_from machine state) fine in
@@ -92,5 +95,6 @@ fine-alike machine state rules b fine moves final leads ends =
 pub fine_slots_end_alike : FineSlotsEndAlike
 fine_slots_end_alike machine time number slot rules at fine =
     let s = slot_begins machine time rules (time + 1) (start machine) (first_begins machine rules) number slot at in
-    subst (λ (sl : FirstSlot). slot_outcome machine sl ≡ Fine → (moves : List Move) (final : State) → Leads machine sl.begins.time sl.begins moves final → IsTrue (ends_by sl.begins.time final) → final ≡ slot_end machine sl) (sym s.from)
+    subst (λ (sl : FirstSlot). slot_outcome machine sl ≡ Fine → (moves : List Move) (final : State) → Leads machine sl.begins.time sl.begins moves final → IsTrue (ends_by sl.begins.time final) →
+    final ≡ slot_end machine sl) (sym s.from)
     (fine-alike machine s.state rules s.begins) fine

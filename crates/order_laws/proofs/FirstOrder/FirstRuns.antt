@@ -11,20 +11,23 @@ use Rattle.order_laws.proofs.FirstOrder.SlotChain.{Begins, slot_from, end_from, 
 use Rattle.order_laws.proofs.FirstOrder.FineSlots.{slots_on, first_begins}
 
 -- moves after moves
-pub leads-on : (machine : Machine) (time : ℕ) (moves rest : List Move) (state middle final : State) → Leads machine time state moves middle → Leads machine time middle rest final → Leads machine time state (moves ++ rest) final
+pub leads-on : (machine : Machine) (time : ℕ) (moves rest : List Move) (state middle final : State) → Leads machine time state moves middle → Leads machine time middle rest final →
+    Leads machine time state (moves ++ rest) final
 leads-on machine time [] rest state middle final a b = subst (λ s. replayed machine time s rest ≡ Some final) (sym (some-same state middle a)) b
   where
     some-same : (x y : State) → Some x ≡ Some y → x ≡ y
     some-same x y e = cc
 leads-on machine time (move ∷ moves) rest state middle final a b = go (moved machine time state move) a (λ next e. leads-on machine time moves rest next middle final e b)
   where
-    go : (found : Option State) → then_state found (λ next. replayed machine time next moves) ≡ Some middle → ((next : State) → replayed machine time next moves ≡ Some middle → replayed machine time next (moves ++ rest) ≡ Some final) →
+    go : (found : Option State) → then_state found (λ next. replayed machine time next moves) ≡ Some middle →
+        ((next : State) → replayed machine time next moves ≡ Some middle → replayed machine time next (moves ++ rest) ≡ Some final) →
         then_state found (λ next. replayed machine time next (moves ++ rest)) ≡ Some final
     go None e k = cc
     go (Some next) e k = k next e
 
 -- the turn to the next slot
-pub turns-on : (machine : Machine) (time until : ℕ) (state next : State) (rest : List Move) (final : State) → Closes machine state → (n : NextSlot machine until state next) → n.later ≤ time → Leads machine time next rest final →
+pub turns-on : (machine : Machine) (time until : ℕ) (state next : State) (rest : List Move) (final : State) → Closes machine state → (n : NextSlot machine until state next) → n.later ≤ time →
+    Leads machine time next rest final →
     Leads machine time state (first_moves machine state ++ Turns ∷ rest) final
 turns-on machine time until state next rest final c n h leads =
     leads-on machine time (first_moves machine state) (Turns ∷ rest) state (end_from machine state) final (slot_moves_may machine time state).leads
@@ -41,7 +44,8 @@ AreCalm slots = (number : ℕ) (slot : FirstSlot) → slice_get slots number ≡
 abbrev Ended : Machine → ℕ → State → List Move → Type 0
 Ended machine time state moves = (final : State) × Leads machine time state moves final × (ends_by time final ≡ true)
 
-slots-legal : (machine : Machine) (time : ℕ) → KeepsRules machine.design → (count : ℕ) (state : State) → Begins machine state → state.time ≤ time → time < state.time + count → AreCalm (first_slots count machine time state) →
+slots-legal : (machine : Machine) (time : ℕ) → KeepsRules machine.design → (count : ℕ) (state : State) → Begins machine state → state.time ≤ time → time < state.time + count →
+    AreCalm (first_slots count machine time state) →
     Ended machine time state (run_moves (first_slots count machine time state))
 slots-legal machine time rules zero state b low high calm = absurd (omega (arith, low, high))
 slots-legal machine time rules (suc count) state b low high calm =
@@ -54,7 +58,8 @@ slots-legal machine time rules (suc count) state b low high calm =
     c = closes machine state rules b (calm 0 (slot_from machine state) refl)
 
     go : (found : Option State) → next_slot machine time (slot_from machine state) ≡ found → AreCalm (slot_from machine state ∷ slots_on count machine time found) →
-        ((next : State) → Begins machine next → next.time ≤ time → time < next.time + count → AreCalm (first_slots count machine time next) → Ended machine time next (run_moves (first_slots count machine time next))) →
+        ((next : State) → Begins machine next → next.time ≤ time → time < next.time + count → AreCalm (first_slots count machine time next) →
+        Ended machine time next (run_moves (first_slots count machine time next))) →
         Ended machine time state (run_moves (slot_from machine state ∷ slots_on count machine time found))
     go None e k rest = (
       end_from machine state,
@@ -74,7 +79,8 @@ slots-legal machine time rules (suc count) state b low high calm =
         let r = rest next n.begins low' high' (λ number slot f. k (suc number) slot f) in
         (r.0, on count next n low' high' r.0 r.1, r.2)
       where
-        on : (count : ℕ) (next : State) (n : NextSlot machine time state next) → next.time ≤ time → time < next.time + count → (final : State) → Leads machine time next (run_moves (first_slots count machine time next)) final →
+        on : (count : ℕ) (next : State) (n : NextSlot machine time state next) → next.time ≤ time → time < next.time + count → (final : State) →
+            Leads machine time next (run_moves (first_slots count machine time next)) final →
             Leads machine time state (first_moves machine state ++ moves_after_turns (first_slots count machine time next)) final
         on zero next n l h final leads = absurd (omega (arith, l, h))
         on (suc count) next n l h final leads = turns-on machine time time state next (run_moves (first_slots (suc count) machine time next)) final c n n.within leads

@@ -11,12 +11,14 @@ use Rattle.order_laws.proofs.FirstOrder.SlotChain.{Begins, slot_from, next_begin
 use Rattle.order_laws.proofs.FirstOrder.FineSlots.{slots_on, first_begins}
 use Rattle.order_laws.proofs.FirstOrder.ReportLines.{race-time}
 
-follow : (machine : Machine) (time : ℕ) → KeepsRules machine.design → (count : ℕ) (state : State) → Begins machine state → state.time ≤ time → time < state.time + count → Follow machine time (Some state) (first_slots count machine time state)
+follow : (machine : Machine) (time : ℕ) → KeepsRules machine.design → (count : ℕ) (state : State) → Begins machine state → state.time ≤ time → time < state.time + count →
+    Follow machine time (Some state) (first_slots count machine time state)
 follow machine time rules zero state b low high = absurd (omega (arith, low, high))
 follow machine time rules (suc count) state b low high = (refl, go (next_slot machine time (slot_from machine state)) refl (λ next c l h. follow machine time rules count next c l h))
   where
     go : (found : Option State) → next_slot machine time (slot_from machine state) ≡ found →
-        ((next : State) → Begins machine next → next.time ≤ time → time < next.time + count → Follow machine time (Some next) (first_slots count machine time next)) → Follow machine time found (slots_on count machine time found)
+        ((next : State) → Begins machine next → next.time ≤ time → time < next.time + count → Follow machine time (Some next) (first_slots count machine time next)) →
+        Follow machine time found (slots_on count machine time found)
     go None e rest = tt
     go (Some next) e rest =
         let n = next_begins machine time state next rules b e in
@@ -25,7 +27,8 @@ follow machine time rules (suc count) state b low high = (refl, go (next_slot ma
         let r : state.time < next.time = n.rises in
         rest next n.begins (omega (arith, t, w)) (omega (arith, r, high))
 
-all-later : (machine : Machine) (time low : ℕ) → KeepsRules machine.design → (count : ℕ) (state : State) → Begins machine state → low < state.time → AllHold (λ (later : FirstSlot). low < later.begins.time) (first_slots count machine time state)
+all-later : (machine : Machine) (time low : ℕ) → KeepsRules machine.design → (count : ℕ) (state : State) → Begins machine state → low < state.time →
+    AllHold (λ (later : FirstSlot). low < later.begins.time) (first_slots count machine time state)
 all-later machine time low rules zero state b h = tt
 all-later machine time low rules (suc count) state b h = (h, go (next_slot machine time (slot_from machine state)) refl (λ next c l. all-later machine time low rules count next c l))
   where
@@ -42,7 +45,8 @@ rise : (machine : Machine) (time : ℕ) → KeepsRules machine.design → (count
 rise machine time rules zero state b = tt
 rise machine time rules (suc count) state b = go (next_slot machine time (slot_from machine state)) refl (λ next c. rise machine time rules count next c)
   where
-    go : (found : Option State) → next_slot machine time (slot_from machine state) ≡ found → ((next : State) → Begins machine next → Rise (first_slots count machine time next)) → Rise (slot_from machine state ∷ slots_on count machine time found)
+    go : (found : Option State) → next_slot machine time (slot_from machine state) ≡ found → ((next : State) → Begins machine next → Rise (first_slots count machine time next)) →
+        Rise (slot_from machine state ∷ slots_on count machine time found)
     go None e rest = (tt, tt)
     go (Some next) e rest = let n = next_begins machine time state next rules b e in (all-later machine time state.time rules count next n.begins n.rises, rest next n.begins)
 

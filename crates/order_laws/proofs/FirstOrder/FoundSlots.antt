@@ -44,7 +44,8 @@ all-earlier : (time now : ℕ) (phases : List Phase) → now < time → AllHold 
 all-earlier time now [] h a = tt
 all-earlier time now (phase ∷ rest) h a = (subst (λ n. n < time) (sym a.0) h, all-earlier time now rest h a.1)
 
-reach-on : (machine : Machine) (until : ℕ) (state next slot : State) → Closes machine state → NextSlot machine until state next → next.time ≤ slot.time → Reaches machine next slot → Reaches machine state slot
+reach-on : (machine : Machine) (until : ℕ) (state next slot : State) → Closes machine state → NextSlot machine until state next → next.time ≤ slot.time → Reaches machine next slot →
+    Reaches machine state slot
 reach-on machine until state next slot c n h r = record {
   moves = first_moves machine state ++ Turns ∷ r.moves;
   front = slot_from machine state ∷ r.front;
@@ -56,7 +57,8 @@ reach-on machine until state next slot c n h r = record {
         cut machine turn state [] state (first_moves machine state) ++ l.0,
         l.1,
         hold-append _ (cut machine turn state [] state (first_moves machine state)) l.0
-            (all-earlier slot.time state.time (cut machine turn state [] state (first_moves machine state)) (let u : state.time < next.time = n.rises in omega (arith, u, h)) ((slot_moves_may machine state.time state).phases turn state [] refl)) l.2,
+            (all-earlier slot.time state.time (cut machine turn state [] state (first_moves machine state)) (let u : state.time < next.time = n.rises in omega (arith, u, h))
+            ((slot_moves_may machine state.time state).phases turn state [] refl)) l.2,
         cut_on machine r.moves (first_moves machine state) turn state [] state
             ∙ ap (λ s. cut machine turn state [] state (first_moves machine state) ++ cut machine (turn_of (end_from machine state)) s [] s r.moves) made-next
             ∙ ap (λ phases. cut machine turn state [] state (first_moves machine state) ++ phases) l.3
@@ -86,13 +88,15 @@ none-after machine until (suc count) time (Some next) h = ap (λ b. by_time b) (
     by_time b = elim b [ true ↦ slot_from machine next ∷ slots_by time (slots_on count machine until (next_slot machine until (slot_from machine next))) | false ↦ [] ]
 
 -- a slot that is there by a time
-front-on : (machine : Machine) (time : ℕ) (state : State) (rest front : List FirstSlot) → state.time ≤ time → slots_by time rest ≡ front → slots_by time (slot_from machine state ∷ rest) ≡ slot_from machine state ∷ front
+front-on : (machine : Machine) (time : ℕ) (state : State) (rest front : List FirstSlot) → state.time ≤ time → slots_by time rest ≡ front →
+    slots_by time (slot_from machine state ∷ rest) ≡ slot_from machine state ∷ front
 front-on machine time state rest front h e = ap (λ b. by_time b) (le-leb state.time time h) ∙ ap (λ slots. slot_from machine state ∷ slots) e
   where
     by_time : Bool → List FirstSlot
     by_time b = elim b [ true ↦ slot_from machine state ∷ slots_by time rest | false ↦ [] ]
 
-pub found_slot : (machine : Machine) (until : ℕ) → KeepsRules machine.design → (count : ℕ) (state : State) → Begins machine state → (number : ℕ) (slot : FirstSlot) → slice_get (first_slots count machine until state) number ≡ Some slot → Found machine state (first_slots count machine until state) slot
+pub found_slot : (machine : Machine) (until : ℕ) → KeepsRules machine.design → (count : ℕ) (state : State) → Begins machine state → (number : ℕ) (slot : FirstSlot) →
+    slice_get (first_slots count machine until state) number ≡ Some slot → Found machine state (first_slots count machine until state) slot
 unfolding reach-on
 found_slot machine until rules zero state b number slot e = cc
 found_slot machine until rules (suc count) state b zero slot e = record {
@@ -111,10 +115,12 @@ found_slot machine until rules (suc count) state b zero slot e = record {
   front_is = front-on machine state.time state (slots_on count machine until (next_slot machine until (slot_from machine state))) [] (omega arith)
       (none-after machine until count state.time (next_slot machine until (slot_from machine state)) (λ next f. let n = next_begins machine until state next rules b f in n.rises));
 }
-found_slot machine until rules (suc count) state b (suc number) slot e = go (next_slot machine until (slot_from machine state)) refl e (λ next c f. found_slot machine until rules count next c number slot f)
+found_slot machine until rules (suc count) state b (suc number) slot e = go (next_slot machine until (slot_from machine state)) refl e
+    (λ next c f. found_slot machine until rules count next c number slot f)
   where
     go : (found : Option State) → next_slot machine until (slot_from machine state) ≡ found → slice_get (slots_on count machine until found) number ≡ Some slot →
-        ((next : State) → Begins machine next → slice_get (first_slots count machine until next) number ≡ Some slot → Found machine next (first_slots count machine until next) slot) → Found machine state (slot_from machine state ∷ slots_on count machine until found) slot
+        ((next : State) → Begins machine next → slice_get (first_slots count machine until next) number ≡ Some slot → Found machine next (first_slots count machine until next) slot) →
+        Found machine state (slot_from machine state ∷ slots_on count machine until found) slot
     go None h f rest = cc
     go (Some next) h f rest =
         let n = next_begins machine until state next rules b h in
@@ -125,7 +131,8 @@ found_slot machine until rules (suc count) state b (suc number) slot e = go (nex
           begins = r.begins;
           since = (let x : state.time < next.time = n.rises in let y : next.time ≤ r.begin.time = r.since in omega (arith, x, y));
           reach = reach-on machine until state next r.begin (closes machine state rules b n.calm) n r.since r.reach;
-          front_is = front-on machine r.begin.time state (first_slots count machine until next) r.reach.front (let x : state.time < next.time = n.rises in let y : next.time ≤ r.begin.time = r.since in omega (arith, x, y)) r.front_is;
+          front_is = front-on machine r.begin.time state (first_slots count machine until next) r.reach.front
+              (let x : state.time < next.time = n.rises in let y : next.time ≤ r.begin.time = r.since in omega (arith, x, y)) r.front_is;
         }
 
 -- The same slot in the first run to its time
@@ -133,7 +140,8 @@ found_slot machine until rules (suc count) state b (suc number) slot e = go (nex
 begins-since : (machine : Machine) (now : ℕ) (slot : FirstSlot) → SlotBegins machine now slot → now ≤ slot.begins.time
 begins-since machine now slot s = subst (λ (sl : FirstSlot). now ≤ sl.begins.time) (sym s.from) s.since
 
-pub same_slot : (machine : Machine) (until : ℕ) → KeepsRules machine.design → (count less : ℕ) (state : State) → Begins machine state → (number : ℕ) (slot : FirstSlot) → slice_get (first_slots count machine until state) number ≡ Some slot →
+pub same_slot : (machine : Machine) (until : ℕ) → KeepsRules machine.design → (count less : ℕ) (state : State) → Begins machine state → (number : ℕ) (slot : FirstSlot) →
+    slice_get (first_slots count machine until state) number ≡ Some slot →
     slot.begins.time < state.time + less → slice_get (first_slots less machine slot.begins.time state) number ≡ Some slot
 same_slot machine until rules zero less state b number slot e h = cc
 same_slot machine until rules (suc count) zero state b number slot e h =
@@ -143,7 +151,8 @@ same_slot machine until rules (suc count) (suc less) state b (suc number) slot e
     go (next_slot machine until (slot_from machine state)) refl e (λ next c f k. same_slot machine until rules count less next c number slot f k)
   where
     go : (found : Option State) → next_slot machine until (slot_from machine state) ≡ found → slice_get (slots_on count machine until found) number ≡ Some slot →
-        ((next : State) → Begins machine next → slice_get (first_slots count machine until next) number ≡ Some slot → slot.begins.time < next.time + less → slice_get (first_slots less machine slot.begins.time next) number ≡ Some slot) →
+        ((next : State) → Begins machine next → slice_get (first_slots count machine until next) number ≡ Some slot → slot.begins.time < next.time + less →
+        slice_get (first_slots less machine slot.begins.time next) number ≡ Some slot) →
         slice_get (slots_on less machine slot.begins.time (next_slot machine slot.begins.time (slot_from machine state))) number ≡ Some slot
     go None f g rest = cc
     go (Some next) f g rest =

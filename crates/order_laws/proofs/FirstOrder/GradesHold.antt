@@ -8,7 +8,8 @@ use Rattle.vf_base.specs.Lists.{AllHold}
 use Rattle.v_design.specs.Designs.{FlatDesign, StuckAt, TestPlan, good_machine, faulty_machine}
 use Rattle.v_design.specs.States.{State}
 use Rattle.v_design.specs.Runs.{Move, IsLegal, first_run}
-use Rattle.v_design.specs.Grades.{SlotOutcome, Fine, Race, Hyper, is_hard, is_possible, some_sample, Samples, samples, Verdict, Detected, Possible, Undetected, verdict_by, first_strobe, verdict, first_samples, FaultGrade, Judged, Raced, Looped, Stop, first_stop, stop_time, by_then, good_ending, faulty_ending, good_or, faulty_or, graded_faulty, graded}
+use Rattle.v_design.specs.Grades.{SlotOutcome, Fine, Race, Hyper, is_hard, is_possible, some_sample, Samples, samples, Verdict, Detected, Possible, Undetected, verdict_by, first_strobe, verdict}
+use Rattle.v_design.specs.Grades.{first_samples, FaultGrade, Judged, Raced, Looped, Stop, first_stop, stop_time, by_then, good_ending, faulty_ending, good_or, faulty_or, graded_faulty, graded}
 use Rattle.v_design.specs.WellFormed.{KeepsRules, IsPlan}
 use Rattle.v_design.specs.Laws.{run_samples, strobes_until, EveryOrderGives, LineHolds, GradesHold}
 use Rattle.order_laws.specs.Reports.{verdict_time}
@@ -43,7 +44,8 @@ find-kept : (test keep : ℕ → Bool) (t : ℕ) → keep t ≡ true → (xs : L
 find-kept test keep t k [] e = cc
 find-kept test keep t k (x ∷ xs) e = go (test x) (keep x) refl refl e (λ f. find-kept test keep t k xs f)
   where
-    go : (b c : Bool) → test x ≡ b → keep x ≡ c → cond b (Some x) (find test xs) ≡ Some t → (find test xs ≡ Some t → find test (filter keep xs) ≡ Some t) → find test (cond c (x ∷ filter keep xs) (filter keep xs)) ≡ Some t
+    go : (b c : Bool) → test x ≡ b → keep x ≡ c → cond b (Some x) (find test xs) ≡ Some t → (find test xs ≡ Some t → find test (filter keep xs) ≡ Some t) →
+        find test (cond c (x ∷ filter keep xs) (filter keep xs)) ≡ Some t
     go true true b c f rest = ap (λ d. cond d (Some x) (find test (filter keep xs))) b ∙ f
     go true false b c f rest = kept (sym c ∙ ap keep (some_eq x t f) ∙ k)
       where
@@ -150,7 +152,8 @@ reason None faulty hard otherwise line e = elim (faulty-reason faulty hard other
 ]
 reason (Some stop) faulty hard otherwise line e = go (by_then stop.time (stop_time faulty) && by_then stop.time hard) refl e
   where
-    go : (b : Bool) → (by_then stop.time (stop_time faulty) && by_then stop.time hard) ≡ b → good_or b stop (graded_faulty faulty hard otherwise) ≡ Some line → Reason (Some stop) faulty hard otherwise line
+    go : (b : Bool) → (by_then stop.time (stop_time faulty) && by_then stop.time hard) ≡ b → good_or b stop (graded_faulty faulty hard otherwise) ≡ Some line →
+        Reason (Some stop) faulty hard otherwise line
     go true b f =
         let p = both-true (by_then stop.time (stop_time faulty)) (by_then stop.time hard) b in
         inl (stop, refl, f, record { good_stop = omega arith; faulty_stop = then-not stop.time faulty p.0; strobe = p.1 })
@@ -208,14 +211,16 @@ module _ (design : FlatDesign) (plan : TestPlan) (fault : StuckAt) (rules : Keep
   verdict_same = λ i. verdict_by (strobe-same is_hard i) (strobe-same is_possible i)
 
 -- the strobes' verdict over the whole plan
-judged-whole : (design : FlatDesign) (plan : TestPlan) (fault : StuckAt) (given : Verdict) → KeepsRules design → IsPlan plan → Past design plan fault plan.end → verdict (good_seen design plan) (faulty_seen design plan fault) plan.strobes ≡ given →
+judged-whole : (design : FlatDesign) (plan : TestPlan) (fault : StuckAt) (given : Verdict) → KeepsRules design → IsPlan plan → Past design plan fault plan.end →
+    verdict (good_seen design plan) (faulty_seen design plan fault) plan.strobes ≡ given →
     EveryOrderGives design plan fault plan.end given
 judged-whole design plan fault given rules p past e good faulty good_end faulty_end good_legal faulty_legal =
     verdict_same design plan fault rules plan.end past good faulty good_end faulty_end good_legal faulty_legal
     ∙ ap (λ strobes. verdict (good_seen design plan) (faulty_seen design plan fault) strobes) (all-stay plan.end plan.strobes p.in_time) ∙ e
 
 -- the first strobe with a hard detection
-judged-hard : (design : FlatDesign) (plan : TestPlan) (fault : StuckAt) (time : ℕ) → KeepsRules design → Past design plan fault time → first_strobe is_hard (good_seen design plan) (faulty_seen design plan fault) plan.strobes ≡ Some time →
+judged-hard : (design : FlatDesign) (plan : TestPlan) (fault : StuckAt) (time : ℕ) → KeepsRules design → Past design plan fault time →
+    first_strobe is_hard (good_seen design plan) (faulty_seen design plan fault) plan.strobes ≡ Some time →
     EveryOrderGives design plan fault time (Detected time)
 judged-hard design plan fault time rules past e good faulty good_end faulty_end good_legal faulty_legal =
     verdict_same design plan fault rules time past good faulty good_end faulty_end good_legal faulty_legal
@@ -223,8 +228,10 @@ judged-hard design plan fault time rules past e good faulty good_end faulty_end 
     (find-kept (λ t. some_sample is_hard (good_seen design plan t) (faulty_seen design plan fault t)) (λ t. nat_le t time) time (le-leb time time (omega arith)) plan.strobes e)
 
 -- where the strobes decide, both first runs go on past the time of which the verdict speaks
-pub past_of : (design : FlatDesign) (plan : TestPlan) (fault : StuckAt) → IsPlan plan → (hard possible : Option ℕ) → first_strobe is_hard (good_seen design plan) (faulty_seen design plan fault) plan.strobes ≡ hard →
-    After (first_stop (good_machine design) (first_run (good_machine design) plan.end)) hard → After (first_stop (faulty_machine design fault) (first_run (faulty_machine design fault) plan.end)) hard →
+pub past_of : (design : FlatDesign) (plan : TestPlan) (fault : StuckAt) → IsPlan plan → (hard possible : Option ℕ) →
+    first_strobe is_hard (good_seen design plan) (faulty_seen design plan fault) plan.strobes ≡ hard →
+    After (first_stop (good_machine design) (first_run (good_machine design) plan.end)) hard →
+    After (first_stop (faulty_machine design fault) (first_run (faulty_machine design fault) plan.end)) hard →
     Past design plan fault (verdict_time plan (verdict_by hard possible))
 past_of design plan fault p None None h a b = record { good = never-stops _ plan.end a; faulty = never-stops _ plan.end b; within = omega arith }
 past_of design plan fault p None (Some time) h a b = record { good = never-stops _ plan.end a; faulty = never-stops _ plan.end b; within = omega arith }
@@ -234,22 +241,26 @@ past_of design plan fault p (Some time) possible h a b = record {
   within = find-holds (λ t. t ≤ plan.end) (λ t. some_sample is_hard (good_seen design plan t) (faulty_seen design plan fault t)) plan.strobes time p.in_time h;
 }
 
-judged : (design : FlatDesign) (plan : TestPlan) (fault : StuckAt) → KeepsRules design → IsPlan plan → (hard possible : Option ℕ) → first_strobe is_hard (good_seen design plan) (faulty_seen design plan fault) plan.strobes ≡ hard →
-    first_strobe is_possible (good_seen design plan) (faulty_seen design plan fault) plan.strobes ≡ possible → Past design plan fault (verdict_time plan (verdict_by hard possible)) → LineHolds design plan fault (Judged (verdict_by hard possible))
+judged : (design : FlatDesign) (plan : TestPlan) (fault : StuckAt) → KeepsRules design → IsPlan plan → (hard possible : Option ℕ) →
+    first_strobe is_hard (good_seen design plan) (faulty_seen design plan fault) plan.strobes ≡ hard →
+    first_strobe is_possible (good_seen design plan) (faulty_seen design plan fault) plan.strobes ≡ possible → Past design plan fault (verdict_time plan (verdict_by hard possible)) →
+    LineHolds design plan fault (Judged (verdict_by hard possible))
 judged design plan fault rules p None None h q past = judged-whole design plan fault Undetected rules p past (λ i. verdict_by (h i) (q i))
 judged design plan fault rules p None (Some time) h q past = judged-whole design plan fault (Possible time) rules p past (λ i. verdict_by (h i) (q i))
 judged design plan fault rules p (Some time) possible h q past = judged-hard design plan fault time rules past h
 
 -- By a stop
 
-good-stopped : (design : FlatDesign) (plan : TestPlan) (fault : StuckAt) (line : FaultGrade) (stop : Stop) → KeepsRules design → first_stop (good_machine design) (first_run (good_machine design) plan.end) ≡ Some stop → (outcome : SlotOutcome) → stop.outcome ≡ outcome →
+good-stopped : (design : FlatDesign) (plan : TestPlan) (fault : StuckAt) (line : FaultGrade) (stop : Stop) → KeepsRules design →
+    first_stop (good_machine design) (first_run (good_machine design) plan.end) ≡ Some stop → (outcome : SlotOutcome) → stop.outcome ≡ outcome →
     good_ending outcome ≡ Some line → LineHolds design plan fault line
 good-stopped design plan fault line stop rules e Fine o f = cc
 good-stopped design plan fault line stop rules e (Race pair) o f =
     subst (λ l. LineHolds design plan fault l) (some_eq (Raced Good pair) line f) (names_conflict (good_machine design) plan.end stop pair rules e o)
 good-stopped design plan fault line stop rules e Hyper o f = cc
 
-faulty-stopped : (design : FlatDesign) (plan : TestPlan) (fault : StuckAt) (line : FaultGrade) (stop : Stop) → KeepsRules design → first_stop (faulty_machine design fault) (first_run (faulty_machine design fault) plan.end) ≡ Some stop → (outcome : SlotOutcome) →
+faulty-stopped : (design : FlatDesign) (plan : TestPlan) (fault : StuckAt) (line : FaultGrade) (stop : Stop) → KeepsRules design →
+    first_stop (faulty_machine design fault) (first_run (faulty_machine design fault) plan.end) ≡ Some stop → (outcome : SlotOutcome) →
     stop.outcome ≡ outcome → faulty_ending stop.time outcome ≡ Some line → LineHolds design plan fault line
 faulty-stopped design plan fault line stop rules e Fine o f = cc
 faulty-stopped design plan fault line stop rules e (Race pair) o f =
@@ -269,7 +280,9 @@ grades_hold design plan fault line rules p e =
             | inl f ↦ faulty-stopped design plan fault line f.0 rules f.1 f.0.outcome refl f.2
             | inr j ↦
                 subst (λ l. LineHolds design plan fault l) j.0
-                (judged design plan fault rules p (first_strobe is_hard (good_seen design plan) (faulty_seen design plan fault) plan.strobes) (first_strobe is_possible (good_seen design plan) (faulty_seen design plan fault) plan.strobes) refl refl
-                (past_of design plan fault p (first_strobe is_hard (good_seen design plan) (faulty_seen design plan fault) plan.strobes) (first_strobe is_possible (good_seen design plan) (faulty_seen design plan fault) plan.strobes) refl j.1 j.2))
+                (judged design plan fault rules p (first_strobe is_hard (good_seen design plan) (faulty_seen design plan fault) plan.strobes)
+                (first_strobe is_possible (good_seen design plan) (faulty_seen design plan fault) plan.strobes) refl refl
+                (past_of design plan fault p (first_strobe is_hard (good_seen design plan) (faulty_seen design plan fault) plan.strobes)
+                (first_strobe is_possible (good_seen design plan) (faulty_seen design plan fault) plan.strobes) refl j.1 j.2))
           ]
     ]

@@ -27,7 +27,8 @@ find-place : {A : Type 0} (test : A → Bool) (xs : List A) (x : A) → find tes
 find-place test [] x e = cc
 find-place {A} test (y ∷ xs) x e = go (test y) refl e (λ f. find-place test xs x f)
   where
-    go : (b : Bool) → test y ≡ b → cond b (Some y) (find test xs) ≡ Some x → (find test xs ≡ Some x → (n : ℕ) × (slice_get xs n ≡ Some x) × (test x ≡ true)) → (n : ℕ) × (slice_get (y ∷ xs) n ≡ Some x) × (test x ≡ true)
+    go : (b : Bool) → test y ≡ b → cond b (Some y) (find test xs) ≡ Some x → (find test xs ≡ Some x → (n : ℕ) × (slice_get xs n ≡ Some x) × (test x ≡ true)) →
+        (n : ℕ) × (slice_get (y ∷ xs) n ≡ Some x) × (test x ≡ true)
     go true t f rest = (0, f, subst (λ z. test z ≡ true) (some_eq y x f) t)
     go false t f rest = let r = rest f in (suc r.0, r.1, r.2)
 
@@ -119,7 +120,8 @@ drop-earlier : (time : ℕ) (earlier rest : List Phase) → Earlier time earlier
 drop-earlier time [] rest h = refl
 drop-earlier time (phase ∷ earlier) rest h = go (nat_eq phase.begins.time time) refl (drop-earlier time earlier rest h.1)
   where
-    go : (b : Bool) → nat_eq phase.begins.time time ≡ b → at_time time (earlier ++ rest) ≡ at_time time rest → cond b (phase ∷ at_time time (earlier ++ rest)) (at_time time (earlier ++ rest)) ≡ at_time time rest
+    go : (b : Bool) → nat_eq phase.begins.time time ≡ b → at_time time (earlier ++ rest) ≡ at_time time rest →
+        cond b (phase ∷ at_time time (earlier ++ rest)) (at_time time (earlier ++ rest)) ≡ at_time time rest
     go true e r = let l : phase.begins.time < time = h.0 in let s : phase.begins.time ≡ time = eqb-true phase.begins.time time e in absurd (omega (arith, l, s))
     go false e r = r
 
@@ -161,7 +163,8 @@ pub stopped_slot : (machine : Machine) (slots : List FirstSlot) (stop : Stop) �
 stopped_slot machine [] stop e = cc
 stopped_slot machine (slot ∷ slots) stop e = go (slot_outcome machine slot) refl e (λ f. stopped_slot machine slots stop f)
   where
-    go : (outcome : SlotOutcome) → slot_outcome machine slot ≡ outcome → stop_by machine slot slots outcome ≡ Some stop → (first_stop machine slots ≡ Some stop → StoppedSlot machine slots stop) → StoppedSlot machine (slot ∷ slots) stop
+    go : (outcome : SlotOutcome) → slot_outcome machine slot ≡ outcome → stop_by machine slot slots outcome ≡ Some stop → (first_stop machine slots ≡ Some stop → StoppedSlot machine slots stop) →
+        StoppedSlot machine (slot ∷ slots) stop
     go Fine f g rest = let r = rest g in record { number = suc r.number; slot = r.slot; stands = r.stands; same_time = r.same_time; same_outcome = r.same_outcome }
     go (Race pair) f g rest = record {
       number = 0;
@@ -186,17 +189,20 @@ hyper_there machine end stop rules e h =
       s.number,
       s.slot,
       subst (λ t. slice_get (first_run machine t) s.number ≡ Some s.slot) s.same_time
-          (same_slot machine end rules (end + 1) (s.slot.begins.time + 1) (start machine) (first_begins machine rules) s.number s.slot s.stands (let t : ℕ = s.slot.begins.time in let z : t < 0 + (t + 1) = omega arith in z)),
+          (same_slot machine end rules (end + 1) (s.slot.begins.time + 1) (start machine) (first_begins machine rules) s.number s.slot s.stands
+          (let t : ℕ = s.slot.begins.time in let z : t < 0 + (t + 1) = omega arith in z)),
       s.same_time,
       s.same_outcome ∙ h,
     )
 
-names-at : (machine : Machine) (begin : State) (pair : ReportedPair) → KeepsRules machine.design → Begins machine begin → Reaches machine (start machine) begin → slot_outcome machine (slot_from machine begin) ≡ Race pair → NamesConflict machine pair
+names-at : (machine : Machine) (begin : State) (pair : ReportedPair) → KeepsRules machine.design → Begins machine begin → Reaches machine (start machine) begin →
+    slot_outcome machine (slot_from machine begin) ≡ Race pair → NamesConflict machine pair
 names-at machine begin pair rules b r e =
     let o = race-is machine (slot_from machine begin) pair e in
     let c = closes machine begin rules b o.0 in
     let k = r.cuts None in
-    let own : AllHold (λ (phase : Phase). phase.begins.time ≡ begin.time) (cut machine k.1 begin [] begin (first_moves machine begin)) = (slot_moves_may machine begin.time begin).phases k.1 begin [] refl in
+    let own : AllHold (λ (phase : Phase). phase.begins.time ≡ begin.time) (cut machine k.1 begin [] begin (first_moves machine begin)) =
+    (slot_moves_may machine begin.time begin).phases k.1 begin [] refl in
     let f = raced-phase machine 1 (cut machine k.1 begin [] begin (first_moves machine begin)) pair (race_turn machine k.1 None 1 (first_moves machine begin) begin [] begin ∙ o.1) in
     let same : f.phase.begins.time ≡ begin.time = all-at _ (cut machine k.1 begin [] begin (first_moves machine begin)) f.place f.phase own f.stands in
     let p = places (log_of machine f.phase.begins f.phase.events) [] (log_accesses machine.design (log_of machine f.phase.begins f.phase.events)) f.accesses f.races in
@@ -210,7 +216,8 @@ names-at machine begin pair rules b r e =
       phase_number = (let n : ℕ = f.place in let z : 1 + n ≡ n + 1 = omega arith in z);
       stands =
           ap (λ ps. slice_get ps f.place)
-          (ap (at_time begin.time) k.3 ∙ drop-earlier begin.time k.0 (cut machine k.1 begin [] begin (first_moves machine begin)) k.2 ∙ keep-own begin.time (cut machine k.1 begin [] begin (first_moves machine begin)) own)
+          (ap (at_time begin.time) k.3 ∙ drop-earlier begin.time k.0 (cut machine k.1 begin [] begin (first_moves machine begin)) k.2
+          ∙ keep-own begin.time (cut machine k.1 begin [] begin (first_moves machine begin)) own)
           ∙ f.stands;
       earlier = p.earlier;
       later = p.later;
@@ -223,7 +230,8 @@ names-at machine begin pair rules b r e =
       named = refl;
     })
 
-pub names_conflict : (machine : Machine) (end : ℕ) (stop : Stop) (pair : ReportedPair) → KeepsRules machine.design → first_stop machine (first_run machine end) ≡ Some stop → stop.outcome ≡ Race pair → NamesConflict machine pair
+pub names_conflict : (machine : Machine) (end : ℕ) (stop : Stop) (pair : ReportedPair) → KeepsRules machine.design → first_stop machine (first_run machine end) ≡ Some stop →
+    stop.outcome ≡ Race pair → NamesConflict machine pair
 names_conflict machine end stop pair rules e h =
     let s = stopped_slot machine (first_run machine end) stop e in
     let f = found_slot machine end rules (end + 1) (start machine) (first_begins machine rules) s.number s.slot s.stands in
@@ -231,12 +239,14 @@ names_conflict machine end stop pair rules e h =
 
 -- the first run shows its race
 
-shows-at : (machine : Machine) (begin : State) (pair : ReportedPair) → KeepsRules machine.design → Begins machine begin → (r : Reaches machine (start machine) begin) → slot_outcome machine (slot_from machine begin) ≡ Race pair →
+shows-at : (machine : Machine) (begin : State) (pair : ReportedPair) → KeepsRules machine.design → Begins machine begin → (r : Reaches machine (start machine) begin) →
+    slot_outcome machine (slot_from machine begin) ≡ Race pair →
     (pair.time ≡ begin.time) × ShowsRace machine r.moves pair
 shows-at machine begin pair rules b r e =
     let o = race-is machine (slot_from machine begin) pair e in
     let k = r.cuts None in
-    let own : AllHold (λ (phase : Phase). phase.begins.time ≡ begin.time) (cut machine k.1 begin [] begin (first_moves machine begin)) = (slot_moves_may machine begin.time begin).phases k.1 begin [] refl in
+    let own : AllHold (λ (phase : Phase). phase.begins.time ≡ begin.time) (cut machine k.1 begin [] begin (first_moves machine begin)) =
+    (slot_moves_may machine begin.time begin).phases k.1 begin [] refl in
     let f = raced-phase machine 1 (cut machine k.1 begin [] begin (first_moves machine begin)) pair (race_turn machine k.1 None 1 (first_moves machine begin) begin [] begin ∙ o.1) in
     let same : f.phase.begins.time ≡ begin.time = all-at _ (cut machine k.1 begin [] begin (first_moves machine begin)) f.place f.phase own f.stands in
     let is : pair ≡ race_of begin.time (1 + f.place) f.accesses = f.is_pair ∙ ap (λ t. race_of t (1 + f.place) f.accesses) same in (
@@ -249,7 +259,8 @@ shows-at machine begin pair rules b r e =
             phase_number = (let n : ℕ = f.place in let z : 1 + n ≡ n + 1 = omega arith in z);
             stands =
                 ap (λ ps. slice_get ps f.place)
-                (ap (at_time begin.time) k.3 ∙ drop-earlier begin.time k.0 (cut machine k.1 begin [] begin (first_moves machine begin)) k.2 ∙ keep-own begin.time (cut machine k.1 begin [] begin (first_moves machine begin)) own)
+                (ap (at_time begin.time) k.3 ∙ drop-earlier begin.time k.0 (cut machine k.1 begin [] begin (first_moves machine begin)) k.2
+                ∙ keep-own begin.time (cut machine k.1 begin [] begin (first_moves machine begin)) own)
                 ∙ f.stands;
             races = f.races;
             named = refl;

@@ -9,7 +9,8 @@ use Rattle.vf_base.specs.Lists.{AllHold}
 use Rattle.v_design.specs.Designs.{FlatDesign, Machine, StuckAt, TestPlan, good_machine, faulty_machine}
 use Rattle.v_design.specs.States.{State, start}
 use Rattle.v_design.specs.Runs.{Move, IsLegal, FirstSlot, next_slot, first_slots, first_run}
-use Rattle.v_design.specs.Grades.{phases, SlotOutcome, Fine, Race, Hyper, slot_outcome, is_hard, is_possible, some_sample, Verdict, verdict, first_strobe, FaultGrade, Judged, Raced, Looped, Stop, first_stop, by_then, good_ending, faulty_ending, grade}
+use Rattle.v_design.specs.Grades.{phases, SlotOutcome, Fine, Race, Hyper, slot_outcome, is_hard, is_possible, some_sample, Verdict, verdict, first_strobe, FaultGrade, Judged, Raced, Looped, Stop}
+use Rattle.v_design.specs.Grades.{first_stop, by_then, good_ending, faulty_ending, grade}
 use Rattle.v_design.specs.WellFormed.{IsAscending, KeepsRules, IsPlan}
 use Rattle.v_design.specs.Laws.{run_samples, strobes_until, LineHolds, GradesHold}
 use Rattle.order_laws.specs.Reports.{verdict_time, HasOrder, OrdersExist, stop_of, NothingBefore, ReportsHold}
@@ -40,7 +41,8 @@ faulty-no-verdict time Fine given e = cc
 faulty-no-verdict time (Race pair) given e = cc
 faulty-no-verdict time Hyper given e = cc
 
-both-past : (design : FlatDesign) (plan : TestPlan) (fault : StuckAt) (time : ℕ) → KeepsRules design → Past design plan fault time → HasOrder (good_machine design) time × HasOrder (faulty_machine design fault) time
+both-past : (design : FlatDesign) (plan : TestPlan) (fault : StuckAt) (time : ℕ) → KeepsRules design → Past design plan fault time →
+    HasOrder (good_machine design) time × HasOrder (faulty_machine design fault) time
 both-past design plan fault time rules past =
     (has-order (good_machine design) time plan.end rules past.within past.good, has-order (faulty_machine design fault) time plan.end rules past.within past.faulty)
 
@@ -55,14 +57,16 @@ orders_exist design plan fault given rules p e =
             | inr j ↦
                 subst (λ v. HasOrder (good_machine design) (verdict_time plan v) × HasOrder (faulty_machine design fault) (verdict_time plan v)) (judged_eq _ given j.0)
                 (both-past design plan fault _ rules
-                (past_of design plan fault p (first_strobe is_hard (good_seen design plan) (faulty_seen design plan fault) plan.strobes) (first_strobe is_possible (good_seen design plan) (faulty_seen design plan fault) plan.strobes) refl j.1 j.2))
+                (past_of design plan fault p (first_strobe is_hard (good_seen design plan) (faulty_seen design plan fault) plan.strobes)
+                (first_strobe is_possible (good_seen design plan) (faulty_seen design plan fault) plan.strobes) refl j.1 j.2))
           ]
     ]
 
 -- Nothing hard before a stop
 
 -- a slot of the first run begins by the time up to which the run goes
-slot-within : (machine : Machine) (until : ℕ) → KeepsRules machine.design → (count : ℕ) (state : State) → Begins machine state → state.time ≤ until → (number : ℕ) (slot : FirstSlot) → slice_get (first_slots count machine until state) number ≡ Some slot →
+slot-within : (machine : Machine) (until : ℕ) → KeepsRules machine.design → (count : ℕ) (state : State) → Begins machine state → state.time ≤ until → (number : ℕ) (slot : FirstSlot) →
+    slice_get (first_slots count machine until state) number ≡ Some slot →
     slot.begins.time ≤ until
 slot-within machine until rules zero state b h number slot e = cc
 slot-within machine until rules (suc count) state b h zero slot e = subst (λ (sl : FirstSlot). sl.begins.time ≤ until) (some_eq (slot_from machine state) slot e) h
@@ -82,7 +86,8 @@ stop-within machine end stop rules e =
     subst (λ t. t ≤ end) s.same_time (slot-within machine end rules (end + 1) (start machine) (first_begins machine rules) (omega arith) s.number s.slot s.stands)
 
 -- a race has the time of its slot
-pub race-time : (machine : Machine) (end : ℕ) (stop : Stop) (pair : ReportedPair) → KeepsRules machine.design → first_stop machine (first_run machine end) ≡ Some stop → stop.outcome ≡ Race pair → pair.time ≡ stop.time
+pub race-time : (machine : Machine) (end : ℕ) (stop : Stop) (pair : ReportedPair) → KeepsRules machine.design → first_stop machine (first_run machine end) ≡ Some stop → stop.outcome ≡ Race pair →
+    pair.time ≡ stop.time
 race-time machine end stop pair rules e h =
     let s = stopped_slot machine (first_run machine end) stop e in
     let b = slot_begins machine end rules (end + 1) (start machine) (first_begins machine rules) s.number s.slot s.stands in
@@ -122,7 +127,8 @@ none-stays : (test keep : ℕ → Bool) (xs : List ℕ) → find test xs ≡ Non
 none-stays test keep [] e = refl
 none-stays test keep (x ∷ xs) e = go (test x) refl e (λ f. none-stays test keep xs f)
   where
-    go : (b : Bool) → test x ≡ b → cond b (Some x) (find test xs) ≡ None → (find test xs ≡ None → find test (filter keep xs) ≡ None) → find test (cond (keep x) (x ∷ filter keep xs) (filter keep xs)) ≡ None
+    go : (b : Bool) → test x ≡ b → cond b (Some x) (find test xs) ≡ None → (find test xs ≡ None → find test (filter keep xs) ≡ None) →
+        find test (cond (keep x) (x ∷ filter keep xs) (filter keep xs)) ≡ None
     go true t f rest = cc
     go false t f rest = kept (keep x)
       where
@@ -130,7 +136,8 @@ none-stays test keep (x ∷ xs) e = go (test x) refl e (λ f. none-stays test ke
         kept true = ap (λ b. cond b (Some x) (find test (filter keep xs))) t ∙ rest f
         kept false = rest f
 
-none-by : (test : ℕ → Bool) (time stop : ℕ) → time < stop → (xs : List ℕ) → IsAscending xs → (found : Option ℕ) → find test xs ≡ found → by_then stop found ≡ true → find test (filter (λ x. nat_le x time) xs) ≡ None
+none-by : (test : ℕ → Bool) (time stop : ℕ) → time < stop → (xs : List ℕ) → IsAscending xs → (found : Option ℕ) → find test xs ≡ found → by_then stop found ≡ true →
+    find test (filter (λ x. nat_le x time) xs) ≡ None
 none-by test time stop h xs a None e k = none-stays test (λ x. nat_le x time) xs e
 none-by test time stop h xs a (Some found) e k = let l : stop ≤ found = leb-true stop found k in none-found test time found (omega (arith, h, l)) xs a e
 
@@ -144,18 +151,22 @@ no-hard : (design : FlatDesign) (plan : TestPlan) (fault : StuckAt) (time stop :
     NoneBefore (first_stop (good_machine design) (first_run (good_machine design) plan.end)) (first_stop (faulty_machine design fault) (first_run (faulty_machine design fault) plan.end))
     (first_strobe is_hard (good_seen design plan) (faulty_seen design plan fault) plan.strobes) stop → NoHard design plan fault time
 no-hard design plan fault time stop rules p h w n good faulty good_end faulty_end good_legal faulty_legal =
-    strobe-same design plan fault rules time (record { good = stops-after time stop _ h n.good_stop; faulty = stops-after time stop _ h n.faulty_stop; within = omega (arith, h, w) }) good faulty good_end faulty_end good_legal faulty_legal is_hard
-    ∙ none-by (λ t. some_sample is_hard (good_seen design plan t) (faulty_seen design plan fault t)) time stop h plan.strobes p.ascending (first_strobe is_hard (good_seen design plan) (faulty_seen design plan fault) plan.strobes) refl n.strobe
+    strobe-same design plan fault rules time (record { good = stops-after time stop _ h n.good_stop; faulty = stops-after time stop _ h n.faulty_stop; within = omega (arith, h, w) }) good faulty
+    good_end faulty_end good_legal faulty_legal is_hard
+    ∙ none-by (λ t. some_sample is_hard (good_seen design plan t) (faulty_seen design plan fault t)) time stop h plan.strobes p.ascending
+    (first_strobe is_hard (good_seen design plan) (faulty_seen design plan fault) plan.strobes) refl n.strobe
 
 -- the time of a line that a stop brings
-good-time : (design : FlatDesign) (plan : TestPlan) (line : FaultGrade) (stop : Stop) (at : ℕ) → KeepsRules design → first_stop (good_machine design) (first_run (good_machine design) plan.end) ≡ Some stop → (outcome : SlotOutcome) → stop.outcome ≡ outcome →
+good-time : (design : FlatDesign) (plan : TestPlan) (line : FaultGrade) (stop : Stop) (at : ℕ) → KeepsRules design →
+    first_stop (good_machine design) (first_run (good_machine design) plan.end) ≡ Some stop → (outcome : SlotOutcome) → stop.outcome ≡ outcome →
     good_ending outcome ≡ Some line → stop_of line ≡ Some at → stop.time ≡ at
 good-time design plan line stop at rules e Fine o f k = cc
 good-time design plan line stop at rules e (Race pair) o f k =
     sym (race-time (good_machine design) plan.end stop pair rules e o) ∙ some_eq pair.time at (ap stop_of (some_eq (Raced Good pair) line f) ∙ k)
 good-time design plan line stop at rules e Hyper o f k = cc
 
-faulty-time : (design : FlatDesign) (plan : TestPlan) (fault : StuckAt) (line : FaultGrade) (stop : Stop) (at : ℕ) → KeepsRules design → first_stop (faulty_machine design fault) (first_run (faulty_machine design fault) plan.end) ≡ Some stop →
+faulty-time : (design : FlatDesign) (plan : TestPlan) (fault : StuckAt) (line : FaultGrade) (stop : Stop) (at : ℕ) → KeepsRules design →
+    first_stop (faulty_machine design fault) (first_run (faulty_machine design fault) plan.end) ≡ Some stop →
     (outcome : SlotOutcome) → stop.outcome ≡ outcome → faulty_ending stop.time outcome ≡ Some line → stop_of line ≡ Some at → stop.time ≡ at
 faulty-time design plan fault line stop at rules e Fine o f k = cc
 faulty-time design plan fault line stop at rules e (Race pair) o f k =
@@ -186,7 +197,8 @@ nothing_before design plan fault line stop time rules p e k h =
 
 -- The lines of a report
 
-all-lines : (design : FlatDesign) (plan : TestPlan) → GradesHold → KeepsRules design → IsPlan plan → (faults : List StuckAt) (lines : List FaultGrade) → AllZip (λ fault line. grade design plan fault ≡ Some line) faults lines → AllZip (LineHolds design plan) faults lines
+all-lines : (design : FlatDesign) (plan : TestPlan) → GradesHold → KeepsRules design → IsPlan plan → (faults : List StuckAt) (lines : List FaultGrade) →
+    AllZip (λ fault line. grade design plan fault ≡ Some line) faults lines → AllZip (LineHolds design plan) faults lines
 all-lines design plan law rules p [] [] h = tt
 all-lines design plan law rules p [] (line ∷ lines) h = absurd h
 all-lines design plan law rules p (fault ∷ faults) [] h = absurd h

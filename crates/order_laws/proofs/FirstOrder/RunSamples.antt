@@ -19,10 +19,12 @@ stays-earlier time until PostponedTurn h e = cc
 stays-earlier time until UpdatesTurn h e = cc
 stays-earlier time until (TimeTurn later) h e = let l : until < later = leb-false later until e in lt-leb later time (omega (arith, l, h))
 
-no-some : (time until : ℕ) (state : State) (turn : Option TurnKind) → time ≤ until → is_quiescent state ≡ true → not (is_some (turn_within until state turn)) ≡ true → (is_quiescent state && not (is_some (turn_within time state turn))) ≡ true
+no-some : (time until : ℕ) (state : State) (turn : Option TurnKind) → time ≤ until → is_quiescent state ≡ true → not (is_some (turn_within until state turn)) ≡ true →
+    (is_quiescent state && not (is_some (turn_within time state turn))) ≡ true
 no-some time until state None h q e = λ i. q i && true
 no-some time until state (Some turn) h q e =
-    λ i. q i && not (is_some (only_if (q i && stays-earlier time until turn h (stays (stays_within until turn) (sym (ap (λ b. not (is_some (only_if (b && stays_within until turn) (turned turn state)))) q) ∙ e)) i) (turned turn state)))
+    λ i. q i && not (is_some (only_if (q i && stays-earlier time until turn h (stays (stays_within until turn)
+    (sym (ap (λ b. not (is_some (only_if (b && stays_within until turn) (turned turn state)))) q) ∙ e)) i) (turned turn state)))
   where
     stays : (b : Bool) → not (is_some (only_if (true && b) (turned turn state))) ≡ true → b ≡ false
     stays true f = cc
@@ -63,7 +65,8 @@ cut_run machine time until final h ends (Turns ∷ moves) state leads =
     subst (λ s. RunsTo machine time state s) (sym (ap (by_turn machine time state moves) k.1))
     (go k.0 k.1 k.2 (cut_run machine time until final h ends moves (turned k.0 state) (subst (λ s. Leads machine until s moves final) (sym k.3) t.2)) (stays_within time k.0) refl)
   where
-    go : (turn : TurnKind) → turn_of state ≡ Some turn → is_quiescent state ≡ true → RunsTo machine time (turned turn state) (state_after_slots machine time (turned turn state) moves) → (stays : Bool) → stays_within time turn ≡ stays →
+    go : (turn : TurnKind) → turn_of state ≡ Some turn → is_quiescent state ≡ true → RunsTo machine time (turned turn state) (state_after_slots machine time (turned turn state) moves) →
+        (stays : Bool) → stays_within time turn ≡ stays →
         RunsTo machine time state (by_stay machine time state moves turn stays)
     go turn t q r true s = (
       Turns ∷ r.0,
@@ -79,14 +82,16 @@ after-earlier time until None h s = tt
 after-earlier time until (Some stop) h s = omega (arith, h, s)
 
 -- after all slots up to a time each legal run has the values of the first run, where that doesn't stop up to the time at which the run ends
-pub values_same : (machine : Machine) (time until end : ℕ) → KeepsRules machine.design → time ≤ until → until ≤ end → StopsAfter until (first_stop machine (first_run machine end)) → (moves : List Move) (final : State) → IsLegal machine until moves final →
+pub values_same : (machine : Machine) (time until end : ℕ) → KeepsRules machine.design → time ≤ until → until ≤ end → StopsAfter until (first_stop machine (first_run machine end)) →
+    (moves : List Move) (final : State) → IsLegal machine until moves final →
     (state_after_slots machine time (start machine) moves).values ≡ values_after machine [] (first_run machine end) time
 values_same machine time until end rules h k s moves final legal =
     let b = first_begins machine rules in
     let short : time ≤ end = omega (arith, h, k) in
     let u = up_to machine time end rules short (end + 1) (start machine) b (omega arith) (omega arith) (after-earlier time until (first_stop machine (first_run machine end)) h s) [] in
     let r = cut_run machine time until final h legal.ends moves (start machine) legal.leads in
-    ap (λ (t : State). t.values) (runs_end_alike machine time (start machine) u.moves r.0 u.final (state_after_slots machine time (start machine) moves) rules b.phase u.leads u.ends (u.free None) r.1 r.2) ∙ u.same_values
+    ap (λ (t : State). t.values) (runs_end_alike machine time (start machine) u.moves r.0 u.final (state_after_slots machine time (start machine) moves) rules b.phase u.leads u.ends
+    (u.free None) r.1 r.2) ∙ u.same_values
 
 -- The phases of a run that is cut so
 
@@ -94,7 +99,8 @@ values_same machine time until end rules h k s moves final legal =
 abbrev ClearTo : Machine → ℕ → Option TurnKind → State → List Event → State → State → Type 0
 ClearTo machine time turn begins events from to = (moves : List Move) × Leads machine time from moves to × (ends_by time to ≡ true) × NoConflicts machine (cut machine turn begins events from moves)
 
-cut_clear : (machine : Machine) (time until : ℕ) (final : State) → time ≤ until → ends_by until final ≡ true → (moves : List Move) (turn : Option TurnKind) (begins : State) (events : List Event) (state : State) → Leads machine until state moves final →
+cut_clear : (machine : Machine) (time until : ℕ) (final : State) → time ≤ until → ends_by until final ≡ true →
+    (moves : List Move) (turn : Option TurnKind) (begins : State) (events : List Event) (state : State) → Leads machine until state moves final →
     NoConflicts machine (cut machine turn begins events state moves) → ClearTo machine time turn begins events state (state_after_slots machine time state moves)
 cut_clear machine time until final h ends [] turn begins events state leads free = ([], refl, ends-earlier time until state h (ap (ends_by until) (some_eq state final leads) ∙ ends), free)
 cut_clear machine time until final h ends (Happens event ∷ moves) turn begins events state leads free =

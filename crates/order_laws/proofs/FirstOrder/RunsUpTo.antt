@@ -29,10 +29,12 @@ stop_by machine slot slots outcome = elim outcome [
   | Hyper ↦ Some (record { time = slot.begins.time; outcome = Hyper })
 ]
 
-first-fine : (machine : Machine) (time : ℕ) (slot : FirstSlot) (slots : List FirstSlot) → slot.begins.time ≤ time → StopsAfter time (first_stop machine (slot ∷ slots)) → (slot_outcome machine slot ≡ Fine) × StopsAfter time (first_stop machine slots)
+first-fine : (machine : Machine) (time : ℕ) (slot : FirstSlot) (slots : List FirstSlot) → slot.begins.time ≤ time → StopsAfter time (first_stop machine (slot ∷ slots)) →
+    (slot_outcome machine slot ≡ Fine) × StopsAfter time (first_stop machine slots)
 first-fine machine time slot slots low h = go (slot_outcome machine slot) refl h
   where
-    go : (outcome : SlotOutcome) → slot_outcome machine slot ≡ outcome → StopsAfter time (stop_by machine slot slots outcome) → (slot_outcome machine slot ≡ Fine) × StopsAfter time (first_stop machine slots)
+    go : (outcome : SlotOutcome) → slot_outcome machine slot ≡ outcome → StopsAfter time (stop_by machine slot slots outcome) →
+        (slot_outcome machine slot ≡ Fine) × StopsAfter time (first_stop machine slots)
     go Fine e k = (e, k)
     go (Race pair) e k = absurd (omega (arith, low, k))
     go Hyper e k = absurd (omega (arith, low, k))
@@ -47,7 +49,8 @@ pub record RunTo (machine : Machine) (time : ℕ) (state : State) (values : List
   pub same_values : final.values ≡ values
 
 -- the phases of a slot and of what follows
-free-on : (machine : Machine) (until : ℕ) (state next : State) (rest : List Move) (turn : Option TurnKind) → NextSlot machine until state next → NoConflicts machine (cut machine None state [] state (first_moves machine state)) →
+free-on : (machine : Machine) (until : ℕ) (state next : State) (rest : List Move) (turn : Option TurnKind) → NextSlot machine until state next →
+    NoConflicts machine (cut machine None state [] state (first_moves machine state)) →
     ((turn : Option TurnKind) → NoConflicts machine (cut machine turn next [] next rest)) → NoConflicts machine (cut machine turn state [] state (first_moves machine state ++ Turns ∷ rest))
 free-on machine until state next rest turn n own later =
     subst (λ phases. NoConflicts machine phases) (sym (cut_on machine rest (first_moves machine state) turn state [] state))
@@ -77,7 +80,8 @@ none-later until state turn e later f = leb-false later until (no-only (nat_le l
     no-only false g = refl
 
 -- the values after a slot that isn't later than a time
-values-first : (machine : Machine) (time : ℕ) (last : List LogicValue) (slot : FirstSlot) (slots : List FirstSlot) → slot.begins.time ≤ time → values_after machine last (slot ∷ slots) time ≡ values_after machine (slot_end machine slot).values slots time
+values-first : (machine : Machine) (time : ℕ) (last : List LogicValue) (slot : FirstSlot) (slots : List FirstSlot) → slot.begins.time ≤ time →
+    values_after machine last (slot ∷ slots) time ≡ values_after machine (slot_end machine slot).values slots time
 values-first machine time last slot slots h = ap (λ b. by_time b) (le-leb slot.begins.time time h)
   where
     by_time : Bool → List LogicValue
@@ -91,7 +95,8 @@ values-later machine time until (suc count) last next h = ap (λ b. by_time b) (
     by_time b = elim b [ true ↦ values_after machine (end_from machine next).values (slots_on count machine until (next_slot machine until (slot_from machine next))) time | false ↦ last ]
 
 pub up_to : (machine : Machine) (time until : ℕ) → KeepsRules machine.design → time ≤ until → (count : ℕ) (state : State) → Begins machine state → state.time ≤ time → until < state.time + count →
-    StopsAfter time (first_stop machine (first_slots count machine until state)) → (last : List LogicValue) → RunTo machine time state (values_after machine last (first_slots count machine until state) time)
+    StopsAfter time (first_stop machine (first_slots count machine until state)) → (last : List LogicValue) →
+    RunTo machine time state (values_after machine last (first_slots count machine until state) time)
 up_to machine time until rules short zero state b low high h last = absurd (omega (arith, short, low, high))
 up_to machine time until rules short (suc count) state b low high h last =
     let f = first-fine machine time (slot_from machine state) (slots_on count machine until (next_slot machine until (slot_from machine state))) low h in
@@ -99,17 +104,20 @@ up_to machine time until rules short (suc count) state b low high h last =
     (go (fine_calm machine (slot_from machine state) f.0) (next_slot machine until (slot_from machine state)) refl f.1
     (λ next c l k s vs. up_to machine time until rules short count next c l k s vs))
   where
-    go : (is_hyper (slot_from machine state) ≡ false) × NoConflicts machine (cut machine None state [] state (first_moves machine state)) → (found : Option State) → next_slot machine until (slot_from machine state) ≡ found →
+    go : (is_hyper (slot_from machine state) ≡ false) × NoConflicts machine (cut machine None state [] state (first_moves machine state)) → (found : Option State) →
+        next_slot machine until (slot_from machine state) ≡ found →
         StopsAfter time (first_stop machine (slots_on count machine until found)) →
         ((next : State) → Begins machine next → next.time ≤ time → until < next.time + count → StopsAfter time (first_stop machine (first_slots count machine until next)) → (vs : List LogicValue) →
-        RunTo machine time next (values_after machine vs (first_slots count machine until next) time)) → RunTo machine time state (values_after machine (end_from machine state).values (slots_on count machine until found) time)
+        RunTo machine time next (values_after machine vs (first_slots count machine until next) time)) →
+        RunTo machine time state (values_after machine (end_from machine state).values (slots_on count machine until found) time)
     go calm None e s rest =
         let c = closes machine state rules b calm.0 in
         record {
           moves = first_moves machine state;
           final = end_from machine state;
           leads = (slot_moves_may machine time state).leads;
-          ends = ends_before machine time state c (λ later g. let u : until < later = none-later until (end_from machine state) (turn_of (end_from machine state)) last-one later g in omega (arith, u, short));
+          ends = ends_before machine time state c (λ later g. let u : until < later = none-later until (end_from machine state) (turn_of (end_from machine state)) last-one later g in
+              omega (arith, u, short));
           free = λ turn. free_turn machine None turn (first_moves machine state) state [] state calm.1;
           same_values = refl;
         }

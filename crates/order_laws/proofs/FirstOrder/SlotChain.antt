@@ -4,8 +4,10 @@ use Rattle.std.specs.Prelude.{Option, Some, None, is_some, min, nat_le, slice_ge
 use Rattle.std.proofs.lemmas.Bool.{leb-false, leb-true, lt-leb}
 use Rattle.v_design.specs.Designs.{Machine}
 use Rattle.v_design.specs.Processes.{Activity, Ready, Waiting, Asleep, Postponed, Done}
-use Rattle.v_design.specs.States.{State, ProcessState, LaterUpdate, Event, TurnKind, PostponedTurn, UpdatesTurn, TimeTurn, after, possible, found_or, idle_process, some_in, is_due, least_of, wake_time, due_time, next_time_of, turn_by, is_quiescent, turn_of, turned, time_turn}
-use Rattle.v_design.specs.Runs.{Move, Happens, Turns, only_if, turn_within, moved, replayed, ends_by, Leads, IsPhase, happened, all_possible, turn_in_slot, counted_steps, most_steps, first_moves, FirstSlot, slot_end, is_hyper, next_slot_at, next_slot}
+use Rattle.v_design.specs.States.{State, ProcessState, LaterUpdate, Event, TurnKind, PostponedTurn, UpdatesTurn, TimeTurn, after, possible, found_or, idle_process, some_in, is_due, least_of}
+use Rattle.v_design.specs.States.{wake_time, due_time, next_time_of, turn_by, is_quiescent, turn_of, turned, time_turn}
+use Rattle.v_design.specs.Runs.{Move, Happens, Turns, only_if, turn_within, moved, replayed, ends_by, Leads, IsPhase, happened, all_possible, turn_in_slot, counted_steps, most_steps, first_moves}
+use Rattle.v_design.specs.Runs.{FirstSlot, slot_end, is_hyper, next_slot_at, next_slot}
 use Rattle.v_design.specs.WellFormed.{KeepsRules}
 use Rattle.v_design.specs.Laws.{BeginsPhase}
 use Rattle.order_laws.proofs.PathLaws.{or-neither}
@@ -42,7 +44,8 @@ due-above now (first ∷ later) h time e =
     let p = or-neither (is_due now first) (some_in (is_due now) later) h in
     least-above now (Some first.time) (due_time later) (λ t f. subst (λ n. now < n) (some_eq first.time t f) (leb-false first.time now p.0)) (due-above now later p.1) time e
 
-next-above : (now : ℕ) (xs : List ProcessState) → ((number : ℕ) → Later now (found_or idle_process (slice_get xs number)).activity) → some_in (λ (p : ProcessState). some_in (is_due now) p.later) xs ≡ false → Above now (next_time_of xs)
+next-above : (now : ℕ) (xs : List ProcessState) → ((number : ℕ) → Later now (found_or idle_process (slice_get xs number)).activity) →
+    some_in (λ (p : ProcessState). some_in (is_due now) p.later) xs ≡ false → Above now (next_time_of xs)
 next-above now [] h d time e = cc
 next-above now (x ∷ xs) h d time e =
     let p = or-neither (some_in (is_due now) x.later) (some_in (λ (p : ProcessState). some_in (is_due now) p.later) xs) d in
@@ -90,7 +93,8 @@ last_phase machine time final rules quiet (Turns ∷ moves) begins events state 
     let t = then-some (moved machine time state Turns) (λ next. replayed machine time next moves) final leads in
     let k = turn-some time state (turn_of state) t.0 t.1 in
     let phase : IsPhase machine begins events = record { each_possible = p; ends = ap is_quiescent (sym at) ∙ k.2 } in
-    last_phase machine time final rules quiet moves t.0 [] t.0 refl (subst (λ u. BeginsPhase machine u) (ap (turned k.0) (sym at) ∙ k.3) (next_phase_begins machine begins events k.0 rules b phase)) refl t.2
+    last_phase machine time final rules quiet moves t.0 [] t.0 refl (subst (λ u. BeginsPhase machine u) (ap (turned k.0) (sym at) ∙ k.3) (next_phase_begins machine begins events k.0 rules b phase))
+    refl t.2
 
 -- A slot that isn't hyperactive
 
@@ -146,19 +150,22 @@ pub record NextSlot (machine : Machine) (time : ℕ) (state next : State) : Type
   pub rises : state.time < next.time
   pub begins : Begins machine next
 
-turn-next : (time : ℕ) (state next : State) (turn : Option TurnKind) → next_slot_at time state turn ≡ Some next → (later : ℕ) × (turn ≡ Some (TimeTurn later)) × (nat_le later time ≡ true) × (time_turn later state ≡ next)
+turn-next : (time : ℕ) (state next : State) (turn : Option TurnKind) → next_slot_at time state turn ≡ Some next →
+    (later : ℕ) × (turn ≡ Some (TimeTurn later)) × (nat_le later time ≡ true) × (time_turn later state ≡ next)
 turn-next time state next None e = cc
 turn-next time state next (Some PostponedTurn) e = cc
 turn-next time state next (Some UpdatesTurn) e = cc
 turn-next time state next (Some (TimeTurn later)) e = let o = only-some (nat_le later time) (time_turn later state) next e in (later, refl, o.0, o.1)
 
-pub next_begins : (machine : Machine) (time : ℕ) (state next : State) → KeepsRules machine.design → Begins machine state → next_slot machine time (slot_from machine state) ≡ Some next → NextSlot machine time state next
+pub next_begins : (machine : Machine) (time : ℕ) (state next : State) → KeepsRules machine.design → Begins machine state → next_slot machine time (slot_from machine state) ≡ Some next →
+    NextSlot machine time state next
 next_begins machine time state next rules b e = go (is_hyper (slot_from machine state)) refl e
   where
     end : State
     end = end_from machine state
 
-    go : (hyper : Bool) → is_hyper (slot_from machine state) ≡ hyper → elim hyper [ true ↦ None | false ↦ next_slot_at time (end_from machine state) (turn_of (end_from machine state)) ] ≡ Some next → NextSlot machine time state next
+    go : (hyper : Bool) → is_hyper (slot_from machine state) ≡ hyper → elim hyper [ true ↦ None | false ↦ next_slot_at time (end_from machine state) (turn_of (end_from machine state)) ] ≡ Some
+        next → NextSlot machine time state next
     go true h f = cc
     go false h f =
         let c = closes machine state rules b h in
@@ -179,7 +186,8 @@ next_begins machine time state next rules b e = go (is_hyper (slot_from machine 
         }
 
 -- the end of a slot after which no turn is taken up to a time
-no-more : (time : ℕ) (state : State) (turn : Option TurnKind) → is_quiescent state ≡ true → turn_in_slot turn ≡ None → next_slot_at time state turn ≡ None → (is_quiescent state && not (is_some (turn_within time state turn))) ≡ true
+no-more : (time : ℕ) (state : State) (turn : Option TurnKind) → is_quiescent state ≡ true → turn_in_slot turn ≡ None → next_slot_at time state turn ≡ None →
+    (is_quiescent state && not (is_some (turn_within time state turn))) ≡ true
 no-more time state None q t e = λ i. q i && true
 no-more time state (Some PostponedTurn) q t e = cc
 no-more time state (Some UpdatesTurn) q t e = cc
@@ -189,7 +197,8 @@ no-more time state (Some (TimeTurn later)) q t e = go (nat_le later time) e
     go true f = cc
     go false f = λ i. q i && not (is_some (only_if (q i && false) (time_turn later state)))
 
-pub last_ends : (machine : Machine) (time : ℕ) (state : State) → Closes machine state → next_slot_at time (end_from machine state) (turn_of (end_from machine state)) ≡ None → ends_by time (end_from machine state) ≡ true
+pub last_ends : (machine : Machine) (time : ℕ) (state : State) → Closes machine state → next_slot_at time (end_from machine state) (turn_of (end_from machine state)) ≡ None →
+    ends_by time (end_from machine state) ≡ true
 last_ends machine time state c e = no-more time (end_from machine state) (turn_of (end_from machine state)) c.quiet c.turn e
 
 -- no turn to a time before the next slot's
@@ -199,7 +208,8 @@ no-turn-before time state (Some PostponedTurn) h = refl
 no-turn-before time state (Some UpdatesTurn) h = refl
 no-turn-before time state (Some (TimeTurn later)) h = ap (λ b. only_if b (time_turn later state)) (lt-leb later time (h later refl))
 
-pub ends_before : (machine : Machine) (time : ℕ) (state : State) → Closes machine state → ((later : ℕ) → turn_of (end_from machine state) ≡ Some (TimeTurn later) → time < later) → ends_by time (end_from machine state) ≡ true
+pub ends_before : (machine : Machine) (time : ℕ) (state : State) → Closes machine state → ((later : ℕ) → turn_of (end_from machine state) ≡ Some (TimeTurn later) → time < later) →
+    ends_by time (end_from machine state) ≡ true
 ends_before machine time state c h = last_ends machine time state c (no-turn-before time (end_from machine state) (turn_of (end_from machine state)) h)
 
 -- a slot ends by its own time

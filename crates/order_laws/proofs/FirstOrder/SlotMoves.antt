@@ -3,8 +3,10 @@ use Rattle.std.proofs.Common.{◌≡◌, ℕ, zero, suc, ◌+◌, List, [], ◌�
 use Rattle.std.specs.Prelude.{Option, Some, None, slice_get, is_some}
 use Rattle.vf_base.specs.Lists.{first_place, earlier_place, AllHold}
 use Rattle.v_design.specs.Designs.{Machine}
-use Rattle.v_design.specs.States.{State, ProcessState, NodeState, Event, Step, LaneStep, Evaluation, NetUpdate, TurnKind, PostponedTurn, UpdatesTurn, TimeTurn, after, possible, found_or, idle_node, idle_process, is_ready, is_any, is_quiescent, turn_of, turned}
-use Rattle.v_design.specs.Runs.{Move, Happens, Turns, then_state, only_if, turn_within, moved, replayed, named_event, or_event, least_work, work_of, first_event, turn_in_slot, event_or_turn, slot_move, turned_by, made, all_made, is_counted, less_one_if, slot_moves}
+use Rattle.v_design.specs.States.{State, ProcessState, NodeState, Event, Step, LaneStep, Evaluation, NetUpdate, TurnKind, PostponedTurn, UpdatesTurn, TimeTurn, after, possible, found_or, idle_node}
+use Rattle.v_design.specs.States.{idle_process, is_ready, is_any, is_quiescent, turn_of, turned}
+use Rattle.v_design.specs.Runs.{Move, Happens, Turns, then_state, only_if, turn_within, moved, replayed, named_event, or_event, least_work, work_of, first_event, turn_in_slot, event_or_turn}
+use Rattle.v_design.specs.Runs.{slot_move, turned_by, made, all_made, is_counted, less_one_if, slot_moves}
 use Rattle.v_design.specs.Grades.{Phase, cut}
 use Rattle.order_laws.proofs.Runs.{time-after}
 use Rattle.order_laws.specs.Settling.{FirstEvents}
@@ -25,7 +27,8 @@ work-there : (start : ℕ) (xs : List NodeState) (event : Event) → work_of sta
 work-there start [] event e = cc
 work-there start (x ∷ xs) event e = go x.marked (is_some x.pending) refl refl e (λ f. work-there (start + 1) xs event f)
   where
-    go : (a b : Bool) → x.marked ≡ a → is_some x.pending ≡ b → least_work start a b (work_of (start + 1) xs) ≡ Some event → (work_of (start + 1) xs ≡ Some event → HasWork (start + 1) xs event) → HasWork start (x ∷ xs) event
+    go : (a b : Bool) → x.marked ≡ a → is_some x.pending ≡ b → least_work start a b (work_of (start + 1) xs) ≡ Some event → (work_of (start + 1) xs ≡ Some event → HasWork (start + 1) xs event) →
+        HasWork start (x ∷ xs) event
     go true b m p f rest = (0, inl (sym (some_eq (Evaluation start) event f) ∙ ap Evaluation (let z : start ≡ start + 0 = omega arith in z), m))
     go false true m p f rest = (0, inr (sym (some_eq (NetUpdate start) event f) ∙ ap NetUpdate (let z : start ≡ start + 0 = omega arith in z), p))
     go false false m p f rest =
@@ -43,7 +46,8 @@ placed : (test : ProcessState → Bool) (xs : List ProcessState) (n : ℕ) → f
 placed test [] n e = cc
 placed test (x ∷ xs) n e = go (test x) (first_place test xs) refl refl e (λ m f. placed test xs m f)
   where
-    go : (b : Bool) (o : Option ℕ) → test x ≡ b → first_place test xs ≡ o → earlier_place b o ≡ Some n → ((m : ℕ) → first_place test xs ≡ Some m → test (found_or idle_process (slice_get xs m)) ≡ true) →
+    go : (b : Bool) (o : Option ℕ) → test x ≡ b → first_place test xs ≡ o → earlier_place b o ≡ Some n →
+        ((m : ℕ) → first_place test xs ≡ Some m → test (found_or idle_process (slice_get xs m)) ≡ true) →
         test (found_or idle_process (slice_get (x ∷ xs) n)) ≡ true
     go true o t f h rest = subst (λ k. test (found_or idle_process (slice_get (x ∷ xs) k)) ≡ true) (some_eq 0 n h) t
     go false None t f h rest = cc
@@ -90,7 +94,8 @@ record May (machine : Machine) (time : ℕ) (state : State) (move : Move) : Type
   same_time : (made machine state move).time ≡ state.time
   later : AwakeLater state → AwakeLater (made machine state move)
 
-turn-may : (machine : Machine) (time : ℕ) (state : State) (turn : TurnKind) → is_quiescent state ≡ true → turn_of state ≡ Some turn → turn_in_slot (Some turn) ≡ Some Turns → May machine time state Turns
+turn-may : (machine : Machine) (time : ℕ) (state : State) (turn : TurnKind) → is_quiescent state ≡ true → turn_of state ≡ Some turn → turn_in_slot (Some turn) ≡ Some Turns →
+    May machine time state Turns
 turn-may machine time state PostponedTurn quiet t s = record {
   leads = ap (turn_within time state) t ∙ ap (λ b. only_if (b && true) (turned PostponedTurn state)) quiet ∙ ap (λ o. Some (turned_by o state)) (sym t);
   same_time = ap (λ o. (turned_by o state).time) t;
@@ -103,7 +108,8 @@ turn-may machine time state UpdatesTurn quiet t s = record {
 }
 turn-may machine time state (TimeTurn later) quiet t s = cc
 
-turn-found : (machine : Machine) (time : ℕ) (state : State) (turn : Option TurnKind) (move : Move) → is_quiescent state ≡ true → turn_of state ≡ turn → turn_in_slot turn ≡ Some move → May machine time state move
+turn-found : (machine : Machine) (time : ℕ) (state : State) (turn : Option TurnKind) (move : Move) → is_quiescent state ≡ true → turn_of state ≡ turn → turn_in_slot turn ≡ Some move →
+    May machine time state move
 turn-found machine time state None move quiet t e = cc
 turn-found machine time state (Some PostponedTurn) move quiet t e = subst (λ m. May machine time state m) (some_eq Turns move e) (turn-may machine time state PostponedTurn quiet t refl)
 turn-found machine time state (Some UpdatesTurn) move quiet t e = subst (λ m. May machine time state m) (some_eq Turns move e) (turn-may machine time state UpdatesTurn quiet t refl)
@@ -130,9 +136,11 @@ pub record MayAll (machine : Machine) (time : ℕ) (state : State) (moves : List
   pub leads : replayed machine time state moves ≡ Some (all_made machine state moves)
   pub same_time : (all_made machine state moves).time ≡ state.time
   pub later : AwakeLater state → AwakeLater (all_made machine state moves)
-  pub phases : (turn : Option TurnKind) (begins : State) (events : List Event) → begins.time ≡ state.time → AllHold (λ (phase : Phase). phase.begins.time ≡ state.time) (cut machine turn begins events state moves)
+  pub phases : (turn : Option TurnKind) (begins : State) (events : List Event) → begins.time ≡ state.time →
+      AllHold (λ (phase : Phase). phase.begins.time ≡ state.time) (cut machine turn begins events state moves)
 
-one-more : (machine : Machine) (time : ℕ) (state : State) (move : Move) (moves : List Move) → May machine time state move → MayAll machine time (made machine state move) moves → MayAll machine time state (move ∷ moves)
+one-more : (machine : Machine) (time : ℕ) (state : State) (move : Move) (moves : List Move) → May machine time state move → MayAll machine time (made machine state move) moves →
+    MayAll machine time state (move ∷ moves)
 one-more machine time state move moves m r = record {
   leads = ap (λ o. then_state o (λ next. replayed machine time next moves)) m.leads ∙ r.leads;
   same_time = r.same_time ∙ m.same_time;
@@ -140,7 +148,8 @@ one-more machine time state move moves m r = record {
   phases = λ turn begins events t. cuts move moves m r turn begins events t;
 }
   where
-    cuts : (move : Move) (moves : List Move) → May machine time state move → MayAll machine time (made machine state move) moves → (turn : Option TurnKind) (begins : State) (events : List Event) → begins.time ≡ state.time →
+    cuts : (move : Move) (moves : List Move) → May machine time state move → MayAll machine time (made machine state move) moves → (turn : Option TurnKind) (begins : State) (events : List Event) →
+        begins.time ≡ state.time →
         AllHold (λ (phase : Phase). phase.begins.time ≡ state.time) (cut machine turn begins events state (move ∷ moves))
     cuts (Happens event) moves m r turn begins events t =
         subst (λ n. AllHold (λ (phase : Phase). phase.begins.time ≡ n) (cut machine turn begins (events ++ event ∷ []) (after machine state event) moves)) m.same_time
@@ -158,7 +167,8 @@ pub slot_may : (machine : Machine) (time fuel steps : ℕ) (state : State) → M
 slot_may machine time zero steps state = none-made machine time state
 slot_may machine time (suc fuel) steps state = go (slot_move steps state) refl (λ k s. slot_may machine time fuel k s)
   where
-    go : (found : Option Move) → slot_move steps state ≡ found → ((k : ℕ) (s : State) → MayAll machine time s (slot_moves fuel k machine s)) → MayAll machine time state (on_move fuel steps machine state found)
+    go : (found : Option Move) → slot_move steps state ≡ found → ((k : ℕ) (s : State) → MayAll machine time s (slot_moves fuel k machine s)) →
+        MayAll machine time state (on_move fuel steps machine state found)
     go None e rest = none-made machine time state
     go (Some move) e rest =
         one-more machine time state move (slot_moves fuel (less_one_if (is_counted move) steps) machine (made machine state move)) (may machine time steps state move e)

@@ -16,7 +16,8 @@ pub events-init : goal.events-init
 events-init c =
     let design = design_of c.args.design.now in
     let log = c.args.log.now.log in
-    subst (λ before. Adds (length (design_of c.args.design.now).objects) (length c.args.log.now.log.events) before c.push_held.new.list.items (map held_at c.args.log.now.log.held ++ [])) c.clear.ensures.items
+    subst (λ before. Adds (length (design_of c.args.design.now).objects) (length c.args.log.now.log.events) before c.push_held.new.list.items (map held_at c.args.log.now.log.held ++ []))
+    c.clear.ensures.items
     (Adds-same (length design.objects) (length log.events) c.clear.new.self.items c.push_held.new.list.items (map held_at (map noted_access c.held.result.now)) (map held_at log.held ++ [])
     (ap (map held_at) c.held.ensures.entries ∙ sym (append-nil (map held_at log.held)))
     (c.in_ok-push_held.ensures (length log.events)))
@@ -29,7 +30,8 @@ events-preserved c =
     Adds-same (length design.objects) (length log.events) [] c.push_event.new.list.items ((map held_at log.held ++ accesses_before design log c.events.event) ++ event) _
     (append_assoc (map held_at log.held) (accesses_before design log c.events.event) event
     ∙ ap (λ l. map held_at log.held ++ l) (sym (accesses_before-more design log c.events.event (search rules))))
-    (Adds-trans (length design.objects) (length log.events) [] c.events.list.items c.push_event.new.list.items (map held_at log.held ++ accesses_before design log c.events.event) event c.events.invariant
+    (Adds-trans (length design.objects) (length log.events) [] c.events.list.items c.push_event.new.list.items
+    (map held_at log.held ++ accesses_before design log c.events.event) event c.events.invariant
     c.in_ok-push_event.ensures)
 
 pub returns : goal.returns

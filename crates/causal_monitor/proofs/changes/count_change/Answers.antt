@@ -14,4 +14,5 @@ returns-then-count-lt2-clause-counted c = λ changes had.
 pub returns-else-count-lt2-clause-counted : goal.returns-else-count-lt2-clause-counted
 returns-else-count-lt2-clause-counted c = λ changes had.
     CountChanges-past changes c.args.counts.now.items (object_number c.args.object) (search rules)
-    (let read : c.index-count.result.now ≡ get_or c.args.counts.now.items (object_number c.args.object) 0 = get_or_read c.args.counts.now.items (object_number c.args.object) c.index-count.result.now (search rules) c.index-count.ensures 0 in omega (arith, read, c.if-count-lt2.false)) had
+    (let read : c.index-count.result.now ≡ get_or c.args.counts.now.items (object_number c.args.object) 0 =
+    get_or_read c.args.counts.now.items (object_number c.args.object) c.index-count.result.now (search rules) c.index-count.ensures 0 in omega (arith, read, c.if-count-lt2.false)) had

@@ -21,4 +21,5 @@ read_kind design objects list o object is same low =
 pub returns : goal.returns
 returns c =
     c.is_net_kind.ensures
-    ∙ read_kind (design_of c.args.design.now) c.args.design.now.objects c.as_slice-objects.result.now (object_number c.args.object) c.index-objects-object.result refl c.as_slice-objects.ensures c.requires
+    ∙ read_kind (design_of c.args.design.now) c.args.design.now.objects c.as_slice-objects.result.now
+    (object_number c.args.object) c.index-objects-object.result refl c.as_slice-objects.ensures c.requires

@@ -21,7 +21,8 @@ back-preserved c =
     record {
       noted = omega (arith, c.back.invariant.noted);
       same =
-          sym (orders-cause c.args.log.now.log c.requires.earlier c.args.first c.back.at c.in-Some.cause (omega (arith, c.back.invariant.noted)) (λ same. omega (arith, c.back-test.true, same)) (search rules))
+          sym (orders-cause c.args.log.now.log c.requires.earlier c.args.first c.back.at c.in-Some.cause (omega (arith, c.back.invariant.noted)) (λ same. omega (arith, c.back-test.true, same))
+          (search rules))
           ∙ c.back.invariant.same;
     }
 

@@ -10,5 +10,6 @@ use Rattle.dict_text.proofs.diagnosis.append_founds.Given as goal
 abbrev pub invariant-founds : goal.invariant-founds
 invariant-founds l =
     (l.out.items
-    ++ joined (zip_with (λ fault found. found_line (fault_word (design_of l.design) fault) found) (map fault_of (drop (length l.yielded) l.faults)) (map found_view (drop (length l.yielded) l.founds))))
+    ++ joined (zip_with (λ fault found. found_line (fault_word (design_of l.design) fault) found) (map fault_of (drop (length l.yielded) l.faults))
+    (map found_view (drop (length l.yielded) l.founds))))
     ≡ (l.initial.out.items ++ joined (zip_with (λ fault found. found_line (fault_word (design_of l.design) fault) found) (map fault_of l.faults) (map found_view l.founds)))

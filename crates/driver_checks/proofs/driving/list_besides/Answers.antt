@@ -8,5 +8,6 @@ use Rattle.driver_checks.proofs.driving.list_besides.Goals as goal
 
 pub parts-preserved : goal.parts-preserved
 parts-preserved c =
-    turn part_of (λ ps. driving_besides c.args.signals.now c.args.targets.now (signals_of ps)) (besides-append c.args.signals.now c.args.targets.now) c.args.parts.now c.parts.part-index c.part-item.result [] _ _ c.parts-test.true c.part-item.is
+    turn part_of (λ ps. driving_besides c.args.signals.now c.args.targets.now (signals_of ps))
+    (besides-append c.args.signals.now c.args.targets.now) c.args.parts.now c.parts.part-index c.part-item.result [] _ _ c.parts-test.true c.part-item.is
     c.parts.invariant c.in_ok-push_part.ensures

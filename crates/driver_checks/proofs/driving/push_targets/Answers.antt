@@ -7,4 +7,5 @@ use Rattle.driver_checks.proofs.driving.push_targets.Goals as goal
 
 pub drives-preserved : goal.drives-preserved
 drives-preserved c =
-    turn drive_of drive_signals targets-append c.args.drives.now c.drives.drive-index c.drive-item.result (keys_of c.args.names.now.items) _ _ c.drives-test.true c.drive-item.is c.drives.invariant c.in_ok-push_target.ensures
+    turn drive_of drive_signals targets-append c.args.drives.now c.drives.drive-index c.drive-item.result
+    (keys_of c.args.names.now.items) _ _ c.drives-test.true c.drive-item.is c.drives.invariant c.in_ok-push_target.ensures

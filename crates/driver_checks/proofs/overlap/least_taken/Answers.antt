@@ -8,4 +8,5 @@ taken-init c = sym (among-none (bits_of c.args.bits))
 
 pub taken-preserved : goal.taken-preserved
 taken-preserved c =
-    taken-turn c.args.taken.now c.taken.run-index c.run-item.result (bits_of c.args.bits) c.taken.least c.shared_bit.result _ c.taken-test.true c.run-item.is c.taken.invariant c.shared_bit.ensures c.lesser-least.ensures
+    taken-turn c.args.taken.now c.taken.run-index c.run-item.result (bits_of c.args.bits) c.taken.least c.shared_bit.result _ c.taken-test.true c.run-item.is c.taken.invariant c.shared_bit.ensures
+    c.lesser-least.ensures

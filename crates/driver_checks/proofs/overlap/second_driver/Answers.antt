@@ -11,5 +11,6 @@ returns-in-Some c =
 
 pub drives-preserved : goal.drives-preserved
 drives-preserved c =
-    none-here (flat_map bits_of c.drives.taken.items) (flat_map bits_of c.take_bits.new.taken.items) c.args.drives.now c.drives.drive-index c.drive-item.result _ c.drives-test.true c.drive-item.is c.drives.invariant
+    none-here (flat_map bits_of c.drives.taken.items) (flat_map bits_of c.take_bits.new.taken.items) c.args.drives.now c.drives.drive-index c.drive-item.result _ c.drives-test.true c.drive-item.is
+    c.drives.invariant
     (c.in_default.ensures ∙ ap (λ taken. least_among (flat_map bits_of taken) (bits_of c.drive-item.result.bits)) c.deref.ensures.value) c.in_ok-take_bits.ensures

@@ -14,4 +14,5 @@ pub push_assignments-returns-in_ok-push_items-in-Case : goal.push_assignments-re
 push_assignments-returns-in_ok-push_items-in-Case t c =
     c.in_ok-push_items-in-Case.ensures
     ∙ ap (λ ns. assignments_listed c.args.names.now.items ++ ns)
-    (ap (flat_map item_assigned) c.deref-in-Case.ensures.value ∙ sym (case-assigned c.in-Case.place c.in-Case.kind c.in-Case.value c.in-Case.items) ∙ ap (λ (s : Stmt). statement_assigned s) (sym c.in-Case.is))
+    (ap (flat_map item_assigned) c.deref-in-Case.ensures.value ∙ sym (case-assigned c.in-Case.place c.in-Case.kind c.in-Case.value c.in-Case.items)
+    ∙ ap (λ (s : Stmt). statement_assigned s) (sym c.in-Case.is))

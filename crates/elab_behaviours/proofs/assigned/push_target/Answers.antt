@@ -7,4 +7,5 @@ use Rattle.elab_behaviours.proofs.assigned.push_target.Goals as goal
 pub returns-in_ok-push_selects-in-Joined : goal.returns-in_ok-push_selects-in-Joined
 returns-in_ok-push_selects-in-Joined c =
     c.in_ok-push_selects-in-Joined.ensures
-    ∙ ap (λ ns. assignments_listed c.args.names.now.items ++ ns) (ap (map select_assigned) c.as_slice.ensures ∙ sym (selects-assigned c.in-Joined.selects) ∙ ap (λ (t : Target). target_assigned t) (sym c.in-Joined.is))
+    ∙ ap (λ ns. assignments_listed c.args.names.now.items ++ ns) (ap (map select_assigned) c.as_slice.ensures ∙ sym (selects-assigned c.in-Joined.selects)
+    ∙ ap (λ (t : Target). target_assigned t) (sym c.in-Joined.is))

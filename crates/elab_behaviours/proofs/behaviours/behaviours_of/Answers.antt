@@ -7,6 +7,8 @@ pub parts-preserved : goal.parts-preserved
 parts-preserved c =
     let parts = parts_of c.args.wiring.now.parts.now in
     record {
-      nodes = part-turn nodes_of nodes-append parts c.args.wiring.now.parts.now c.parts.number c.part-item.result _ _ c.parts-test.true c.part-item.is c.parts.invariant.nodes c.in_ok-push_part.ensures.nodes;
-      processes = part-turn processes_of processes-append parts c.args.wiring.now.parts.now c.parts.number c.part-item.result _ _ c.parts-test.true c.part-item.is c.parts.invariant.processes c.in_ok-push_part.ensures.processes;
+      nodes = part-turn nodes_of nodes-append parts c.args.wiring.now.parts.now c.parts.number c.part-item.result _ _ c.parts-test.true c.part-item.is c.parts.invariant.nodes
+          c.in_ok-push_part.ensures.nodes;
+      processes = part-turn processes_of processes-append parts c.args.wiring.now.parts.now c.parts.number c.part-item.result _ _ c.parts-test.true c.part-item.is c.parts.invariant.processes
+          c.in_ok-push_part.ensures.processes;
     }

@@ -11,12 +11,16 @@ use Rattle.elab_connections.proofs.assigned.push_connection_parts.Goals as goal
 pub connections-preserved : goal.connections-preserved
 connections-preserved c child are p paths =
     let order : List Identifier = head_names child.inner.heads in
-    let connected : option_map name_seen c.connected-port.result ≡ connected_name order c.connections.position c.index-connections-position.result.name = c.connected-port.ensures order (subst (AreNames order) (sym c.ports.ensures) are.formals_are.ports_are) in
-    turn-more (λ (x : Connection). connection_parts child p (connected_name order c.connections.position x.name) (expression_in x.actual)) (λ i (xs : List Connection). connections_parts child p i (map connection_of xs)) c.args.connections.now c.connections.position c.index-connections-position.result
+    let connected : option_map name_seen c.connected-port.result ≡ connected_name order c.connections.position c.index-connections-position.result.name =
+    c.connected-port.ensures order (subst (AreNames order) (sym c.ports.ensures) are.formals_are.ports_are) in
+    turn-more (λ (x : Connection). connection_parts child p (connected_name order c.connections.position x.name) (expression_in x.actual))
+    (λ i (xs : List Connection). connections_parts child p i (map connection_of xs)) c.args.connections.now c.connections.position c.index-connections-position.result
     (parts_of c.connections.parts.items) (parts_of c.push_connection.new.parts.items) _ (λ y ys. refl) c.connections-test.true c.index-connections-position.is
-    (c.in_ok-push_connection.ensures child are p paths ∙ ap (λ (n : Option Identifier). parts_of c.connections.parts.items ++ connection_parts child p n (expression_in c.index-connections-position.result.actual)) connected)
+    (c.in_ok-push_connection.ensures child are p paths ∙ ap (λ (n : Option Identifier). parts_of c.connections.parts.items
+    ++ connection_parts child p n (expression_in c.index-connections-position.result.actual)) connected)
     (c.connections.invariant child are p paths)
 
 pub returns : goal.returns
 returns c child are p paths =
-    turn-end (λ i (xs : List Connection). connections_parts child p i (map connection_of xs)) c.args.connections.now c.connections.position (parts_of c.connections.parts.items) _ refl c.connections-test.false (c.connections.invariant child are p paths)
+    turn-end (λ i (xs : List Connection). connections_parts child p i (map connection_of xs)) c.args.connections.now c.connections.position
+    (parts_of c.connections.parts.items) _ refl c.connections-test.false (c.connections.invariant child are p paths)

@@ -10,4 +10,5 @@ use Rattle.elab_connections.proofs.assigned.push_connection_parts.Given as goal
 abbrev pub invariant-connections : goal.invariant-connections
 invariant-connections l =
     (child : plain.Child) → IsChild child l.child → (p : plain.Paths) → ArePaths p l.paths
-    → parts_of l.parts.items ++ connections_parts child p l.position (map connection_of (drop l.position l.connections)) ≡ parts_of l.initial.parts.items ++ connections_parts child p 0 (map connection_of l.connections)
+    → parts_of l.parts.items ++ connections_parts child p l.position (map connection_of (drop l.position l.connections)) ≡ parts_of l.initial.parts.items
+    ++ connections_parts child p 0 (map connection_of l.connections)

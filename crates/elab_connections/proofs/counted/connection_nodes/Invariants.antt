@@ -9,5 +9,6 @@ use Rattle.elab_connections.proofs.counted.connection_nodes.Given as goal
 abbrev pub invariant-connections : goal.invariant-connections
 invariant-connections l = record {
   most : l.nodes ≤ l.position;
-  counts : (child : plain.Child) → IsChild child l.child → (p : plain.Paths) → CountsSoFar (connections_parts child p l.position (map connection_of (drop l.position l.connections))) (connections_parts child p 0 (map connection_of l.connections)) l.nodes;
+  counts : (child : plain.Child) → IsChild child l.child → (p : plain.Paths) → CountsSoFar (connections_parts child p l.position (map connection_of (drop l.position l.connections)))
+      (connections_parts child p 0 (map connection_of l.connections)) l.nodes;
 }

@@ -16,7 +16,8 @@ entries-preserved c = λ (name : List ℕ).
     ap (λ (o : Option Place). is_some o || rest) (c.in_ok-put.ensures name)
     ∙ kept-turn (same_name c.as_bytes.result.now name) entry.select.place (kept c.entries.names name) rest
     ∙ ap (λ (n : List ℕ). is_some (kept c.entries.names name) || (same_name n name || rest)) c.as_bytes.ensures
-    ∙ ap (λ (es : List Entry). is_some (kept c.entries.names name) || has_name (entry_names (map entry_of es)) name) (sym (drop-step c.args.entries.now c.entries.entry-index entry c.entries-test.true c.entry-item.is))
+    ∙ ap (λ (es : List Entry). is_some (kept c.entries.names name) || has_name (entry_names (map entry_of es)) name)
+    (sym (drop-step c.args.entries.now c.entries.entry-index entry c.entries-test.true c.entry-item.is))
     ∙ c.entries.invariant name
 
 pub returns : goal.returns

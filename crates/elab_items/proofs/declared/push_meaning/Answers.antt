@@ -27,5 +27,6 @@ pub returns-in_ok-push_part-in-Memory : goal.returns-in_ok-push_part-in-Memory
 returns-in_ok-push_part-in-Memory c h i =
     let before : List Part = parts_of c.args.parts.now.items in
     c.in_ok-push_part-in-Memory.ensures
-    ∙ ap (λ (p : Part). before ++ p ∷ []) (c.in_ok-part-in-Memory.ensures h i ∙ ap (λ (r : DeclaredRange). memory_part h (declaration_seen c.args.own) r c.in-Memory.first c.in-Memory.last) c.in_ok-range-in-Memory.ensures)
+    ∙ ap (λ (p : Part). before ++ p ∷ []) (c.in_ok-part-in-Memory.ensures h i ∙ ap (λ (r : DeclaredRange). memory_part h (declaration_seen c.args.own) r c.in-Memory.first c.in-Memory.last)
+    c.in_ok-range-in-Memory.ensures)
     ∙ ap (λ (e : Entry). before ++ part_by_entry h (declaration_seen c.args.own) (Some (entry_of e))) (sym c.in-Memory.is)

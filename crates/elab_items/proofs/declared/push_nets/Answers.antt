@@ -13,10 +13,12 @@ use Rattle.elab_items.proofs.declared.push_nets.Goals as goal
 pub wires-preserved : goal.wires-preserved
 wires-preserved c h signed bounds i =
     let net = λ (x : Wire). let d : Declaration = record { name = x.name; place = source_place x.place; declared = DeclaredNet signed bounds } in d in
-    list-more (λ (x : Wire). parts_of_own h (names_declared h.instance.inner) (net x)) (λ (xs : List Wire). flat_map (parts_of_own h (names_declared h.instance.inner)) (wire_declarations signed bounds (map wire_of xs)))
+    list-more (λ (x : Wire). parts_of_own h (names_declared h.instance.inner) (net x)) (λ (xs : List Wire).
+    flat_map (parts_of_own h (names_declared h.instance.inner)) (wire_declarations signed bounds (map wire_of xs)))
     c.args.wires.now c.wires.wire-index c.wire-item.result (parts_of c.wires.parts.items) (parts_of c.push_own.new.parts.items) _ (λ y ys. refl) c.wires-test.true c.wire-item.is
     (c.in_ok-push_own.ensures h (net c.wire-item.result) i refl refl) (c.wires.invariant h signed bounds i)
 
 pub returns : goal.returns
 returns c h signed bounds i =
-    list-done (λ (xs : List Wire). flat_map (parts_of_own h (names_declared h.instance.inner)) (wire_declarations signed bounds (map wire_of xs))) c.args.wires.now c.wires.wire-index (parts_of c.wires.parts.items) _ refl c.wires-test.false (c.wires.invariant h signed bounds i)
+    list-done (λ (xs : List Wire). flat_map (parts_of_own h (names_declared h.instance.inner)) (wire_declarations signed bounds (map wire_of xs))) c.args.wires.now c.wires.wire-index
+    (parts_of c.wires.parts.items) _ refl c.wires-test.false (c.wires.invariant h signed bounds i)

@@ -12,10 +12,12 @@ use Rattle.elab_items.proofs.declared.push_regs.Goals as goal
 pub regs-preserved : goal.regs-preserved
 regs-preserved c h signed bounds i =
     let reg = λ (x : Reg). let d : Declaration = record { name = x.name; place = source_place x.place; declared = reg_declared signed bounds (content_of x.content) } in d in
-    list-more (λ (x : Reg). parts_of_own h (names_declared h.instance.inner) (reg x)) (λ (xs : List Reg). flat_map (parts_of_own h (names_declared h.instance.inner)) (reg_declarations signed bounds (map reg_of xs)))
+    list-more (λ (x : Reg). parts_of_own h (names_declared h.instance.inner) (reg x)) (λ (xs : List Reg).
+    flat_map (parts_of_own h (names_declared h.instance.inner)) (reg_declarations signed bounds (map reg_of xs)))
     c.args.regs.now c.regs.reg-index c.reg-item.result (parts_of c.regs.parts.items) (parts_of c.push_own.new.parts.items) _ (λ y ys. refl) c.regs-test.true c.reg-item.is
     (c.in_ok-push_own.ensures h (reg c.reg-item.result) i refl refl) (c.regs.invariant h signed bounds i)
 
 pub returns : goal.returns
 returns c h signed bounds i =
-    list-done (λ (xs : List Reg). flat_map (parts_of_own h (names_declared h.instance.inner)) (reg_declarations signed bounds (map reg_of xs))) c.args.regs.now c.regs.reg-index (parts_of c.regs.parts.items) _ refl c.regs-test.false (c.regs.invariant h signed bounds i)
+    list-done (λ (xs : List Reg). flat_map (parts_of_own h (names_declared h.instance.inner)) (reg_declarations signed bounds (map reg_of xs))) c.args.regs.now c.regs.reg-index
+    (parts_of c.regs.parts.items) _ refl c.regs-test.false (c.regs.invariant h signed bounds i)

@@ -10,7 +10,9 @@ use Rattle.elab_items.proofs.drives.drives_of_selects.Goals as goal
 
 pub selects-preserved : goal.selects-preserved
 selects-preserved c =
-    list-more (λ (s : Select). drive_of_select c.args.path.now c.args.scope.now (select_of s) ∷ []) (λ (xs : List Select). drives_of_selects c.args.path.now c.args.scope.now (map select_of xs)) c.args.selects.now c.selects.select-index c.select-item.result
+    list-more (λ (s : Select). drive_of_select c.args.path.now c.args.scope.now (select_of s) ∷ [])
+    (λ (xs : List Select). drives_of_selects c.args.path.now c.args.scope.now (map select_of xs)) c.args.selects.now c.selects.select-index c.select-item.result
     (views.drives_of c.selects.drives.items) (views.drives_of c.push.new.self.items) _ (λ y ys. refl) c.selects-test.true c.select-item.is
-    (ap views.drives_of c.in_ok-push.ensures.items ∙ map_push views.drive_of c.selects.drives.items c.in_ok-drive.drive ∙ ap (λ (d : Drive). views.drives_of c.selects.drives.items ++ d ∷ []) c.in_ok-drive.ensures)
+    (ap views.drives_of c.in_ok-push.ensures.items ∙ map_push views.drive_of c.selects.drives.items c.in_ok-drive.drive
+    ∙ ap (λ (d : Drive). views.drives_of c.selects.drives.items ++ d ∷ []) c.in_ok-drive.ensures)
     c.selects.invariant

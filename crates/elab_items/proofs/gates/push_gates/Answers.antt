@@ -11,10 +11,12 @@ use Rattle.elab_items.specs.Gates.{gate_part}
 use Rattle.elab_items.proofs.Rows.{list-done}
 use Rattle.elab_items.proofs.gates.push_gates.Goals as goal
 
-gates-more : (h : Here) (kind : GateKind) (number next : ℕ) (gate : SourceGate) (rest : List SourceGate) (old new whole : List Part) → next ≡ number + 1 → new ≡ old ++ gate_part h kind number gate ∷ []
+gates-more : (h : Here) (kind : GateKind) (number next : ℕ) (gate : SourceGate) (rest : List SourceGate) (old new whole : List Part) → next ≡ number + 1 →
+    new ≡ old ++ gate_part h kind number gate ∷ []
     → old ++ gate_parts h kind number (gate ∷ rest) ≡ whole → new ++ gate_parts h kind next rest ≡ whole
 gates-more h kind number next gate rest old new whole n e k =
-    ap (λ (m : ℕ). new ++ gate_parts h kind m rest) n ∙ ap (λ (ps : List Part). ps ++ gate_parts h kind (number + 1) rest) e ∙ append_assoc old (gate_part h kind number gate ∷ []) (gate_parts h kind (number + 1) rest) ∙ k
+    ap (λ (m : ℕ). new ++ gate_parts h kind m rest) n ∙ ap (λ (ps : List Part). ps ++ gate_parts h kind (number + 1) rest) e
+    ∙ append_assoc old (gate_part h kind number gate ∷ []) (gate_parts h kind (number + 1) rest) ∙ k
 
 pub gates-init : goal.gates-init
 gates-init c h i =
@@ -25,9 +27,12 @@ pub gates-preserved : goal.gates-preserved
 gates-preserved c h i =
     let number : ℕ = (c.args.before + 1) + c.gates.place in
     let next : (c.args.before + 1) + (c.gates.place + 1) ≡ number + 1 = omega arith in
-    gates-more h c.args.kind number ((c.args.before + 1) + (c.gates.place + 1)) (gate_of c.index-gates-place.result) (map gate_of (drop (c.gates.place + 1) c.args.gates.now)) (parts_of c.gates.parts.items) (parts_of c.push_part.new.parts.items) _ next
+    gates-more h c.args.kind number ((c.args.before + 1) + (c.gates.place + 1)) (gate_of c.index-gates-place.result) (map gate_of (drop (c.gates.place + 1) c.args.gates.now))
+    (parts_of c.gates.parts.items) (parts_of c.push_part.new.parts.items) _ next
     (c.in_ok-push_part.ensures ∙ ap (λ (p : Part). parts_of c.gates.parts.items ++ p ∷ []) (c.in_ok-part.ensures h i))
-    (ap (λ (gs : List Gate). parts_of c.gates.parts.items ++ gate_parts h c.args.kind number (map gate_of gs)) (sym (drop-step c.args.gates.now c.gates.place c.index-gates-place.result c.gates-test.true c.index-gates-place.is)) ∙ c.gates.invariant h i)
+    (ap (λ (gs : List Gate). parts_of c.gates.parts.items ++ gate_parts h c.args.kind number (map gate_of gs))
+    (sym (drop-step c.args.gates.now c.gates.place c.index-gates-place.result c.gates-test.true c.index-gates-place.is)) ∙ c.gates.invariant h i)
 
 pub returns : goal.returns
-returns c h i = list-done (λ (gs : List Gate). gate_parts h c.args.kind ((c.args.before + 1) + c.gates.place) (map gate_of gs)) c.args.gates.now c.gates.place (parts_of c.gates.parts.items) _ refl c.gates-test.false (c.gates.invariant h i)
+returns c h i = list-done (λ (gs : List Gate). gate_parts h c.args.kind ((c.args.before + 1) + c.gates.place) (map gate_of gs)) c.args.gates.now c.gates.place
+    (parts_of c.gates.parts.items) _ refl c.gates-test.false (c.gates.invariant h i)

@@ -9,4 +9,5 @@ use Rattle.elab_items.proofs.gates.push_gates.Given as goal
 abbrev pub invariant-gates : goal.invariant-gates
 invariant-gates l =
     (h : plain.Here) → IsHere h l.here
-    → parts_of l.parts.items ++ gate_parts h l.kind ((l.before + 1) + l.place) (map gate_of (drop l.place l.gates)) ≡ parts_of l.initial.parts.items ++ gate_parts h l.kind (l.before + 1) (map gate_of l.gates)
+    → parts_of l.parts.items ++ gate_parts h l.kind ((l.before + 1) + l.place) (map gate_of (drop l.place l.gates)) ≡ parts_of l.initial.parts.items
+    ++ gate_parts h l.kind (l.before + 1) (map gate_of l.gates)

@@ -24,7 +24,8 @@ terminals-listed scope (input ∷ inputs) = ap (more_sized (tree_in 1 (reading_o
 pub inputs-preserved : goal.inputs-preserved
 inputs-preserved c =
     let tree = λ (e : Expr). tree_in 1 (reading_of c.args.scope.now (expression_of e)) in
-    list-more (λ (e : Expr). tree e ∷ []) (λ (es : List Expr). map tree es) c.args.inputs.now c.inputs.input-index c.input-item.result (map sized_of c.inputs.terminals.items) (map sized_of c.push.new.self.items) _ (λ y ys. refl) c.inputs-test.true c.input-item.is
+    list-more (λ (e : Expr). tree e ∷ []) (λ (es : List Expr). map tree es) c.args.inputs.now c.inputs.input-index c.input-item.result (map sized_of c.inputs.terminals.items)
+    (map sized_of c.push.new.self.items) _ (λ y ys. refl) c.inputs-test.true c.input-item.is
     (ap (λ (ts : List SizedExpr). map sized_of ts) c.in_ok-push.ensures.items ∙ map_push sized_of c.inputs.terminals.items c.tree_in.result
     ∙ ap (λ (t : SizedExpression). map sized_of c.inputs.terminals.items ++ t ∷ []) (c.tree_in.ensures (reading_of c.args.scope.now (expression_of c.input-item.result)) c.in_ok-read.ensures))
     c.inputs.invariant
@@ -33,5 +34,6 @@ pub returns : goal.returns
 returns c =
     let tree = λ (e : Expr). tree_in 1 (reading_of c.args.scope.now (expression_of e)) in
     sized-listed c.inputs.terminals.items
-    ∙ ap listed_sized (list-done (λ (es : List Expr). map tree es) c.args.inputs.now c.inputs.input-index (map sized_of c.inputs.terminals.items) (map tree c.args.inputs.now) refl c.inputs-test.false c.inputs.invariant)
+    ∙ ap listed_sized (list-done (λ (es : List Expr). map tree es) c.args.inputs.now c.inputs.input-index (map sized_of c.inputs.terminals.items)
+    (map tree c.args.inputs.now) refl c.inputs-test.false c.inputs.invariant)
     ∙ sym (terminals-listed c.args.scope.now c.args.inputs.now)

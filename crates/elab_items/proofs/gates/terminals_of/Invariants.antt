@@ -7,4 +7,5 @@ use Rattle.elab_items.proofs.gates.terminals_of.Given as goal
 
 abbrev pub invariant-inputs : goal.invariant-inputs
 invariant-inputs l =
-    map sized_of l.terminals.items ++ map (λ (e : Expr). tree_in 1 (reading_of l.scope (expression_of e))) (drop l.input-index l.inputs) ≡ map (λ (e : Expr). tree_in 1 (reading_of l.scope (expression_of e))) l.inputs
+    map sized_of l.terminals.items ++ map (λ (e : Expr). tree_in 1 (reading_of l.scope (expression_of e))) (drop l.input-index l.inputs) ≡ map
+    (λ (e : Expr). tree_in 1 (reading_of l.scope (expression_of e))) l.inputs

@@ -32,13 +32,15 @@ pub returns-in_ok-push_regs-in-Reg : goal.returns-in_ok-push_regs-in-Reg
 returns-in_ok-push_regs-in-Reg c h i =
     let bounds : Bounds = bounds_of (range_in c.in-Reg.range) in
     c.in_ok-push_regs-in-Reg.ensures h c.in-Reg.signed bounds i
-    ∙ ap (λ (rs : List Reg). parts_of c.args.parts.now.items ++ flat_map (parts_of_own h (names_declared h.instance.inner)) (reg_declarations c.in-Reg.signed bounds (map reg_of rs))) c.as_slice-in-Reg.ensures
+    ∙ ap (λ (rs : List Reg). parts_of c.args.parts.now.items ++ flat_map (parts_of_own h (names_declared h.instance.inner)) (reg_declarations c.in-Reg.signed bounds (map reg_of rs)))
+    c.as_slice-in-Reg.ensures
     ∙ ap (λ (item : Item). parts_of c.args.parts.now.items ++ item_parts h c.args.gates (item_of item)) (sym c.in-Reg.is)
 
 pub returns-in_ok-push_regs-in-Integer : goal.returns-in_ok-push_regs-in-Integer
 returns-in_ok-push_regs-in-Integer c h i =
     c.in_ok-push_regs-in-Integer.ensures h true IntegerBounds i
-    ∙ ap (λ (rs : List Reg). parts_of c.args.parts.now.items ++ flat_map (parts_of_own h (names_declared h.instance.inner)) (reg_declarations true IntegerBounds (map reg_of rs))) c.as_slice-in-Integer.ensures
+    ∙ ap (λ (rs : List Reg). parts_of c.args.parts.now.items ++ flat_map (parts_of_own h (names_declared h.instance.inner)) (reg_declarations true IntegerBounds (map reg_of rs)))
+    c.as_slice-in-Integer.ensures
     ∙ ap (λ (item : Item). parts_of c.args.parts.now.items ++ item_parts h c.args.gates (item_of item)) (sym c.in-Integer.is)
 
 pub returns-in_ok-push_assignments-in-Assign : goal.returns-in_ok-push_assignments-in-Assign

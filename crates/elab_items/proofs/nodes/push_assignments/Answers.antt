@@ -11,10 +11,13 @@ use Rattle.elab_items.proofs.nodes.push_assignments.Goals as goal
 
 pub assignments-preserved : goal.assignments-preserved
 assignments-preserved c h i =
-    list-more (λ (x : Assignment). assign_part h (target_of x.target) (expression_of x.value) ∷ []) (λ (xs : List Assignment). map (λ (a : SourceAssignment). assign_part h a.target a.value) (map assignment_of xs))
-    c.args.assignments.now c.assignments.assignment-index c.assignment-item.result (parts_of c.assignments.parts.items) (parts_of c.push_part.new.parts.items) _ (λ y ys. refl) c.assignments-test.true c.assignment-item.is
+    list-more (λ (x : Assignment). assign_part h (target_of x.target) (expression_of x.value) ∷ [])
+    (λ (xs : List Assignment). map (λ (a : SourceAssignment). assign_part h a.target a.value) (map assignment_of xs))
+    c.args.assignments.now c.assignments.assignment-index c.assignment-item.result (parts_of c.assignments.parts.items) (parts_of c.push_part.new.parts.items) _
+    (λ y ys. refl) c.assignments-test.true c.assignment-item.is
     (c.in_ok-push_part.ensures ∙ ap (λ (p : Part). parts_of c.assignments.parts.items ++ p ∷ []) (c.in_ok-part.ensures h i)) (c.assignments.invariant h i)
 
 pub returns : goal.returns
 returns c h i =
-    list-done (λ (xs : List Assignment). map (λ (a : SourceAssignment). assign_part h a.target a.value) (map assignment_of xs)) c.args.assignments.now c.assignments.assignment-index (parts_of c.assignments.parts.items) _ refl c.assignments-test.false (c.assignments.invariant h i)
+    list-done (λ (xs : List Assignment). map (λ (a : SourceAssignment). assign_part h a.target a.value) (map assignment_of xs)) c.args.assignments.now c.assignments.assignment-index
+    (parts_of c.assignments.parts.items) _ refl c.assignments-test.false (c.assignments.invariant h i)

@@ -14,4 +14,5 @@ wires-preserved c h i =
     (c.in_ok-push_wire.ensures h i) (c.wires.invariant h i)
 
 pub returns : goal.returns
-returns c h i = list-done (λ (xs : List Wire). flat_map (wire_parts h) (map wire_of xs)) c.args.wires.now c.wires.wire-index (parts_of c.wires.parts.items) _ refl c.wires-test.false (c.wires.invariant h i)
+returns c h i = list-done (λ (xs : List Wire). flat_map (wire_parts h) (map wire_of xs)) c.args.wires.now c.wires.wire-index (parts_of c.wires.parts.items) _ refl c.wires-test.false
+    (c.wires.invariant h i)

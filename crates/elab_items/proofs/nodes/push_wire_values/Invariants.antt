@@ -8,4 +8,5 @@ use Rattle.elab_items.proofs.nodes.push_wire_values.Given as goal
 
 abbrev pub invariant-wires : goal.invariant-wires
 invariant-wires l =
-    (h : plain.Here) → IsHere h l.here → parts_of l.parts.items ++ flat_map (wire_parts h) (map wire_of (drop l.wire-index l.wires)) ≡ parts_of l.initial.parts.items ++ flat_map (wire_parts h) (map wire_of l.wires)
+    (h : plain.Here) → IsHere h l.here → parts_of l.parts.items ++ flat_map (wire_parts h) (map wire_of (drop l.wire-index l.wires)) ≡ parts_of l.initial.parts.items
+    ++ flat_map (wire_parts h) (map wire_of l.wires)

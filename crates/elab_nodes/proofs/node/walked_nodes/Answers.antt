@@ -14,6 +14,8 @@ nodes-preserved c parts objects are all =
     let made = map node_of c.nodes.flats.items in
     push-turn made _ (plain.flat_node parts objects c.nodes.number node) _ _ _
     (ap (map node_of) c.in_ok-push.ensures.items ∙ (map_push node_of c.nodes.flats.items _
-    ∙ ap (λ p. made ++ p ∷ []) (c.in_ok-flat_node.ensures parts objects are ∙ ap (λ o. node_by parts objects o node) (c.outputs_at-own.ensures objects (length c.args.nodes.now) all c.nodes-test.true))))
-    (ap (λ l. map_numbered (plain.flat_node parts objects) c.nodes.number (map walked.node_of l)) (here c.args.nodes.now c.nodes.number c.index-nodes-number.result c.nodes-test.true (sym c.index-nodes-number.is)))
+    ∙ ap (λ p. made ++ p ∷ []) (c.in_ok-flat_node.ensures parts objects are ∙ ap (λ o. node_by parts objects o node)
+    (c.outputs_at-own.ensures objects (length c.args.nodes.now) all c.nodes-test.true))))
+    (ap (λ l. map_numbered (plain.flat_node parts objects) c.nodes.number (map walked.node_of l))
+    (here c.args.nodes.now c.nodes.number c.index-nodes-number.result c.nodes-test.true (sym c.index-nodes-number.is)))
     (c.nodes.invariant parts objects are all)

@@ -17,7 +17,8 @@ use Rattle.elab_objects.proofs.parts.push_signal.Goals as goal
 pub returns-in-Some : goal.returns-in-Some
 returns-in-Some c =
     let name = c.args.signal.now.name in
-    let found = first-found c.args.driving.now name c.as_bytes-name.result.now c.deref.result.now c.first_by_depth.result c.as_bytes-name.ensures (c.deref.ensures.value ∙ c.in_ok-variables.ensures) c.first_by_depth.ensures in
+    let found = first-found c.args.driving.now name c.as_bytes-name.result.now c.deref.result.now c.first_by_depth.result c.as_bytes-name.ensures
+    (c.deref.ensures.value ∙ c.in_ok-variables.ensures) c.first_by_depth.ensures in
     let first = ap (option_map signal_borrowed) (sym c.in-Some.is) ∙ found in
     ap held_objects c.in_ok-push-in-Some.ensures.items
     ∙ (map_push held_of c.args.objects.now.items c.in_ok-object-in-Some.object
@@ -28,7 +29,8 @@ returns-in-Some c =
 pub push_net-requires : goal.push_net-requires
 push_net-requires c =
     let name = c.args.signal.now.name in
-    let found = first-found c.args.driving.now name c.as_bytes-name.result.now c.deref.result.now c.first_by_depth.result c.as_bytes-name.ensures (c.deref.ensures.value ∙ c.in_ok-variables.ensures) c.first_by_depth.ensures in
+    let found = first-found c.args.driving.now name c.as_bytes-name.result.now c.deref.result.now c.first_by_depth.result c.as_bytes-name.ensures
+    (c.deref.ensures.value ∙ c.in_ok-variables.ensures) c.first_by_depth.ensures in
     let none = sym found ∙ ap (option_map signal_borrowed) c.in-None.is in
     let drives = drives-found c.args.drives.now name c.as_bytes-name.result.now c.deref-in-None.result.now c.as_bytes-name.ensures (c.deref-in-None.ensures.value ∙ c.in_ok-selects-in-None.ensures) in
     ap (λ ds. second_driver [] (map run_of ds)) drives ∙ c.requires none
@@ -36,7 +38,8 @@ push_net-requires c =
 pub returns : goal.returns
 returns c =
     let name = c.args.signal.now.name in
-    let found = first-found c.args.driving.now name c.as_bytes-name.result.now c.deref.result.now c.first_by_depth.result c.as_bytes-name.ensures (c.deref.ensures.value ∙ c.in_ok-variables.ensures) c.first_by_depth.ensures in
+    let found = first-found c.args.driving.now name c.as_bytes-name.result.now c.deref.result.now c.first_by_depth.result c.as_bytes-name.ensures
+    (c.deref.ensures.value ∙ c.in_ok-variables.ensures) c.first_by_depth.ensures in
     let none = ap (option_map signal_borrowed) (sym c.in-None.is) ∙ found in
     let drives = drives-found c.args.drives.now name c.as_bytes-name.result.now c.deref-in-None.result.now c.as_bytes-name.ensures (c.deref-in-None.ensures.value ∙ c.in_ok-selects-in-None.ensures) in
     c.in_ok-push_net-in-None.ensures

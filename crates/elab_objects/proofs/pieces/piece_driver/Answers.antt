@@ -12,8 +12,10 @@ returns-then-drives-number c =
 
 pub returns-in-None : goal.returns-in-None
 returns-in-None c =
-    driver-of c.args.drives.now c.args.piece.low c.in-Some.number c.args.piece.driver c.index-drives-number.result None c.in-Some.is c.if-drives-number.false c.index-drives-number.is (sym c.in-None.is ∙ c.in_ok-value_place.ensures)
+    driver-of c.args.drives.now c.args.piece.low c.in-Some.number c.args.piece.driver c.index-drives-number.result None c.in-Some.is c.if-drives-number.false c.index-drives-number.is
+    (sym c.in-None.is ∙ c.in_ok-value_place.ensures)
 
 pub returns-in-Some-2 : goal.returns-in-Some-2
 returns-in-Some-2 c =
-    driver-of c.args.drives.now c.args.piece.low c.in-Some.number c.args.piece.driver c.index-drives-number.result (Some c.in-Some-2.place) c.in-Some.is c.if-drives-number.false c.index-drives-number.is (sym c.in-Some-2.is ∙ c.in_ok-value_place.ensures)
+    driver-of c.args.drives.now c.args.piece.low c.in-Some.number c.args.piece.driver c.index-drives-number.result
+    (Some c.in-Some-2.place) c.in-Some.is c.if-drives-number.false c.index-drives-number.is (sym c.in-Some-2.is ∙ c.in_ok-value_place.ensures)

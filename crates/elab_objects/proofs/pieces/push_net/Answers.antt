@@ -24,6 +24,7 @@ piece_object-requires-clause-within c =
 
 pub pieces-preserved : goal.pieces-preserved
 pieces-preserved c =
-    pieces-turn (plain.piece_object (signal_of c.args.signal.now) (map object_drive_of c.args.drives.now)) c.deref-piece-items.result.now c.pieces.piece-index (record { low = 0; width = 0; driver = None })
+    pieces-turn (plain.piece_object (signal_of c.args.signal.now) (map object_drive_of c.args.drives.now)) c.deref-piece-items.result.now c.pieces.piece-index
+    (record { low = 0; width = 0; driver = None })
     (held_objects c.args.objects.now.items) (held_objects c.pieces.objects.items) (held_objects c.push.new.self.items) c.pieces-test.true c.pieces.invariant
     (ap held_objects c.in_ok-push.ensures.items ∙ (map_push held_of c.pieces.objects.items c.in_ok-object.object ∙ ap (λ o. held_objects c.pieces.objects.items ++ o ∷ []) c.in_ok-object.ensures))

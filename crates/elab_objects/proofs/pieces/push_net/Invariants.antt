@@ -7,4 +7,5 @@ use Rattle.elab_objects.specs.ObjectViews.{held_objects}
 use Rattle.elab_objects.proofs.pieces.push_net.Given as goal
 
 abbrev pub invariant-pieces : goal.invariant-pieces
-invariant-pieces l = held_objects l.objects.items ≡ held_objects l.initial.objects.items ++ map (plain.piece_object (signal_of l.signal) (map object_drive_of l.drives)) (map piece_of (take l.piece-index l.piece-items))
+invariant-pieces l = held_objects l.objects.items ≡ held_objects l.initial.objects.items ++ map (plain.piece_object (signal_of l.signal) (map object_drive_of l.drives))
+    (map piece_of (take l.piece-index l.piece-items))

@@ -11,4 +11,5 @@ returns-then-bit-bits c =
     ]
 
 pub returns-in-Some : goal.returns-in-Some
-returns-in-Some c = placed c.args.drive c.args.bit c.in-Some.place (let h = c.if-bit-bits.false in let f = c.from-bit.ensures in omega (arith, h, f)) (let h = c.if-bits-bit.false in let f = c.from-bit.ensures in omega (arith, h, f)) (let h = c.in-Some.ensures in let f = c.from-bit.ensures in omega (arith, h, f))
+returns-in-Some c = placed c.args.drive c.args.bit c.in-Some.place (let h = c.if-bit-bits.false in let f = c.from-bit.ensures in omega (arith, h, f))
+    (let h = c.if-bits-bit.false in let f = c.from-bit.ensures in omega (arith, h, f)) (let h = c.in-Some.ensures in let f = c.from-bit.ensures in omega (arith, h, f))

@@ -7,4 +7,5 @@ use Rattle.elab_wires.proofs.blocks.any_other_name.Goals as goal
 pub returns-then-other : goal.returns-then-other
 returns-then-other c =
     let holds : c.in_ok-other.other ≡ true = search rules in
-    any-here (reads_other c.args.signals.now (process_of c.args.process.now) c.args.targets.now c.args.objects.now) c.args.names.now c.names.name-index _ c.in_ok-other.other c.names-test.true c.in_ok-other.ensures holds
+    any-here (reads_other c.args.signals.now (process_of c.args.process.now) c.args.targets.now c.args.objects.now) c.args.names.now c.names.name-index _ c.in_ok-other.other c.names-test.true
+    c.in_ok-other.ensures holds

@@ -13,4 +13,5 @@ returns-then-not-own c =
 pub returns : goal.returns
 returns c =
     let holds : c.in_ok-own.own ≡ true = search rules in
-    all-own c.args.wiring.now c.args.number (process_of c.args.process.now) c.args.targets.now c.in_ok-whole.whole.items c.in_ok-own.own c.in_ok-other.other c.requires (search rules) (search rules) holds (search rules)
+    all-own c.args.wiring.now c.args.number (process_of c.args.process.now) c.args.targets.now c.in_ok-whole.whole.items c.in_ok-own.own c.in_ok-other.other c.requires (search rules)
+    (search rules) holds (search rules)

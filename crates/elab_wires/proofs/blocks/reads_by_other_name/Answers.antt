@@ -11,7 +11,8 @@ use Rattle.elab_wires.proofs.blocks.reads_by_other_name.Goals as goal
 
 pub returns : goal.returns
 returns c =
-    read-names c.args.signals.now (process_of c.args.process.now) c.args.targets.now c.in_ok-own.own c.in_ok-objects.objects (keys_of c.push_reads.new.names.items) c.in_ok-other.other c.in_ok-own.ensures
+    read-names c.args.signals.now (process_of c.args.process.now) c.args.targets.now c.in_ok-own.own c.in_ok-objects.objects
+    (keys_of c.push_reads.new.names.items) c.in_ok-other.other c.in_ok-own.ensures
     (c.in_ok-objects.ensures ∙ ap (map (outermost c.args.signals.now)) c.requires)
     (c.in_ok-push_reads.ensures ∙ ap (λ os. keys_of os ++ names_read (statement_of c.block_body.result.now)) c.new-names.ensures.items ∙ ap names_read c.block_body.ensures)
     (c.in_ok-other.ensures ∙ ap (λ ns. list_any (reads_other c.args.signals.now (process_of c.args.process.now) c.in_ok-own.own c.in_ok-objects.objects) (keys_of ns)) c.deref.ensures.value)

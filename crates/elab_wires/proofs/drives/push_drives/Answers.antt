@@ -8,7 +8,12 @@ use Rattle.elab_wires.proofs.DriveTurns.{width-here, drive-turn, drives-done}
 use Rattle.elab_wires.proofs.drives.push_drives.Goals as goal
 
 pub overflow_sub-offset : goal.overflow_sub-offset
-overflow_sub-offset c = omega (arith, c.drives.invariant.offset, c.select_width-offset.ensures, width-here c.args.drives.now c.drives.drive-index c.drive-item.result c.drives-test.true c.drive-item.is)
+overflow_sub-offset c = omega (
+  arith,
+  c.drives.invariant.offset,
+  c.select_width-offset.ensures,
+  width-here c.args.drives.now c.drives.drive-index c.drive-item.result c.drives-test.true c.drive-item.is,
+)
 
 pub drives-preserved : goal.drives-preserved
 drives-preserved c =

@@ -8,5 +8,6 @@ use Rattle.elab_wires.proofs.drives.push_drives.Given as goal
 abbrev pub invariant-drives : goal.invariant-drives
 invariant-drives l = record {
   offset : l.offset ≡ drives_width (drives_of (drop l.drive-index l.drives));
-  listed : drives_listed l.items.items ++ keyed_drives l.signals l.node (drives_of (drop l.drive-index l.drives)) ≡ drives_listed l.initial.items.items ++ keyed_drives l.signals l.node (drives_of l.drives);
+  listed : drives_listed l.items.items ++ keyed_drives l.signals l.node (drives_of (drop l.drive-index l.drives)) ≡ drives_listed l.initial.items.items
+      ++ keyed_drives l.signals l.node (drives_of l.drives);
 }

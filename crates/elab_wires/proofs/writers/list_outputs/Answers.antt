@@ -8,4 +8,5 @@ use Rattle.elab_wires.proofs.writers.list_outputs.Goals as goal
 
 pub parts-preserved : goal.parts-preserved
 parts-preserved c =
-    turn part_of (λ ps. output_names (signals_of ps)) outputs-append c.args.parts.now c.parts.part-index c.part-item.result [] _ _ c.parts-test.true c.part-item.is c.parts.invariant c.in_ok-push_part_output.ensures
+    turn part_of (λ ps. output_names (signals_of ps)) outputs-append c.args.parts.now c.parts.part-index c.part-item.result [] _ _ c.parts-test.true c.part-item.is c.parts.invariant
+    c.in_ok-push_part_output.ensures

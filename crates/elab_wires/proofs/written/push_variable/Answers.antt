@@ -13,4 +13,5 @@ returns-then-not-known c =
 pub returns : goal.returns
 returns c =
     let holds : is_reg (looked_up (process_of c.args.process.now).scope c.args.name.now) ≡ true = search rules in
-    one-variable (process_of c.args.process.now) c.args.part c.args.name.now c.args.written.now.items c.push.new.self.items _ holds (c.in_ok-name.ensures ∙ ap (λ p. p ++ c.args.name.now) c.deref-2.ensures) refl c.in_ok-push.ensures.items
+    one-variable (process_of c.args.process.now) c.args.part c.args.name.now c.args.written.now.items c.push.new.self.items _ holds
+    (c.in_ok-name.ensures ∙ ap (λ p. p ++ c.args.name.now) c.deref-2.ensures) refl c.in_ok-push.ensures.items

@@ -16,4 +16,5 @@ returns c =
     let named = c.in-Some.ensures modules c.in_ok-modules.ensures in
     subst (λ (answer : Result FlatDesign Refusal). IsRefusal answer (refusal_of c.walk_fault.result))
     (sym (top-over modules c.args.mode (module_of c.in-Some.top.now) _ named (c.in_ok-place.ensures ∙ ap (option_map _) c.in-None.is)))
-    (go-refused (walked_from modules c.args.mode (module_of c.in-Some.top.now)) flat_of_parts (refusal_of c.walk_fault.result) (c.walk_fault.ensures _ (c.in-Err.ensures modules c.in_ok-modules.ensures)))
+    (go-refused (walked_from modules c.args.mode (module_of c.in-Some.top.now)) flat_of_parts (refusal_of c.walk_fault.result)
+    (c.walk_fault.ensures _ (c.in-Err.ensures modules c.in_ok-modules.ensures)))

@@ -15,7 +15,8 @@ pub order_nodes-requires-clause-there : goal.order_nodes-requires-clause-there
 order_nodes-requires-clause-there c =
     let parts = parts_of c.args.parts.now in
     let objects = held_objects c.args.held.items in
-    let made = subst (λ h. AreMade parts (held_objects h) (map node_of c.args.nodes.now) (map process_in c.args.processes.now) (c.in_ok-joined.joined, c.in_ok-joined.made)) c.deref.ensures.value c.in_ok-joined.ensures in
+    let made = subst (λ h. AreMade parts (held_objects h) (map node_of c.args.nodes.now) (map process_in c.args.processes.now) (c.in_ok-joined.joined, c.in_ok-joined.made)) c.deref.ensures.value
+    c.in_ok-joined.ensures in
     among-made parts objects (map node_of c.args.nodes.now) _ _ (ap length c.deref-2.ensures.value ∙ as-many c.in_ok-objects.objects.items objects c.in_ok-objects.ensures) made.nodes_are
 
 pub returns-in-Err : goal.returns-in-Err

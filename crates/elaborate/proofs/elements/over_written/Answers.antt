@@ -17,7 +17,9 @@ returns c =
     let processes_are = c.in_ok-behaviours.ensures.processes ∙ ap (λ ps. processes_of (behaviours_of (map part_of ps))) c.in_ok-wiring.ensures.parts in
     let same = c.deref.ensures.value ∙ sym c.deref-in-Ok.ensures.value in
     subst (λ wanted. Gives wanted c.over_objects.result)
-    (sym (whole-over parts (map node_of c.deref-in-Ok.result.now) (map process_in c.deref-in-Ok-2.result.now) (held_objects c.in-Ok.held.items) (ap (map node_of) c.deref-in-Ok.ensures.value ∙ nodes_are)
+    (sym (whole-over parts (map node_of c.deref-in-Ok.result.now) (map process_in c.deref-in-Ok-2.result.now) (held_objects c.in-Ok.held.items)
+    (ap (map node_of) c.deref-in-Ok.ensures.value ∙ nodes_are)
     (ap (map process_in) c.deref-in-Ok-2.ensures.value ∙ processes_are) (c.in-None.ensures (behaviours_of parts) (sym nodes_are) (sym processes_are))
-    (subst (λ ns. two_drivers (signals_of parts) (map node_of ns) ≡ None) same c.in-Ok.ensures.0) (subst (λ ns. held_objects c.in-Ok.held.items ≡ objects_of_parts parts (map node_of ns)) same c.in-Ok.ensures.1)))
+    (subst (λ ns. two_drivers (signals_of parts) (map node_of ns) ≡ None) same c.in-Ok.ensures.0)
+    (subst (λ ns. held_objects c.in-Ok.held.items ≡ objects_of_parts parts (map node_of ns)) same c.in-Ok.ensures.1)))
     c.over_objects.ensures

@@ -22,4 +22,5 @@ processes-preserved c =
 
 pub returns : goal.returns
 returns c =
-    subst (λ t. Marks (map process_number t) c.args.number c.args.table.now.items c.processes.table.items) (take_all c.processes.process-index c.args.processes.now c.processes-test.false) c.processes.invariant
+    subst (λ t. Marks (map process_number t) c.args.number c.args.table.now.items c.processes.table.items)
+    (take_all c.processes.process-index c.args.processes.now c.processes-test.false) c.processes.invariant

@@ -21,7 +21,8 @@ returns-then-eq-clause-ok c =
     let ended : insert lane.1 (length c.as_slice-end.result.now) c.args.update ≡ lane.1 ++ c.args.update ∷ [] =
     ap (λ (xs : List Update). insert lane.1 (length xs) c.args.update) c.as_slice-end.ensures ∙ insert_end lane.1 c.args.update in
     IfOk-weaker c.insert_at.result _ _
-    (λ x h. ap (λ xs. slice_set c.args.lanes.now.items c.args.place (lane.0, xs)) (h ∙ ended) ∙ update_at-set c.args.process c.args.update c.args.lanes.now.items c.args.place lane less c.index_mut-lane.ensures.value number)
+    (λ x h. ap (λ xs. slice_set c.args.lanes.now.items c.args.place (lane.0, xs)) (h ∙ ended)
+    ∙ update_at-set c.args.process c.args.update c.args.lanes.now.items c.args.place lane less c.index_mut-lane.ensures.value number)
     c.insert_at.ensures.ok
 
 pub returns-clause-ok : goal.returns-clause-ok
@@ -29,6 +30,7 @@ returns-clause-ok c =
     let items : c.from_vec.result ≡ c.args.update ∷ [] = c.from_vec.ensures ∙ c.in_ok-push.ensures.items ∙ ap (λ xs. xs ++ c.args.update ∷ []) c.new-updates.ensures.items in
     elim c.else-place-len.branch [
       | else-place-len-via-then-place-len+else-eq w ↦ rw (c.in_ok-insert.ensures.items, items) (update_at-insert _ _ _ _ c.requires
-          (λ d less e. eqb-false _ _ (sym w.if-eq.ensures) (ap (λ (l : ProcId × List Update). l.0.0) (w.index.ensures ∙ get_or_default c.args.lanes.now.items c.args.place w.index.result.now d less) ∙ e)))
+          (λ d less e. eqb-false _ _ (sym w.if-eq.ensures) (ap (λ (l : ProcId × List Update). l.0.0) (w.index.ensures ∙ get_or_default c.args.lanes.now.items c.args.place w.index.result.now d less)
+          ∙ e)))
       | else-place-len-via-else-place-len w ↦ rw (c.in_ok-insert.ensures.items, items) (update_at-insert _ _ _ _ c.requires (λ d less. absurd (omega (arith, c.len.ensures))))
     ]

@@ -12,7 +12,8 @@ value-value-requires g c = (piece_there (g.V.Values.values c.args.values.now) c.
 
 pub put_left-requires : goal.put_left-requires
 put_left-requires g c =
-    vector_value-room (g.V.Values.values c.args.values.now) c.args.pieces.now c.pieces.piece-index _ (bits_so_far c.pieces.bits) c.value-value.result c.requires.there c.pieces-test.true c.requires.few c.pieces.invariant c.value-value.ensures
+    vector_value-room (g.V.Values.values c.args.values.now) c.args.pieces.now c.pieces.piece-index _
+    (bits_so_far c.pieces.bits) c.value-value.result c.requires.there c.pieces-test.true c.requires.few c.pieces.invariant c.value-value.ensures
 
 pub pieces-preserved : goal.pieces-preserved
 pieces-preserved g c =

@@ -45,7 +45,8 @@ value_in-value_in-a-requires g t c κs within =
     let there : AreThere (g.V.Values.values c.args.values.now) (named_in (expression_of c.deref-in-Binary.result.now)) =
     subst (λ e. AreThere (g.V.Values.values c.args.values.now) (named_in (expression_of e))) (sym c.deref-in-Binary.ensures)
     (AllHold-left (IsThere (g.V.Values.values c.args.values.now)) (named_in (expression_of c.in-Binary.left.value)) (named_in (expression_of c.in-Binary.right.value)) named) in
-    let whole_levels : levels_of (expression_of c.args.expr.now) ≡ 1 + max (levels_of (expression_of c.in-Binary.left.value)) (levels_of (expression_of c.in-Binary.right.value)) = ap (λ e. levels_of (expression_of e)) c.in-Binary.is in
+    let whole_levels : levels_of (expression_of c.args.expr.now) ≡ 1 + max (levels_of (expression_of c.in-Binary.left.value)) (levels_of (expression_of c.in-Binary.right.value)) =
+    ap (λ e. levels_of (expression_of e)) c.in-Binary.is in
     let part_levels' = ap (λ e. levels_of (expression_of e)) c.deref-in-Binary.ensures in
     let level : 2 * levels_of (expression_of c.deref-in-Binary.result.now) < 2 * levels_of (expression_of c.args.expr.now) = omega arith in
     search rules
@@ -58,7 +59,8 @@ value_in-value_in-b-requires g t c κs within =
     let there : AreThere (g.V.Values.values c.args.values.now) (named_in (expression_of c.deref-in-Binary-2.result.now)) =
     subst (λ e. AreThere (g.V.Values.values c.args.values.now) (named_in (expression_of e))) (sym c.deref-in-Binary-2.ensures)
     (AllHold-right (IsThere (g.V.Values.values c.args.values.now)) (named_in (expression_of c.in-Binary.left.value)) (named_in (expression_of c.in-Binary.right.value)) named) in
-    let whole_levels : levels_of (expression_of c.args.expr.now) ≡ 1 + max (levels_of (expression_of c.in-Binary.left.value)) (levels_of (expression_of c.in-Binary.right.value)) = ap (λ e. levels_of (expression_of e)) c.in-Binary.is in
+    let whole_levels : levels_of (expression_of c.args.expr.now) ≡ 1 + max (levels_of (expression_of c.in-Binary.left.value)) (levels_of (expression_of c.in-Binary.right.value)) =
+    ap (λ e. levels_of (expression_of e)) c.in-Binary.is in
     let part_levels' = ap (λ e. levels_of (expression_of e)) c.deref-in-Binary-2.ensures in
     let level : 2 * levels_of (expression_of c.deref-in-Binary-2.result.now) < 2 * levels_of (expression_of c.args.expr.now) = omega arith in
     search rules
@@ -82,7 +84,8 @@ value_in-value_in-c-requires g t c κs within =
     subst (λ e. AreThere (g.V.Values.values c.args.values.now) (named_in (expression_of e))) (sym c.deref-in-Conditional.ensures)
     (AllHold-left (IsThere (g.V.Values.values c.args.values.now)) (named_in (expression_of c.in-Conditional.condition.value))
     (named_in (expression_of c.in-Conditional.first.value) ++ named_in (expression_of c.in-Conditional.second.value)) named) in
-    let whole_levels : levels_of (expression_of c.args.expr.now) ≡ 1 + max (levels_of (expression_of c.in-Conditional.condition.value)) (max (levels_of (expression_of c.in-Conditional.first.value)) (levels_of (expression_of c.in-Conditional.second.value))) = ap (λ e. levels_of (expression_of e)) c.in-Conditional.is in
+    let whole_levels : levels_of (expression_of c.args.expr.now) ≡ 1 + max (levels_of (expression_of c.in-Conditional.condition.value))
+    (max (levels_of (expression_of c.in-Conditional.first.value)) (levels_of (expression_of c.in-Conditional.second.value))) = ap (λ e. levels_of (expression_of e)) c.in-Conditional.is in
     let part_levels' = ap (λ e. levels_of (expression_of e)) c.deref-in-Conditional.ensures in
     let level : 2 * levels_of (expression_of c.deref-in-Conditional.result.now) < 2 * levels_of (expression_of c.args.expr.now) = omega arith in
     search rules
@@ -97,7 +100,8 @@ value_in-value_in-a-requires-in-Conditional g t c κs within =
     (AllHold-left (IsThere (g.V.Values.values c.args.values.now)) (named_in (expression_of c.in-Conditional.first.value)) (named_in (expression_of c.in-Conditional.second.value))
     (AllHold-right (IsThere (g.V.Values.values c.args.values.now)) (named_in (expression_of c.in-Conditional.condition.value))
     (named_in (expression_of c.in-Conditional.first.value) ++ named_in (expression_of c.in-Conditional.second.value)) named)) in
-    let whole_levels : levels_of (expression_of c.args.expr.now) ≡ 1 + max (levels_of (expression_of c.in-Conditional.condition.value)) (max (levels_of (expression_of c.in-Conditional.first.value)) (levels_of (expression_of c.in-Conditional.second.value))) = ap (λ e. levels_of (expression_of e)) c.in-Conditional.is in
+    let whole_levels : levels_of (expression_of c.args.expr.now) ≡ 1 + max (levels_of (expression_of c.in-Conditional.condition.value))
+    (max (levels_of (expression_of c.in-Conditional.first.value)) (levels_of (expression_of c.in-Conditional.second.value))) = ap (λ e. levels_of (expression_of e)) c.in-Conditional.is in
     let part_levels' = ap (λ e. levels_of (expression_of e)) c.deref-in-Conditional-2.ensures in
     let level : 2 * levels_of (expression_of c.deref-in-Conditional-2.result.now) < 2 * levels_of (expression_of c.args.expr.now) = omega arith in
     search rules
@@ -112,7 +116,8 @@ value_in-value_in-b-requires-in-Conditional g t c κs within =
     (AllHold-right (IsThere (g.V.Values.values c.args.values.now)) (named_in (expression_of c.in-Conditional.first.value)) (named_in (expression_of c.in-Conditional.second.value))
     (AllHold-right (IsThere (g.V.Values.values c.args.values.now)) (named_in (expression_of c.in-Conditional.condition.value))
     (named_in (expression_of c.in-Conditional.first.value) ++ named_in (expression_of c.in-Conditional.second.value)) named)) in
-    let whole_levels : levels_of (expression_of c.args.expr.now) ≡ 1 + max (levels_of (expression_of c.in-Conditional.condition.value)) (max (levels_of (expression_of c.in-Conditional.first.value)) (levels_of (expression_of c.in-Conditional.second.value))) = ap (λ e. levels_of (expression_of e)) c.in-Conditional.is in
+    let whole_levels : levels_of (expression_of c.args.expr.now) ≡ 1 + max (levels_of (expression_of c.in-Conditional.condition.value))
+    (max (levels_of (expression_of c.in-Conditional.first.value)) (levels_of (expression_of c.in-Conditional.second.value))) = ap (λ e. levels_of (expression_of e)) c.in-Conditional.is in
     let part_levels' = ap (λ e. levels_of (expression_of e)) c.deref-in-Conditional-3.ensures in
     let level : 2 * levels_of (expression_of c.deref-in-Conditional-3.result.now) < 2 * levels_of (expression_of c.args.expr.now) = omega arith in
     search rules
@@ -132,9 +137,11 @@ value_in-parts_bits-requires g t c κs within =
     let sized : AreSizedAlone (expressions_of c.deref-in-Concatenation.result.now) = subst (λ l. AreSizedAlone (expressions_of l)) (sym c.deref-in-Concatenation.ensures.value) whole.2 in
     let there : AreThere (g.V.Values.values c.args.values.now) (named_in_parts (expressions_of c.deref-in-Concatenation.result.now)) =
     subst (λ l. AreThere (g.V.Values.values c.args.values.now) (named_in_parts (expressions_of l))) (sym c.deref-in-Concatenation.ensures.value) named in
-    let some : 1 ≤ own_width_of_parts (expressions_of c.deref-in-Concatenation.result.now) = subst (λ l. 1 ≤ own_width_of_parts (expressions_of l)) (sym c.deref-in-Concatenation.ensures.value) whole.0.0 in
+    let some : 1 ≤ own_width_of_parts (expressions_of c.deref-in-Concatenation.result.now) =
+    subst (λ l. 1 ≤ own_width_of_parts (expressions_of l)) (sym c.deref-in-Concatenation.ensures.value) whole.0.0 in
     let few' : own_width_of_parts (expressions_of c.in-Concatenation.parts.items) ≤ 128 = omega (arith, whole.0.1, whole.0.2) in
-    let few : own_width_of_parts (expressions_of c.deref-in-Concatenation.result.now) ≤ 128 = subst (λ l. own_width_of_parts (expressions_of l) ≤ 128) (sym c.deref-in-Concatenation.ensures.value) few' in
+    let few : own_width_of_parts (expressions_of c.deref-in-Concatenation.result.now) ≤ 128 =
+    subst (λ l. own_width_of_parts (expressions_of l) ≤ 128) (sym c.deref-in-Concatenation.ensures.value) few' in
     let whole_levels : levels_of (expression_of c.args.expr.now) ≡ 1 + levels_of_parts (expressions_of c.in-Concatenation.parts.items) = ap levels_of same in
     let part_levels' = ap (λ l. levels_of_parts (expressions_of l)) c.deref-in-Concatenation.ensures.value in
     let level : 2 * levels_of_parts (expressions_of c.deref-in-Concatenation.result.now) + 1 < 2 * levels_of (expression_of c.args.expr.now) = omega arith in
@@ -150,8 +157,10 @@ value_in-parts_bits-requires-in-Replication g t c κs within =
     let sized : AreSizedAlone (expressions_of c.deref-in-Replication.result.now) = subst (λ l. AreSizedAlone (expressions_of l)) (sym c.deref-in-Replication.ensures.value) whole.2 in
     let there : AreThere (g.V.Values.values c.args.values.now) (named_in_parts (expressions_of c.deref-in-Replication.result.now)) =
     subst (λ l. AreThere (g.V.Values.values c.args.values.now) (named_in_parts (expressions_of l))) (sym c.deref-in-Replication.ensures.value) named in
-    let some : 1 ≤ own_width_of_parts (expressions_of c.deref-in-Replication.result.now) = subst (λ l. 1 ≤ own_width_of_parts (expressions_of l)) (sym c.deref-in-Replication.ensures.value) parts.own_some in
-    let few : own_width_of_parts (expressions_of c.deref-in-Replication.result.now) ≤ 128 = subst (λ l. own_width_of_parts (expressions_of l) ≤ 128) (sym c.deref-in-Replication.ensures.value) parts.own_few in
+    let some : 1 ≤ own_width_of_parts (expressions_of c.deref-in-Replication.result.now) =
+    subst (λ l. 1 ≤ own_width_of_parts (expressions_of l)) (sym c.deref-in-Replication.ensures.value) parts.own_some in
+    let few : own_width_of_parts (expressions_of c.deref-in-Replication.result.now) ≤ 128 =
+    subst (λ l. own_width_of_parts (expressions_of l) ≤ 128) (sym c.deref-in-Replication.ensures.value) parts.own_few in
     let whole_levels : levels_of (expression_of c.args.expr.now) ≡ 1 + levels_of_parts (expressions_of c.in-Replication.parts.items) = ap levels_of same in
     let part_levels' = ap (λ l. levels_of_parts (expressions_of l)) c.deref-in-Replication.ensures.value in
     let level : 2 * levels_of_parts (expressions_of c.deref-in-Replication.result.now) + 1 < 2 * levels_of (expression_of c.args.expr.now) = omega arith in
@@ -186,17 +195,20 @@ value_in-returns-in-Replication g t c =
 
 pub parts_bits-value_in-value-requires : goal.parts_bits-value_in-value-requires
 parts_bits-value_in-value-requires g t c κs within =
-    let sized : IsSized (expression_of c.part-item.result) = subst (λ e. IsSized (expression_of e)) (sym c.part-item.is) (part_sized c.args.parts.now c.parts.part-index c.part-item.result c.parts-test.true c.requires.sized).1 in
+    let sized : IsSized (expression_of c.part-item.result) = subst (λ e. IsSized (expression_of e)) (sym c.part-item.is)
+    (part_sized c.args.parts.now c.parts.part-index c.part-item.result c.parts-test.true c.requires.sized).1 in
     let there : AreThere (g.V.Values.values c.args.values.now) (named_in (expression_of c.part-item.result)) =
     subst (λ e. AreThere (g.V.Values.values c.args.values.now) (named_in (expression_of e))) (sym c.part-item.is)
     (part_there (g.V.Values.values c.args.values.now) c.args.parts.now c.parts.part-index c.part-item.result c.parts-test.true c.requires.there) in
-    let least : levels_of (expression_of c.part-item.result) ≤ levels_of_parts (expressions_of c.args.parts.now) = part_levels c.args.parts.now c.parts.part-index c.part-item.result c.parts-test.true c.part-item.is in
+    let least : levels_of (expression_of c.part-item.result) ≤ levels_of_parts (expressions_of c.args.parts.now) =
+    part_levels c.args.parts.now c.parts.part-index c.part-item.result c.parts-test.true c.part-item.is in
     let level : 2 * levels_of (expression_of c.part-item.result) < 2 * levels_of_parts (expressions_of c.args.parts.now) + 1 = omega arith in
     search rules
 
 pub parts_bits-put_right-requires : goal.parts_bits-put_right-requires
 parts_bits-put_right-requires g t c =
-    parts_room (value_at (g.V.Values.values c.args.values.now)) c.args.parts.now c.parts.part-index c.part-item.result c.value_in-value.result (bits_so_far c.parts.bits) c.parts-test.true c.part-item.is
+    parts_room (value_at (g.V.Values.values c.args.values.now)) c.args.parts.now c.parts.part-index c.part-item.result c.value_in-value.result
+    (bits_so_far c.parts.bits) c.parts-test.true c.part-item.is
     c.requires.sized c.requires.few c.value_in-value.ensures c.parts.invariant
 
 pub parts_bits-parts-preserved : goal.parts_bits-parts-preserved
@@ -206,7 +218,8 @@ parts_bits-parts-preserved g t c =
 
 pub parts_bits-unreachable-requires : goal.parts_bits-unreachable-requires
 parts_bits-unreachable-requires g t c =
-    let none = parts_all (value_at (g.V.Values.values c.args.values.now)) c.args.parts.now c.parts.part-index (bits_so_far c.parts.bits) c.parts-test.false c.parts.invariant ∙ ap bits_so_far c.in-None.is in
+    let none = parts_all (value_at (g.V.Values.values c.args.values.now)) c.args.parts.now c.parts.part-index (bits_so_far c.parts.bits) c.parts-test.false c.parts.invariant
+    ∙ ap bits_so_far c.in-None.is in
     omega (arith, ap length none, length-parts_value (value_at (g.V.Values.values c.args.values.now)) (expressions_of c.args.parts.now) c.requires.sized, c.requires.some)
 
 pub value_in-word_bits-requires-clause-there : goal.value_in-word_bits-requires-clause-there

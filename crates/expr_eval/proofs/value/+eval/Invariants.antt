@@ -7,7 +7,8 @@ use Rattle.expr_eval.specs.Operands.{bits_so_far}
 use Rattle.expr_eval.proofs.value.+eval.Given as goal
 
 abbrev pub invariant-parts_bits-parts : goal.invariant-parts_bits-parts
-invariant-parts_bits-parts g l = parts_value (value_at (g.V.Values.values l.values)) (expressions_of l.parts) ≡ parts_value (value_at (g.V.Values.values l.values)) (expressions_of (drop l.part-index l.parts)) ++ bits_so_far l.bits
+invariant-parts_bits-parts g l = parts_value (value_at (g.V.Values.values l.values)) (expressions_of l.parts) ≡ parts_value (value_at (g.V.Values.values l.values))
+    (expressions_of (drop l.part-index l.parts)) ++ bits_so_far l.bits
 
 abbrev pub decreases-value_in : goal.decreases-value_in
 decreases-value_in g l = 2 * levels_of (expression_of l.expr.now)

@@ -12,7 +12,8 @@ use Rattle.fault_grade.proofs.fault.finish.Goals as goal
 pub returns-in-Some : goal.returns-in-Some
 returns-in-Some g c = λ design plan fault same_end at stops within.
     ends-stopped design plan fault c.args.machine.now c.advance_to.new.machine c.args.grader.now at c.args.race c.in-Some.stop c.end_by_faulty.result
-    (advanced-to c.last_time.result (last_before c.args.race plan.end) c.args.machine.now c.advance_to.new.machine c.in_ok-stop.field-0 (Some c.in-Some.stop) (c.last_time.ensures ∙ ap (last_before c.args.race) (sym same_end)) c.in-Some.is c.in_ok-stop.ensures)
+    (advanced-to c.last_time.result (last_before c.args.race plan.end) c.args.machine.now c.advance_to.new.machine c.in_ok-stop.field-0 (Some c.in-Some.stop)
+    (c.last_time.ensures ∙ ap (last_before c.args.race) (sym same_end)) c.in-Some.is c.in_ok-stop.ensures)
     stops within c.end_by_faulty.ensures
 
 pub returns-in-Some-race : goal.returns-in-Some-race

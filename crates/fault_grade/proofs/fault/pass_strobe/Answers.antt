@@ -27,12 +27,14 @@ pub returns-then-hard : goal.returns-then-hard
 returns-then-hard g c = λ design plan fault next at.
     passes-hard design plan fault c.args.machine.now c.advance.new.machine (sample_of c.args.sample.now) next c.args.grader.now at c.strobe_kept-hard.new.self
     (answered c.args.sample.now.time c.args.machine.now c.advance.new.machine c.in_ok-stop.field-0 None c.in_default.is c.in_ok-stop.ensures)
-    (c.strobe_kept-hard.ensures.state ∙ ap (λ bits. shown_at c.args.sample.now.time bits (samples c.args.grader.now.watched (state_kept c.advance.new.machine).values) c.args.grader.now) c.as_slice.ensures)
+    (c.strobe_kept-hard.ensures.state ∙ ap (λ bits. shown_at c.args.sample.now.time bits (samples c.args.grader.now.watched (state_kept c.advance.new.machine).values) c.args.grader.now)
+    c.as_slice.ensures)
     (c.strobe_kept-hard.ensures.stands.0 c.if-hard.true)
 
 pub returns : goal.returns
 returns g c = λ design plan fault next at.
     passes-on design plan fault c.args.machine.now c.advance.new.machine (sample_of c.args.sample.now) next c.args.grader.now at c.strobe_kept-hard.new.self
     (answered c.args.sample.now.time c.args.machine.now c.advance.new.machine c.in_ok-stop.field-0 None c.in_default.is c.in_ok-stop.ensures)
-    (c.strobe_kept-hard.ensures.state ∙ ap (λ bits. shown_at c.args.sample.now.time bits (samples c.args.grader.now.watched (state_kept c.advance.new.machine).values) c.args.grader.now) c.as_slice.ensures)
+    (c.strobe_kept-hard.ensures.state ∙ ap (λ bits. shown_at c.args.sample.now.time bits (samples c.args.grader.now.watched (state_kept c.advance.new.machine).values) c.args.grader.now)
+    c.as_slice.ensures)
     (λ some. let h = c.strobe_kept-hard.ensures.stands.1 some in let f = c.if-hard.false in cc)

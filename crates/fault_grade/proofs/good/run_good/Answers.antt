@@ -34,7 +34,8 @@ pub advance-requires-clause-limit : goal.advance-requires-clause-limit
 advance-requires-clause-limit g c =
     let bench = c.args.bench.now in
     let at = at-strobe bench c.strobes.machine (map sample_of c.strobes.samples.items) c.as_slice-strobe-items.result.now c.strobes.strobe-index c.strobes.invariant c.strobes-test.true in
-    early-strobe (bench_design bench) (bench_plan bench) c.strobes.machine c.strobes.machine (map sample_of c.strobes.samples.items) (get_or c.as_slice-strobe-items.result.now c.strobes.strobe-index 0)
+    early-strobe (bench_design bench) (bench_plan bench) c.strobes.machine c.strobes.machine (map sample_of c.strobes.samples.items)
+    (get_or c.as_slice-strobe-items.result.now c.strobes.strobe-index 0)
     (drop (c.strobes.strobe-index + 1) c.as_slice-strobe-items.result.now) at (plan_rules_hold (bench_plan bench) bench.plan.now.rules)
 
 pub returns-in-Some : goal.returns-in-Some
@@ -43,7 +44,8 @@ returns-in-Some g c =
     let strobe = get_or c.as_slice-strobe-items.result.now c.strobes.strobe-index 0 in
     let at = at-strobe bench c.strobes.machine (map sample_of c.strobes.samples.items) c.as_slice-strobe-items.result.now c.strobes.strobe-index c.strobes.invariant c.strobes-test.true in
     c.shown_by.ensures (bench_design bench) (bench_plan bench)
-    (samples-stopped (bench_design bench) (bench_plan bench) c.strobes.machine c.advance.new.machine (map sample_of c.strobes.samples.items) strobe (drop (c.strobes.strobe-index + 1) c.as_slice-strobe-items.result.now) at c.in-Some.stop
+    (samples-stopped (bench_design bench) (bench_plan bench) c.strobes.machine c.advance.new.machine (map sample_of c.strobes.samples.items) strobe
+    (drop (c.strobes.strobe-index + 1) c.as_slice-strobe-items.result.now) at c.in-Some.stop
     (answered strobe c.strobes.machine c.advance.new.machine c.in_ok-stop.field-0 (Some c.in-Some.stop) c.in-Some.is c.in_ok-stop.ensures))
 
 pub watched_bits-requires : goal.watched_bits-requires
@@ -66,7 +68,8 @@ strobes-preserved g c =
     c.in_ok-bits.ensures ∙ ap (λ watched. samples (map watched_bit watched) (state_kept c.advance.new.machine).values) c.as_slice.ensures in
     subst (λ shown. SamplesAt (bench_design bench) (bench_plan bench) c.advance.new.machine shown later)
     (sym (ap (map sample_of) c.in_ok-push.ensures.items ∙ map-more sample_of c.strobes.samples.items _))
-    (samples-more (bench_design bench) (bench_plan bench) c.strobes.machine c.advance.new.machine (map sample_of c.strobes.samples.items) strobe later at c.from_vec.result advanced (c.from_vec.ensures ∙ bits_are))
+    (samples-more (bench_design bench) (bench_plan bench) c.strobes.machine c.advance.new.machine (map sample_of c.strobes.samples.items) strobe later at c.from_vec.result advanced
+    (c.from_vec.ensures ∙ bits_are))
 
 pub advance-requires-2-clause-limit : goal.advance-requires-2-clause-limit
 advance-requires-2-clause-limit g c = early (bench_plan c.args.bench.now) c.args.bench.now.plan.now.end (plan_rules_hold (bench_plan c.args.bench.now) c.args.bench.now.plan.now.rules) (omega arith)
@@ -74,6 +77,7 @@ advance-requires-2-clause-limit g c = early (bench_plan c.args.bench.now) c.args
 pub returns : goal.returns
 returns g c =
     let bench = c.args.bench.now in
-    let at = subst (λ next. SamplesAt (bench_design bench) (bench_plan bench) c.strobes.machine (map sample_of c.strobes.samples.items) next) (drop_all c.strobes.strobe-index c.as_slice-strobe-items.result.now c.strobes-test.false) c.strobes.invariant in
+    let at = subst (λ next. SamplesAt (bench_design bench) (bench_plan bench) c.strobes.machine (map sample_of c.strobes.samples.items) next)
+    (drop_all c.strobes.strobe-index c.as_slice-strobe-items.result.now c.strobes-test.false) c.strobes.invariant in
     c.shown_by-2.ensures (bench_design bench) (bench_plan bench)
     (samples-end (bench_design bench) (bench_plan bench) c.strobes.machine c.advance-2.new.machine (map sample_of c.strobes.samples.items) c.in_ok-stop-2.stop at c.in_ok-stop-2.ensures)

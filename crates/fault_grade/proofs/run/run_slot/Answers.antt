@@ -11,4 +11,5 @@ slot-requires-clause-left g c = left-at c.args.machine.now c.args.time (2 ^ 63) 
 pub returns : goal.returns
 returns g c =
     let n = next-is c.args.machine.now c.args.time c.requires.next in
-    runs-on c.first_run_goes_on.ensures c.args.time c.args.machine.now c.slot.new.self n.0 _ _ c.stop_at.result _ n.1 n.2 c.in_ok-end.ensures.machine (c.in_ok-end.ensures.slot n.0 n.1) c.in_ok-end.ensures.standing c.stop_at.ensures
+    runs-on c.first_run_goes_on.ensures c.args.time c.args.machine.now c.slot.new.self n.0 _ _ c.stop_at.result _ n.1 n.2 c.in_ok-end.ensures.machine
+    (c.in_ok-end.ensures.slot n.0 n.1) c.in_ok-end.ensures.standing c.stop_at.ensures

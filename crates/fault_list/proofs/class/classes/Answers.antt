@@ -12,7 +12,8 @@ use Rattle.fault_list.proofs.class.classes.Goals as goal
 
 pub faults-preserved : goal.faults-preserved
 faults-preserved c =
-    Met-step (design_of c.args.design.now) c.args.faults.now c.faults.number _ (λ k. get same_key c.faults.firsts k) (λ k. get same_key c.first_place.new.firsts k) c.faults.places.items _ c.key_of-key.result c.in_ok-first.first
+    Met-step (design_of c.args.design.now) c.args.faults.now c.faults.number _ (λ k. get same_key c.faults.firsts k)
+    (λ k. get same_key c.first_place.new.firsts k) c.faults.places.items _ c.key_of-key.result c.in_ok-first.first
     c.faults-test.true (c.key_of-key.ensures ∙ c.standing.ensures) c.faults.invariant c.in_ok-first.ensures c.in_ok-push.ensures.items
 
 pub returns-clause-count : goal.returns-clause-count
@@ -22,4 +23,5 @@ returns-clause-count c =
 pub returns-clause-classes : goal.returns-clause-classes
 returns-clause-classes c =
     classes-met (design_of c.args.design.now) (stuck c.args.faults.now) (λ k. get same_key c.faults.firsts k) c.faults.places.items (rules_hold (design_of c.args.design.now) c.args.design.now.rules)
-    (subst (λ l. Met (design_of c.args.design.now) (stuck l) (λ k. get same_key c.faults.firsts k) c.faults.places.items) (take_all c.faults.number c.args.faults.now c.faults-test.false) c.faults.invariant)
+    (subst (λ l. Met (design_of c.args.design.now) (stuck l) (λ k. get same_key c.faults.firsts k) c.faults.places.items)
+    (take_all c.faults.number c.args.faults.now c.faults-test.false) c.faults.invariant)

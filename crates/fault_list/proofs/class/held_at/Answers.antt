@@ -7,7 +7,8 @@ use Rattle.fault_list.proofs.class.held_at.Goals as goal
 pub returns : goal.returns
 returns c =
     let there : (nat_le 1 c.args.terminal && nat_le c.args.terminal c.len.result) ≡ true = search rules in
-    held-yes (node_number c.args.number) c.args.terminal c.args.input c.in-Some-output_of.output c.args.node.now.outputs c.as_slice.result.now c.in-Some.object.now c.args.node.now.kind c.in-Gate.kind c.in-Gate.terminals c.len.result
+    held-yes (node_number c.args.number) c.args.terminal c.args.input c.in-Some-output_of.output c.args.node.now.outputs c.as_slice.result.now c.in-Some.object.now c.args.node.now.kind
+    c.in-Gate.kind c.in-Gate.terminals c.len.result
     c.as_slice.ensures c.in-Some.ensures.value c.in-Gate.is c.in-Some-output_of.ensures (search rules) there
 
 pub returns-then-not-is_terminal : goal.returns-then-not-is_terminal

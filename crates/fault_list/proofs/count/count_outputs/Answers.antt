@@ -15,7 +15,8 @@ pub nodes-preserved : goal.nodes-preserved
 nodes-preserved c =
     let at : slice_get (design_of c.args.design.now).nodes c.nodes.node-index ≡ Some (node_of c.node-item.result) =
     node_in c.args.design.now.nodes c.as_slice-node-items.result.now c.nodes.node-index c.node-item.result c.as_slice-node-items.ensures c.nodes-test.true c.node-item.is in
-    let bits : length (output_sites (design_of c.args.design.now) c.nodes.node-index (node_of c.node-item.result)) ≡ sum_by (width_in (design_of c.args.design.now)) (map object_number c.node-item.result.outputs) =
+    let bits : length (output_sites (design_of c.args.design.now) c.nodes.node-index (node_of c.node-item.result)) ≡ sum_by (width_in (design_of c.args.design.now))
+    (map object_number c.node-item.result.outputs) =
     output-count (design_of c.args.design.now) c.nodes.node-index (node_of c.node-item.result) (rules_hold (design_of c.args.design.now) c.args.design.now.rules) at in
     let one : c.bits_of_outputs.result ≡ min (length (output_sites (design_of c.args.design.now) c.nodes.node-index (node_of c.node-item.result))) (2 ^ 64 - 1) =
     c.bits_of_outputs.ensures ∙ (ap (λ l. min (sum_by (width_in (design_of c.args.design.now)) (map object_number l)) (2 ^ 64 - 1)) c.as_slice.ensures ∙ ap (λ n. min n (2 ^ 64 - 1)) (sym bits)) in

@@ -8,8 +8,10 @@ use Rattle.fault_list.proofs.count.count_sites.Goals as goal
 
 pub returns : goal.returns
 returns c =
-    all-counted (2 ^ 64 - 1) c.count_variables-variables.result c.count_outputs-outputs.result c.count_terminals-terminals.result c.saturating_add.result c.saturating_add-sites.result c.saturating_add-2.result
-    (joined (map_numbered variable_sites 0 (design_of c.args.design.now).objects)) (joined (map_numbered (output_sites (design_of c.args.design.now)) 0 (design_of c.args.design.now).nodes)) (joined (map_numbered terminal_sites 0 (design_of c.args.design.now).nodes))
+    all-counted (2 ^ 64 - 1) c.count_variables-variables.result c.count_outputs-outputs.result c.count_terminals-terminals.result c.saturating_add.result c.saturating_add-sites.result
+    c.saturating_add-2.result
+    (joined (map_numbered variable_sites 0 (design_of c.args.design.now).objects)) (joined (map_numbered (output_sites (design_of c.args.design.now)) 0 (design_of c.args.design.now).nodes))
+    (joined (map_numbered terminal_sites 0 (design_of c.args.design.now).nodes))
     (subst (λ l. c.count_variables-variables.result ≡ min (length (joined (map_numbered variable_sites 0 (map object_of l)))) (2 ^ 64 - 1)) c.as_slice.ensures c.count_variables-variables.ensures)
     c.count_outputs-outputs.ensures
     (subst (λ l. c.count_terminals-terminals.result ≡ min (length (joined (map_numbered terminal_sites 0 (map node_of l)))) (2 ^ 64 - 1)) c.as_slice-2.ensures c.count_terminals-terminals.ensures)

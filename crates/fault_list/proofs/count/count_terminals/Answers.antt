@@ -12,7 +12,8 @@ pub nodes-preserved : goal.nodes-preserved
 nodes-preserved c =
     let terminals : c.terminals_len.result ≡ length (terminal_sites c.nodes.node-index (node_of c.node-item.result)) =
     c.terminals_len.ensures
-    ∙ sym (length-map (up_from 1 (terminal_count (node_kind_of c.node-item.result.kind))) (GateTerminal c.nodes.node-index) ∙ up_from-length 1 (terminal_count (node_kind_of c.node-item.result.kind))) in
+    ∙ sym (length-map (up_from 1 (terminal_count (node_kind_of c.node-item.result.kind))) (GateTerminal c.nodes.node-index)
+    ∙ up_from-length 1 (terminal_count (node_kind_of c.node-item.result.kind))) in
     count-more node_of terminal_sites c.args.nodes.now c.nodes.node-index c.node-item.result (2 ^ 64 - 1) c.saturating_add-count.result c.nodes-test.true c.node-item.is
     (plain (length (joined (map_numbered terminal_sites 0 (map node_of (take c.nodes.node-index c.args.nodes.now))))) (length (terminal_sites c.nodes.node-index (node_of c.node-item.result)))
     (2 ^ 64 - 1) c.nodes.count c.terminals_len.result c.saturating_add-count.result c.nodes.invariant terminals c.saturating_add-count.ensures)

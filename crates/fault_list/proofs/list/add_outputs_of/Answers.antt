@@ -9,6 +9,7 @@ use Rattle.fault_list.proofs.list.add_outputs_of.Goals as goal
 
 pub outputs-preserved : goal.outputs-preserved
 outputs-preserved c =
-    more_joined (λ object. map (OutputBit (node_number c.args.number) object) (up_from 0 (width_in (design_of c.args.design.now) object))) c.args.outputs.now c.outputs.object-index 0 _ _ _ c.outputs-test.true c.outputs.invariant
+    more_joined (λ object. map (OutputBit (node_number c.args.number) object) (up_from 0 (width_in (design_of c.args.design.now) object))) c.args.outputs.now c.outputs.object-index 0 _ _ _
+    c.outputs-test.true c.outputs.invariant
     (c.in_ok-add_output_bits.ensures
     ∙ ap (λ n. stuck c.outputs.faults.items ++ both (map (OutputBit (node_number c.args.number) (get_or c.args.outputs.now c.outputs.object-index 0)) (up_from 0 n))) c.width_of-width.ensures)

@@ -8,7 +8,8 @@ use Rattle.fault_list.proofs.spelled.objects_spelled.Goals as goal
 
 pub returns-in-Some : goal.returns-in-Some
 returns-in-Some c =
-    first-here object_of (object_spelled (design_of c.args.design.now) c.args.word.now) c.as_slice-objects.result.now c.objects.number c.index-objects-number.result (site_of c.in-Some.site) c.objects-test.true
+    first-here object_of (object_spelled (design_of c.args.design.now) c.args.word.now) c.as_slice-objects.result.now c.objects.number c.index-objects-number.result
+    (site_of c.in-Some.site) c.objects-test.true
     (ap (λ (x : Object). object_spelled (design_of c.args.design.now) c.args.word.now c.objects.number (object_of x)) (sym c.index-objects-number.is) ∙ sym c.in-Some.ensures)
     ∙ sym c.objects.invariant
 

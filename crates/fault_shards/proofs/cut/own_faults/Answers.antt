@@ -9,7 +9,8 @@ use Rattle.fault_shards.proofs.cut.own_faults.Goals.{then-first-number+in_ok-pus
 pub faults-preserved : goal.faults-preserved
 faults-preserved c =
     elim c.if-first-number.branch [
-      | then-first-number+in_ok-push w ↦ rw (w.own-is, w.in_ok-push.ensures.items) (own-more c.args.standing.now c.faults.own.items c.faults.number _ c.faults-test.true w.if-first-number.true c.faults.invariant)
+      | then-first-number+in_ok-push w ↦ rw (w.own-is, w.in_ok-push.ensures.items) (own-more c.args.standing.now c.faults.own.items c.faults.number _ c.faults-test.true w.if-first-number.true
+          c.faults.invariant)
       | else-first-number w ↦ rw w.own-is (own-other c.args.standing.now c.faults.own.items c.faults.number _ c.faults-test.true w.if-first-number.false c.faults.invariant)
     ]
 

@@ -11,7 +11,8 @@ use Rattle.full_grades.proofs.keep.pass_strobe.Goals as goal
 
 pub returns-in-Some : goal.returns-in-Some
 returns-in-Some g c = λ design plan fault next same at.
-    keeping-stopped design plan fault c.args.machine.now c.advance.new.machine (sample_of c.args.sample.now) next (map sample_of c.args.differs.now.items) at c.full_grades_are.ensures c.in-Some.stop c.end_by_faulty-end.result
+    keeping-stopped design plan fault c.args.machine.now c.advance.new.machine (sample_of c.args.sample.now) next
+    (map sample_of c.args.differs.now.items) at c.full_grades_are.ensures c.in-Some.stop c.end_by_faulty-end.result
     (answered c.args.sample.now.time c.args.machine.now c.advance.new.machine c.in_ok-stop.field-0 (Some c.in-Some.stop) c.in-Some.is c.in_ok-stop.ensures) c.end_by_faulty-end.ensures
 
 pub keep_differing-requires-clause-watched : goal.keep_differing-requires-clause-watched
@@ -22,5 +23,6 @@ keep_differing-requires-clause-watched g c =
 
 pub returns : goal.returns
 returns g c = λ design plan fault next same at.
-    keeping-more design plan fault c.args.machine.now c.advance.new.machine (sample_of c.args.sample.now) next (map sample_of c.args.differs.now.items) at (map watched_bit c.args.watched.now) (map sample_of c.keep_differing.new.differs.items) same
+    keeping-more design plan fault c.args.machine.now c.advance.new.machine (sample_of c.args.sample.now) next (map sample_of c.args.differs.now.items) at (map watched_bit c.args.watched.now)
+    (map sample_of c.keep_differing.new.differs.items) same
     (answered c.args.sample.now.time c.args.machine.now c.advance.new.machine c.in_ok-stop.field-0 None c.in_default.is c.in_ok-stop.ensures) c.in_ok-keep_differing.ensures

@@ -23,5 +23,6 @@ returns c =
     let count : length c.args.findings.now ≡ length c.args.plan.now.faults = in-order-count c.args.plan.now.faults c.args.findings.now c.requires in
     let same : length c.as_slice-faults.result.now ≡ length c.args.plan.now.faults = ap length c.as_slice-faults.ensures in
     let past : length c.args.findings.now ≤ c.findings.number = c.findings-test.false in
-    lines-done (design_of c.args.design.now) c.args.plan.now.faults c.as_slice-faults.result.now c.args.findings.now c.findings.number (codes "vfault 1" ++ 10 ∷ []) c.findings.out.items c.append_total.new.out.items
+    lines-done (design_of c.args.design.now) c.args.plan.now.faults c.as_slice-faults.result.now c.args.findings.now c.findings.number
+    (codes "vfault 1" ++ 10 ∷ []) c.findings.out.items c.append_total.new.out.items
     (total_line (grades_of c.args.findings.now)) c.as_slice-faults.ensures (omega arith) past c.findings.invariant c.in_ok-append_total.ensures

@@ -22,7 +22,8 @@ told_is c =
     c.deref.ensures.value ∙ ap (λ list. list.items) c.replace-told.ensures.value
     ∙ needs_at c.vertices.sort.waiters.items c.index-vertex.result.now c.index_mut.result.now (in_waiters c) c.index_mut.ensures.value
 
-taken_is : (c : After-deref) → lists_of (set c.vertices.sort.waiters.items c.index-vertex.result.now c.replace-told.new.dest) ≡ set (lists_of c.vertices.sort.waiters.items) c.index-vertex.result.now []
+taken_is : (c : After-deref) → lists_of (set c.vertices.sort.waiters.items c.index-vertex.result.now c.replace-told.new.dest) ≡ set
+    (lists_of c.vertices.sort.waiters.items) c.index-vertex.result.now []
 taken_is c = taken_in c.vertices.sort.waiters.items c.index-vertex.result.now c.replace-told.new.dest (ap (λ list. list.items) c.replace-told.ensures.after ∙ c.new.ensures.items)
 
 pub tell-requires-clause-told : goal.tell-requires-clause-told
@@ -45,13 +46,15 @@ vertices-preserved c = record {
   sorting = c.in_ok-tell.ensures.sorting;
   vertices = c.in_ok-tell.ensures.vertices;
   lists = c.in_ok-tell.ensures.lists;
-  within = let longer : length c.vertices.sort.vertices.items ≤ length c.tell.new.sort.vertices.items = c.in_ok-tell.ensures.longer in let inside : c.vertices.done < length c.vertices.sort.vertices.items = search rules in search rules;
+  within = let longer : length c.vertices.sort.vertices.items ≤ length c.tell.new.sort.vertices.items = c.in_ok-tell.ensures.longer in
+      let inside : c.vertices.done < length c.vertices.sort.vertices.items = search rules in search rules;
   waiting =
       let base = (goal.at.vertices-preserved c).After-deref in
       let inside : c.vertices.done < length c.vertices.sort.vertices.items = search rules in
       c.in_ok-tell.ensures.waiting (c.vertices.done + 1) (omega arith)
       (subst (λ waiters. AllWait (lists_of c.args.needs.now) waiters c.vertices.sort.placed.items c.vertices.sort.vertices.items (c.vertices.done + 1) (has c.deref.result.now)) (sym (taken_is base))
-      (AllWait-told (lists_of c.args.needs.now) (lists_of c.vertices.sort.waiters.items) c.vertices.sort.placed.items c.vertices.sort.vertices.items c.vertices.done c.index-vertex.result.now c.deref.result.now
+      (AllWait-told (lists_of c.args.needs.now) (lists_of c.vertices.sort.waiters.items) c.vertices.sort.placed.items c.vertices.sort.vertices.items c.vertices.done c.index-vertex.result.now
+      c.deref.result.now
       inside (next_is base) (told_is base) c.vertices.invariant.waiting));
 }
 

@@ -7,12 +7,17 @@ use Rattle.graph_order.proofs.search.add_need.Goals as goal
 pub returns-then-index-clause-adds : goal.returns-then-index-clause-adds
 returns-then-index-clause-adds c = λ vertex own before other search had.
     AddsNeeds-skip c.args.placed.now.items vertex own before c.args.found.now.items c.args.need had
-    (λ free. absurd (both_ways (get_or c.args.placed.now.items c.args.need false) free (sym (get_or_read c.args.placed.now.items c.args.need c.index.result.now (omega arith) c.index.ensures false) ∙ c.if-index.true)))
+    (λ free. absurd (both_ways (get_or c.args.placed.now.items c.args.need false) free (sym (get_or_read c.args.placed.now.items c.args.need c.index.result.now (omega arith) c.index.ensures false)
+    ∙ c.if-index.true)))
 
 pub returns-then-index-2-clause-adds : goal.returns-then-index-2-clause-adds
 returns-then-index-2-clause-adds c = λ vertex own before other had_search had.
     AddsNeeds-skip c.args.placed.now.items vertex own before c.args.found.now.items c.args.need had
-    (λ free. (sym (had_search.marked c.args.need c.requires.need other) ∙ sym (get_or_read c.args.seen.now.items c.args.need c.index-2.result.now (omega arith) c.index-2.ensures false) ∙ c.if-index-2.true, other))
+    (λ free. (
+      sym (had_search.marked c.args.need c.requires.need other) ∙ sym (get_or_read c.args.seen.now.items c.args.need c.index-2.result.now (omega arith) c.index-2.ensures false)
+          ∙ c.if-index-2.true,
+      other,
+    ))
 
 pub returns-clause-search : goal.returns-clause-search
 returns-clause-search c = λ vertex other had.

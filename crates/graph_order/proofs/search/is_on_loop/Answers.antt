@@ -45,7 +45,8 @@ needs_at-own-requires c = next_low (goal.at.needs_at-own-requires c).After-index
 pub add_needs-requires-clause-own : goal.add_needs-requires-clause-own
 add_needs-requires-clause-own c = λ k low.
     let bound : get_or c.needs_at-own.result.now k 0 < length (lists_of c.args.needs.now) =
-    c.requires.graph c.index.result.now (get_or c.needs_at-own.result.now k 0) (ap (λ l. has l (get_or c.needs_at-own.result.now k 0)) (sym c.needs_at-own.ensures) ∙ has-get_or c.needs_at-own.result.now k 0 low) in
+    c.requires.graph c.index.result.now (get_or c.needs_at-own.result.now k 0) (ap (λ l. has l (get_or c.needs_at-own.result.now k 0)) (sym c.needs_at-own.ensures)
+    ∙ has-get_or c.needs_at-own.result.now k 0 low) in
     omega (arith, c.requires.order.same_length)
 
 pub returns-then-branch-clause-loops : goal.returns-then-branch-clause-loops
@@ -65,7 +66,8 @@ found-preserved c =
           AreReached-more (lists_of c.args.needs.now) c.args.order.now.placed.items c.args.vertex c.index.result.now c.needs_at-own.result.now c.found.found.items c.add_needs.new.found.items adds
           c.needs_at-own.ensures (next_found base) c.found.invariant.reached;
       closed =
-          IsClosed-more (lists_of c.args.needs.now) c.args.order.now.placed.items c.args.vertex c.found.done c.index.result.now c.needs_at-own.result.now c.found.found.items c.add_needs.new.found.items adds
+          IsClosed-more (lists_of c.args.needs.now) c.args.order.now.placed.items c.args.vertex c.found.done c.index.result.now c.needs_at-own.result.now c.found.found.items
+          c.add_needs.new.found.items adds
           c.needs_at-own.ensures inside (next_is base) c.found.invariant.closed;
     }
 

@@ -20,7 +20,8 @@ candidates-preserved-then-index c = record {
       none_more (lists_of c.args.needs.now) c.candidates.vertex c.candidates.invariant.none
       (placed_not_on_loop (lists_of c.args.needs.now) c.args.order.now.placed.items c.args.order.now.vertices.items c.candidates.vertex c.requires.order
       (omega (arith, length-lists_of c.args.needs.now))
-      (sym (get_or_read c.args.order.now.placed.items c.candidates.vertex c.index.result.now (omega (arith, c.requires.order.same_length, length-lists_of c.args.needs.now)) c.index.ensures false) ∙ c.if-index.true));
+      (sym (get_or_read c.args.order.now.placed.items c.candidates.vertex c.index.result.now (omega (arith, c.requires.order.same_length, length-lists_of c.args.needs.now)) c.index.ensures false)
+      ∙ c.if-index.true));
   sized = search rules;
   blank = c.candidates.invariant.blank;
 }

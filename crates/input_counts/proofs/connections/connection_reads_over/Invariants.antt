@@ -8,4 +8,5 @@ use Rattle.input_counts.proofs.connections.connection_reads_over.Given as goal
 abbrev pub invariant-connections : goal.invariant-connections
 invariant-connections l =
     (child : plain.Child) → IsChild child l.child
-    → some_reads_over child.outer_scope (connections_reads child l.position (map connection_of (drop l.position l.connections))) ≡ some_reads_over child.outer_scope (connections_reads child 0 (map connection_of l.connections))
+    → some_reads_over child.outer_scope (connections_reads child l.position (map connection_of (drop l.position l.connections))) ≡ some_reads_over child.outer_scope
+    (connections_reads child 0 (map connection_of l.connections))

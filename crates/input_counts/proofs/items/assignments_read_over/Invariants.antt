@@ -5,4 +5,5 @@ use Rattle.v_elab.specs.ReadCounts.{some_reads_over, value_reads}
 use Rattle.input_counts.proofs.items.assignments_read_over.Given as goal
 
 abbrev pub invariant-assignments : goal.invariant-assignments
-invariant-assignments l = some_reads_over l.scope (map (λ (a : SourceAssignment). value_reads a.value) (map assignment_of (drop l.assignment-index l.assignments))) ≡ some_reads_over l.scope (map (λ (a : SourceAssignment). value_reads a.value) (map assignment_of l.assignments))
+invariant-assignments l = some_reads_over l.scope (map (λ (a : SourceAssignment). value_reads a.value) (map assignment_of (drop l.assignment-index l.assignments))) ≡ some_reads_over l.scope
+    (map (λ (a : SourceAssignment). value_reads a.value) (map assignment_of l.assignments))

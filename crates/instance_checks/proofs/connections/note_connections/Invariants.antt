@@ -14,4 +14,5 @@ use Rattle.instance_checks.proofs.connections.note_connections.Given as goal
 abbrev pub invariant-connections : goal.invariant-connections
 invariant-connections l =
     (child : plain.Child) → IsChild child l.child
-    → PortsLeft child l.position (λ (name : List ℕ). is_some (kept l.earlier name)) l.first (noted l.initial.first (connections_faults child 0 [] (map connection_of l.connections))) (map connection_of (drop l.position l.connections))
+    → PortsLeft child l.position (λ (name : List ℕ). is_some (kept l.earlier name)) l.first (noted l.initial.first (connections_faults child 0 [] (map connection_of l.connections)))
+    (map connection_of (drop l.position l.connections))

@@ -13,4 +13,5 @@ use Rattle.instance_checks.proofs.given.given_parameters.Given as goal
 abbrev pub invariant-connections : goal.invariant-connections
 invariant-connections l =
     (m : SourceModule) → AreFormals m l.formals
-    → map given_seen l.given.items ++ given_parameters l.scope (open_parameters m) l.position (map connection_of (drop l.position l.connections)) ≡ given_parameters l.scope (open_parameters m) 0 (map connection_of l.connections)
+    → map given_seen l.given.items ++ given_parameters l.scope (open_parameters m) l.position (map connection_of (drop l.position l.connections)) ≡ given_parameters l.scope (open_parameters m) 0
+    (map connection_of l.connections)

@@ -14,4 +14,5 @@ use Rattle.instance_checks.proofs.given.note_given.Given as goal
 abbrev pub invariant-connections : goal.invariant-connections
 invariant-connections l =
     (m : SourceModule) → AreFormals m l.formals
-    → GivenLeft l.scope (open_parameters m) l.position (λ (name : List ℕ). is_some (kept l.earlier name)) l.first (noted l.initial.first (given_faults l.scope (open_parameters m) 0 [] (map connection_of l.connections))) (map connection_of (drop l.position l.connections))
+    → GivenLeft l.scope (open_parameters m) l.position (λ (name : List ℕ). is_some (kept l.earlier name)) l.first
+    (noted l.initial.first (given_faults l.scope (open_parameters m) 0 [] (map connection_of l.connections))) (map connection_of (drop l.position l.connections))

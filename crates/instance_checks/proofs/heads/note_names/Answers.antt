@@ -11,6 +11,7 @@ use Rattle.instance_checks.proofs.heads.note_names.Goals as goal
 
 pub names-preserved : goal.names-preserved
 names-preserved c m formals =
-    rest-more (λ (x : Name). fault_if (is_no_port m x.name) (source_place x.place) WrongKind) (λ (xs : List Name). flat_map (λ (n : NamedPlace). fault_if (is_no_port m n.name) n.place WrongKind) (map name_of xs)) c.args.names.now c.names.name-index c.name-item.result
+    rest-more (λ (x : Name). fault_if (is_no_port m x.name) (source_place x.place) WrongKind)
+    (λ (xs : List Name). flat_map (λ (n : NamedPlace). fault_if (is_no_port m n.name) n.place WrongKind) (map name_of xs)) c.args.names.now c.names.name-index c.name-item.result
     c.names.first c.note_where.new.first _ (λ y ys. refl) c.names-test.true c.name-item.is
     (c.note_where.ensures ∙ ap (λ (b : Bool). noted c.names.first (fault_if b (source_place c.name-item.result.place) WrongKind)) (c.is_no_port.ensures m formals)) (c.names.invariant m formals)

@@ -9,4 +9,5 @@ use Rattle.instance_checks.proofs.instances.note_instances.Given as goal
 abbrev pub invariant-instances : goal.invariant-instances
 invariant-instances l =
     (c : plain.Child) → IsChild c l.child
-    → noted l.first (flat_map (instance_faults c l.depth) (map instance_of (drop l.instance-index l.instances))) ≡ noted l.initial.first (flat_map (instance_faults c l.depth) (map instance_of l.instances))
+    → noted l.first (flat_map (instance_faults c l.depth) (map instance_of (drop l.instance-index l.instances))) ≡ noted l.initial.first
+    (flat_map (instance_faults c l.depth) (map instance_of l.instances))

@@ -17,5 +17,6 @@ returns-in_ok-push_names-in-Plain c =
 pub returns-in_ok-push_groups-in-Declared : goal.returns-in_ok-push_groups-in-Declared
 returns-in_ok-push_groups-in-Declared c =
     subst (λ (list : List Identifier). AreNames list c.push_groups.new.names)
-    (ap (λ (gs : List Ports). flat_map (λ (g : SourcePorts). map (λ (n : NamedPlace). n.name) g.names) (map ports_of gs)) c.as_slice-in-Declared.ensures ∙ ap (λ (h : Heads). head_names (heads_of h)) (sym c.in-Declared.is))
+    (ap (λ (gs : List Ports). flat_map (λ (g : SourcePorts). map (λ (n : NamedPlace). n.name) g.names) (map ports_of gs)) c.as_slice-in-Declared.ensures
+    ∙ ap (λ (h : Heads). head_names (heads_of h)) (sym c.in-Declared.is))
     (c.in_ok-push_groups-in-Declared.ensures.grows [] c.new-names.ensures)

@@ -7,4 +7,5 @@ use Rattle.instance_checks.specs.Offered.{open_name, open_names, NamesGrow}
 use Rattle.instance_checks.proofs.name_lists.open_parameters.Given as goal
 
 abbrev pub invariant-declared : goal.invariant-declared
-invariant-declared l = (final : Names) → NamesGrow (open_names (declarations_seen (drop l.declaration-index l.declared))) l.names final → NamesGrow (open_names (declarations_seen l.declared)) l.initial.names final
+invariant-declared l = (final : Names) → NamesGrow (open_names (declarations_seen (drop l.declaration-index l.declared))) l.names final →
+    NamesGrow (open_names (declarations_seen l.declared)) l.initial.names final

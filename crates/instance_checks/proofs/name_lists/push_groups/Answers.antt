@@ -12,8 +12,11 @@ use Rattle.instance_checks.proofs.name_lists.push_groups.Goals as goal
 pub groups-preserved : goal.groups-preserved
 groups-preserved c final rest =
     c.groups.invariant final
-    (names-step (λ (x : Ports). map (λ (n : NamedPlace). n.name) (ports_of x).names) (λ (xs : List Ports). flat_map (λ (g : SourcePorts). map (λ (n : NamedPlace). n.name) g.names) (map ports_of xs)) c.args.groups.now c.groups.group-index c.group-item.result c.groups.names c.push_names.new.names final (λ y ys. refl)
-    c.groups-test.true c.group-item.is (subst (λ (list : List Identifier). NamesGrow list c.groups.names c.push_names.new.names) (ap (λ (ns : List Name). map (λ (n : NamedPlace). n.name) (map name_of ns)) c.as_slice.ensures) c.in_ok-push_names.ensures) rest)
+    (names-step (λ (x : Ports). map (λ (n : NamedPlace). n.name) (ports_of x).names) (λ (xs : List Ports). flat_map (λ (g : SourcePorts). map (λ (n : NamedPlace). n.name) g.names) (map ports_of xs))
+    c.args.groups.now c.groups.group-index c.group-item.result c.groups.names c.push_names.new.names final (λ y ys. refl)
+    c.groups-test.true c.group-item.is (subst (λ (list : List Identifier). NamesGrow list c.groups.names c.push_names.new.names)
+    (ap (λ (ns : List Name). map (λ (n : NamedPlace). n.name) (map name_of ns)) c.as_slice.ensures) c.in_ok-push_names.ensures) rest)
 
 pub returns : goal.returns
-returns c = c.groups.invariant c.groups.names (names-end (λ (xs : List Ports). flat_map (λ (g : SourcePorts). map (λ (n : NamedPlace). n.name) g.names) (map ports_of xs)) c.args.groups.now c.groups.group-index c.groups.names refl c.groups-test.false)
+returns c = c.groups.invariant c.groups.names (names-end (λ (xs : List Ports). flat_map (λ (g : SourcePorts). map (λ (n : NamedPlace). n.name) g.names) (map ports_of xs)) c.args.groups.now
+    c.groups.group-index c.groups.names refl c.groups-test.false)

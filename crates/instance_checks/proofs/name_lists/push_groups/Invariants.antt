@@ -7,4 +7,5 @@ use Rattle.instance_checks.specs.Offered.{open_name, open_names, NamesGrow}
 use Rattle.instance_checks.proofs.name_lists.push_groups.Given as goal
 
 abbrev pub invariant-groups : goal.invariant-groups
-invariant-groups l = (final : Names) → NamesGrow (flat_map (λ (g : SourcePorts). map (λ (n : NamedPlace). n.name) g.names) (map ports_of (drop l.group-index l.groups))) l.names final → NamesGrow (flat_map (λ (g : SourcePorts). map (λ (n : NamedPlace). n.name) g.names) (map ports_of l.groups)) l.initial.names final
+invariant-groups l = (final : Names) → NamesGrow (flat_map (λ (g : SourcePorts). map (λ (n : NamedPlace). n.name) g.names) (map ports_of (drop l.group-index l.groups))) l.names final →
+    NamesGrow (flat_map (λ (g : SourcePorts). map (λ (n : NamedPlace). n.name) g.names) (map ports_of l.groups)) l.initial.names final

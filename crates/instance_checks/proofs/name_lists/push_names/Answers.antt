@@ -11,8 +11,10 @@ use Rattle.instance_checks.proofs.name_lists.push_names.Goals as goal
 pub heads-preserved : goal.heads-preserved
 heads-preserved c final rest =
     c.heads.invariant final
-    (names-step (λ (x : Name). (name_of x).name ∷ []) (λ (xs : List Name). map (λ (n : NamedPlace). n.name) (map name_of xs)) c.args.heads.now c.heads.head-index c.head-item.result c.heads.names c.push.new.self final (λ y ys. refl)
+    (names-step (λ (x : Name). (name_of x).name ∷ []) (λ (xs : List Name). map (λ (n : NamedPlace). n.name) (map name_of xs)) c.args.heads.now c.heads.head-index c.head-item.result c.heads.names
+    c.push.new.self final (λ y ys. refl)
     c.heads-test.true c.head-item.is c.in_ok-push.ensures rest)
 
 pub returns : goal.returns
-returns c = c.heads.invariant c.heads.names (names-end (λ (xs : List Name). map (λ (n : NamedPlace). n.name) (map name_of xs)) c.args.heads.now c.heads.head-index c.heads.names refl c.heads-test.false)
+returns c = c.heads.invariant c.heads.names (names-end (λ (xs : List Name). map (λ (n : NamedPlace). n.name) (map name_of xs)) c.args.heads.now c.heads.head-index c.heads.names refl
+    c.heads-test.false)

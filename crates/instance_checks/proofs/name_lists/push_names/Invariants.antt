@@ -7,4 +7,5 @@ use Rattle.instance_checks.specs.Offered.{open_name, open_names, NamesGrow}
 use Rattle.instance_checks.proofs.name_lists.push_names.Given as goal
 
 abbrev pub invariant-heads : goal.invariant-heads
-invariant-heads l = (final : Names) → NamesGrow (map (λ (n : NamedPlace). n.name) (map name_of (drop l.head-index l.heads))) l.names final → NamesGrow (map (λ (n : NamedPlace). n.name) (map name_of l.heads)) l.initial.names final
+invariant-heads l = (final : Names) → NamesGrow (map (λ (n : NamedPlace). n.name) (map name_of (drop l.head-index l.heads))) l.names final →
+    NamesGrow (map (λ (n : NamedPlace). n.name) (map name_of l.heads)) l.initial.names final

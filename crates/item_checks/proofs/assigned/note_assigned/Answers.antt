@@ -9,4 +9,5 @@ pub returns : goal.returns
 returns c =
     let target : TargetReading = target_reading (writer_of c.args.writer) c.args.scope.now (target_of c.args.target.now) in
     let value : Reading = reading_of c.args.scope.now (expression_of c.args.value.now) in
-    c.note_group.ensures (target.here ++ value.here) (target.inside ++ value.inside) (c.together.ensures target.here target.inside value.here value.inside c.in_ok-target.ensures.faults_are c.in_ok-value.ensures.faults_are)
+    c.note_group.ensures (target.here ++ value.here) (target.inside ++ value.inside) (c.together.ensures target.here target.inside value.here value.inside c.in_ok-target.ensures.faults_are
+    c.in_ok-value.ensures.faults_are)

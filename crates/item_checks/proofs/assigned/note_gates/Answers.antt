@@ -9,7 +9,10 @@ use Rattle.item_checks.proofs.assigned.note_gates.Goals as goal
 
 pub gates-preserved : goal.gates-preserved
 gates-preserved c =
-    rest-more (λ (x : Gate). gate_faults c.args.scope.now (gate_of x)) (λ (xs : List Gate). flat_map (gate_faults c.args.scope.now) (map gate_of xs)) c.args.gates.now c.gates.gate-index c.gate-item.result
+    rest-more (λ (x : Gate). gate_faults c.args.scope.now (gate_of x)) (λ (xs : List Gate). flat_map (gate_faults c.args.scope.now) (map gate_of xs)) c.args.gates.now c.gates.gate-index
+    c.gate-item.result
     c.gates.first c.note_terminals.new.first _ (λ y ys. refl) c.gates-test.true c.gate-item.is
-    (noted-two c.gates.first _ _ (output_faults c.args.scope.now (target_of c.gate-item.result.output)) (flat_map (terminal_faults c.args.scope.now) (map expression_of c.as_slice.result.now)) (gate_faults c.args.scope.now (gate_of c.gate-item.result)) c.in_ok-note_output.ensures c.in_ok-note_terminals.ensures
-    (ap (λ (es : List Expr). output_faults c.args.scope.now (target_of c.gate-item.result.output) ++ flat_map (terminal_faults c.args.scope.now) (map expression_of es)) (sym c.as_slice.ensures))) c.gates.invariant
+    (noted-two c.gates.first _ _ (output_faults c.args.scope.now (target_of c.gate-item.result.output)) (flat_map (terminal_faults c.args.scope.now) (map expression_of c.as_slice.result.now))
+    (gate_faults c.args.scope.now (gate_of c.gate-item.result)) c.in_ok-note_output.ensures c.in_ok-note_terminals.ensures
+    (ap (λ (es : List Expr). output_faults c.args.scope.now (target_of c.gate-item.result.output) ++ flat_map (terminal_faults c.args.scope.now) (map expression_of es)) (sym c.as_slice.ensures)))
+    c.gates.invariant

@@ -16,5 +16,7 @@ returns-in_ok-value-in-Some c =
     let target : TargetReading = target_reading ByNode c.args.scope.now (whole_target c.args.wire.now.name (source_place c.args.wire.now.place)) in
     let value : Reading = reading_of c.args.scope.now (expression_of c.in-Some.value) in
     c.note_group.ensures (target.here ++ value.here) (target.inside ++ value.inside)
-    (c.together.ensures target.here target.inside value.here value.inside (whole-are c.args.scope.now c.args.wire.now.name (source_place c.args.wire.now.place) c.whole_faults-target.result c.whole_faults-target.ensures) c.in_ok-value-in-Some.ensures.faults_are)
-    ∙ ap (λ (o : Option Expr). noted c.args.first.now (optional_faults (assigned_faults ByNode c.args.scope.now (whole_target c.args.wire.now.name (source_place c.args.wire.now.place))) (expression_in o))) (sym c.in-Some.is)
+    (c.together.ensures target.here target.inside value.here value.inside (whole-are c.args.scope.now c.args.wire.now.name
+    (source_place c.args.wire.now.place) c.whole_faults-target.result c.whole_faults-target.ensures) c.in_ok-value-in-Some.ensures.faults_are)
+    ∙ ap (λ (o : Option Expr). noted c.args.first.now (optional_faults (assigned_faults ByNode c.args.scope.now (whole_target c.args.wire.now.name (source_place c.args.wire.now.place)))
+    (expression_in o))) (sym c.in-Some.is)

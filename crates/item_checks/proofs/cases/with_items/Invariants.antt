@@ -6,4 +6,5 @@ use Rattle.item_checks.specs.Groups.{Grows}
 use Rattle.item_checks.proofs.cases.with_items.Given as goal
 
 abbrev pub invariant-items : goal.invariant-items
-invariant-items l = (final : Faults) → Grows (items_labels_faults l.scope (case_items_of (drop l.item-index l.items))) l.faults final → Grows (items_labels_faults l.scope (case_items_of l.items)) l.fn.before final
+invariant-items l = (final : Faults) → Grows (items_labels_faults l.scope (case_items_of (drop l.item-index l.items))) l.faults final →
+    Grows (items_labels_faults l.scope (case_items_of l.items)) l.fn.before final

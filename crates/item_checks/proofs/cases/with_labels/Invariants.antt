@@ -5,4 +5,5 @@ use Rattle.item_checks.specs.Groups.{labels_group, Grows}
 use Rattle.item_checks.proofs.cases.with_labels.Given as goal
 
 abbrev pub invariant-labels : goal.invariant-labels
-invariant-labels l = (final : Faults) → Grows (labels_group l.scope (expressions_of (drop l.label-index l.labels))) l.faults final → Grows (labels_group l.scope (expressions_of l.labels)) l.fn.before final
+invariant-labels l = (final : Faults) → Grows (labels_group l.scope (expressions_of (drop l.label-index l.labels))) l.faults final →
+    Grows (labels_group l.scope (expressions_of l.labels)) l.fn.before final

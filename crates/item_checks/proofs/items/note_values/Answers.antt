@@ -8,5 +8,6 @@ use Rattle.item_checks.proofs.items.note_values.Goals as goal
 
 pub params-preserved : goal.params-preserved
 params-preserved c =
-    rest-more (λ (x : Param). size_faults c.args.scope.now (expression_of x.value)) (λ (xs : List Param). flat_map (λ (p : SourceParameter). size_faults c.args.scope.now p.value) (map parameter_of xs)) c.args.params.now c.params.param-index c.param-item.result
+    rest-more (λ (x : Param). size_faults c.args.scope.now (expression_of x.value)) (λ (xs : List Param).
+    flat_map (λ (p : SourceParameter). size_faults c.args.scope.now p.value) (map parameter_of xs)) c.args.params.now c.params.param-index c.param-item.result
     c.params.first c.note_size.new.first _ (λ y ys. refl) c.params-test.true c.param-item.is c.in_ok-note_size.ensures c.params.invariant

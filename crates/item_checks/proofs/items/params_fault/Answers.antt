@@ -8,4 +8,5 @@ use Rattle.item_checks.proofs.items.params_fault.Goals as goal
 
 pub returns : goal.returns
 returns c =
-    c.found.ensures ∙ c.in_ok-note_params.ensures ∙ ap (λ (o : Option Fault). noted o (item_faults c.args.scope.now (ParameterItem (parameters_of c.args.group.now)))) c.new-first.ensures ∙ noted_none (item_faults c.args.scope.now (ParameterItem (parameters_of c.args.group.now)))
+    c.found.ensures ∙ c.in_ok-note_params.ensures ∙ ap (λ (o : Option Fault). noted o (item_faults c.args.scope.now (ParameterItem (parameters_of c.args.group.now)))) c.new-first.ensures
+    ∙ noted_none (item_faults c.args.scope.now (ParameterItem (parameters_of c.args.group.now)))

@@ -16,29 +16,35 @@ stands P at place is h = subst P is h
 pub offset_bounds-items-place : goal.offset_bounds-items-place
 offset_bounds-items-place g c =
     let low : c.in-Some.place < length c.args.items.now =
-    found-low c.args.items.now c.args.key.now c.places.found.items c.in-Some.place (stands (AreFound c.args.items.now c.args.key.now c.places.found.items) c.places.at c.in-Some.place c.in-Some.is c.places.invariant) in
+    found-low c.args.items.now c.args.key.now c.places.found.items c.in-Some.place (stands
+    (AreFound c.args.items.now c.args.key.now c.places.found.items) c.places.at c.in-Some.place c.in-Some.is c.places.invariant) in
     omega (arith, low)
 
 pub bounds-items-place : goal.bounds-items-place
 bounds-items-place g c =
-    found-low c.args.items.now c.args.key.now c.places.found.items c.in-Some.place (stands (AreFound c.args.items.now c.args.key.now c.places.found.items) c.places.at c.in-Some.place c.in-Some.is c.places.invariant)
+    found-low c.args.items.now c.args.key.now c.places.found.items c.in-Some.place (stands
+    (AreFound c.args.items.now c.args.key.now c.places.found.items) c.places.at c.in-Some.place c.in-Some.is c.places.invariant)
 
 pub bounds-items-place-in-Some : goal.bounds-items-place-in-Some
 bounds-items-place-in-Some g c =
-    found-low c.args.items.now c.args.key.now c.places.found.items c.in-Some.place (stands (AreFound c.args.items.now c.args.key.now c.places.found.items) c.places.at c.in-Some.place c.in-Some.is c.places.invariant)
+    found-low c.args.items.now c.args.key.now c.places.found.items c.in-Some.place (stands
+    (AreFound c.args.items.now c.args.key.now c.places.found.items) c.places.at c.in-Some.place c.in-Some.is c.places.invariant)
 
 pub next-at-requires : goal.next-at-requires
 next-at-requires g c =
     let low : c.in-Some.place < length c.args.items.now =
-    found-low c.args.items.now c.args.key.now c.places.found.items c.in-Some.place (stands (AreFound c.args.items.now c.args.key.now c.places.found.items) c.places.at c.in-Some.place c.in-Some.is c.places.invariant) in
+    found-low c.args.items.now c.args.key.now c.places.found.items c.in-Some.place (stands
+    (AreFound c.args.items.now c.args.key.now c.places.found.items) c.places.at c.in-Some.place c.in-Some.is c.places.invariant) in
     subst (λ l. c.in-Some.place < length l) (sym c.requires) (omega (arith, low, long-keys c.args.items.now))
 
 pub places-smaller : goal.places-smaller
 places-smaller g c =
     let low : c.in-Some.place < length c.args.items.now =
-    found-low c.args.items.now c.args.key.now c.places.found.items c.in-Some.place (stands (AreFound c.args.items.now c.args.key.now c.places.found.items) c.places.at c.in-Some.place c.in-Some.is c.places.invariant) in
+    found-low c.args.items.now c.args.key.now c.places.found.items c.in-Some.place (stands
+    (AreFound c.args.items.now c.args.key.now c.places.found.items) c.places.at c.in-Some.place c.in-Some.is c.places.invariant) in
     subst (λ at. places_left (length c.args.items.now) c.next-at.result < places_left (length c.args.items.now) at) (sym c.in-Some.is)
-    (found-smaller c.args.items.now c.in-Some.place c.next-at.result low (subst (λ keys. c.next-at.result ≡ key_from keys (get_or keys c.in-Some.place []) (c.in-Some.place + 1)) c.requires c.next-at.ensures))
+    (found-smaller c.args.items.now c.in-Some.place c.next-at.result low (subst (λ keys. c.next-at.result ≡ key_from keys (get_or keys c.in-Some.place []) (c.in-Some.place + 1)) c.requires
+    c.next-at.ensures))
 
 pub places-preserved : goal.places-preserved
 places-preserved g c =

@@ -21,4 +21,5 @@ returns-in-None g c = first-none c.args.items.now c.args.key.now (sym c.in-None.
 pub returns-in-Some : goal.returns-in-Some
 returns-in-Some g c =
     ap (λ k. Some k.item) (sym c.index-items-place.is)
-    ∙ first-some c.args.items.now c.args.key.now c.in-Some.place c.index-items-place.result (sym c.in-Some.is ∙ c.first.ensures ∙ ap (λ keys. key_from keys c.args.key.now 0) c.requires) c.index-items-place.is
+    ∙ first-some c.args.items.now c.args.key.now c.in-Some.place c.index-items-place.result
+    (sym c.in-Some.is ∙ c.first.ensures ∙ ap (λ keys. key_from keys c.args.key.now 0) c.requires) c.index-items-place.is

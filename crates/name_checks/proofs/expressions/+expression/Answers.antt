@@ -17,12 +17,14 @@ note_names-returns-in_ok-note_parts-in-Concat t c =
 
 pub note_names-returns-in_ok-note_parts-in-Repeat : goal.note_names-returns-in_ok-note_parts-in-Repeat
 note_names-returns-in_ok-note_parts-in-Repeat t c =
-    noted-two c.args.first.now _ _ (constant_faults c.args.scope.now IndexOrCount (expression_of c.deref-in-Repeat.result.now)) (part_faults c.args.scope.now (expressions_of c.deref-in-Repeat-2.result.now)) (name_faults c.args.scope.now (expression_of c.args.expr.now))
+    noted-two c.args.first.now _ _ (constant_faults c.args.scope.now IndexOrCount (expression_of c.deref-in-Repeat.result.now))
+    (part_faults c.args.scope.now (expressions_of c.deref-in-Repeat-2.result.now)) (name_faults c.args.scope.now (expression_of c.args.expr.now))
     c.in_ok-note_constant-in-Repeat.ensures c.in_ok-note_parts-in-Repeat.ensures
     (ap (λ (e : Expr). name_faults c.args.scope.now (expression_of e)) c.in-Repeat.is
     ∙ names-repeat c.args.scope.now c.in-Repeat.place c.in-Repeat.count c.in-Repeat.parts _ _ c.deref-in-Repeat.ensures c.deref-in-Repeat-2.ensures.value)
 
 pub note_parts-parts-preserved : goal.note_parts-parts-preserved
 note_parts-parts-preserved t c =
-    rest-more (λ (e : Expr). name_faults c.args.scope.now (expression_of e)) (λ (ps : List Expr). part_faults c.args.scope.now (expressions_of ps)) c.args.parts.now c.parts.part-index c.part-item.result
+    rest-more (λ (e : Expr). name_faults c.args.scope.now (expression_of e)) (λ (ps : List Expr). part_faults c.args.scope.now (expressions_of ps)) c.args.parts.now c.parts.part-index
+    c.part-item.result
     c.parts.first c.note_names.new.first _ (λ y ys. refl) c.parts-test.true c.part-item.is c.in_ok-note_names.ensures c.parts.invariant

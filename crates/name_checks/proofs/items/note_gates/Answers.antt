@@ -10,5 +10,10 @@ use Rattle.name_checks.proofs.items.note_gates.Goals as goal
 
 pub gates-preserved : goal.gates-preserved
 gates-preserved c =
-    rest-more (λ (x : Gate). gate_name_faults c.args.scope.now (gate_of x)) (λ (xs : List Gate). flat_map (gate_name_faults c.args.scope.now) (map gate_of xs)) c.args.gates.now c.gates.gate-index c.gate-item.result
-    c.gates.first c.note_inputs.new.first _ (λ y ys. refl) c.gates-test.true c.gate-item.is (noted-two c.gates.first _ _ (fixed_target_faults c.args.scope.now (target_of c.gate-item.result.output)) (flat_map (name_faults c.args.scope.now) (map expression_of c.as_slice.result.now)) (gate_name_faults c.args.scope.now (gate_of c.gate-item.result)) c.in_ok-note_fixed_target.ensures c.in_ok-note_inputs.ensures (ap (λ (es : List Expr). fixed_target_faults c.args.scope.now (target_of c.gate-item.result.output) ++ flat_map (name_faults c.args.scope.now) (map expression_of es)) (sym c.as_slice.ensures))) c.gates.invariant
+    rest-more (λ (x : Gate). gate_name_faults c.args.scope.now (gate_of x)) (λ (xs : List Gate). flat_map (gate_name_faults c.args.scope.now) (map gate_of xs)) c.args.gates.now c.gates.gate-index
+    c.gate-item.result
+    c.gates.first c.note_inputs.new.first _ (λ y ys. refl) c.gates-test.true c.gate-item.is
+    (noted-two c.gates.first _ _ (fixed_target_faults c.args.scope.now (target_of c.gate-item.result.output)) (flat_map (name_faults c.args.scope.now) (map expression_of c.as_slice.result.now))
+    (gate_name_faults c.args.scope.now (gate_of c.gate-item.result)) c.in_ok-note_fixed_target.ensures c.in_ok-note_inputs.ensures
+    (ap (λ (es : List Expr). fixed_target_faults c.args.scope.now (target_of c.gate-item.result.output) ++ flat_map (name_faults c.args.scope.now) (map expression_of es))
+    (sym c.as_slice.ensures))) c.gates.invariant

@@ -7,5 +7,6 @@ use Rattle.name_checks.proofs.items.note_inputs.Goals as goal
 
 pub inputs-preserved : goal.inputs-preserved
 inputs-preserved c =
-    rest-more (λ (x : Expr). name_faults c.args.scope.now (expression_of x)) (λ (xs : List Expr). flat_map (name_faults c.args.scope.now) (map expression_of xs)) c.args.inputs.now c.inputs.input-index c.input-item.result
+    rest-more (λ (x : Expr). name_faults c.args.scope.now (expression_of x)) (λ (xs : List Expr). flat_map (name_faults c.args.scope.now) (map expression_of xs)) c.args.inputs.now
+    c.inputs.input-index c.input-item.result
     c.inputs.first c.note_names.new.first _ (λ y ys. refl) c.inputs-test.true c.input-item.is c.in_ok-note_names.ensures c.inputs.invariant

@@ -7,5 +7,6 @@ use Rattle.name_checks.proofs.items.note_items.Goals as goal
 
 pub items-preserved : goal.items-preserved
 items-preserved c =
-    rest-more (λ (x : Item). item_name_faults c.args.scope.now (item_of x)) (λ (xs : List Item). flat_map (item_name_faults c.args.scope.now) (map item_of xs)) c.args.items.now c.items.item-index c.item-item.result
+    rest-more (λ (x : Item). item_name_faults c.args.scope.now (item_of x)) (λ (xs : List Item). flat_map (item_name_faults c.args.scope.now) (map item_of xs)) c.args.items.now c.items.item-index
+    c.item-item.result
     c.items.first c.note_item.new.first _ (λ y ys. refl) c.items-test.true c.item-item.is c.in_ok-note_item.ensures c.items.invariant

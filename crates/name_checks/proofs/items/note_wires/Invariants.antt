@@ -6,4 +6,5 @@ use Rattle.name_checks.specs.Noted.{noted}
 use Rattle.name_checks.proofs.items.note_wires.Given as goal
 
 abbrev pub invariant-wires : goal.invariant-wires
-invariant-wires l = noted l.first (flat_map (λ (w : SourceWire). optional_faults (name_faults l.scope) w.value) (map wire_of (drop l.wire-index l.wires))) ≡ noted l.initial.first (flat_map (λ (w : SourceWire). optional_faults (name_faults l.scope) w.value) (map wire_of l.wires))
+invariant-wires l = noted l.first (flat_map (λ (w : SourceWire). optional_faults (name_faults l.scope) w.value) (map wire_of (drop l.wire-index l.wires))) ≡ noted l.initial.first
+    (flat_map (λ (w : SourceWire). optional_faults (name_faults l.scope) w.value) (map wire_of l.wires))

@@ -20,14 +20,16 @@ note_statement-returns-in_ok-note_statements-in-Block t c =
 
 pub note_statement-returns-in_ok-note_case_items-in-Case : goal.note_statement-returns-in_ok-note_case_items-in-Case
 note_statement-returns-in_ok-note_case_items-in-Case t c =
-    noted-two c.args.first.now _ _ (name_faults c.args.scope.now (expression_of c.in-Case.value)) (case_name_faults c.args.scope.now (case_items_of c.deref-in-Case.result.now)) (statement_name_faults c.args.scope.now (statement_of c.args.stmt.now))
+    noted-two c.args.first.now _ _ (name_faults c.args.scope.now (expression_of c.in-Case.value)) (case_name_faults c.args.scope.now (case_items_of c.deref-in-Case.result.now))
+    (statement_name_faults c.args.scope.now (statement_of c.args.stmt.now))
     c.in_ok-note_names-in-Case.ensures c.in_ok-note_case_items-in-Case.ensures
     (ap (λ (s : Stmt). statement_name_faults c.args.scope.now (statement_of s)) c.in-Case.is ∙ case-faults c.args.scope.now c.in-Case.place c.in-Case.kind c.in-Case.value c.in-Case.items
     ∙ ap (λ (items : List CaseItem). name_faults c.args.scope.now (expression_of c.in-Case.value) ++ case_name_faults c.args.scope.now (case_items_of items)) (sym c.deref-in-Case.ensures.value))
 
 pub note_statements-statements-preserved : goal.note_statements-statements-preserved
 note_statements-statements-preserved t c =
-    rest-more (λ (s : Stmt). statement_name_faults c.args.scope.now (statement_of s)) (λ (ss : List Stmt). statements_name_faults c.args.scope.now (statements_of ss)) c.args.statements.now c.statements.stmt-index c.stmt-item.result
+    rest-more (λ (s : Stmt). statement_name_faults c.args.scope.now (statement_of s)) (λ (ss : List Stmt). statements_name_faults c.args.scope.now (statements_of ss)) c.args.statements.now
+    c.statements.stmt-index c.stmt-item.result
     c.statements.first c.note_statement.new.first _ (λ y ys. refl) c.statements-test.true c.stmt-item.is c.in_ok-note_statement.ensures c.statements.invariant
 
 pub note_case_items-items-preserved : goal.note_case_items-items-preserved

@@ -15,7 +15,8 @@ stepped objects i d before later within had low =
 
 pub objects-preserved : goal.objects-preserved
 objects-preserved c =
-    let in_marked : object_number (get_or c.args.objects.now c.objects.object-index (record { 0 = 0 })) < vec_len c.args.marked.now = c.requires c.objects.object-index (record { 0 = 0 }) (search rules) in
+    let in_marked : object_number (get_or c.args.objects.now c.objects.object-index (record { 0 = 0 })) < vec_len c.args.marked.now =
+    c.requires c.objects.object-index (record { 0 = 0 }) (search rules) in
     record {
       same = search rules;
       marked = stepped c.args.objects.now c.objects.object-index (record { 0 = 0 }) c.args.marked.now.items c.objects.marked.items (search rules) c.objects.invariant.marked (search rules);

@@ -23,10 +23,12 @@ nodes-preserved c = record {
   within = search rules;
   same = search rules;
   reached =
-      AreReached-more (design_of c.args.design.now) c.args.design.now.rules (c.nodes.left - 1) (λ o. get_or c.args.marked.now.items o false) (node_of c.index-nodes-left.result) c.nodes.marked.items c.mark_node.new.marked.items
+      AreReached-more (design_of c.args.design.now) c.args.design.now.rules (c.nodes.left - 1) (λ o. get_or c.args.marked.now.items o false)
+      (node_of c.index-nodes-left.result) c.nodes.marked.items c.mark_node.new.marked.items
       (node_in c.args.design.now.nodes c.as_slice-nodes.result.now (c.nodes.left - 1) c.index-nodes-left.result c.as_slice-nodes.ensures (search rules) c.index-nodes-left.is)
       (search rules)
-      (subst (λ k. AreReached (design_of c.args.design.now).nodes k (λ o. get_or c.args.marked.now.items o false) c.nodes.marked.items) (let e : c.nodes.left ≡ c.nodes.left - 1 + 1 = omega arith in e) c.nodes.invariant.reached)
+      (subst (λ k. AreReached (design_of c.args.design.now).nodes k (λ o. get_or c.args.marked.now.items o false) c.nodes.marked.items)
+      (let e : c.nodes.left ≡ c.nodes.left - 1 + 1 = omega arith in e) c.nodes.invariant.reached)
       c.mark_node.ensures.marked c.mark_node.ensures.kept;
 }
 
@@ -34,5 +36,6 @@ pub nodes-init : goal.nodes-init
 nodes-init c = record {
   within = search rules;
   same = search rules;
-  reached = AreReached-start (design_of c.args.design.now).nodes (length c.as_slice-nodes.result.now) c.args.marked.now.items (omega (arith, ap length c.as_slice-nodes.ensures, length-map c.args.design.now.nodes node_of));
+  reached = AreReached-start (design_of c.args.design.now).nodes (length c.as_slice-nodes.result.now) c.args.marked.now.items
+      (omega (arith, ap length c.as_slice-nodes.ensures, length-map c.args.design.now.nodes node_of));
 }

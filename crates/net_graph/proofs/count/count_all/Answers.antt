@@ -31,10 +31,12 @@ nodes-preserved c =
           (c.paths_through_node-through.ensures
           ∙ ap (λ inputs. min 2 (path_weight (node_of c.node-item.result).kind * sum_by (λ object. get_or c.nodes.counts.items object 0) inputs))
           (c.inputs_of.ensures ∙ distinct_inputs_at-node (design_of c.args.graph.now.design.now) c.nodes.number (node_of c.node-item.result) at))
-          (subst (λ outputs. WritesCounts (object_number c.args.from) c.paths_through_node-through.result (map object_number outputs) c.nodes.counts.items c.write_counts.new.counts.items) c.as_slice.ensures c.write_counts.ensures.written);
+          (subst (λ outputs. WritesCounts (object_number c.args.from) c.paths_through_node-through.result (map object_number outputs) c.nodes.counts.items c.write_counts.new.counts.items)
+          c.as_slice.ensures c.write_counts.ensures.written);
       same = search rules;
     }
 
 pub returns-clause-counted : goal.returns-clause-counted
 returns-clause-counted c =
-    AreCounts-all (design_of c.args.graph.now.design.now) c.args.graph.now.design.now.rules (object_number c.args.from) c.nodes.number c.nodes.counts.items (rw (length-map, sym c.as_slice-node-items.ensures) c.nodes-test.false) c.nodes.invariant.counted
+    AreCounts-all (design_of c.args.graph.now.design.now) c.args.graph.now.design.now.rules (object_number c.args.from) c.nodes.number c.nodes.counts.items
+    (rw (length-map, sym c.as_slice-node-items.ensures) c.nodes-test.false) c.nodes.invariant.counted

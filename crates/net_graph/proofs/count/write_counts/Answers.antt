@@ -19,8 +19,10 @@ stepped from through outputs i d before later value within had low is =
 
 pub outputs-preserved : goal.outputs-preserved
 outputs-preserved c =
-    let in_counts : object_number (get_or c.args.outputs.now c.outputs.output-index (record { 0 = 0 })) < vec_len c.args.counts.now = c.requires.are_objects c.outputs.output-index (record { 0 = 0 }) (search rules) in
+    let in_counts : object_number (get_or c.args.outputs.now c.outputs.output-index (record { 0 = 0 })) < vec_len c.args.counts.now =
+    c.requires.are_objects c.outputs.output-index (record { 0 = 0 }) (search rules) in
     record {
       same = search rules;
-      written = stepped (object_number c.args.from) c.args.through c.args.outputs.now c.outputs.output-index (record { 0 = 0 }) c.args.counts.now.items c.outputs.counts.items c.with_start.result (search rules) c.outputs.invariant.written (search rules) (search rules);
+      written = stepped (object_number c.args.from) c.args.through c.args.outputs.now c.outputs.output-index (record { 0 = 0 }) c.args.counts.now.items c.outputs.counts.items c.with_start.result
+          (search rules) c.outputs.invariant.written (search rules) (search rules);
     }

@@ -14,7 +14,8 @@ stepped : (node : ℕ) (inputs : List ObjectId) (i : ℕ) (d : ObjectId) (before
     InputsAdded node (map object_number (take i inputs)) before seen once lists →
     seen' ≡ set seen (object_number (get_or inputs i d)) (node + 1) →
     once' ≡ once ++ fresh_only (nat_eq (get_or seen (object_number (get_or inputs i d)) 0) (node + 1)) (object_number (get_or inputs i d)) [] →
-    lists' ≡ set lists (object_number (get_or inputs i d)) (get_or lists (object_number (get_or inputs i d)) [] ++ fresh_only (nat_eq (get_or seen (object_number (get_or inputs i d)) 0) (node + 1)) node []) →
+    lists' ≡ set lists (object_number (get_or inputs i d)) (get_or lists (object_number (get_or inputs i d)) []
+    ++ fresh_only (nat_eq (get_or seen (object_number (get_or inputs i d)) 0) (node + 1)) node []) →
     InputsAdded node (map object_number (take (i + 1) inputs)) before seen' once' lists'
 stepped node inputs i d before seen once lists seen' once' lists' within in_seen in_lists had marked taken listed =
     let more : map object_number (take (i + 1) inputs) ≡ map object_number (take i inputs) ++ object_number (get_or inputs i d) ∷ [] =
@@ -24,8 +25,10 @@ stepped node inputs i d before seen once lists seen' once' lists' within in_seen
 pub inputs-preserved : goal.inputs-preserved
 inputs-preserved c = record {
   added =
-      let in_seen : object_number (get_or c.args.inputs.now c.inputs.input-index (record { 0 = 0 })) < vec_len c.args.seen.now = c.requires.are_objects c.inputs.input-index (record { 0 = 0 }) (search rules) in
-      stepped (node_number c.args.node) c.args.inputs.now c.inputs.input-index (record { 0 = 0 }) (node_lists c.args.readers.now.items) c.inputs.seen.items (map object_number c.inputs.once.items) (node_lists c.inputs.readers.items)
+      let in_seen : object_number (get_or c.args.inputs.now c.inputs.input-index (record { 0 = 0 })) < vec_len c.args.seen.now =
+      c.requires.are_objects c.inputs.input-index (record { 0 = 0 }) (search rules) in
+      stepped (node_number c.args.node) c.args.inputs.now c.inputs.input-index (record { 0 = 0 }) (node_lists c.args.readers.now.items) c.inputs.seen.items (map object_number c.inputs.once.items)
+      (node_lists c.inputs.readers.items)
       _ _ _ (search rules) (search rules) (rw length-map (search rules)) c.inputs.invariant.added c.in_ok-add_input.ensures.marked c.in_ok-add_input.ensures.taken c.in_ok-add_input.ensures.listed;
   seen_length = search rules;
   readers_length = search rules;

@@ -6,7 +6,8 @@ use Rattle.net_graph.proofs.graph.add_inputs.Given as goal
 
 abbrev pub invariant-inputs : goal.invariant-inputs
 invariant-inputs l = record {
-  added : InputsAdded (node_number l.node) (map object_number (take l.input-index l.inputs)) (node_lists l.initial.readers.items) l.seen.items (map object_number l.once.items) (node_lists l.readers.items);
+  added : InputsAdded (node_number l.node) (map object_number (take l.input-index l.inputs)) (node_lists l.initial.readers.items) l.seen.items (map object_number l.once.items)
+      (node_lists l.readers.items);
   seen_length : vec_len l.seen ≡ vec_len l.initial.seen;
   readers_length : vec_len l.readers ≡ vec_len l.initial.readers;
 }

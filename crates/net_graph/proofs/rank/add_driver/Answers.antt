@@ -10,12 +10,14 @@ use Rattle.net_graph.specs.WiringLaws.{DriverAdded, DriverAdded-more}
 use Rattle.net_graph.proofs.rank.add_driver.Goals as goal
 
 -- one more output of the list
-stepped : (driver : ℕ) (outputs : List ObjectId) (i : ℕ) (d : ObjectId) (before : List (List ℕ)) (lists : List (Vec ℕ Global)) (old new : Vec ℕ Global) → i < length outputs → object_number (get_or outputs i d) < length lists →
+stepped : (driver : ℕ) (outputs : List ObjectId) (i : ℕ) (d : ObjectId) (before : List (List ℕ)) (lists : List (Vec ℕ Global)) (old new : Vec ℕ Global) → i < length outputs →
+    object_number (get_or outputs i d) < length lists →
     DriverAdded driver (map object_number (take i outputs)) before (lists_of lists) → old ≡ get_or lists (object_number (get_or outputs i d)) old → new.items ≡ old.items ++ driver ∷ [] →
     DriverAdded driver (map object_number (take (i + 1) outputs)) before (lists_of (set lists (object_number (get_or outputs i d)) new))
 stepped driver outputs i d before lists old new within low had is pushed =
     subst (λ taken. DriverAdded driver taken before (lists_of (set lists (object_number (get_or outputs i d)) new))) (sym (map_more object_number outputs i d within))
-    (subst (DriverAdded driver (map object_number (take i outputs) ++ object_number (get_or outputs i d) ∷ []) before) (sym (waits_in lists (object_number (get_or outputs i d)) driver old new low is pushed))
+    (subst (DriverAdded driver (map object_number (take i outputs) ++ object_number (get_or outputs i d) ∷ []) before)
+    (sym (waits_in lists (object_number (get_or outputs i d)) driver old new low is pushed))
     (DriverAdded-more driver (map object_number (take i outputs)) before (lists_of lists) (object_number (get_or outputs i d)) had (omega (arith, length-lists_of lists))))
 
 pub outputs-preserved : goal.outputs-preserved

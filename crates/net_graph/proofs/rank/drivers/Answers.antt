@@ -17,10 +17,12 @@ one_more nodes i n low is = map_more node_of nodes i n low ∙ ap (λ m. map nod
 pub add_driver-requires : goal.add_driver-requires
 add_driver-requires c =
     let low : c.nodes.number < length c.args.nodes.now = search rules in
-    let rules = node_among c.args.objects (map node_of c.args.nodes.now) c.nodes.number (node_of c.index-nodes-number.result) c.requires.there (node_at c.args.nodes.now c.nodes.number c.index-nodes-number.result low c.index-nodes-number.is) in
+    let rules = node_among c.args.objects (map node_of c.args.nodes.now) c.nodes.number (node_of c.index-nodes-number.result) c.requires.there
+    (node_at c.args.nodes.now c.nodes.number c.index-nodes-number.result low c.index-nodes-number.is) in
     let enough : c.args.objects ≡ vec_len c.nodes.needs = omega (arith, c.nodes.invariant.same_length, length-lists_of c.nodes.needs.items) in
     all_below c.as_slice.result.now (vec_len c.nodes.needs)
-    (subst (λ l. AllHold (λ o. o < vec_len c.nodes.needs) (map object_number l)) (sym c.as_slice.ensures) (subst (λ n. AllHold (λ o. o < n) (node_of c.index-nodes-number.result).outputs) enough rules.1))
+    (subst (λ l. AllHold (λ o. o < vec_len c.nodes.needs) (map object_number l)) (sym c.as_slice.ensures)
+    (subst (λ n. AllHold (λ o. o < n) (node_of c.index-nodes-number.result).outputs) enough rules.1))
 
 pub nodes-preserved : goal.nodes-preserved
 nodes-preserved c =
@@ -28,6 +30,8 @@ nodes-preserved c =
     let counted : c.args.objects + c.nodes.number ≡ c.args.objects + length (map node_of (take c.nodes.number c.args.nodes.now)) =
     omega (arith, length-map (take c.nodes.number c.args.nodes.now) node_of, length-take-le c.nodes.number c.args.nodes.now (omega arith)) in
     subst (λ nodes. DriversListed c.args.objects nodes (lists_of c.add_driver.new.needs.items)) (sym (one_more c.args.nodes.now c.nodes.number c.index-nodes-number.result low c.index-nodes-number.is))
-    (DriversListed-more c.args.objects (map node_of (take c.nodes.number c.args.nodes.now)) (node_of c.index-nodes-number.result) (lists_of c.nodes.needs.items) (lists_of c.add_driver.new.needs.items) c.nodes.invariant
+    (DriversListed-more c.args.objects (map node_of (take c.nodes.number c.args.nodes.now)) (node_of c.index-nodes-number.result) (lists_of c.nodes.needs.items)
+    (lists_of c.add_driver.new.needs.items) c.nodes.invariant
     (subst (λ d. DriverAdded d (node_of c.index-nodes-number.result).outputs (lists_of c.nodes.needs.items) (lists_of c.add_driver.new.needs.items)) counted
-    (subst (λ l. DriverAdded (c.args.objects + c.nodes.number) (map object_number l) (lists_of c.nodes.needs.items) (lists_of c.add_driver.new.needs.items)) c.as_slice.ensures c.in_ok-add_driver.ensures)))
+    (subst (λ l. DriverAdded (c.args.objects + c.nodes.number) (map object_number l) (lists_of c.nodes.needs.items) (lists_of c.add_driver.new.needs.items)) c.as_slice.ensures
+    c.in_ok-add_driver.ensures)))

@@ -28,7 +28,8 @@ depths-requires-clause-graph c =
 pub ranks_of-requires-clause-ranks : goal.ranks_of-requires-clause-ranks
 ranks_of-requires-clause-ranks c =
     depths_rank c.args.objects (map node_of c.args.nodes.now) (lists_of c.deref-then-all_placed.result.now) c.in_ok-depths.depths.items
-    (subst (λ lists. IsWiring c.args.objects (map node_of c.args.nodes.now) (lists_of lists)) (sym c.deref-then-all_placed.ensures.value) c.in_ok-needs.ensures) c.requires.there c.in_ok-depths.ensures.depths
+    (subst (λ lists. IsWiring c.args.objects (map node_of c.args.nodes.now) (lists_of lists)) (sym c.deref-then-all_placed.ensures.value) c.in_ok-needs.ensures) c.requires.there
+    c.in_ok-depths.ensures.depths
 
 pub returns-then-all_placed-clause-acyclic : goal.returns-then-all_placed-clause-acyclic
 returns-then-all_placed-clause-acyclic c = λ o loop.
@@ -37,7 +38,8 @@ returns-then-all_placed-clause-acyclic c = λ o loop.
     let inside : o < length (lists_of c.deref.result.now) = omega (arith, (wired base).vertices) in
     placed_not_on_loop (lists_of c.deref.result.now) c.in_ok-order.order.placed.items c.in_ok-order.order.vertices.items o c.in_ok-order.ensures inside
     (ap (λ l. get_or l o false) (sym c.deref-2.ensures.value)
-    ∙ c.all_placed.ensures.all c.if-all_placed.true o (let same : length c.deref-2.result.now ≡ length c.in_ok-order.order.placed.items = ap length c.deref-2.ensures.value in omega (arith, c.in_ok-order.ensures.same_length)))
+    ∙ c.all_placed.ensures.all c.if-all_placed.true o (let same : length c.deref-2.result.now ≡ length c.in_ok-order.order.placed.items = ap length c.deref-2.ensures.value in
+    omega (arith, c.in_ok-order.ensures.same_length)))
     (looping_on_loop c.args.objects (map node_of c.args.nodes.now) (lists_of c.deref.result.now) o (wired base) c.requires.there loop)
 
 pub least_on_loop-requires-clause-graph : goal.least_on_loop-requires-clause-graph

@@ -14,4 +14,5 @@ nodes-preserved c =
     let base = (goal.at.nodes-preserved c).After-index in
     let there = node_there (map node_of c.args.nodes.now) c.nodes.number (omega (arith, length-map c.args.nodes.now node_of)) in
     c.in_ok-push.ensures.items ∙ ap (λ r. c.nodes.ranks.items ++ r ∷ []) (c.in_ok-rank.ensures ∙ depth_is base)
-    ∙ ranks-more (map node_of c.args.nodes.now) (λ number. get_or c.args.depths.now.items (c.args.objects + number) 0) c.nodes.ranks.items c.nodes.number there.0 c.requires.ranks there.1 c.nodes.invariant
+    ∙ ranks-more (map node_of c.args.nodes.now) (λ number. get_or c.args.depths.now.items (c.args.objects + number) 0) c.nodes.ranks.items c.nodes.number there.0 c.requires.ranks there.1
+    c.nodes.invariant

@@ -17,10 +17,12 @@ stepped counts through outputs i d before later value within had low is =
 
 pub outputs-preserved : goal.outputs-preserved
 outputs-preserved c =
-    let in_totals : object_number (get_or c.args.outputs.now c.outputs.output-index (record { 0 = 0 })) < vec_len c.args.totals.now = c.requires.are_objects c.outputs.output-index (record { 0 = 0 }) (search rules) in
+    let in_totals : object_number (get_or c.args.outputs.now c.outputs.output-index (record { 0 = 0 })) < vec_len c.args.totals.now =
+    c.requires.are_objects c.outputs.output-index (record { 0 = 0 }) (search rules) in
     record {
       same = search rules;
       written =
-          stepped c.args.counts.now c.args.through c.args.outputs.now c.outputs.output-index (record { 0 = 0 }) c.args.totals.now.items c.outputs.totals.items c.min.result (search rules) c.outputs.invariant.written (search rules)
+          stepped c.args.counts.now c.args.through c.args.outputs.now c.outputs.output-index (record { 0 = 0 }) c.args.totals.now.items c.outputs.totals.items c.min.result
+          (search rules) c.outputs.invariant.written (search rules)
           (omega (arith, c.min.ensures, c.saturating_add.ensures));
     }

@@ -16,7 +16,8 @@ put_assignment-requires-clause-there g c =
     let design = c.args.view.now.design.now in
     let node = c.index-as_slice-node.result in
     let at = at-list design c.as_slice.result.now (node_number c.args.node) node c.as_slice.ensures c.requires.node c.index-as_slice-node.is in
-    outputs_below (design_of design) (node_number c.args.node) (node_of node) c.as_slice-outputs.result.now (length (design_of design).objects) design.rules at (ap (map object_number) (sym c.as_slice-outputs.ensures)) (omega arith)
+    outputs_below (design_of design) (node_number c.args.node) (node_of node) c.as_slice-outputs.result.now (length (design_of design).objects) design.rules at
+    (ap (map object_number) (sym c.as_slice-outputs.ensures)) (omega arith)
 
 pub put_assignment-requires-clause-widths : goal.put_assignment-requires-clause-widths
 put_assignment-requires-clause-widths g c object low =
@@ -29,7 +30,8 @@ put_assignment-requires-clause-may g c =
     let node = c.index-as_slice-node.result in
     let rules = rules-at design c.as_slice.result.now (node_number c.args.node) node c.as_slice.ensures c.requires.node c.index-as_slice-node.is in
     subst (λ places. MayAssign (g.V.Values.values c.args.values.now) (expression_of c.in-Assign.value) places (length c.as_slice-outputs.result.now)) (sym c.as_slice-in-Assign.ensures)
-    (may-assign (design_of design) (g.V.Values.values c.args.values.now) node c.as_slice-outputs.result.now (expression_of c.in-Assign.value) c.in-Assign.places rules c.requires.values (ap node_kind_of c.in-Assign.is) (sym c.as_slice-outputs.ensures))
+    (may-assign (design_of design) (g.V.Values.values c.args.values.now) node c.as_slice-outputs.result.now (expression_of c.in-Assign.value) c.in-Assign.places rules c.requires.values
+    (ap node_kind_of c.in-Assign.is) (sym c.as_slice-outputs.ensures))
 
 pub put_assignment-requires-clause-room : goal.put_assignment-requires-clause-room
 put_assignment-requires-clause-room g c =
@@ -58,7 +60,8 @@ put_block-requires-clause-may g c =
     let design = c.args.view.now.design.now in
     let node = c.index-as_slice-node.result in
     let rules = rules-at design c.as_slice.result.now (node_number c.args.node) node c.as_slice.ensures c.requires.node c.index-as_slice-node.is in
-    may-run (design_of design) (g.V.Values.values c.args.values.now) node c.as_slice-outputs.result.now (statement_of c.in-Block.statement) rules c.requires.values (ap node_kind_of c.in-Block.is) (sym c.as_slice-outputs.ensures)
+    may-run (design_of design) (g.V.Values.values c.args.values.now) node c.as_slice-outputs.result.now (statement_of c.in-Block.statement) rules c.requires.values (ap node_kind_of c.in-Block.is)
+    (sym c.as_slice-outputs.ensures)
 
 pub put_block-requires-clause-once : goal.put_block-requires-clause-once
 put_block-requires-clause-once g c =

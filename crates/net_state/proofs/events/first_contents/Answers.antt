@@ -20,6 +20,7 @@ objects-preserved c =
     c.in_ok-push.ensures.items
     ∙ (λ j. c.objects.invariant j ++ c.forced.ensures j ∷ [])
     ∙ sym
-    (map_numbered-more (λ number (object : FlatObject). forced_variable (machine_of c.args.view.now).fault number object.first) (design_of c.args.view.now.design.now).objects c.objects.number (object_of c.object-item.result)
+    (map_numbered-more (λ number (object : FlatObject). forced_variable (machine_of c.args.view.now).fault number object.first) (design_of c.args.view.now.design.now).objects c.objects.number
+    (object_of c.object-item.result)
     (omega (arith, low, ap length c.as_slice-object-items.ensures, length-map c.args.view.now.design.now.objects object_of))
     (object-in c.args.view.now.design.now.objects c.as_slice-object-items.result.now c.objects.number c.object-item.result c.as_slice-object-items.ensures low c.object-item.is))

@@ -23,11 +23,13 @@ returns-in-Some-place_of g c =
     let object = object_number c.in-Some.update.object in
     let place = c.in-Some-place_of.place in
     let over = overlaid frame.outputs.now c.args.held.now values in
-    let once = once-tabled (map object_number frame.outputs.now) frame.places.now 0 (λ k low. frame.tabled k (omega (arith, low, length-map frame.outputs.now object_number)) ∙ (let e : k ≡ 0 + k = omega arith in e)) in
+    let once = once-tabled (map object_number frame.outputs.now) frame.places.now 0 (λ k low. frame.tabled k (omega (arith, low, length-map frame.outputs.now object_number))
+    ∙ (let e : k ≡ 0 + k = omega arith in e)) in
     let there : object < length values = subst (λ n. n < length values) c.in-Some-place_of.ensures.1 (frame.there place c.in-Some-place_of.ensures.0) in
     let inside : place < length c.args.held.now = omega (arith, c.in-Some-place_of.ensures.0, c.requires.alike) in
     let front = overlaid-front frame.outputs.now c.args.held.now values place object once c.requires.alike c.in-Some-place_of.ensures.0 c.in-Some-place_of.ensures.1 there in
-    let own = c.place.ensures ∙ ap (λ v. with_part v c.in-Some.update.low c.in-Some.update.value) (c.index-held-place.is ∙ get_or_default c.args.held.now place c.index-held-place.result [] inside ∙ sym front) in
+    let own = c.place.ensures ∙ ap (λ v. with_part v c.in-Some.update.low c.in-Some.update.value)
+    (c.index-held-place.is ∙ get_or_default c.args.held.now place c.index-held-place.result [] inside ∙ sym front) in
     overlaid-put frame.outputs.now c.args.held.now values place object c.place.result once c.requires.alike c.in-Some-place_of.ensures.0 c.in-Some-place_of.ensures.1
     ∙ ap (λ v. change_at (overlaid c.args.frame.now.outputs.now c.args.held.now (g.V.Values.values c.args.frame.now.values.now)) (object_number c.in-Some.update.object) (λ old. v)) own
     ∙ changed-to over object (λ v. with_part v c.in-Some.update.low c.in-Some.update.value)

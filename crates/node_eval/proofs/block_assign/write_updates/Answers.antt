@@ -14,4 +14,5 @@ write_update-requires-clause-among g c =
     subst (λ u. IsAmong (map object_number c.args.frame.now.outputs.now) (option_map update_of u)) (sym c.update-item.is)
     (subst (IsAmong (map object_number c.args.frame.now.outputs.now))
     (get_or-map (option_map update_of) c.args.updates.now c.updates.update-index c.update-item.result own c.updates-test.true)
-    (AllHold-get_or (IsAmong objects) (map (option_map update_of) c.args.updates.now) c.updates.update-index own c.requires.among (omega (arith, c.updates-test.true, length-map c.args.updates.now (option_map update_of)))))
+    (AllHold-get_or (IsAmong objects) (map (option_map update_of) c.args.updates.now) c.updates.update-index own c.requires.among
+    (omega (arith, c.updates-test.true, length-map c.args.updates.now (option_map update_of)))))

@@ -28,6 +28,7 @@ outputs-preserved c =
 pub returns : goal.returns
 returns c =
     let all : c.outputs.number ≡ length c.args.outputs.now = omega (arith, c.outputs-test.false, c.outputs.auto.number-end) in
-    subst (λ n. take n c.outputs.held ≡ zip_with (forced_output (machine_of c.args.view.now).fault (node_number c.args.node)) (take n (map object_number c.args.outputs.now)) (take n c.args.held.now)) all c.outputs.invariant.forced
+    subst (λ n. take n c.outputs.held ≡ zip_with (forced_output (machine_of c.args.view.now).fault (node_number c.args.node)) (take n (map object_number c.args.outputs.now))
+    (take n c.args.held.now)) all c.outputs.invariant.forced
     ∙ ap (λ l. zip_with (forced_output (machine_of c.args.view.now).fault (node_number c.args.node)) l (take (length c.args.outputs.now) c.args.held.now))
     (take_all (length c.args.outputs.now) (map object_number c.args.outputs.now) (omega (arith, length-map c.args.outputs.now object_number)))

@@ -15,7 +15,8 @@ use Rattle.node_eval.proofs.gate.gate_output.Goals as goal
 
 pub eval-requires-clause-sized : goal.eval-requires-clause-sized
 eval-requires-clause-sized g c =
-    subst (λ e. IsSized (expression_of e)) (sym c.index-terminals-number.is) (terminal_sized c.args.terminals.now c.terminals.number c.index-terminals-number.result c.requires.sized c.terminals-test.true)
+    subst (λ e. IsSized (expression_of e)) (sym c.index-terminals-number.is) (terminal_sized c.args.terminals.now c.terminals.number c.index-terminals-number.result c.requires.sized
+    c.terminals-test.true)
 
 pub eval-requires-clause-there : goal.eval-requires-clause-there
 eval-requires-clause-there g c =
@@ -25,7 +26,8 @@ eval-requires-clause-there g c =
 pub eval-requires-clause-room : goal.eval-requires-clause-room
 eval-requires-clause-room g c =
     let one : levels_of (expression_of c.index-terminals-number.result) ≤ levels_of_parts (expressions_of c.args.terminals.now) =
-    subst (λ e. levels_of (expression_of e) ≤ levels_of_parts (expressions_of c.args.terminals.now)) (sym c.index-terminals-number.is) (terminal_levels c.args.terminals.now c.terminals.number c.index-terminals-number.result c.terminals-test.true) in
+    subst (λ e. levels_of (expression_of e) ≤ levels_of_parts (expressions_of c.args.terminals.now)) (sym c.index-terminals-number.is)
+    (terminal_levels c.args.terminals.now c.terminals.number c.index-terminals-number.result c.terminals-test.true) in
     omega (arith, c.requires.room, c.terminals.invariant.room)
 
 pub terminals-preserved : goal.terminals-preserved
@@ -33,8 +35,10 @@ terminals-preserved g c = record {
   bit =
       c.gate_step-bit.ensures
       ∙ ap (gate_step c.args.kind c.terminals.bit)
-      (c.forced_at-forced.ensures ∙ ap (forced_terminal (machine_of c.args.view.now).fault (node_number c.args.node) (c.terminals.number + 1)) (c.bit-seen.ensures ∙ ap (λ value. bit_at value 0) c.eval.ensures.value))
-      ∙ gate-more c.args.kind (machine_of c.args.view.now).fault (node_number c.args.node) (value_at (g.V.Values.values c.args.values.now)) c.args.terminals.now c.terminals.number c.index-terminals-number.result c.terminals.bit
+      (c.forced_at-forced.ensures ∙ ap (forced_terminal (machine_of c.args.view.now).fault (node_number c.args.node) (c.terminals.number + 1))
+      (c.bit-seen.ensures ∙ ap (λ value. bit_at value 0) c.eval.ensures.value))
+      ∙ gate-more c.args.kind (machine_of c.args.view.now).fault (node_number c.args.node)
+      (value_at (g.V.Values.values c.args.values.now)) c.args.terminals.now c.terminals.number c.index-terminals-number.result c.terminals.bit
       c.terminals-test.true c.index-terminals-number.is c.terminals.invariant.bit;
   room = c.eval.ensures.room ∙ c.terminals.invariant.room;
 }
@@ -44,6 +48,8 @@ returns-clause-bit g c =
     c.gate_end.ensures
     ∙ ap (gate_end c.args.kind)
     (c.terminals.invariant.bit
-    ∙ ap (λ l. fold (gate_step c.args.kind) (gate_start c.args.kind) (terminal_bits (machine_of c.args.view.now).fault (node_number c.args.node) (label_values (value_at (g.V.Values.values c.args.values.now)) (expressions_of l))))
+    ∙ ap (λ l. fold (gate_step c.args.kind) (gate_start c.args.kind) (terminal_bits (machine_of c.args.view.now).fault (node_number c.args.node)
+    (label_values (value_at (g.V.Values.values c.args.values.now)) (expressions_of l))))
     (take_all c.terminals.number c.args.terminals.now c.terminals-test.false))
-    ∙ gate_by_steps c.args.kind (terminal_bits (machine_of c.args.view.now).fault (node_number c.args.node) (label_values (value_at (g.V.Values.values c.args.values.now)) (expressions_of c.args.terminals.now)))
+    ∙ gate_by_steps c.args.kind (terminal_bits (machine_of c.args.view.now).fault (node_number c.args.node)
+    (label_values (value_at (g.V.Values.values c.args.values.now)) (expressions_of c.args.terminals.now)))

@@ -9,6 +9,7 @@ use Rattle.node_eval.proofs.gate.gate_output.Given as goal
 
 abbrev pub invariant-terminals : goal.invariant-terminals
 invariant-terminals g l = record {
-  bit : l.bit ≡ fold (gate_step l.kind) (gate_start l.kind) (terminal_bits (machine_of l.view).fault (node_number l.node) (label_values (value_at (g.V.Values.values l.values)) (expressions_of (take l.number l.terminals))));
+  bit : l.bit ≡ fold (gate_step l.kind) (gate_start l.kind) (terminal_bits (machine_of l.view).fault (node_number l.node)
+      (label_values (value_at (g.V.Values.values l.values)) (expressions_of (take l.number l.terminals))));
   room : l.stack.depth ≡ l.initial.stack.depth;
 }

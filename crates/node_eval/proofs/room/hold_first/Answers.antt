@@ -5,4 +5,5 @@ use Rattle.node_eval.proofs.room.hold_first.Goals as goal
 
 pub value-requires : goal.value-requires
 value-requires g c =
-    subst (λ n. n < length (g.V.Values.values c.args.values.now)) (get_or-map object_number c.args.outputs.now c.outputs.number (record { 0 = 0 }) 0 c.outputs-test.true) (c.requires.there c.outputs.number c.outputs-test.true)
+    subst (λ n. n < length (g.V.Values.values c.args.values.now)) (get_or-map object_number c.args.outputs.now c.outputs.number (record { 0 = 0 }) 0 c.outputs-test.true)
+    (c.requires.there c.outputs.number c.outputs-test.true)

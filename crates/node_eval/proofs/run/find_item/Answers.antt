@@ -38,11 +38,13 @@ returns-then-matches_label-clause-chosen g c default =
     let i = c.items.number in
     let d = c.index-items-number.result in
     let own = ap (λ (item : CaseItem). item.labels.items) c.index-items-number.is in
-    let matches : some_label_matches c.args.kind c.args.value (label_values (value_at (g.V.Values.values c.args.values.now)) (expressions_of (get_or c.args.items.now c.items.number c.index-items-number.result).labels.items)) ≡ true =
+    let matches : some_label_matches c.args.kind c.args.value (label_values (value_at (g.V.Values.values c.args.values.now))
+    (expressions_of (get_or c.args.items.now c.items.number c.index-items-number.result).labels.items)) ≡ true =
     ap (λ l. some_label_matches c.args.kind c.args.value (label_values (value_at (g.V.Values.values c.args.values.now)) (expressions_of l))) (sym (c.deref.ensures.value ∙ own))
     ∙ sym c.matches_label.ensures.matches ∙ c.if-matches_label.true in
     c.items.invariant.chosen (run_statement default values)
     ∙ items-from c.args.kind c.args.value items i d values (run_statement default values) c.items-test.true
     ∙ ap (λ b. either_values b (run_statement (statement_of (get_or c.args.items.now c.items.number c.index-items-number.result).statement) (g.V.Values.values c.args.values.now))
-    (run_items c.args.kind c.args.value (items_of (drop (c.items.number + 1) c.args.items.now)) (g.V.Values.values c.args.values.now) (run_statement default (g.V.Values.values c.args.values.now)))) matches
+    (run_items c.args.kind c.args.value (items_of (drop (c.items.number + 1) c.args.items.now)) (g.V.Values.values c.args.values.now) (run_statement default (g.V.Values.values c.args.values.now))))
+    matches
     ∙ ap (λ s. run_statement s (g.V.Values.values c.args.values.now)) (sym (chosen-at items i d default c.items-test.true))

@@ -7,6 +7,7 @@ use Rattle.node_eval.proofs.run.find_item.Given as goal
 abbrev pub invariant-items : goal.invariant-items
 invariant-items g l =
     record {
-      chosen : (otherwise : List LogicValue) → run_items l.kind l.value (items_of l.items) (g.V.Values.values l.values) otherwise ≡ run_items l.kind l.value (items_of (drop l.number l.items)) (g.V.Values.values l.values) otherwise;
+      chosen : (otherwise : List LogicValue) → run_items l.kind l.value (items_of l.items) (g.V.Values.values l.values) otherwise ≡ run_items l.kind l.value (items_of (drop l.number l.items))
+          (g.V.Values.values l.values) otherwise;
       levels : l.stack.depth ≡ l.fn.stack.depth;
     }

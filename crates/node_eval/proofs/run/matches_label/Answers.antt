@@ -13,7 +13,8 @@ use Rattle.node_eval.proofs.run.matches_label.Goals as goal
 
 pub eval-own-requires-clause-sized : goal.eval-own-requires-clause-sized
 eval-own-requires-clause-sized g c =
-    subst (λ e. IsSized (expression_of e)) (sym c.label-item.is) (label_at (length c.args.value) c.requires.sized.0 c.args.labels.now c.labels.label-index c.label-item.result c.labels-test.true c.requires.sized.1).1
+    subst (λ e. IsSized (expression_of e)) (sym c.label-item.is) (label_at (length c.args.value) c.requires.sized.0 c.args.labels.now c.labels.label-index c.label-item.result c.labels-test.true
+    c.requires.sized.1).1
 
 pub eval-own-requires-clause-there : goal.eval-own-requires-clause-there
 eval-own-requires-clause-there g c =

@@ -11,13 +11,15 @@ use Rattle.node_order.proofs.order.nodes_by_rank.Goals as goal
 
 pub sorted_by_rank-requires : goal.sorted_by_rank-requires
 sorted_by_rank-requires c =
-    ranks-are (length c.args.objects.now) c.args.nodes.items c.deref-2.result.now c.in-Ok.node_ranks.items c.deref-in-Ok.result.now c.deref-2.ensures.value c.requires.there c.deref-in-Ok.ensures.value c.in-Ok.ensures.ranked
+    ranks-are (length c.args.objects.now) c.args.nodes.items c.deref-2.result.now c.in-Ok.node_ranks.items c.deref-in-Ok.result.now c.deref-2.ensures.value c.requires.there
+    c.deref-in-Ok.ensures.value c.in-Ok.ensures.ranked
     c.in-Ok.ensures.acyclic
 
 pub returns-in-Ok-clause-ordered : goal.returns-in-Ok-clause-ordered
 returns-in-Ok-clause-ordered c =
     let few = few-of c.args.nodes.items c.deref.result.now c.some_crowded.result c.deref.ensures.value c.some_crowded.ensures c.if-some_crowded.false in
-    ordered (map object_of c.args.objects.now) (map node_of c.args.nodes.items) few (subst (λ l. (object : _) → IsLooping (map node_of l) object → ⊥) c.deref-2.ensures.value c.in-Ok.ensures.acyclic) ∙ ap Ok (sym c.in_ok-sorted-in-Ok.ensures)
+    ordered (map object_of c.args.objects.now) (map node_of c.args.nodes.items) few (subst (λ l. (object : _) → IsLooping (map node_of l) object → ⊥) c.deref-2.ensures.value c.in-Ok.ensures.acyclic)
+    ∙ ap Ok (sym c.in_ok-sorted-in-Ok.ensures)
 
 pub declared_at-requires : goal.declared_at-requires
 declared_at-requires c =
@@ -37,6 +39,7 @@ returns-in-Err-Loop-clause-looped c = λ place e.
     let there = object-there c.args.objects.now (object_number object) low in
     let told = c.declared_at.ensures there.0 (cc (there.1, c.in-Err-Loop.object-is)) in
     let same : there.0.place ≡ place = cc (told, e) in
-    looped (map object_of c.args.objects.now) (map node_of c.args.nodes.items) (object_number object) (object_of there.0) few (among-objects c.args.objects.now (map node_of c.args.nodes.items) c.requires.there) own
+    looped (map object_of c.args.objects.now) (map node_of c.args.nodes.items) (object_number object) (object_of there.0) few
+    (among-objects c.args.objects.now (map node_of c.args.nodes.items) c.requires.there) own
     (object-at c.args.objects.now (object_number object) there.0 there.1)
     ∙ ap (λ (p : Place). Err (LoopAt (source_place p))) same

@@ -11,7 +11,8 @@ use Rattle.object_names.proofs.joined.names_joined.Goals as goal
 
 pub parts-preserved : goal.parts-preserved
 parts-preserved c =
-    turn part_of (λ ps. flat_map (joined_by c.args.names.now) (signals_of ps)) (joined-over c.args.names.now) c.args.parts.now c.parts.part-index c.part-item.result [] _ _ c.parts-test.true c.part-item.is c.parts.invariant
+    turn part_of (λ ps. flat_map (joined_by c.args.names.now) (signals_of ps)) (joined-over c.args.names.now) c.args.parts.now c.parts.part-index c.part-item.result [] _ _ c.parts-test.true
+    c.part-item.is c.parts.invariant
     c.in_ok-push_joined.ensures
 
 pub returns : goal.returns

@@ -7,4 +7,5 @@ use Rattle.object_names.proofs.outputs.push_object.Goals as goal
 
 pub returns-in-None : goal.returns-in-None
 returns-in-None c =
-    put-nothing (output_lists c.args.outputs.now.items) 0 (object_number c.args.object) ∙ ap (λ d. with_output (object_number c.args.object) (option_map driver_of d) (output_lists c.args.outputs.now.items)) (sym c.in-None.is)
+    put-nothing (output_lists c.args.outputs.now.items) 0 (object_number c.args.object) ∙ ap
+    (λ d. with_output (object_number c.args.object) (option_map driver_of d) (output_lists c.args.outputs.now.items)) (sym c.in-None.is)

@@ -9,7 +9,8 @@ use Rattle.object_names.proofs.outputs.push_output.Goals as goal
 
 pub returns-in_ok-push : goal.returns-in_ok-push
 returns-in_ok-push c =
-    output-put c.args.outputs.now.items c.index_mut.result.now c.push.new.self _ (object_number c.args.object) (driver_of c.args.driver) (omega (arith, c.if-driver-len.true, c.len.ensures)) c.index_mut.ensures.value c.in_ok-push.ensures.items
+    output-put c.args.outputs.now.items c.index_mut.result.now c.push.new.self _ (object_number c.args.object) (driver_of c.args.driver)
+    (omega (arith, c.if-driver-len.true, c.len.ensures)) c.index_mut.ensures.value c.in_ok-push.ensures.items
     (ap (λ place. let o : NodeOutput = record { object = object_number c.args.object; place = place } in o) (search rules))
 
 pub returns-else-driver-len : goal.returns-else-driver-len

@@ -8,4 +8,5 @@ use Rattle.object_names.proofs.tables.list_memories.Goals as goal
 
 pub parts-preserved : goal.parts-preserved
 parts-preserved c =
-    turn part_of (λ ps. map memory_keyed (memories_of ps)) memories-over c.args.parts.now c.parts.part-index c.part-item.result [] _ _ c.parts-test.true c.part-item.is c.parts.invariant c.in_ok-push_memory.ensures
+    turn part_of (λ ps. map memory_keyed (memories_of ps)) memories-over c.args.parts.now c.parts.part-index c.part-item.result [] _ _ c.parts-test.true c.part-item.is c.parts.invariant
+    c.in_ok-push_memory.ensures

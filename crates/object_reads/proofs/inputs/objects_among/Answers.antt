@@ -7,7 +7,8 @@ use Rattle.vf_base.specs.Lists.{has}
 use Rattle.v_design.specs.Expressions.{up_from}
 use Rattle.object_reads.proofs.Ascents.{step-found, step-passed, same-found, found-more, none-left}
 use Rattle.object_reads.proofs.inputs.objects_among.Goals as goal
-use Rattle.object_reads.proofs.inputs.objects_among.Goals.{then-next-number+then-number-count+in_ok-push, else-next-number, else-next-number-via-then-next-number+else-number-count, else-next-number-via-else-next-number}
+use Rattle.object_reads.proofs.inputs.objects_among.Goals.{then-next-number+then-number-count+in_ok-push, else-next-number, else-next-number-via-then-next-number+else-number-count}
+use Rattle.object_reads.proofs.inputs.objects_among.Goals.{else-next-number-via-else-next-number}
 
 pub numbers-preserved : goal.numbers-preserved
 numbers-preserved c =

@@ -9,12 +9,14 @@ pub shape_of-returns-in_ok-parts-in-Concatenation : goal.shape_of-returns-in_ok-
 shape_of-returns-in_ok-parts-in-Concatenation t c =
     let same = ap expression_of c.in-Concatenation.is ∙ expression_of-Concatenation c.in-Concatenation.width c.in-Concatenation.signed c.in-Concatenation.parts in
     let have = subst (λ l. HaveWidth (expressions_of l) c.in_ok-parts-in-Concatenation.parts) c.deref-in-Concatenation.ensures.value c.in_ok-parts-in-Concatenation.ensures in
-    concatenation-shape (expression_of c.args.expr.now) (expressions_of c.in-Concatenation.parts.items) c.in_ok-parts-in-Concatenation.parts c.in-Concatenation.width c.in-Concatenation.signed c.joined_shape.result same have
+    concatenation-shape (expression_of c.args.expr.now) (expressions_of c.in-Concatenation.parts.items) c.in_ok-parts-in-Concatenation.parts c.in-Concatenation.width c.in-Concatenation.signed
+    c.joined_shape.result same have
     c.joined_shape.ensures.signed c.joined_shape.ensures.room c.joined_shape.ensures.shape
 
 pub shape_of-returns-in_ok-parts-in-Replication : goal.shape_of-returns-in_ok-parts-in-Replication
 shape_of-returns-in_ok-parts-in-Replication t c =
     let same = ap expression_of c.in-Replication.is ∙ expression_of-Replication c.in-Replication.width c.in-Replication.signed c.in-Replication.count c.in-Replication.parts in
     let have = subst (λ l. HaveWidth (expressions_of l) c.in_ok-parts-in-Replication.parts) c.deref-in-Replication.ensures.value c.in_ok-parts-in-Replication.ensures in
-    replication-shape (expression_of c.args.expr.now) (expressions_of c.in-Replication.parts.items) c.in_ok-parts-in-Replication.parts c.in-Replication.width c.in-Replication.count c.in-Replication.signed c.joined_shape-in-Replication.result same have
+    replication-shape (expression_of c.args.expr.now) (expressions_of c.in-Replication.parts.items) c.in_ok-parts-in-Replication.parts c.in-Replication.width c.in-Replication.count
+    c.in-Replication.signed c.joined_shape-in-Replication.result same have
     c.joined_shape-in-Replication.ensures.signed c.joined_shape-in-Replication.ensures.room c.joined_shape-in-Replication.ensures.shape

@@ -12,8 +12,10 @@ use Rattle.object_waits.proofs.reads.+reads.Goals as goal
 
 pub add_parts-add_objects-requires : goal.add_parts-add_objects-requires
 add_parts-add_objects-requires t c =
-    let sized : IsSized (expression_of c.part-item.result) = subst (λ e. IsSized (expression_of e)) (sym c.part-item.is) (part_sized c.args.parts.now c.parts.part-index c.part-item.result c.parts-test.true c.requires).1 in
-    let least : levels_of (expression_of c.part-item.result) ≤ levels_of_parts (expressions_of c.args.parts.now) = part_levels c.args.parts.now c.parts.part-index c.part-item.result c.parts-test.true c.part-item.is in
+    let sized : IsSized (expression_of c.part-item.result) = subst (λ e. IsSized (expression_of e)) (sym c.part-item.is)
+    (part_sized c.args.parts.now c.parts.part-index c.part-item.result c.parts-test.true c.requires).1 in
+    let least : levels_of (expression_of c.part-item.result) ≤ levels_of_parts (expressions_of c.args.parts.now) =
+    part_levels c.args.parts.now c.parts.part-index c.part-item.result c.parts-test.true c.part-item.is in
     (omega (arith, least, c.decreases), sized)
 
 pub add_objects-add_parts-requires : goal.add_objects-add_parts-requires

@@ -8,8 +8,11 @@ last-of from step to end some ordered h = omega arith
 
 pub returns-then-steps-len-clause-fault : goal.returns-then-steps-len-clause-fault
 returns-then-steps-len-clause-fault c =
-    let t = c.args.times in
-    (refl, strobes-many c.args.end t.from t.step ((t.to - t.from) / t.step) (length c.args.strobes.now.items) (last-of t.from t.step t.to c.args.end t.steps t.ordered c.if-last-end.false) (omega arith))
+    let t = c.args.times in (
+      refl,
+      strobes-many c.args.end t.from t.step ((t.to - t.from) / t.step) (length c.args.strobes.now.items) (last-of t.from t.step t.to c.args.end t.steps t.ordered c.if-last-end.false)
+          (omega arith),
+    )
 
 pub returns-clause-good : goal.returns-clause-good
 returns-clause-good c =

@@ -11,5 +11,6 @@ use Rattle.plan_read.proofs.drivers.drivers_of.Given as goal
 abbrev pub invariant-nodes : goal.invariant-nodes
 invariant-nodes l = record {
   len : vec_len l.drivers ≡ length l.design.objects;
-  found : (object : ℕ) → object < length l.design.objects → option_map node_number (slice_index_or l.drivers.items object None) ≡ later l.number (first_place (λ (node : FlatNode). has node.outputs object) (map node_of (drop l.number l.design.nodes)));
+  found : (object : ℕ) → object < length l.design.objects → option_map node_number (slice_index_or l.drivers.items object None) ≡ later l.number
+      (first_place (λ (node : FlatNode). has node.outputs object) (map node_of (drop l.number l.design.nodes)));
 }

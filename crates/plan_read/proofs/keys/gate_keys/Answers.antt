@@ -6,6 +6,7 @@ use Rattle.plan_read.proofs.keys.gate_keys.Goals as goal
 
 pub nodes-preserved : goal.nodes-preserved
 nodes-preserved c = record {
-  keys = keys-more node_of gate_key c.args.nodes.now c.nodes.node-index c.node-item.result _ _ _ c.nodes-test.true c.node-item.is c.nodes.invariant.keys c.in_ok-push.ensures.items (c.as_bytes.ensures);
+  keys = keys-more node_of gate_key c.args.nodes.now c.nodes.node-index c.node-item.result _ _ _ c.nodes-test.true c.node-item.is c.nodes.invariant.keys c.in_ok-push.ensures.items
+      (c.as_bytes.ensures);
   len = search rules;
 }

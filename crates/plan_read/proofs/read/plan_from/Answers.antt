@@ -9,7 +9,10 @@ invariant_of-result c =
     let s = c.in_ok-strobes.ensures in
     let few_w : length (map watched_bit c.from_vec.result) ≤ 4096 = rw c.from_vec.ensures c.requires.few_watched in
     let few_f : length (map fault_of c.from_vec-2.result) ≤ 65536 = rw c.from_vec-2.ensures c.requires.few_faults in
-    record { rules = ∣ plan-keeps c.args.end c.in_ok-strobes.strobes c.args.draft.strobes.items (map watched_bit c.from_vec.result) (map fault_of c.from_vec-2.result) c.requires.early s.ordered (s.within c.args.end c.requires.in_time) s.few c.requires.few_strobes few_w few_f ∣₁ }
+    record {
+      rules = ∣ plan-keeps c.args.end c.in_ok-strobes.strobes c.args.draft.strobes.items (map watched_bit c.from_vec.result) (map fault_of c.from_vec-2.result) c.requires.early s.ordered
+          (s.within c.args.end c.requires.in_time) s.few c.requires.few_strobes few_w few_f ∣₁;
+    }
 
 pub returns-clause-ascending : goal.returns-clause-ascending
 returns-clause-ascending c = ascends c.in_ok-strobes.strobes c.in_ok-strobes.ensures.ordered

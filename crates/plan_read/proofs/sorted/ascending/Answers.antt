@@ -10,15 +10,18 @@ loop-time-preserved c =
     let sorted = c.deref-time-items.result.now in let i = c.loop-time.time-index in
     let rises : IsNonDecreasing sorted = rw c.deref-time-items.ensures.value (IsNonDecreasingBy-from_sort (λ (x : ℕ). x) c.sort.new.self.items c.in-Ok.ensures.sorted) in
     elim c.if-is_past.branch [
-      | then-is_past+in_ok-push w ↦ rw (w.kept-is, w.last-is, w.in_ok-push.ensures.items) (Keeps-past sorted c.loop-time.kept.items c.loop-time.last i _ c.loop-time-test.true refl (c.is_past.ensures.0 w.if-is_past.true) c.loop-time.invariant)
-      | else-is_past w ↦ rw (w.kept-is, w.last-is) (Keeps-same sorted c.loop-time.kept.items c.loop-time.last i _ rises c.loop-time-test.true refl (λ past. search (rules, w.if-is_past.false, c.is_past.ensures.1 past)) c.loop-time.invariant)
+      | then-is_past+in_ok-push w ↦ rw (w.kept-is, w.last-is, w.in_ok-push.ensures.items) (Keeps-past sorted c.loop-time.kept.items c.loop-time.last i _ c.loop-time-test.true refl
+          (c.is_past.ensures.0 w.if-is_past.true) c.loop-time.invariant)
+      | else-is_past w ↦ rw (w.kept-is, w.last-is) (Keeps-same sorted c.loop-time.kept.items c.loop-time.last i _ rises c.loop-time-test.true refl
+          (λ past. search (rules, w.if-is_past.false, c.is_past.ensures.1 past)) c.loop-time.invariant)
     ]
 
 pub returns-clause-same : goal.returns-clause-same
 returns-clause-same c time =
     let all : take c.loop-time.time-index c.deref-time-items.result.now ≡ c.deref-time-items.result.now = take_all c.loop-time.time-index c.deref-time-items.result.now c.loop-time-test.false in
     rw c.from_vec.ensures (
-      (λ h. Contains-permutation c.sort.new.self.items c.args.times.items time (IsPermutation-sym _ _ c.in-Ok.ensures.permutation) (rw (all, c.deref-time-items.ensures.value) at c.loop-time.invariant.there time h)),
+      (λ h. Contains-permutation c.sort.new.self.items c.args.times.items time (IsPermutation-sym _ _ c.in-Ok.ensures.permutation)
+          (rw (all, c.deref-time-items.ensures.value) at c.loop-time.invariant.there time h)),
       (λ h. c.loop-time.invariant.all time (rw (all, c.deref-time-items.ensures.value) (Contains-permutation c.args.times.items c.sort.new.self.items time c.in-Ok.ensures.permutation h))),
     )
 

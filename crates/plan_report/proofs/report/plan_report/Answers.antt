@@ -7,7 +7,8 @@ use Rattle.plan_report.proofs.Steps.{Answers, plan-told, loop-told, report-told,
 use Rattle.plan_report.proofs.report.plan_report.Goals as goal
 
 pub returns-in-Err-clause-told : goal.returns-in-Err-clause-told
-returns-in-Err-clause-told g c = subst (Answers c.args.extent (design_of c.args.design.now) c.args.text.now) (sym c.plan_fault.ensures) (plan-told c.args.extent (design_of c.args.design.now) c.args.text.now c.in-Err.fault c.in-Err.ensures.refused)
+returns-in-Err-clause-told g c = subst (Answers c.args.extent (design_of c.args.design.now) c.args.text.now) (sym c.plan_fault.ensures)
+    (plan-told c.args.extent (design_of c.args.design.now) c.args.text.now c.in-Err.fault c.in-Err.ensures.refused)
 
 pub returns-in-Ok-GoodLoop-clause-told : goal.returns-in-Ok-GoodLoop-clause-told
 returns-in-Ok-GoodLoop-clause-told g c = loop-told c.args.extent (design_of c.args.design.now) c.args.text.now (plan_of c.in-Ok.plan) c.in-Ok-GoodLoop.time c.in-Ok.ensures.spelled

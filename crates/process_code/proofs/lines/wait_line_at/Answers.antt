@@ -15,5 +15,7 @@ returns-then-position-len c =
 
 pub returns : goal.returns
 returns c =
-    let found = spot-rest c.args.code.now c.args.position c.index-spot.result.now c.requires c.if-position-eq0.false (omega (arith, c.if-position-len.false, c.len.ensures, c.if-position-eq0.false)) c.index-spot.ensures in
-    c.wait_line_of_head.ensures ∙ ap (λ (place : SourcePlace). place.line) (first-place (part_of_head c.index-spot.result.now.head) found.0) ∙ ap (λ (rest : List Part). (wait_place rest).line) (sym found.1)
+    let found = spot-rest c.args.code.now c.args.position c.index-spot.result.now c.requires c.if-position-eq0.false
+    (omega (arith, c.if-position-len.false, c.len.ensures, c.if-position-eq0.false)) c.index-spot.ensures in
+    c.wait_line_of_head.ensures ∙ ap (λ (place : SourcePlace). place.line) (first-place (part_of_head c.index-spot.result.now.head) found.0)
+    ∙ ap (λ (rest : List Part). (wait_place rest).line) (sym found.1)

@@ -23,7 +23,8 @@ returns-then-state-eq0-clause-step g c =
     let none : length c.args.state.now.updates.items ≡ 0 = grind (arith, common_steps) in
     let empty = length_none state.updates.items none in
     let here = ap (λ k. slice_get (rests_in_code code) k) c.if-state-eq0.true ∙ rest-end code.spots.items in
-    step-of-end (process_of code.process.now) c.args.now (g.V.Values.values c.args.values.now) (rests_in_code code) (point_of state) code.start (point_of c.end_body.new.self) (said_by c.end_body.result)
+    step-of-end (process_of code.process.now) c.args.now (g.V.Values.values c.args.values.now) (rests_in_code code) (point_of state) code.start (point_of c.end_body.new.self)
+    (said_by c.end_body.result)
     c.requires.ready (ap (map (option_map update_of)) empty) here c.requires.code.starts c.end_body.ensures.again c.end_body.ensures.done
 
 pub returns-then-state-eq0-clause-state : goal.returns-then-state-eq0-clause-state
@@ -45,18 +46,22 @@ index-ways-requires g c = omega (arith, spot-within c.args.code.now c.args.state
 
 pub step_spot-requires-clause-good : goal.step_spot-requires-clause-good
 step_spot-requires-clause-good g c =
-    let facts = spot-facts c.args.code.now c.args.state.now.position c.index-spot.result.now c.index-ways.result.now c.requires.code c.if-state-eq0.false c.requires.state.rest c.index-spot.ensures c.index-ways.ensures in
+    let facts = spot-facts c.args.code.now c.args.state.now.position c.index-spot.result.now c.index-ways.result.now c.requires.code c.if-state-eq0.false c.requires.state.rest c.index-spot.ensures
+    c.index-ways.ensures in
     good-part (length (g.V.Values.values c.args.values.now)) (statement_of c.args.code.now.process.now.body) (part_of_head c.index-spot.result.now.head) c.requires.there facts.parts.0
 
 pub step_spot-requires-clause-space : goal.step_spot-requires-clause-space
 step_spot-requires-clause-space g c =
-    let facts = spot-facts c.args.code.now c.args.state.now.position c.index-spot.result.now c.index-ways.result.now c.requires.code c.if-state-eq0.false c.requires.state.rest c.index-spot.ensures c.index-ways.ensures in
+    let facts = spot-facts c.args.code.now c.args.state.now.position c.index-spot.result.now c.index-ways.result.now c.requires.code c.if-state-eq0.false c.requires.state.rest c.index-spot.ensures
+    c.index-ways.ensures in
     c.requires.state.room (c.args.state.now.position - 1) c.index-spot.result.now facts.there
 
 pub step_spot-requires-clause-number : goal.step_spot-requires-clause-number
 step_spot-requires-clause-number g c =
-    let facts = spot-facts c.args.code.now c.args.state.now.position c.index-spot.result.now c.index-ways.result.now c.requires.code c.if-state-eq0.false c.requires.state.rest c.index-spot.ensures c.index-ways.ensures in
-    counts-part (rests_in_code c.args.code.now) c.args.code.now.repeats c.index-ways.result.now (part_of_head c.index-spot.result.now.head) facts.leads.after c.args.state.now facts.leads.leads (omega (arith, c.requires.state.counts))
+    let facts = spot-facts c.args.code.now c.args.state.now.position c.index-spot.result.now c.index-ways.result.now c.requires.code c.if-state-eq0.false c.requires.state.rest c.index-spot.ensures
+    c.index-ways.ensures in
+    counts-part (rests_in_code c.args.code.now) c.args.code.now.repeats c.index-ways.result.now (part_of_head c.index-spot.result.now.head) facts.leads.after c.args.state.now facts.leads.leads
+    (omega (arith, c.requires.state.counts))
 
 pub returns-clause-step : goal.returns-clause-step
 returns-clause-step g c =
@@ -67,7 +72,8 @@ returns-clause-step g c =
     let none : length c.args.state.now.updates.items ≡ 0 = grind (arith, common_steps) in
     let empty = length_none state.updates.items none in
     let facts = spot-facts code state.position spot ways c.requires.code c.if-state-eq0.false c.requires.state.rest c.index-spot.ensures c.index-ways.ensures in
-    step-of-spot (process_of code.process.now) c.args.now (g.V.Values.values c.args.values.now) (rests_in_code code) code.repeats (point_of state) ways spot.next (part_of_head spot.head) facts.leads.after
+    step-of-spot (process_of code.process.now) c.args.now (g.V.Values.values c.args.values.now) (rests_in_code code) code.repeats (point_of state) ways spot.next
+    (part_of_head spot.head) facts.leads.after
     (point_of c.step_spot.new.state) (said_by c.step_spot.result) c.requires.ready (ap (map (option_map update_of)) empty) facts.here facts.leads.stands facts.leads.leads
     (omega (arith, c.requires.state.counts)) c.step_spot.ensures.acts
 
@@ -79,7 +85,8 @@ returns-clause-state g c =
     let ways = c.index-ways.result.now in
     let facts = spot-facts code state.position spot ways c.requires.code c.if-state-eq0.false c.requires.state.rest c.index-spot.ensures c.index-ways.ensures in
     state-kept code state c.step_spot.new.state c.requires.state c.step_spot.ensures.room
-    (part-ends (statement_of code.process.now.body) c.args.now (g.V.Values.values c.args.values.now) (rests_in_code code) code.repeats ways spot.next (part_of_head spot.head) facts.leads.after (point_of state)
+    (part-ends (statement_of code.process.now.body) c.args.now (g.V.Values.values c.args.values.now) (rests_in_code code) code.repeats ways spot.next (part_of_head spot.head) facts.leads.after
+    (point_of state)
     (point_of c.step_spot.new.state) (said_by c.step_spot.result) facts.here facts.leads.stands facts.leads.leads facts.parts c.step_spot.ensures.acts)
     (part-reached c.args.now (g.V.Values.values c.args.values.now) (rests_in_code code) code.repeats ways spot.next (part_of_head spot.head) facts.leads.after (point_of state)
     (point_of c.step_spot.new.state) (said_by c.step_spot.result) c.requires.ready facts.here facts.leads.stands facts.leads.leads c.requires.state.reached c.step_spot.ensures.acts)
@@ -92,5 +99,6 @@ returns-then-not-is_empty-clause-state g c =
     let body = statement_of code.process.now.body in
     let rests = rests_in_code code in
     state-kept code state new c.requires.state c.next_update.ensures.room
-    (at-same body rests new.position state.position (takes-ends c.args.now (point_of state) (point_of new) (said_by c.next_update.result) (map (option_map update_of) state.updates.items) c.next_update.ensures.takes) c.requires.state.rest)
+    (at-same body rests new.position state.position (takes-ends c.args.now (point_of state) (point_of new) (said_by c.next_update.result)
+    (map (option_map update_of) state.updates.items) c.next_update.ensures.takes) c.requires.state.rest)
     (update-reached c.args.now rests (point_of state) (point_of new) (said_by c.next_update.result) c.requires.ready c.requires.state.reached c.next_update.ensures.takes)

@@ -18,7 +18,8 @@ use Rattle.process_code.proofs.stepping.step_statement.Goals as goal
 pub choose-requires-clause-labels : goal.choose-requires-clause-labels
 choose-requires-clause-labels g c =
     let same = ap statement_of c.in-Case.is ∙ statement_of-Case c.in-Case.place c.in-Case.kind c.in-Case.value c.in-Case.items c.in-Case.default in
-    subst (λ l. AreSizedItems (width_of (expression_of c.in-Case.value)) (sign_of (expression_of c.in-Case.value)) (items_of l)) (sym c.deref.ensures.value) (subst IsSizedStatement same c.requires.sized).2
+    subst (λ l. AreSizedItems (width_of (expression_of c.in-Case.value)) (sign_of (expression_of c.in-Case.value)) (items_of l)) (sym c.deref.ensures.value)
+    (subst IsSizedStatement same c.requires.sized).2
 
 pub choose-requires-clause-there : goal.choose-requires-clause-there
 choose-requires-clause-there g c =
@@ -27,7 +28,8 @@ choose-requires-clause-there g c =
     let there = subst (λ s. AreBelow limit (named_by s)) same c.requires.there in
     let rest = AllHold-right _ (named_in (expression_of c.in-Case.value)) (named_by_items (items_of c.in-Case.items.items) ++ named_by (statement_of c.in-Case.default.value)) there in (
       AllHold-left _ (named_in (expression_of c.in-Case.value)) (named_by_items (items_of c.in-Case.items.items) ++ named_by (statement_of c.in-Case.default.value)) there,
-      subst (λ l. AreBelow limit (named_by_items (items_of l))) (sym c.deref.ensures.value) (AllHold-left _ (named_by_items (items_of c.in-Case.items.items)) (named_by (statement_of c.in-Case.default.value)) rest),
+      subst (λ l. AreBelow limit (named_by_items (items_of l))) (sym c.deref.ensures.value)
+          (AllHold-left _ (named_by_items (items_of c.in-Case.items.items)) (named_by (statement_of c.in-Case.default.value)) rest),
     )
 
 pub choose-requires-clause-space : goal.choose-requires-clause-space
@@ -44,7 +46,8 @@ returns-in-Case-clause-acts g c =
     let ways = c.args.ways.now in
     let old = point_of c.args.state.now in
     subst (λ s. ActsBy c.args.now values s ways c.args.next old (point_of c.choose.new.self) (said_by c.choose.result)) (sym same)
-    (subst (λ l. Acts values (read_case c.in-Case.kind (expression_of c.in-Case.value) (items_of l) default old.operands) (Chooses (items_of l) default ways.items.items ways.other old) old (point_of c.choose.new.self) (said_by c.choose.result))
+    (subst (λ l. Acts values (read_case c.in-Case.kind (expression_of c.in-Case.value) (items_of l) default old.operands) (Chooses (items_of l) default ways.items.items ways.other old) old
+    (point_of c.choose.new.self) (said_by c.choose.result))
     c.deref.ensures.value (c.choose.ensures.acts default))
 
 pub assign-requires-clause-there : goal.assign-requires-clause-there

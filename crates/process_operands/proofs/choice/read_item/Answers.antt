@@ -24,7 +24,8 @@ items-preserved c default =
     let d = c.index-items-number.result in
     let ops = drop c.items.used c.args.operands.now in
     let left = drop c.read_labels.new.used c.args.operands.now in
-    let labels = ap (λ l. got (some_label_matches c.args.kind c.args.value) (read_each (expressions_of l) ops)) (ap (λ (item : CaseItem). item.labels.items) (sym c.index-items-number.is) ∙ sym c.deref.ensures.value) ∙ c.in_ok-matches.ensures.has in
+    let labels = ap (λ l. got (some_label_matches c.args.kind c.args.value) (read_each (expressions_of l) ops))
+    (ap (λ (item : CaseItem). item.labels.items) (sym c.index-items-number.is) ∙ sym c.deref.ensures.value) ∙ c.in_ok-matches.ensures.has in
     c.items.invariant default
     ∙ items-more c.args.kind c.args.value items i d default c.items.choice c.in_ok-matches.matches ops left c.items-test.true labels
     ∙ ap (λ choice. got (chosen_or (items_of items) default choice) (read_items c.args.kind c.args.value (items_of (drop (i + 1) items)) default left)) (sym c.first_choice-choice.ensures)

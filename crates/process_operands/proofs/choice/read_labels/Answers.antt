@@ -7,7 +7,8 @@ use Rattle.process_operands.proofs.choice.read_labels.Goals as goal
 
 pub read_value-requires : goal.read_value-requires
 read_value-requires c =
-    subst (λ e. IsSized (expression_of e)) (sym c.label-item.is) (label_at (length c.args.value) c.requires.0 c.args.labels.now c.labels.label-index c.label-item.result c.labels-test.true c.requires.1).1
+    subst (λ e. IsSized (expression_of e)) (sym c.label-item.is) (label_at (length c.args.value) c.requires.0 c.args.labels.now c.labels.label-index c.label-item.result c.labels-test.true
+    c.requires.1).1
 
 pub label_matches-requires : goal.label_matches-requires
 label_matches-requires c =

@@ -12,4 +12,5 @@ names_nothing-returns-in-Concatenation t c =
 pub names_nothing-returns-in-Replication : goal.names_nothing-returns-in-Replication
 names_nothing-returns-in-Replication t c =
     c.name_nothing-in-Replication.ensures ∙ ap (λ l. are_constant (expressions_of l)) c.deref-in-Replication.ensures.value
-    ∙ sym (ap (λ e. is_constant (expression_of e)) c.in-Replication.is ∙ ap is_constant (expression_of-Replication c.in-Replication.width c.in-Replication.signed c.in-Replication.count c.in-Replication.parts))
+    ∙ sym (ap (λ e. is_constant (expression_of e)) c.in-Replication.is ∙ ap is_constant (expression_of-Replication c.in-Replication.width c.in-Replication.signed c.in-Replication.count
+    c.in-Replication.parts))

@@ -19,8 +19,10 @@ read_bit-returns-in_err-bit-clause-needs t c =
     let v = c.args.vector.now in
     let index = expression_of c.args.index.now in
     let left = drop c.read_value.new.used c.args.operands.now in
-    let number : c.as_natural-number.result ≡ natural_number (sign_of index) c.in_ok-read_value.field-0 = c.as_natural-number.ensures ∙ ap (λ s. natural_number s c.in_ok-read_value.field-0) c.is_signed.ensures in
-    let needs = bit-needs (vector_of v) index (drop c.args.used.now c.args.operands.now) left c.in_ok-read_value.field-0 _ (sym c.names_nothing.ensures ∙ c.if-names_nothing.true) c.in_ok-read_value.ensures.has
+    let number : c.as_natural-number.result ≡ natural_number (sign_of index) c.in_ok-read_value.field-0 = c.as_natural-number.ensures
+    ∙ ap (λ s. natural_number s c.in_ok-read_value.field-0) c.is_signed.ensures in
+    let needs = bit-needs (vector_of v) index (drop c.args.used.now c.args.operands.now) left c.in_ok-read_value.field-0 _
+    (sym c.names_nothing.ensures ∙ c.if-names_nothing.true) c.in_ok-read_value.ensures.has
     (ap (λ n. read_slices (slices_at (place_of_number v.high v.low n ∷ []) 0 (map piece_of v.pieces)) left) (sym number) ∙ c.in_err-bit.ensures.needs) in
     search rules
 
@@ -29,19 +31,23 @@ read_bit-returns-in_ok-bit-clause-has t c =
     let v = c.args.vector.now in
     let index = expression_of c.args.index.now in
     let left = drop c.read_value.new.used c.args.operands.now in
-    let number : c.as_natural-number.result ≡ natural_number (sign_of index) c.in_ok-read_value.field-0 = c.as_natural-number.ensures ∙ ap (λ s. natural_number s c.in_ok-read_value.field-0) c.is_signed.ensures in
+    let number : c.as_natural-number.result ≡ natural_number (sign_of index) c.in_ok-read_value.field-0 = c.as_natural-number.ensures
+    ∙ ap (λ s. natural_number s c.in_ok-read_value.field-0) c.is_signed.ensures in
     bit-has (vector_of v) index (drop c.args.used.now c.args.operands.now) left (drop c.read_constant_bit.new.used c.args.operands.now) c.in_ok-read_value.field-0 c.in_ok-bit.bit
     (sym c.names_nothing.ensures ∙ c.if-names_nothing.true) c.in_ok-read_value.ensures.has
-    (ap (λ n. got (λ bits. bit_at_place bits (place_of_number v.high v.low n)) (read_slices (slices_at (place_of_number v.high v.low n ∷ []) 0 (map piece_of v.pieces)) left)) (sym number) ∙ c.in_ok-bit.ensures.has)
+    (ap (λ n. got (λ bits. bit_at_place bits (place_of_number v.high v.low n)) (read_slices (slices_at (place_of_number v.high v.low n ∷ []) 0 (map piece_of v.pieces)) left)) (sym number)
+    ∙ c.in_ok-bit.ensures.has)
 
 pub read_value-read_joined-requires : goal.read_value-read_joined-requires
 read_value-read_joined-requires t c =
     let same = ap expression_of c.in-Concatenation.is ∙ expression_of-Concatenation c.in-Concatenation.width c.in-Concatenation.signed c.in-Concatenation.parts in
     let whole = subst IsSized same c.requires in
     let sized : AreSizedAlone (expressions_of c.deref-in-Concatenation.result.now) = subst (λ l. AreSizedAlone (expressions_of l)) (sym c.deref-in-Concatenation.ensures.value) whole.2 in
-    let some : 1 ≤ own_width_of_parts (expressions_of c.deref-in-Concatenation.result.now) = subst (λ l. 1 ≤ own_width_of_parts (expressions_of l)) (sym c.deref-in-Concatenation.ensures.value) whole.0.0 in
+    let some : 1 ≤ own_width_of_parts (expressions_of c.deref-in-Concatenation.result.now) =
+    subst (λ l. 1 ≤ own_width_of_parts (expressions_of l)) (sym c.deref-in-Concatenation.ensures.value) whole.0.0 in
     let few' : own_width_of_parts (expressions_of c.in-Concatenation.parts.items) ≤ 128 = omega (arith, whole.0.1, whole.0.2) in
-    let few : own_width_of_parts (expressions_of c.deref-in-Concatenation.result.now) ≤ 128 = subst (λ l. own_width_of_parts (expressions_of l) ≤ 128) (sym c.deref-in-Concatenation.ensures.value) few' in
+    let few : own_width_of_parts (expressions_of c.deref-in-Concatenation.result.now) ≤ 128 =
+    subst (λ l. own_width_of_parts (expressions_of l) ≤ 128) (sym c.deref-in-Concatenation.ensures.value) few' in
     let whole_levels : levels_of (expression_of c.args.expr.now) ≡ 1 + levels_of_parts (expressions_of c.in-Concatenation.parts.items) = ap levels_of same in
     let part_levels' = ap (λ l. levels_of_parts (expressions_of l)) c.deref-in-Concatenation.ensures.value in
     (omega (arith, whole_levels, part_levels', c.decreases), (sized, (some, few)))
@@ -53,8 +59,10 @@ read_value-read_joined-requires-in-Replication t c =
     let product : c.in-Replication.count * own_width_of_parts (expressions_of c.in-Replication.parts.items) ≤ 128 = omega (arith, whole.0.1, whole.0.2) in
     let parts = factors c.in-Replication.count (own_width_of_parts (expressions_of c.in-Replication.parts.items)) whole.0.0 product in
     let sized : AreSizedAlone (expressions_of c.deref-in-Replication.result.now) = subst (λ l. AreSizedAlone (expressions_of l)) (sym c.deref-in-Replication.ensures.value) whole.2 in
-    let some : 1 ≤ own_width_of_parts (expressions_of c.deref-in-Replication.result.now) = subst (λ l. 1 ≤ own_width_of_parts (expressions_of l)) (sym c.deref-in-Replication.ensures.value) parts.own_some in
-    let few : own_width_of_parts (expressions_of c.deref-in-Replication.result.now) ≤ 128 = subst (λ l. own_width_of_parts (expressions_of l) ≤ 128) (sym c.deref-in-Replication.ensures.value) parts.own_few in
+    let some : 1 ≤ own_width_of_parts (expressions_of c.deref-in-Replication.result.now) =
+    subst (λ l. 1 ≤ own_width_of_parts (expressions_of l)) (sym c.deref-in-Replication.ensures.value) parts.own_some in
+    let few : own_width_of_parts (expressions_of c.deref-in-Replication.result.now) ≤ 128 =
+    subst (λ l. own_width_of_parts (expressions_of l) ≤ 128) (sym c.deref-in-Replication.ensures.value) parts.own_few in
     let whole_levels : levels_of (expression_of c.args.expr.now) ≡ 1 + levels_of_parts (expressions_of c.in-Replication.parts.items) = ap levels_of same in
     let part_levels' = ap (λ l. levels_of_parts (expressions_of l)) c.deref-in-Replication.ensures.value in
     (omega (arith, whole_levels, part_levels', c.decreases), (sized, (some, few)))
@@ -64,7 +72,8 @@ read_value-returns-in_err-bits-in-Concatenation-clause-needs t c =
     let same = ap expression_of c.in-Concatenation.is ∙ expression_of-Concatenation c.in-Concatenation.width c.in-Concatenation.signed c.in-Concatenation.parts in
     let ops = drop c.args.used.now c.args.operands.now in
     let needs = ap (λ e. read_expression e ops) same
-    ∙ then-needs (read_parts (expressions_of c.in-Concatenation.parts.items) ops) _ _ (ap (λ l. read_parts (expressions_of l) ops) (sym c.deref-in-Concatenation.ensures.value) ∙ c.in_err-bits-in-Concatenation.ensures.needs) in
+    ∙ then-needs (read_parts (expressions_of c.in-Concatenation.parts.items) ops) _ _ (ap (λ l. read_parts (expressions_of l) ops) (sym c.deref-in-Concatenation.ensures.value)
+    ∙ c.in_err-bits-in-Concatenation.ensures.needs) in
     search rules
 
 pub read_value-returns-in_err-bits-in-Replication-clause-needs : goal.read_value-returns-in_err-bits-in-Replication-clause-needs
@@ -72,7 +81,8 @@ read_value-returns-in_err-bits-in-Replication-clause-needs t c =
     let same = ap expression_of c.in-Replication.is ∙ expression_of-Replication c.in-Replication.width c.in-Replication.signed c.in-Replication.count c.in-Replication.parts in
     let ops = drop c.args.used.now c.args.operands.now in
     let needs = ap (λ e. read_expression e ops) same
-    ∙ then-needs (read_parts (expressions_of c.in-Replication.parts.items) ops) _ _ (ap (λ l. read_parts (expressions_of l) ops) (sym c.deref-in-Replication.ensures.value) ∙ c.in_err-bits-in-Replication.ensures.needs) in
+    ∙ then-needs (read_parts (expressions_of c.in-Replication.parts.items) ops) _ _ (ap (λ l. read_parts (expressions_of l) ops) (sym c.deref-in-Replication.ensures.value)
+    ∙ c.in_err-bits-in-Replication.ensures.needs) in
     search rules
 
 pub read_value-returns-in_ok-bits-in-Concatenation-clause-has : goal.read_value-returns-in_ok-bits-in-Concatenation-clause-has
@@ -80,7 +90,8 @@ read_value-returns-in_ok-bits-in-Concatenation-clause-has t c =
     let same = ap expression_of c.in-Concatenation.is ∙ expression_of-Concatenation c.in-Concatenation.width c.in-Concatenation.signed c.in-Concatenation.parts in
     let ops = drop c.args.used.now c.args.operands.now in
     ap (λ e. read_expression e ops) same
-    ∙ then-has (read_parts (expressions_of c.in-Concatenation.parts.items) ops) _ _ _ (ap (λ l. read_parts (expressions_of l) ops) (sym c.deref-in-Concatenation.ensures.value) ∙ c.in_ok-bits-in-Concatenation.ensures.has)
+    ∙ then-has (read_parts (expressions_of c.in-Concatenation.parts.items) ops) _ _ _ (ap (λ l. read_parts (expressions_of l) ops) (sym c.deref-in-Concatenation.ensures.value)
+    ∙ c.in_ok-bits-in-Concatenation.ensures.has)
     ∙ ap (λ v. Has v (drop c.read_joined.new.used c.args.operands.now)) (sym c.resize_by_sign-in-Concatenation.ensures)
 
 pub read_value-returns-in_ok-bits-in-Replication-clause-has : goal.read_value-returns-in_ok-bits-in-Replication-clause-has
@@ -88,8 +99,10 @@ read_value-returns-in_ok-bits-in-Replication-clause-has t c =
     let same = ap expression_of c.in-Replication.is ∙ expression_of-Replication c.in-Replication.width c.in-Replication.signed c.in-Replication.count c.in-Replication.parts in
     let ops = drop c.args.used.now c.args.operands.now in
     ap (λ e. read_expression e ops) same
-    ∙ then-has (read_parts (expressions_of c.in-Replication.parts.items) ops) _ _ _ (ap (λ l. read_parts (expressions_of l) ops) (sym c.deref-in-Replication.ensures.value) ∙ c.in_ok-bits-in-Replication.ensures.has)
-    ∙ ap (λ v. Has v (drop c.read_joined-in-Replication.new.used c.args.operands.now)) (sym (c.resize_by_sign-in-Replication.ensures ∙ ap (resized c.in-Replication.signed c.in-Replication.width) c.repeated_bits.ensures))
+    ∙ then-has (read_parts (expressions_of c.in-Replication.parts.items) ops) _ _ _ (ap (λ l. read_parts (expressions_of l) ops) (sym c.deref-in-Replication.ensures.value)
+    ∙ c.in_ok-bits-in-Replication.ensures.has)
+    ∙ ap (λ v. Has v (drop c.read_joined-in-Replication.new.used c.args.operands.now)) (sym
+    (c.resize_by_sign-in-Replication.ensures ∙ ap (resized c.in-Replication.signed c.in-Replication.width) c.repeated_bits.ensures))
 
 pub read_value-repeated_bits-requires-clause-few : goal.read_value-repeated_bits-requires-clause-few
 read_value-repeated_bits-requires-clause-few t c =
@@ -109,14 +122,17 @@ read_value-returns-in_ok-bits-in-Name-clause-has t c =
 
 pub read_joined-read_value-requires : goal.read_joined-read_value-requires
 read_joined-read_value-requires t c =
-    let sized : IsSized (expression_of c.part-item.result) = subst (λ e. IsSized (expression_of e)) (sym c.part-item.is) (part_sized c.args.parts.now c.parts.part-index c.part-item.result c.parts-test.true c.requires.sized).1 in
-    let least : levels_of (expression_of c.part-item.result) ≤ levels_of_parts (expressions_of c.args.parts.now) = part_levels c.args.parts.now c.parts.part-index c.part-item.result c.parts-test.true c.part-item.is in
+    let sized : IsSized (expression_of c.part-item.result) = subst (λ e. IsSized (expression_of e)) (sym c.part-item.is)
+    (part_sized c.args.parts.now c.parts.part-index c.part-item.result c.parts-test.true c.requires.sized).1 in
+    let least : levels_of (expression_of c.part-item.result) ≤ levels_of_parts (expressions_of c.args.parts.now) =
+    part_levels c.args.parts.now c.parts.part-index c.part-item.result c.parts-test.true c.part-item.is in
     (omega (arith, least, c.decreases), sized)
 
 pub read_joined-put_right-requires : goal.read_joined-put_right-requires
 read_joined-put_right-requires t c =
     let sized = part_sized c.args.parts.now c.parts.part-index c.part-item.result c.parts-test.true c.requires.sized in
-    let own : width_of (expression_of c.part-item.result) ≡ own_width (expression_of (get_or c.args.parts.now c.parts.part-index c.part-item.result)) = ap (λ e. width_of (expression_of e)) c.part-item.is ∙ sized.0 in
+    let own : width_of (expression_of c.part-item.result) ≡ own_width (expression_of (get_or c.args.parts.now c.parts.part-index c.part-item.result)) =
+    ap (λ e. width_of (expression_of e)) c.part-item.is ∙ sized.0 in
     omega (arith, c.parts.invariant.width, own_width-at c.args.parts.now c.parts.part-index c.part-item.result c.parts-test.true, own, c.in_ok-value.ensures.width, c.requires.few)
 
 pub read_joined-parts-preserved : goal.read_joined-parts-preserved

@@ -10,7 +10,8 @@ use Rattle.process_operands.proofs.expression.+read.Given as goal
 abbrev pub invariant-read_joined-parts : goal.invariant-read_joined-parts
 invariant-read_joined-parts l =
     record {
-      left : read_parts (expressions_of l.parts) (drop l.fn.used l.operands) ≡ got (λ lower. lower ++ bits_so_far l.bits) (read_parts (expressions_of (drop l.part-index l.parts)) (drop l.used l.operands));
+      left : read_parts (expressions_of l.parts) (drop l.fn.used l.operands) ≡ got (λ lower. lower ++ bits_so_far l.bits)
+          (read_parts (expressions_of (drop l.part-index l.parts)) (drop l.used l.operands));
       width : length (bits_so_far l.bits) + own_width_of_parts (expressions_of (drop l.part-index l.parts)) ≡ own_width_of_parts (expressions_of l.parts);
     }
 

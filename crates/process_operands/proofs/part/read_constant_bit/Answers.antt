@@ -8,5 +8,6 @@ use Rattle.process_operands.proofs.part.read_constant_bit.Goals as goal
 pub returns-in-None-clause-has : goal.returns-in-None-clause-has
 returns-in-None-clause-has c =
     let v = c.args.vector.now in
-    ap (λ (index : Option ℕ). got (λ bits. bit_at_place bits (place_of_number v.high v.low index)) (read_slices (slices_at (place_of_number v.high v.low index ∷ []) 0 (map piece_of v.pieces)) (drop c.args.used.now c.args.operands.now))) c.in-None.is
+    ap (λ (index : Option ℕ). got (λ bits. bit_at_place bits (place_of_number v.high v.low index))
+    (read_slices (slices_at (place_of_number v.high v.low index ∷ []) 0 (map piece_of v.pieces)) (drop c.args.used.now c.args.operands.now))) c.in-None.is
     ∙ reads-nowhere 0 (map piece_of v.pieces) (drop c.args.used.now c.args.operands.now)

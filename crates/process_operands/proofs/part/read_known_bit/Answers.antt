@@ -16,5 +16,6 @@ returns-in_ok-bit-in-Some-clause-has c =
     let v = c.args.vector.now in
     let same = one-place v.high v.low c.in-Some.within ∙ ap (λ i. place_of v.high v.low i ∷ []) c.in-Some.ensures.some in
     ap (λ places. got (λ bits. bit_at_place bits (place_of v.high v.low c.args.index)) (read_slices (slices_at places 0 (map piece_of v.pieces)) (drop c.args.used.now c.args.operands.now))) (sym same)
-    ∙ ap (λ (place : Option ℕ). got (λ bits. bit_at_place bits place) (read_slices (slices_at (part_places v.high v.low c.in-Some.within c.in-Some.within) 0 (map piece_of v.pieces)) (drop c.args.used.now c.args.operands.now))) (sym c.place_of_index-place.ensures)
+    ∙ ap (λ (place : Option ℕ). got (λ bits. bit_at_place bits place) (read_slices (slices_at (part_places v.high v.low c.in-Some.within c.in-Some.within) 0 (map piece_of v.pieces))
+    (drop c.args.used.now c.args.operands.now))) (sym c.place_of_index-place.ensures)
     ∙ c.in_ok-bit-in-Some.ensures.has

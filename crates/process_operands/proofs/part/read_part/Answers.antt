@@ -16,11 +16,13 @@ bits-preserved c =
     let progress = read_slices (slices_at places 0 (map piece_of v.pieces)) (drop c.args.used.now c.args.operands.now) in
     let n : length places ≡ part_width c.args.from c.args.to = length-map (part_indexes c.args.from c.args.to) (place_of v.high v.low) in
     let place_is : get_or places c.bits.bit (place_of v.high v.low 0) ≡ c.place_of_index-place.result =
-    get_or-map (place_of v.high v.low) (part_indexes c.args.from c.args.to) c.bits.bit 0 ∙ sym (c.place_of_index-place.ensures ∙ ap (place_of v.high v.low) (c.from-index.ensures ∙ c.part_index.ensures)) in
+    get_or-map (place_of v.high v.low) (part_indexes c.args.from c.args.to) c.bits.bit 0 ∙ sym
+    (c.place_of_index-place.ensures ∙ ap (place_of v.high v.low) (c.from-index.ensures ∙ c.part_index.ensures)) in
     record {
       bits = omega (arith, ap length c.put_left.ensures, length-append (bits_so_far c.bits.part) c.of_bit.result, ap length c.of_bit.ensures, c.bits.invariant.bits);
       some = λ h.
-          got-place bit_at_place progress places c.bits.bit (place_of v.high v.low 0) (bits_so_far c.bits.part) c.in_ok-value.value (drop c.bits.used c.args.operands.now) (drop c.read_bit_of_part.new.used c.args.operands.now)
+          got-place bit_at_place progress places c.bits.bit (place_of v.high v.low 0) (bits_so_far c.bits.part) c.in_ok-value.value (drop c.bits.used c.args.operands.now)
+          (drop c.read_bit_of_part.new.used c.args.operands.now)
           (omega (arith, c.bits-test.true, n, c.width_of_part-bit-end.ensures)) c.bits.invariant.some (λ z. length_none (bits_so_far c.bits.part) (c.bits.invariant.bits ∙ z))
           (ap (λ place. got (λ bits. bit_at_place bits place) progress) place_is ∙ c.in_ok-value.ensures.has)
           ∙ ap (λ bits. Has bits (drop c.read_bit_of_part.new.used c.args.operands.now)) (sym (c.put_left.ensures ∙ ap (λ b. bits_so_far c.bits.part ++ b) c.of_bit.ensures));

@@ -8,8 +8,10 @@ use Rattle.process_operands.proofs.pieces.+pieces.Goals as goal
 
 pub push_parts-push_read-requires : goal.push_parts-push_read-requires
 push_parts-push_read-requires t c =
-    let sized : IsSized (expression_of c.part-item.result) = subst (λ e. IsSized (expression_of e)) (sym c.part-item.is) (part_sized c.args.parts.now c.parts.part-index c.part-item.result c.parts-test.true c.requires).1 in
-    let least : levels_of (expression_of c.part-item.result) ≤ levels_of_parts (expressions_of c.args.parts.now) = part_levels c.args.parts.now c.parts.part-index c.part-item.result c.parts-test.true c.part-item.is in
+    let sized : IsSized (expression_of c.part-item.result) = subst (λ e. IsSized (expression_of e)) (sym c.part-item.is)
+    (part_sized c.args.parts.now c.parts.part-index c.part-item.result c.parts-test.true c.requires).1 in
+    let least : levels_of (expression_of c.part-item.result) ≤ levels_of_parts (expressions_of c.args.parts.now) =
+    part_levels c.args.parts.now c.parts.part-index c.part-item.result c.parts-test.true c.part-item.is in
     (omega (arith, least, c.decreases), sized)
 
 pub push_read-push_parts-requires : goal.push_read-push_parts-requires

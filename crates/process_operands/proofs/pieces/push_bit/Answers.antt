@@ -12,4 +12,5 @@ returns-in-None c =
 pub returns-in-None-index_within : goal.returns-in-None-index_within
 returns-in-None-index_within c =
     let v = c.args.vector.now in
-    pieces-nowhere (map piece_of c.args.pieces.now.items) (place_of_number v.high v.low c.args.index) (map piece_of v.pieces) (ap (place_of_number v.high v.low) c.in-Some.is ∙ c.in-None-index_within.ensures.none)
+    pieces-nowhere (map piece_of c.args.pieces.now.items) (place_of_number v.high v.low c.args.index) (map piece_of v.pieces)
+    (ap (place_of_number v.high v.low) c.in-Some.is ∙ c.in-None-index_within.ensures.none)

@@ -10,7 +10,8 @@ unreachable-requires c = constant-needs (expression_of c.args.index.now) _ _ (sy
 
 pub returns-in_ok-push_bit-in-Ok : goal.returns-in_ok-push_bit-in-Ok
 returns-in_ok-push_bit-in-Ok c =
-    pieces-constant (vector_of c.args.vector.now) (expression_of c.args.index.now) _ _ c.in-Ok.value c.as_natural.result (map piece_of c.args.pieces.now.items) (map piece_of c.push_bit.new.pieces.items)
+    pieces-constant (vector_of c.args.vector.now) (expression_of c.args.index.now) _ _ c.in-Ok.value c.as_natural.result (map piece_of c.args.pieces.now.items)
+    (map piece_of c.push_bit.new.pieces.items)
     (sym c.names_nothing.ensures ∙ c.if-names_nothing.true) c.in-Ok.ensures.has (c.as_natural.ensures ∙ ap (λ s. natural_number s c.in-Ok.value) c.is_signed.ensures) c.in_ok-push_bit-in-Ok.ensures
 
 pub returns-in_ok-push_pieces : goal.returns-in_ok-push_pieces

@@ -12,4 +12,5 @@ most_reads-returns-in_ok-parts-in-Concatenation t c =
 pub most_reads-returns-in_ok-parts-in-Replication : goal.most_reads-returns-in_ok-parts-in-Replication
 most_reads-returns-in_ok-parts-in-Replication t c =
     c.in_ok-parts-in-Replication.ensures ∙ ap (λ l. reads_most_each (expressions_of l)) c.deref-in-Replication.ensures.value
-    ∙ sym (ap (λ e. reads_most (expression_of e)) c.in-Replication.is ∙ ap reads_most (expression_of-Replication c.in-Replication.width c.in-Replication.signed c.in-Replication.count c.in-Replication.parts))
+    ∙ sym (ap (λ e. reads_most (expression_of e)) c.in-Replication.is ∙ ap reads_most (expression_of-Replication c.in-Replication.width c.in-Replication.signed c.in-Replication.count
+    c.in-Replication.parts))

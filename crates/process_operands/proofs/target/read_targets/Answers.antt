@@ -7,7 +7,8 @@ use Rattle.process_operands.specs.ChoiceLaws.{target_at, targets_width-at, targe
 use Rattle.process_operands.proofs.target.read_targets.Goals as goal
 
 pub read_target_index-requires : goal.read_target_index-requires
-read_target_index-requires c = subst (λ t. IsSizedTarget (target_of t)) (sym c.target-item.is) (target_at c.args.targets.now c.targets.target-index c.target-item.result c.targets-test.true c.requires.sized)
+read_target_index-requires c = subst (λ t. IsSizedTarget (target_of t)) (sym c.target-item.is)
+    (target_at c.args.targets.now c.targets.target-index c.target-item.result c.targets-test.true c.requires.sized)
 
 pub overflow_cast-left : goal.overflow_cast-left
 overflow_cast-left c = omega (arith, c.targets.invariant.left, targets_width-from c.args.targets.now c.targets.target-index, c.requires.few)

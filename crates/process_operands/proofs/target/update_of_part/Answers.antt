@@ -12,7 +12,8 @@ returns-in-Some c =
     let v = c.args.variable.now in
     let i = c.bits.bit in
     let indexes = part_indexes c.args.from c.args.to in
-    let place : place_of v.high v.low (get_or indexes i 0) ≡ Some c.in-Some.low = ap (place_of v.high v.low) (sym (c.from-index.ensures ∙ c.part_index.ensures)) ∙ sym c.place_of_index.ensures ∙ c.in-Some.is in
+    let place : place_of v.high v.low (get_or indexes i 0) ≡ Some c.in-Some.low = ap (place_of v.high v.low) (sym (c.from-index.ensures ∙ c.part_index.ensures)) ∙ sym c.place_of_index.ensures
+    ∙ c.in-Some.is in
     let low : i < length c.args.value = omega (arith, c.bits-test.true, c.width.ensures.bits, c.from-bit-end.ensures) in
     let rest : c.part.result ≡ drop i c.args.value =
     c.part.ensures ∙ ap (λ n. part_of c.args.value i n) (omega (arith, c.width-in-Some.ensures.bits))
@@ -28,5 +29,6 @@ bits-preserved c =
     let i = c.bits.bit in
     let indexes = part_indexes c.args.from c.args.to in
     let place = ap (place_of v.high v.low) (sym (c.from-index.ensures ∙ c.part_index.ensures)) ∙ sym c.place_of_index.ensures ∙ c.in-None.is in
-    part-skip c.args.line (object_number v.object) i 0 (place_of v.high v.low) indexes c.args.value (omega (arith, c.bits-test.true, c.width.ensures.bits, c.from-bit-end.ensures, c.requires)) c.requires place
+    part-skip c.args.line (object_number v.object) i 0 (place_of v.high v.low) indexes c.args.value
+    (omega (arith, c.bits-test.true, c.width.ensures.bits, c.from-bit-end.ensures, c.requires)) c.requires place
     ∙ c.bits.invariant

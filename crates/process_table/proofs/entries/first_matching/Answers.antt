@@ -33,4 +33,5 @@ entries-preserved c =
     let xs = c.args.entries.now in
     let i = c.entries.place in
     let x = get_or xs i no_entry in
-    first-goes_on entry_of (matches_one (map change_seen c.args.changes.now)) xs i x c.entries.invariant c.entries-test.true (got-any xs i no_entry x c.entries-test.true) (sym c.if-matches_some.ensures)
+    first-goes_on entry_of (matches_one (map change_seen c.args.changes.now)) xs i x c.entries.invariant c.entries-test.true (got-any xs i no_entry x c.entries-test.true)
+    (sym c.if-matches_some.ensures)

@@ -7,4 +7,5 @@ use Rattle.process_table.proofs.entries.is_net_piece.Goals as goal
 pub returns : goal.returns
 returns c =
     c.is_net_kind.ensures
-    ∙ net-by-kind (design_of c.args.design.now) c.args.design.now.objects c.as_slice-objects.result.now (object_number c.args.object) c.index-objects-object.result refl c.as_slice-objects.ensures c.requires
+    ∙ net-by-kind (design_of c.args.design.now) c.args.design.now.objects c.as_slice-objects.result.now
+    (object_number c.args.object) c.index-objects-object.result refl c.as_slice-objects.ensures c.requires

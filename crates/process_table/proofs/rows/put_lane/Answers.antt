@@ -7,4 +7,5 @@ use Rattle.process_table.proofs.rows.put_lane.Goals as goal
 
 pub returns : goal.returns
 returns c =
-    rows-change c.args.rows.now.items (process_number c.args.process) c.index_mut.result.now c.put_lane.new.self (with_lane (map update_of c.args.lane)) c.requires c.index_mut.ensures.value c.put_lane.ensures
+    rows-change c.args.rows.now.items (process_number c.args.process) c.index_mut.result.now c.put_lane.new.self
+    (with_lane (map update_of c.args.lane)) c.requires c.index_mut.ensures.value c.put_lane.ensures

@@ -20,7 +20,8 @@ index_mut-requires g c = let there = low c.args.rows.now.items (process_number c
 
 pub step-requires-clause-good : goal.step-requires-clause-good
 step-requires-clause-good g c =
-    AllHold-at IsGoodRow c.args.rows.now.items (process_number c.args.process) c.index_mut.result.now c.requires.good (low c.args.rows.now.items (process_number c.args.process) c.requires.ready) c.index_mut.ensures.value
+    AllHold-at IsGoodRow c.args.rows.now.items (process_number c.args.process) c.index_mut.result.now c.requires.good
+    (low c.args.rows.now.items (process_number c.args.process) c.requires.ready) c.index_mut.ensures.value
 
 pub step-requires-clause-ready : goal.step-requires-clause-ready
 step-requires-clause-ready g c =

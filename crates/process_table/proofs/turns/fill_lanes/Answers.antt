@@ -44,7 +44,8 @@ lanes-preserved c =
           (fills-more c.args.rows.now.items c.lanes.rows.items c.put_lane.new.rows.items (map lane_of done) (lane_of lane) c.lanes.invariant.rows c.put_lane.ensures);
       set =
           c.insert.ensures ∙ ap (λ (members : List Bool). change_at members (lane_number lane) (λ (member : Bool). true)) c.lanes.invariant.set
-          ∙ sym (ap (λ ns. each_changed (λ (member : Bool). true) ns c.args.busy.now) (map_push lane_number done lane) ∙ each-push (λ (member : Bool). true) (map lane_number done) (lane_number lane) c.args.busy.now);
+          ∙ sym (ap (λ ns. each_changed (λ (member : Bool). true) ns c.args.busy.now) (map_push lane_number done lane)
+          ∙ each-push (λ (member : Bool). true) (map lane_number done) (lane_number lane) c.args.busy.now);
     }
 
 pub returns-clause-rows : goal.returns-clause-rows

@@ -37,7 +37,8 @@ returns-clause-accesses c =
     accesses-behind kind.Held c.args.process c.wait_line-line.result (filter (is_on_net design) entries) c.args.accesses.now.items c.push_held.new.accesses.items c.in_ok-push_held.ensures
     ∙ ap (λ (es : List Entry). xs ++ map (access_of kind.Held p c.wait_line-line.result) es) (on-nets design entries)
     ∙ ap (λ (es : List Entry). xs ++ map (access_of kind.Held p c.wait_line-line.result) (filter (λ (entry : Entry). has (net_pieces design) entry.object) es)) c.waits-entries.ensures
-    ∙ ap (λ line. xs ++ map (access_of kind.Held p line) (filter (λ (entry : Entry). has (net_pieces design) entry.object) (waiting_entries (row_state c.args.row.now).activity))) c.wait_line-line.ensures
+    ∙ ap (λ line. xs ++ map (access_of kind.Held p line) (filter (λ (entry : Entry). has (net_pieces design) entry.object) (waiting_entries (row_state c.args.row.now).activity)))
+    c.wait_line-line.ensures
 
 pub returns-clause-held : goal.returns-clause-held
 returns-clause-held c =

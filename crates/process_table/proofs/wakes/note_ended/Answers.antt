@@ -27,18 +27,25 @@ first_matching-requires c =
 
 pub returns-in_default : goal.returns-in_default
 returns-in_default c =
-    ends-none (map change_seen c.args.changes.now) (process_number c.args.process) (state_at (row_states c.args.rows.now.items) (process_number c.args.process)).activity c.waits-entries.result.now c.args.accesses.now.items
+    ends-none (map change_seen c.args.changes.now) (process_number c.args.process) (state_at (row_states c.args.rows.now.items) (process_number c.args.process)).activity c.waits-entries.result.now
+    c.args.accesses.now.items
     (same c.args.rows.now.items (process_number c.args.process) c.index-row.result.now c.waits-entries.result.now c.requires.number c.index-row.ensures c.waits-entries.ensures)
     c.in_default.ensures
 
 pub push_others-requires : goal.push_others-requires
 push_others-requires c =
-    omega (arith, found-below (matches_one (map change_seen c.args.changes.now)) (map entry_of c.waits-entries.result.now) c.in-Some.first c.in-Some.ensures, length-map c.waits-entries.result.now entry_of)
+    omega (
+      arith,
+      found-below (matches_one (map change_seen c.args.changes.now)) (map entry_of c.waits-entries.result.now) c.in-Some.first c.in-Some.ensures,
+      length-map c.waits-entries.result.now entry_of,
+    )
 
 pub returns : goal.returns
 returns c =
-    ends-some (map change_seen c.args.changes.now) c.args.process (state_at (row_states c.args.rows.now.items) (process_number c.args.process)).activity c.waits-entries.result.now c.in-Some.first c.wait_line-line.result
+    ends-some (map change_seen c.args.changes.now) c.args.process (state_at (row_states c.args.rows.now.items) (process_number c.args.process)).activity c.waits-entries.result.now c.in-Some.first
+    c.wait_line-line.result
     c.args.accesses.now.items c.push_others.new.accesses.items
     (same c.args.rows.now.items (process_number c.args.process) c.index-row.result.now c.waits-entries.result.now c.requires.number c.index-row.ensures c.waits-entries.ensures)
-    (c.wait_line-line.ensures ∙ ap (λ (r : RowState). waiting_line r.activity) (sym (state-is c.args.rows.now.items (process_number c.args.process) c.index-row.result.now c.requires.number c.index-row.ensures)))
+    (c.wait_line-line.ensures ∙ ap (λ (r : RowState). waiting_line r.activity) (sym (state-is c.args.rows.now.items
+    (process_number c.args.process) c.index-row.result.now c.requires.number c.index-row.ensures)))
     c.in-Some.ensures c.in_ok-push_others.ensures

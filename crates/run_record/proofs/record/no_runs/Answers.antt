@@ -11,7 +11,8 @@ use Rattle.run_record.proofs.record.no_runs.Goals as goal
 one-more : (runs more : List RunSoFar) (run : RunSoFar) → more ≡ runs ++ run ∷ [] → so_far run ≡ nothing_so_far → All (λ (told : SoFar). told ≡ nothing_so_far) (map so_far runs) →
     All (λ (told : SoFar). told ≡ nothing_so_far) (map so_far more)
 one-more runs more run pushed none all =
-    subst (All (λ (told : SoFar). told ≡ nothing_so_far)) (sym (ap (map so_far) pushed ∙ map_push so_far runs run)) (All-push (λ (told : SoFar). told ≡ nothing_so_far) (map so_far runs) (so_far run) all none)
+    subst (All (λ (told : SoFar). told ≡ nothing_so_far)) (sym (ap (map so_far) pushed ∙ map_push so_far runs run))
+    (All-push (λ (told : SoFar). told ≡ nothing_so_far) (map so_far runs) (so_far run) all none)
 
 pub processes-preserved : goal.processes-preserved
 processes-preserved c =

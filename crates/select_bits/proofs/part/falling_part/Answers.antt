@@ -3,4 +3,5 @@ use Rattle.select_bits.proofs.Runs.{falling-run}
 use Rattle.select_bits.proofs.part.falling_part.Goals as goal
 
 pub returns : goal.returns
-returns c = falling-run c.args.bounds.high c.args.bounds.low c.args.from c.args.to c.in_ok-count.count _ _ _ _ c.requires.range c.requires.part c.in_ok-count.ensures.0 (grind arith) (grind arith) refl (grind arith)
+returns c = falling-run c.args.bounds.high c.args.bounds.low c.args.from c.args.to c.in_ok-count.count _ _ _ _ c.requires.range c.requires.part c.in_ok-count.ensures.0 (grind arith)
+    (grind arith) refl (grind arith)

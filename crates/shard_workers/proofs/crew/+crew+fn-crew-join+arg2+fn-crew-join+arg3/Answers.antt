@@ -10,4 +10,5 @@ returns g t c =
     let some_one : 0 < length c.args.steps.now = c.requires.some in
     let share : length c.args.steps.now * lent_share ≤ (view c.args.seat).share = c.requires.fresh.share in
     let enough : lent_share ≤ (view c.args.seat).share = omega (arith, some_one, share) in
-    worked-joined _ c.args.board.now c.args.seat _ _ _ _ _ _ c.join-a.ensures.first c.join-a.ensures.second c.split-one.ensures.old c.split-one.ensures.new enough c.join.ensures.own c.join.ensures.both c.both.ensures
+    worked-joined _ c.args.board.now c.args.seat _ _ _ _ _ _ c.join-a.ensures.first c.join-a.ensures.second c.split-one.ensures.old c.split-one.ensures.new enough c.join.ensures.own
+    c.join.ensures.both c.both.ensures

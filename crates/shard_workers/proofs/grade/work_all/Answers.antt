@@ -33,7 +33,10 @@ in_list_order-requires g c =
     let h : IsHarvest design plan reps (claimed_faults reps v.claimed) v c.in_ok-found.found.items =
     subst (λ (r : Result (Vec Finding Global) NoMemory). IfOk r (λ found. IsHarvest design plan reps (claimed_faults reps v.claimed) v found.items)) c.in_ok-found.was c.crew-seat.ensures.harvest in
     let counted = c.in_ok-shards.ensures.counted ∙ ap (λ (l : List Fault). length (stuck l)) c.as_slice-faults.ensures in
-    record { listed = subst (λ (l : List Finding). All (λ (finding : Finding). fault_number finding.fault < fault_count c.in_ok-shards.shards) l) (sym c.as_slice.ensures.value) (found-below design plan _ c.in_ok-found.found.items counted h.graded) }
+    record {
+      listed = subst (λ (l : List Finding). All (λ (finding : Finding). fault_number finding.fault < fault_count c.in_ok-shards.shards) l) (sym c.as_slice.ensures.value)
+          (found-below design plan _ c.in_ok-found.found.items counted h.graded);
+    }
 
 pub returns : goal.returns
 returns g c =
@@ -46,12 +49,14 @@ returns g c =
     subst (λ (r : Result (Vec Finding Global) NoMemory). IfOk r (λ found. IsHarvest design plan reps (claimed_faults reps v.claimed) v found.items)) c.in_ok-found.was c.crew-seat.ensures.harvest in
     let dry : IsTrue v.dry = subst (λ (r : Result (Vec Finding Global) NoMemory). IfOk r (λ _. IsTrue v.dry)) c.in_ok-found.was c.crew-seat.ensures.dry in
     let cut : AreShardsOf design plan.faults shards = subst (λ (l : List Fault). AreShardsOf design (stuck l) shards) c.as_slice-faults.ensures c.in_ok-shards.ensures in
-    let faults : c.in_ok-board.board.sizes.faults ≡ length plan.faults = c.in_ok-board.ensures.0 ∙ (sym (length-map c.as_slice-faults.result.now fault_of) ∙ ap (λ (l : List Fault). length (stuck l)) c.as_slice-faults.ensures) in
+    let faults : c.in_ok-board.board.sizes.faults ≡ length plan.faults = c.in_ok-board.ensures.0
+    ∙ (sym (length-map c.as_slice-faults.result.now fault_of) ∙ ap (λ (l : List Fault). length (stuck l)) c.as_slice-faults.ensures) in
     let closed = c.in_ok-closed.ensures in
     let k : Closing (codes_of design plan) (sizes_of c.in_ok-closed.closed) (words_of c.in_ok-closed.closed) (last_view c.in_ok-closed.closed) =
     subst (λ (d : FlatDesign). Closing (codes_of d plan) (sizes_of c.in_ok-closed.closed) (words_of c.in_ok-closed.closed) (last_view c.in_ok-closed.closed)) c.requires.world.0
     (subst (λ (p : TestPlan). Closing (codes_of g.N.World.design p) (sizes_of c.in_ok-closed.closed) (words_of c.in_ok-closed.closed) (last_view c.in_ok-closed.closed)) c.requires.world.1 closed.2) in
-    work-is design plan shards _ c.in_ok-board.board.sizes v c.in_ok-found.found.items c.shards_cover.ensures cut closed.0 faults (c.in_ok-board.ensures.1 ∙ c.count.ensures) closed.1 dry k h c.in_ok-findings.ensures.order
+    work-is design plan shards _ c.in_ok-board.board.sizes v c.in_ok-found.found.items c.shards_cover.ensures cut closed.0 faults
+    (c.in_ok-board.ensures.1 ∙ c.count.ensures) closed.1 dry k h c.in_ok-findings.ensures.order
     (λ found. c.in_ok-findings.ensures.grades design plan (rules_hold design c.args.bench.now.design.now.rules) cut (subst (AreFound design plan) (sym c.as_slice.ensures.value) found))
     (never-loops design plan c.args.good.now.race c.requires.good.stop_is)
 

@@ -9,7 +9,8 @@ pub verdict_code-requires : goal.verdict_code-requires
 verdict_code-requires g c = code-fits g.N.World.design g.N.World.plan c.args.finding c.requires.graded c.first_run_goes_on.ensures c.requires.rules.0 c.requires.rules.1
 
 pub settle-seat-requires-clause-fault : goal.settle-seat-requires-clause-fault
-settle-seat-requires-clause-fault g c κs within = subst (λ n. fault_number c.args.finding.fault < n) (sym c.requires.faults) (listed-below g.N.World.design g.N.World.plan c.args.finding c.requires.graded)
+settle-seat-requires-clause-fault g c κs within = subst (λ n. fault_number c.args.finding.fault < n) (sym c.requires.faults)
+    (listed-below g.N.World.design g.N.World.plan c.args.finding c.requires.graded)
 
 pub settle-seat-requires-clause-code : goal.settle-seat-requires-clause-code
 settle-seat-requires-clause-code g c κs within =

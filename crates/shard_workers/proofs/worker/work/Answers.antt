@@ -34,7 +34,8 @@ claims-preserved g c =
     let after : view c.claim-next.result.0 ≡ with_claim number before = drawn.2 in
     let same = c.work_shard-next.ensures.same in
     let gathers : Gathers job (shard number reps) (view c.claim-next.result.0) c.claims.findings.items (view c.work_shard-next.result.0) c.work_shard-next.new.findings.items =
-    subst (λ (r : Result (Unit {0}) NoMemory). IfOk r (λ _. Gathers job (shard number reps) (view c.claim-next.result.0) c.claims.findings.items (view c.work_shard-next.result.0) c.work_shard-next.new.findings.items)) c.in-Ok.is c.work_shard-next.ensures.done in
+    subst (λ (r : Result (Unit {0}) NoMemory). IfOk r (λ _. Gathers job (shard number reps) (view c.claim-next.result.0) c.claims.findings.items
+    (view c.work_shard-next.result.0) c.work_shard-next.new.findings.items)) c.in-Ok.is c.work_shard-next.ensures.done in
     let claimed : (view c.work_shard-next.result.0).claimed ≡ before.claimed ++ number ∷ [] = same.claimed ∙ ap (λ (v : View). v.claimed) after in record {
       own = c.work_shard-next.ensures.own;
       share = same.share ∙ (ap (λ (v : View). v.share) after ∙ c.claims.invariant.share);
@@ -44,7 +45,9 @@ claims-preserved g c =
           let few : before.calls ≤ number = drawn.1 in
           omega (arith, calls, low, few));
       harvest =
-          subst (λ (l : List ℕ). IsHarvestOf job l (view c.work_shard-next.result.0) c.work_shard-next.new.findings.items) (sym (ap (claimed_faults reps) claimed ∙ claimed-more reps before.claimed number))
+          subst (λ (l : List ℕ). IsHarvestOf job l (view c.work_shard-next.result.0) c.work_shard-next.new.findings.items)
+          (sym (ap (claimed_faults reps) claimed ∙ claimed-more reps before.claimed number))
           (gathers (claimed_faults reps before.claimed)
-          (subst (λ (v : View). IsHarvestOf job (claimed_faults reps before.claimed) v c.claims.findings.items) (sym after) (harvest-claim (job_design job) (job_plan job) reps _ number before c.claims.findings.items c.claims.invariant.harvest)));
+          (subst (λ (v : View). IsHarvestOf job (claimed_faults reps before.claimed) v c.claims.findings.items) (sym after)
+          (harvest-claim (job_design job) (job_plan job) reps _ number before c.claims.findings.items c.claims.invariant.harvest)));
     }

@@ -7,9 +7,11 @@ use Rattle.strobe_detect.proofs.compare.compare.Given as goal
 abbrev pub invariant-loop-place : goal.invariant-loop-place
 invariant-loop-place g l = record {
   hard_so_far :
-      (l.hard || some_sample is_hard (samples (map watched_bit (drop l.place-index l.watched)) (g.A.Values.values l.good)) (samples (map watched_bit (drop l.place-index l.watched)) (g.B.Values.values l.faulty)))
+      (l.hard || some_sample is_hard (samples (map watched_bit (drop l.place-index l.watched)) (g.A.Values.values l.good))
+      (samples (map watched_bit (drop l.place-index l.watched)) (g.B.Values.values l.faulty)))
       ≡ some_sample is_hard (samples (map watched_bit l.watched) (g.A.Values.values l.good)) (samples (map watched_bit l.watched) (g.B.Values.values l.faulty));
   possible_so_far :
-      (l.possible || some_sample is_possible (samples (map watched_bit (drop l.place-index l.watched)) (g.A.Values.values l.good)) (samples (map watched_bit (drop l.place-index l.watched)) (g.B.Values.values l.faulty)))
+      (l.possible || some_sample is_possible (samples (map watched_bit (drop l.place-index l.watched)) (g.A.Values.values l.good))
+      (samples (map watched_bit (drop l.place-index l.watched)) (g.B.Values.values l.faulty)))
       ≡ some_sample is_possible (samples (map watched_bit l.watched) (g.A.Values.values l.good)) (samples (map watched_bit l.watched) (g.B.Values.values l.faulty));
 }

@@ -7,9 +7,12 @@ use Rattle.text_lines.proofs.cut.lines.Goals as goal
 pub lines-preserved-then-count-rest : goal.lines-preserved-then-count-rest
 lines-preserved-then-count-rest c =
     let text = c.lines.rest.now in let n = c.line_length-count.result in
-    let size : length text ≡ length (take n text) + length (slice_index text n ∷ c.rest_of-rest.result.now) = ap length c.rest_of-rest.ensures ∙ length-append (take n text) (slice_index text n ∷ c.rest_of-rest.result.now) in
+    let size : length text ≡ length (take n text) + length (slice_index text n ∷ c.rest_of-rest.result.now) = ap length c.rest_of-rest.ensures
+    ∙ length-append (take n text) (slice_index text n ∷ c.rest_of-rest.result.now) in
     record {
-      lines = lines-more _ _ _ text (take n text) c.rest_of-rest.result.now (slice_index text n) c.lines.invariant.lines (rw (c.without_return.ensures, c.piece.ensures) at c.in_ok-push_line.ensures.added) c.rest_of-rest.ensures c.line_length-count.ensures.line (c.line_length-count.ensures.ends c.if-count-rest.true);
+      lines = lines-more _ _ _ text (take n text) c.rest_of-rest.result.now (slice_index text n) c.lines.invariant.lines
+          (rw (c.without_return.ensures, c.piece.ensures) at c.in_ok-push_line.ensures.added) c.rest_of-rest.ensures c.line_length-count.ensures.line
+          (c.line_length-count.ensures.ends c.if-count-rest.true);
       few = omega (arith, c.lines.invariant.few, c.in_ok-push_line.ensures.one, size);
     }
 

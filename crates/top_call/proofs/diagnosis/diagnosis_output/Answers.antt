@@ -17,15 +17,18 @@ use Rattle.top_call.proofs.diagnosis.diagnosis_output.Goals as goal
 
 pub returns-in_err-design-clause-gives : goal.returns-in_err-design-clause-gives
 returns-in_err-design-clause-gives g c =
-    let held = g.S.Shelf.held c.args.shelf.now in let source = plain_source c.args.source in let plan = c.args.plan.now in let response = c.args.response.now in let status = c.in_err-design.field-0.0 in
+    let held = g.S.Shelf.held c.args.shelf.now in let source = plain_source c.args.source in let plan = c.args.plan.now in let response = c.args.response.now in
+    let status = c.in_err-design.field-0.0 in
     let old = counts_of g.S.Shelf c.args.shelf.now in
     let new = counts_of g.S.Shelf c.read_source.new.shelf in
     err-gives (Diagnose source plan response) held old new c.from_residual.result status c.from_residual.ensures.1
-    (design-not-read (Diagnose source plan response) source plan (λ files. AfterObserved files response) (diagnose-over source plan response) held old new status c.in_err-design.ensures.reads c.in_err-design.ensures.gives)
+    (design-not-read (Diagnose source plan response) source plan (λ files. AfterObserved files response)
+    (diagnose-over source plan response) held old new status c.in_err-design.ensures.reads c.in_err-design.ensures.gives)
 
 pub returns-in_err-design-clause-ends : goal.returns-in_err-design-clause-ends
 returns-in_err-design-clause-ends g c =
-    let held = g.S.Shelf.held c.args.shelf.now in let source = plain_source c.args.source in let plan = c.args.plan.now in let response = c.args.response.now in let status = c.in_err-design.field-0.0 in
+    let held = g.S.Shelf.held c.args.shelf.now in let source = plain_source c.args.source in let plan = c.args.plan.now in let response = c.args.response.now in
+    let status = c.in_err-design.field-0.0 in
     let old = counts_of g.S.Shelf c.args.shelf.now in
     let new = counts_of g.S.Shelf c.read_source.new.shelf in
     err-ends (Diagnose source plan response) c.from_residual.result status c.from_residual.ensures.1
@@ -33,26 +36,31 @@ returns-in_err-design-clause-ends g c =
 
 pub returns-in_err-test-clause-gives : goal.returns-in_err-test-clause-gives
 returns-in_err-test-clause-gives g c =
-    let held = g.S.Shelf.held c.args.shelf.now in let source = plain_source c.args.source in let plan = c.args.plan.now in let response = c.args.response.now in let status = c.in_err-test.field-0.0 in let d = c.in_ok-design.ensures in
+    let held = g.S.Shelf.held c.args.shelf.now in let source = plain_source c.args.source in let plan = c.args.plan.now in let response = c.args.response.now in
+    let status = c.in_err-test.field-0.0 in let d = c.in_ok-design.ensures in
     let old = counts_of g.S.Shelf c.args.shelf.now in
     let mid = counts_of g.S.Shelf c.read_source.new.shelf in
     let new = counts_of g.S.Shelf c.read_test_plan.new.shelf in
     let design = design_of c.in_ok-design.design in
     err-gives (Diagnose source plan response) held old new c.from_residual-in_err-test.result status c.from_residual-in_err-test.ensures.1
-    (test-not-read (Diagnose source plan response) source plan (λ files. AfterObserved files response) (diagnose-over source plan response) design held old mid new status d.faults d.long d.reads c.in_err-test.ensures.reads d.gives
+    (test-not-read (Diagnose source plan response) source plan (λ files. AfterObserved files response)
+    (diagnose-over source plan response) design held old mid new status d.faults d.long d.reads c.in_err-test.ensures.reads d.gives
     (subst (λ h. PlanGives h plan design mid new (Err status)) d.kept c.in_err-test.ensures.gives))
 
 pub returns-in_err-test-clause-ends : goal.returns-in_err-test-clause-ends
 returns-in_err-test-clause-ends g c =
-    let held = g.S.Shelf.held c.read_source.new.shelf in let source = plain_source c.args.source in let plan = c.args.plan.now in let response = c.args.response.now in let status = c.in_err-test.field-0.0 in
+    let held = g.S.Shelf.held c.read_source.new.shelf in let source = plain_source c.args.source in let plan = c.args.plan.now in let response = c.args.response.now in
+    let status = c.in_err-test.field-0.0 in
     let mid = counts_of g.S.Shelf c.read_source.new.shelf in
     let new = counts_of g.S.Shelf c.read_test_plan.new.shelf in
     err-ends (Diagnose source plan response) c.from_residual-in_err-test.result status c.from_residual-in_err-test.ensures.1
-    (test-ends (Diagnose source plan response) source plan (λ files. AfterObserved files response) (diagnose-over source plan response) held (design_of c.in_ok-design.design) mid new status c.in_err-test.ensures.gives)
+    (test-ends (Diagnose source plan response) source plan (λ files. AfterObserved files response) (diagnose-over source plan response) held
+    (design_of c.in_ok-design.design) mid new status c.in_err-test.ensures.gives)
 
 pub returns-in_err-observed-clause-gives : goal.returns-in_err-observed-clause-gives
 returns-in_err-observed-clause-gives g c =
-    let held = g.S.Shelf.held c.args.shelf.now in let source = plain_source c.args.source in let plan = c.args.plan.now in let response = c.args.response.now in let status = c.in_err-observed.field-0.0 in
+    let held = g.S.Shelf.held c.args.shelf.now in let source = plain_source c.args.source in let plan = c.args.plan.now in let response = c.args.response.now in
+    let status = c.in_err-observed.field-0.0 in
     let d = c.in_ok-design.ensures in let p = c.in_ok-test.ensures in
     let old = counts_of g.S.Shelf c.args.shelf.now in
     let first = counts_of g.S.Shelf c.read_source.new.shelf in
@@ -68,7 +76,8 @@ returns-in_err-observed-clause-gives g c =
 
 pub returns-in_err-observed-clause-ends : goal.returns-in_err-observed-clause-ends
 returns-in_err-observed-clause-ends g c =
-    let held = g.S.Shelf.held c.args.shelf.now in let source = plain_source c.args.source in let plan = c.args.plan.now in let response = c.args.response.now in let status = c.in_err-observed.field-0.0 in
+    let held = g.S.Shelf.held c.args.shelf.now in let source = plain_source c.args.source in let plan = c.args.plan.now in let response = c.args.response.now in
+    let status = c.in_err-observed.field-0.0 in
     let d = c.in_ok-design.ensures in let p = c.in_ok-test.ensures in
     let mid = counts_of g.S.Shelf c.read_test_plan.new.shelf in
     let new = counts_of g.S.Shelf c.read_observed.new.shelf in

@@ -35,7 +35,8 @@ returns-in_err-test-clause-gives g c =
     let new = counts_of g.S.Shelf c.read_test_plan.new.shelf in
     let design = design_of c.in_ok-design.design in
     err-gives (Pick source plan) held old new c.from_residual-in_err-test.result status c.from_residual-in_err-test.ensures.1
-    (test-not-read (Pick source plan) source plan (λ files. AfterOutput outputs.PickText) (pick-over source plan) design held old mid new status d.faults d.long d.reads c.in_err-test.ensures.reads d.gives
+    (test-not-read (Pick source plan) source plan (λ files. AfterOutput outputs.PickText) (pick-over source plan) design held old mid new status d.faults d.long d.reads c.in_err-test.ensures.reads
+    d.gives
     (subst (λ h. PlanGives h plan design mid new (Err status)) d.kept c.in_err-test.ensures.gives))
 
 pub returns-in_err-test-clause-ends : goal.returns-in_err-test-clause-ends

@@ -24,4 +24,5 @@ returns-in_err-design-clause-ends g c =
     err-ends (Check source) c.from_residual.result status c.from_residual.ensures.1 (source-ends (Check source) held source old new status (lit< tt) c.in_err-design.ensures.gives)
 
 pub returns-in-Ok-clause-gives : goal.returns-in-Ok-clause-gives
-returns-in-Ok-clause-gives g c = check-made (g.S.Shelf.held c.args.shelf.now) (plain_source c.args.source) (design_of c.in_ok-design.design) c.in-Ok.text.items c.in_ok-design.ensures.gives c.in-Ok.ensures
+returns-in-Ok-clause-gives g c = check-made (g.S.Shelf.held c.args.shelf.now) (plain_source c.args.source)
+    (design_of c.in_ok-design.design) c.in-Ok.text.items c.in_ok-design.ensures.gives c.in-Ok.ensures

@@ -10,7 +10,8 @@ pieces-preserved g c =
     record {
       size = omega (arith, len);
       rest = rest-more text rest after n inv.size inv.rest some.1 c.rest_after-rest.ensures;
-      gained = Gains-more (g.K.Sink.contents c.args.sink.now) (g.K.Sink.contents c.pieces.sink) (g.K.Sink.contents c.put.new.self) text rest after n inv.size inv.rest inv.gained c.in-Ok.ensures.gained some.1 c.rest_after-rest.ensures;
+      gained = Gains-more (g.K.Sink.contents c.args.sink.now) (g.K.Sink.contents c.pieces.sink)
+          (g.K.Sink.contents c.put.new.self) text rest after n inv.size inv.rest inv.gained c.in-Ok.ensures.gained some.1 c.rest_after-rest.ensures;
       faults = omega (arith, c.put.ensures.faults);
       puts = omega (arith, len, c.put.ensures.puts);
     }

@@ -10,7 +10,8 @@ returns-in-Err-clause-exactly g c =
     let held = g.S.Shelf.held c.args.shelf.now in let form = plain_form c.in-Some.form in
     let old = counts_of g.S.Shelf c.args.shelf.now in
     let new = counts_of g.S.Shelf c.make_output.new.shelf in
-    keeps-at-err (form_of (bytes_of c.args.words.now)) form c.in-Some.ensures.form held old new (g.K.Sink.faults c.args.sink.now) (g.K.Sink.faults c.args.sink.now) c.in-Err.status c.in-Err.ensures.gives
+    keeps-at-err (form_of (bytes_of c.args.words.now)) form c.in-Some.ensures.form held old new (g.K.Sink.faults c.args.sink.now)
+    (g.K.Sink.faults c.args.sink.now) c.in-Err.status c.in-Err.ensures.gives
 
 pub returns-clause-exactly : goal.returns-clause-exactly
 returns-clause-exactly g c =

@@ -21,4 +21,5 @@ build-requires-clause-ascending c =
 
 pub returns : goal.returns
 returns c =
-    index-within c.args.count c.args.occurrences.now c.in_ok-index.index (subst (λ (l : List Occurrence). IsIndexOf c.args.count l c.in_ok-index.index) (c.deref.ensures.value ∙ c.in_ok-within.ensures) c.in_ok-index.ensures)
+    index-within c.args.count c.args.occurrences.now c.in_ok-index.index (subst (λ (l : List Occurrence). IsIndexOf c.args.count l c.in_ok-index.index)
+    (c.deref.ensures.value ∙ c.in_ok-within.ensures) c.in_ok-index.ensures)

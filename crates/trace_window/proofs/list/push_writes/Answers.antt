@@ -13,7 +13,8 @@ push_write-requires c = hold-at IsNoted c.args.accesses.now c.accesses.noted-ind
 
 pub accesses-preserved : goal.accesses-preserved
 accesses-preserved c =
-    grown-more (map written_of c.args.changes.now.items) (map written_of c.accesses.changes.items) (map written_of c.push_write.new.changes.items) (writes_in c.args.moment (noted_access c.noted-item.result ∷ []))
+    grown-more (map written_of c.args.changes.now.items) (map written_of c.accesses.changes.items) (map written_of c.push_write.new.changes.items)
+    (writes_in c.args.moment (noted_access c.noted-item.result ∷ []))
     (writes_in c.args.moment (map noted_access (take c.accesses.noted-index c.args.accesses.now)))
     (writes_in c.args.moment (map noted_access (take (c.accesses.noted-index + 1) c.args.accesses.now)))
     c.accesses.invariant c.in_ok-push_write.ensures (writes_in-more c.args.moment c.args.accesses.now c.accesses.noted-index c.noted-item.result c.accesses-test.true c.noted-item.is)

@@ -11,4 +11,5 @@ returns c =
     ap (λ (fs : List Bool). Some fs) (c.flag_whole.ensures ∙ ap (flag_names c.args.targets.now c.args.flags.items) (whole-listed c.args.target.now c.selects.result.now c.selects.ensures))
     ∙ sym (where-true (all_flagged c.args.targets.now c.args.flags.items (names_needed (target_of c.args.target.now) (expression_of c.args.value.now)))
     (Some (flag_names c.args.targets.now c.args.flags.items (whole_names (target_of c.args.target.now))))
-    (sym (c.in_ok-assignment_is_flagged.ensures ∙ ap (λ fs. all_flagged c.args.targets.now fs (names_needed (target_of c.args.target.now) (expression_of c.args.value.now))) c.deref.ensures.value) ∙ holds))
+    (sym (c.in_ok-assignment_is_flagged.ensures ∙ ap (λ fs. all_flagged c.args.targets.now fs (names_needed (target_of c.args.target.now) (expression_of c.args.value.now))) c.deref.ensures.value)
+    ∙ holds))

@@ -15,7 +15,8 @@ known-returns-in_default-7 t c =
     ap (λ (e : Expr). known_size c.args.scope.now (expression_of e)) c.in-Repeat.is
     ∙ ap (known_size c.args.scope.now) (view-Repeat c.in-Repeat.place c.in-Repeat.count c.in-Repeat.parts)
     ∙ parts-unread c.args.scope.now (source_place c.in-Repeat.place) (expression_of c.in-Repeat.count.value) (expressions_of c.in-Repeat.parts.items)
-    (joined-at c.args.scope.now c.deref-in-Repeat.result.now c.in-Repeat.parts.items c.in_ok-bits-in-Repeat.field-0 None c.deref-in-Repeat.ensures.value c.in_default-7.is c.in_ok-bits-in-Repeat.ensures)
+    (joined-at c.args.scope.now c.deref-in-Repeat.result.now c.in-Repeat.parts.items c.in_ok-bits-in-Repeat.field-0 None c.deref-in-Repeat.ensures.value c.in_default-7.is
+    c.in_ok-bits-in-Repeat.ensures)
 
 pub known-returns-in_default-8 : goal.known-returns-in_default-8
 known-returns-in_default-8 t c =
@@ -36,11 +37,15 @@ known-returns-in_ok-whole-in-Binary t c =
 pub known-returns-in_ok-whole-in-Conditional : goal.known-returns-in_ok-whole-in-Conditional
 known-returns-in_ok-whole-in-Conditional t c =
     subst (λ (e : Expr). IsKnown c.args.scope.now (expression_of e) c.in_ok-whole-in-Conditional.whole) (sym c.in-Conditional.is)
-    (choice-read c.args.scope.now (source_place c.in-Conditional.place) (expression_of c.in-Conditional.condition.value) (expression_of c.in-Conditional.first.value) (expression_of c.in-Conditional.second.value)
+    (choice-read c.args.scope.now (source_place c.in-Conditional.place) (expression_of c.in-Conditional.condition.value) (expression_of c.in-Conditional.first.value)
+    (expression_of c.in-Conditional.second.value)
     c.in-Some-4.condition c.in-Some-5.first c.in-Some-6.second c.in_ok-whole-in-Conditional.whole
-    (read-at c.args.scope.now c.deref-in-Conditional.result.now c.in-Conditional.condition.value c.in_ok-condition-in-Conditional.field-0 _ c.deref-in-Conditional.ensures c.in-Some-4.is c.in_ok-condition-in-Conditional.ensures)
-    (read-at c.args.scope.now c.deref-in-Conditional-2.result.now c.in-Conditional.first.value c.in_ok-first-in-Conditional.field-0 _ c.deref-in-Conditional-2.ensures c.in-Some-5.is c.in_ok-first-in-Conditional.ensures)
-    (read-at c.args.scope.now c.deref-in-Conditional-3.result.now c.in-Conditional.second.value c.in_ok-second-in-Conditional.field-0 _ c.deref-in-Conditional-3.ensures c.in-Some-6.is c.in_ok-second-in-Conditional.ensures)
+    (read-at c.args.scope.now c.deref-in-Conditional.result.now c.in-Conditional.condition.value c.in_ok-condition-in-Conditional.field-0 _ c.deref-in-Conditional.ensures c.in-Some-4.is
+    c.in_ok-condition-in-Conditional.ensures)
+    (read-at c.args.scope.now c.deref-in-Conditional-2.result.now c.in-Conditional.first.value c.in_ok-first-in-Conditional.field-0 _ c.deref-in-Conditional-2.ensures c.in-Some-5.is
+    c.in_ok-first-in-Conditional.ensures)
+    (read-at c.args.scope.now c.deref-in-Conditional-3.result.now c.in-Conditional.second.value c.in_ok-second-in-Conditional.field-0 _ c.deref-in-Conditional-3.ensures c.in-Some-6.is
+    c.in_ok-second-in-Conditional.ensures)
     c.in_ok-whole-in-Conditional.ensures)
 
 pub known-returns-in-None : goal.known-returns-in-None
@@ -48,7 +53,8 @@ known-returns-in-None t c =
     ap (λ (e : Expr). known_size c.args.scope.now (expression_of e)) c.in-Concat.is
     ∙ ap (known_size c.args.scope.now) (expression_of-Concat c.in-Concat.place c.in-Concat.parts)
     ∙ concatenation-unread c.args.scope.now (source_place c.in-Concat.place) (expressions_of c.in-Concat.parts.items)
-    (joined-at c.args.scope.now c.deref-in-Concat.result.now c.in-Concat.parts.items c.in_ok-joined-in-Concat.field-0 None c.deref-in-Concat.ensures.value c.in-None.is c.in_ok-joined-in-Concat.ensures)
+    (joined-at c.args.scope.now c.deref-in-Concat.result.now c.in-Concat.parts.items c.in_ok-joined-in-Concat.field-0 None c.deref-in-Concat.ensures.value c.in-None.is
+    c.in_ok-joined-in-Concat.ensures)
 
 pub known-returns-in-Some-7 : goal.known-returns-in-Some-7
 known-returns-in-Some-7 t c =
@@ -60,7 +66,8 @@ known-returns-in-Some-7 t c =
 pub known-returns-in-Some-9 : goal.known-returns-in-Some-9
 known-returns-in-Some-9 t c =
     subst (λ e. IsRead c.args.scope.now e c.replicated.result) (sym (ap (λ (e : Expr). expression_of e) c.in-Repeat.is ∙ view-Repeat c.in-Repeat.place c.in-Repeat.count c.in-Repeat.parts))
-    (replication-read c.args.scope.now (source_place c.in-Repeat.place) (expression_of c.in-Repeat.count.value) (expressions_of c.in-Repeat.parts.items) c.in-Some-9.count c.natural.result c.in-Some-8.bits
+    (replication-read c.args.scope.now (source_place c.in-Repeat.place) (expression_of c.in-Repeat.count.value)
+    (expressions_of c.in-Repeat.parts.items) c.in-Some-9.count c.natural.result c.in-Some-8.bits
     c.replicated.result
     (read-at c.args.scope.now c.deref-in-Repeat-2.result.now c.in-Repeat.count.value c.in_ok-count-in-Repeat.field-0 _ c.deref-in-Repeat-2.ensures c.in-Some-9.is c.in_ok-count-in-Repeat.ensures)
     (joined-at c.args.scope.now c.deref-in-Repeat.result.now c.in-Repeat.parts.items c.in_ok-bits-in-Repeat.field-0 _ c.deref-in-Repeat.ensures.value c.in-Some-8.is c.in_ok-bits-in-Repeat.ensures)
@@ -74,5 +81,6 @@ joined-returns-then-is_unsized_number t c =
 pub joined-parts-preserved : goal.joined-parts-preserved
 joined-parts-preserved t c =
     joined-more c.args.scope.now c.args.parts.now c.parts.part-index c.part-item.result (bits_so_far c.parts.bits) c.value_alone-value.result c.in-Some-longer.more c.in-Some.known c.parts-test.true
-    c.part-item.is c.parts.invariant (sym c.is_unsized_number.ensures ∙ c.if-is_unsized_number.false) (subst (IsRead c.args.scope.now (expression_of c.part-item.result)) c.in-Some.is c.in_ok-known.ensures)
+    c.part-item.is c.parts.invariant (sym c.is_unsized_number.ensures ∙ c.if-is_unsized_number.false)
+    (subst (IsRead c.args.scope.now (expression_of c.part-item.result)) c.in-Some.is c.in_ok-known.ensures)
     c.value_alone-value.ensures (subst (IsLonger (bits_so_far c.parts.bits) c.value_alone-value.result) c.in-Some-longer.is c.longer.ensures).0

@@ -6,7 +6,8 @@ use Rattle.v_ports.proofs.cut.pieces.Goals as goal
 
 pub runs_of-requires : goal.runs_of-requires
 runs_of-requires c =
-    let long : length c.deref.result.now ≡ c.args.width = ap length c.deref.ensures.value ∙ owners-short (map run_of_drive (map drive_of c.args.drives.now)) c.args.width c.in_ok-owners.owners.items c.in_ok-owners.ensures.1 in
+    let long : length c.deref.result.now ≡ c.args.width = ap length c.deref.ensures.value ∙ owners-short
+    (map run_of_drive (map drive_of c.args.drives.now)) c.args.width c.in_ok-owners.owners.items c.in_ok-owners.ensures.1 in
     omega arith
 
 pub returns : goal.returns

@@ -14,7 +14,8 @@ returns-then-is_empty-clause-none c =
 
 pub returns-clause-found : goal.returns-clause-found
 returns-clause-found c =
-    is-tail c.args.tail.now c.sign-signed.result.1.now c.sign-signed.result.0 (get_or c.sign-signed.result.1.now 0 0) c.in_ok-base.base (take (length c.sign-signed.result.1.now - 1) (drop 1 c.sign-signed.result.1.now))
+    is-tail c.args.tail.now c.sign-signed.result.1.now c.sign-signed.result.0 (get_or c.sign-signed.result.1.now 0 0) c.in_ok-base.base
+    (take (length c.sign-signed.result.1.now - 1) (drop 1 c.sign-signed.result.1.now))
     c.behind-text.result.now c.behind_digits-back.result.now c.before-digits.result.now c.sign-signed.ensures.signed c.sign-signed.ensures.back
     (head-tail c.sign-signed.result.1.now c.in-len1-up.len_at_least) (sym c.in_ok-base.ensures) c.behind-text.ensures c.behind_digits-back.ensures c.before-digits.ensures
     (some-nil c.before-digits.result.now (sym c.is_empty.ensures ∙ c.if-is_empty.false))

@@ -9,7 +9,8 @@ without-requires c =
 
 pub returns-in-Some-clause-found : goal.returns-in-Some-clause-found
 returns-in-Some-clause-found c =
-    reads-mark c.args.text.now c.args.first c.args.rest.now c.without.result.now c.in-Some.mark c.mark_len.result c.requires.begins c.requires.sorted (sym c.in-Some.ensures) c.mark_len.ensures c.without.ensures
+    reads-mark c.args.text.now c.args.first c.args.rest.now c.without.result.now c.in-Some.mark c.mark_len.result c.requires.begins c.requires.sorted
+    (sym c.in-Some.ensures) c.mark_len.ensures c.without.ensures
 
 pub returns-in-None-clause-none : goal.returns-in-None-clause-none
 returns-in-None-clause-none c = no-mark c.args.place c.args.first c.args.rest.now c.requires.sorted (sym c.in-None.ensures)

@@ -21,8 +21,10 @@ returns-in_ok-copied-in-Some-clause-kept g c =
     let class = c.requires.places (fault_number c.args.number) (fault_of c.args.fault) c.requires.listed in
     let place : fault_number c.representative-first.result ≡ class.0 = c.representative-first.ensures ∙ get_or_from_slice_get c.args.places.now (fault_number c.args.number) class.0 0 class.1 in
     let there = c.in-Some.ensures.lookup in
-    kept-copied (bench_design bench) (bench_plan bench) class.3.first (fault_of c.args.fault) c.in-Some.same.now c.in_ok-copied-in-Some.copied c.args.number c.one_full_class.ensures (rules_hold (bench_design bench) bench.design.now.rules) class.3.alike
-    (zip-at (Keeps (bench_design bench) (bench_plan bench)) (fault_number c.args.number) (bench_plan bench).faults c.args.earlier.now (fault_number c.representative-first.result) class.3.first c.in-Some.same.now c.requires.earlier.each
+    kept-copied (bench_design bench) (bench_plan bench) class.3.first (fault_of c.args.fault) c.in-Some.same.now c.in_ok-copied-in-Some.copied c.args.number c.one_full_class.ensures
+    (rules_hold (bench_design bench) bench.design.now.rules) class.3.alike
+    (zip-at (Keeps (bench_design bench) (bench_plan bench)) (fault_number c.args.number) (bench_plan bench).faults c.args.earlier.now
+    (fault_number c.representative-first.result) class.3.first c.in-Some.same.now c.requires.earlier.each
     (ap (slice_get (bench_plan bench).faults) place ∙ class.3.stands)
     (slice_get_read c.args.earlier.now (length c.args.earlier.now) (fault_number c.representative-first.result) c.in-Some.same.now refl there.3.0 (there.3.1 c.in-Some.same.now)))
     c.in_ok-copied-in-Some.ensures

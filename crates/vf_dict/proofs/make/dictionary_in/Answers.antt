@@ -20,5 +20,6 @@ returns-clause-dict g c =
 
 pub returns-clause-no_loop : goal.returns-clause-no_loop
 returns-clause-no_loop g c =
-    let run : IsGoodRun (design_of c.args.design.now) (plan_of c.args.plan.now) (samples_kept c.in-Shown.good) (race_if c.in-Shown.good.race) = subst (IsGood (design_of c.args.design.now) (plan_of c.args.plan.now)) c.in-Shown.is c.in_ok-run.ensures in
+    let run : IsGoodRun (design_of c.args.design.now) (plan_of c.args.plan.now) (samples_kept c.in-Shown.good) (race_if c.in-Shown.good.race) =
+    subst (IsGood (design_of c.args.design.now) (plan_of c.args.plan.now)) c.in-Shown.is c.in_ok-run.ensures in
     no-loop (design_of c.args.design.now) (plan_of c.args.plan.now) c.in-Shown.good.race run.stop_is

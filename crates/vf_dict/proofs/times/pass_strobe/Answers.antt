@@ -36,6 +36,8 @@ returns c =
     passes-same c.args.good.now c.in-Some.own.now (drop c.args.next c.args.differs.now) (drop (c.args.next + 1) c.args.differs.now) c.args.times.now.items c.if-hard.times.items
     (front c.args.differs.now c.args.next c.in-Some.own.now there.3.0 (there.3.1 c.in-Some.own.now)) c.if-own-good.false
     (elim c.if-hard.branch [
-      | then-hard+in_ok-push w ↦ noted (some_sample is_hard c.args.good.now.bits c.in-Some.own.now.bits) c.args.times.now.items c.if-hard.times.items c.in-Some.own.now.time (same ∙ w.if-hard.true) (rw w.times-is w.in_ok-push.ensures.items)
-      | else-hard w ↦ nothing-noted (some_sample is_hard c.args.good.now.bits c.in-Some.own.now.bits) c.args.times.now.items c.if-hard.times.items c.in-Some.own.now.time (same ∙ w.if-hard.false) (rw w.times-is refl)
+      | then-hard+in_ok-push w ↦ noted (some_sample is_hard c.args.good.now.bits c.in-Some.own.now.bits) c.args.times.now.items c.if-hard.times.items c.in-Some.own.now.time (same ∙ w.if-hard.true)
+          (rw w.times-is w.in_ok-push.ensures.items)
+      | else-hard w ↦ nothing-noted (some_sample is_hard c.args.good.now.bits c.in-Some.own.now.bits) c.args.times.now.items c.if-hard.times.items c.in-Some.own.now.time (same ∙ w.if-hard.false)
+          (rw w.times-is refl)
     ])

@@ -2,7 +2,8 @@ use Rattle.std.proofs.Common.{◌≡◌, true}
 use Rattle.vf_words.specs.Number.{is_plain}
 use Rattle.vf_words.proofs.Parsed.{refused, ornate, taken, too-low, too-high, within}
 use Rattle.vf_words.proofs.number.number_between.Goals as goal
-use Rattle.vf_words.proofs.number.number_between.Goals.{then-not-is_plain-via-then-not-is_plain, then-not-is_plain-via-else-not-is_plain+then-number-least, then-not-is_plain-via-else-not-is_plain+else-number-least+then-most-number}
+use Rattle.vf_words.proofs.number.number_between.Goals.{then-not-is_plain-via-then-not-is_plain, then-not-is_plain-via-else-not-is_plain+then-number-least}
+use Rattle.vf_words.proofs.number.number_between.Goals.{then-not-is_plain-via-else-not-is_plain+else-number-least+then-most-number}
 
 pub returns-in_default : goal.returns-in_default
 returns-in_default c = refused c.args.least c.args.most c.args.word.now c.ranges.most.fits c.in_default.ensures.value.0

@@ -24,8 +24,11 @@ pub returns-clause-added : goal.returns-clause-added
 returns-clause-added c = λ taken before had.
     let within : object_number c.args.object < length c.args.seen.now.items = search rules in
     let in_lists : object_number c.args.object < length c.args.waiters.now.items = search rules in
-    let low : object_number c.args.object < length (process_lists c.args.waiters.now.items) = omega (arith, length-map c.args.waiters.now.items (λ (list : Vec ProcId Global). map process_number list.items)) in
-    subst (WaitersAdded (process_number c.args.process) (taken ++ object_number c.args.object ∷ []) before (set c.args.seen.now.items (object_number c.args.object) (process_number c.args.process + 1)))
-    (sym (process_lists-push c.args.waiters.now.items (object_number c.args.object) c.index_mut.result.now c.push.new.self c.args.process in_lists c.index_mut.ensures.value c.in_ok-push.ensures.items))
+    let low : object_number c.args.object < length (process_lists c.args.waiters.now.items) =
+    omega (arith, length-map c.args.waiters.now.items (λ (list : Vec ProcId Global). map process_number list.items)) in
+    subst (WaitersAdded (process_number c.args.process) (taken ++ object_number c.args.object ∷ []) before
+    (set c.args.seen.now.items (object_number c.args.object) (process_number c.args.process + 1)))
+    (sym (process_lists-push c.args.waiters.now.items (object_number c.args.object) c.index_mut.result.now c.push.new.self c.args.process in_lists c.index_mut.ensures.value
+    c.in_ok-push.ensures.items))
     (WaitersAdded-new (process_number c.args.process) taken before c.args.seen.now.items (process_lists c.args.waiters.now.items) (object_number c.args.object) had low
     (λ e. c.if-index-stamp.false (get_or_read c.args.seen.now.items (object_number c.args.object) c.index.result.now within c.index.ensures 0 ∙ e)))

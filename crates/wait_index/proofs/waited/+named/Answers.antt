@@ -10,7 +10,8 @@ use Rattle.v_design.specs.Reads.{named_in, named_in_parts}
 use Rattle.wait_index.proofs.waited.+named.Goals as goal
 
 -- the words of a memory as pieces are its words
-words-named : (words : List ObjectId) (width : ℕ) → piece_objects (map (λ (word : ℕ). let piece : Piece = record { object = word; width = width } in piece) (map object_number words)) ≡ map object_number words
+words-named : (words : List ObjectId) (width : ℕ) → piece_objects (map (λ (word : ℕ). let piece : Piece = record { object = word; width = width } in piece) (map object_number words)) ≡ map
+    object_number words
 words-named [] width = refl
 words-named (word ∷ words) width = ap (λ l. object_number word ∷ l) (words-named words width)
 

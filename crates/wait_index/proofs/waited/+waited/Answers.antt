@@ -18,7 +18,8 @@ add_statement-returns-in_ok-add_statement-in-Case t c =
     let old = map object_number c.args.objects.now.items in
     let items = items_waited (items_of c.deref-in-Case.result.now) in
     let default = waited_objects (statement_of c.deref-in-Case-2.result.now) in
-    let s : statement_of c.args.statement.now ≡ plain.Case (source_place c.in-Case.place) c.in-Case.kind (expression_of c.in-Case.value) (items_of c.deref-in-Case.result.now) (statement_of c.deref-in-Case-2.result.now) =
+    let s : statement_of c.args.statement.now ≡ plain.Case (source_place c.in-Case.place) c.in-Case.kind (expression_of c.in-Case.value) (items_of c.deref-in-Case.result.now)
+    (statement_of c.deref-in-Case-2.result.now) =
     ap statement_of c.in-Case.is ∙ statement_of-Case c.in-Case.place c.in-Case.kind c.in-Case.value c.in-Case.items c.in-Case.default
     ∙ ap (λ xs. plain.Case (source_place c.in-Case.place) c.in-Case.kind (expression_of c.in-Case.value) (items_of xs) (statement_of c.in-Case.default.value)) (sym c.deref-in-Case.ensures.value)
     ∙ ap (λ x. plain.Case (source_place c.in-Case.place) c.in-Case.kind (expression_of c.in-Case.value) (items_of c.deref-in-Case.result.now) (statement_of x)) (sym c.deref-in-Case-2.ensures) in

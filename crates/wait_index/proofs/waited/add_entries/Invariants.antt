@@ -5,4 +5,5 @@ use Rattle.wait_index.specs.Waits.{entry_objects}
 use Rattle.wait_index.proofs.waited.add_entries.Given as goal
 
 abbrev pub invariant-entries : goal.invariant-entries
-invariant-entries l = map object_number l.objects.items ++ entry_objects (map entry_of (drop l.entry-index l.entries)) ≡ map object_number l.initial.objects.items ++ entry_objects (map entry_of l.entries)
+invariant-entries l = map object_number l.objects.items ++ entry_objects (map entry_of (drop l.entry-index l.entries)) ≡ map object_number l.initial.objects.items
+    ++ entry_objects (map entry_of l.entries)

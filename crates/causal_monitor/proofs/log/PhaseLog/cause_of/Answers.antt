@@ -13,4 +13,5 @@ returns c =
     let within = subst Within (sym c.self.view_is) c.requires in
     let long = length-logged l.accesses.items l.events.items in
     let less : c.args.event < length l.events.items = omega (arith, long, within) in
-    ap (λ (e : Entry). e.cause) c.index.ensures ∙ (cause_at-entry l.held.items l.accesses.items l.events.items c.args.event _ less ∙ ap (λ (p : PhaseOfSlot). cause_at p.log c.args.event) c.self.view_is)
+    ap (λ (e : Entry). e.cause) c.index.ensures ∙ (cause_at-entry l.held.items l.accesses.items l.events.items c.args.event _ less
+    ∙ ap (λ (p : PhaseOfSlot). cause_at p.log c.args.event) c.self.view_is)

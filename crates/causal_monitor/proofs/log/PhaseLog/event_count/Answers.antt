@@ -8,4 +8,5 @@ pub returns-clause-earlier : goal.returns-clause-earlier
 returns-clause-earlier c =
     let Earlier : PhaseOfSlot → Type 0 = λ p. CausesComeBefore p.log in
     subst Earlier c.self.view_is
-    (λ event cause is. let less : cause < 0 + event = causes_before c.self.inside.held.items c.self.inside.accesses.items 0 c.self.inside.events.items c.self.invariant.causes_are event cause is in omega arith)
+    (λ event cause is. let less : cause < 0 + event = causes_before c.self.inside.held.items c.self.inside.accesses.items 0 c.self.inside.events.items c.self.invariant.causes_are event cause is in
+    omega arith)

@@ -20,13 +20,15 @@ on_err P (Err e) p = p
 phase_of : ℕ → ℕ → List Noted → List Noted → List Entry → PhaseOfSlot
 phase_of time phase held accesses entries = record { time = time; phase = phase; log = logged_phase held accesses entries }
 
-same-phase : (time phase : ℕ) (held accesses others : List Noted) (entries later : List Entry) → accesses ≡ others → entries ≡ later → phase_of time phase held accesses entries ≡ phase_of time phase held others later
+same-phase : (time phase : ℕ) (held accesses others : List Noted) (entries later : List Entry) → accesses ≡ others → entries ≡ later →
+    phase_of time phase held accesses entries ≡ phase_of time phase held others later
 same-phase time phase held accesses others entries later same grown = λ i. phase_of time phase held (same i) (grown i)
 
 pub invariant_of-self-in_err-push : goal.invariant_of-self-in_err-push
 invariant_of-self-in_err-push c =
     let l = c.self.inside in
-    kept-as l.held.items c.extend_from_slice.new.self.items (l.accesses.items ++ c.args.accesses.now) c.push.new.self.items l.events.items c.in_ok-extend_from_slice.ensures.items c.in_err-push.ensures.items
+    kept-as l.held.items c.extend_from_slice.new.self.items (l.accesses.items ++ c.args.accesses.now) c.push.new.self.items l.events.items c.in_ok-extend_from_slice.ensures.items
+    c.in_err-push.ensures.items
     (IsKept-more l.held.items l.accesses.items c.args.accesses.now l.events.items c.self.invariant c.requires.noted)
 
 pub returns-in_err-push-clause-err : goal.returns-in_err-push-clause-err
@@ -34,8 +36,16 @@ unfolding phase_of
 returns-in_err-push-clause-err c =
     let l = c.self.inside in
     on_err _ c.from_residual-in_err-push.result
-    (same-phase l.time l.phase l.held.items c.extend_from_slice.new.self.items (l.accesses.items ++ c.args.accesses.now) c.push.new.self.items l.events.items c.in_ok-extend_from_slice.ensures.items c.in_err-push.ensures.items
-    ∙ (λ i. record { time = l.time; phase = l.phase; log = record { held = map noted_access l.held.items; events = logged-same l.accesses.items c.args.accesses.now l.events.items c.self.invariant.stand i } })
+    (same-phase l.time l.phase l.held.items c.extend_from_slice.new.self.items (l.accesses.items ++ c.args.accesses.now) c.push.new.self.items l.events.items c.in_ok-extend_from_slice.ensures.items
+    c.in_err-push.ensures.items
+    ∙ (λ i. record {
+      time = l.time;
+      phase = l.phase;
+      log = record {
+        held = map noted_access l.held.items;
+        events = logged-same l.accesses.items c.args.accesses.now l.events.items c.self.invariant.stand i;
+      };
+    })
     ∙ c.self.view_is)
 
 pub invariant_of-self-2 : goal.invariant_of-self-2
@@ -50,7 +60,8 @@ invariant_of-self-2 c =
     let less = subst Within (sym c.self.view_is) (c.requires.earlier cause e) in
     let logged = length-logged l.accesses.items l.events.items in
     omega (arith, less, logged) in
-    kept-as l.held.items c.extend_from_slice.new.self.items (l.accesses.items ++ c.args.accesses.now) c.push.new.self.items (l.events.items ++ entry ∷ []) c.in_ok-extend_from_slice.ensures.items c.in_ok-push.ensures.items
+    kept-as l.held.items c.extend_from_slice.new.self.items (l.accesses.items ++ c.args.accesses.now) c.push.new.self.items
+    (l.events.items ++ entry ∷ []) c.in_ok-extend_from_slice.ensures.items c.in_ok-push.ensures.items
     (IsKept-event l.held.items (l.accesses.items ++ c.args.accesses.now) l.events.items entry
     (IsKept-more l.held.items l.accesses.items c.args.accesses.now l.events.items c.self.invariant c.requires.noted) stands earlier)
 
@@ -61,7 +72,8 @@ returns-clause-ok c =
     let entry : Entry = record { cause = c.args.cause; start = c.len-start.result; end = c.len-end.result } in
     let start : c.len-start.result ≡ length l.accesses.items = search rules in
     let end : c.len-end.result ≡ length c.extend_from_slice.new.self.items = search rules in
-    same-phase l.time l.phase l.held.items c.extend_from_slice.new.self.items (l.accesses.items ++ c.args.accesses.now) c.push.new.self.items (l.events.items ++ entry ∷ []) c.in_ok-extend_from_slice.ensures.items c.in_ok-push.ensures.items
+    same-phase l.time l.phase l.held.items c.extend_from_slice.new.self.items (l.accesses.items ++ c.args.accesses.now) c.push.new.self.items
+    (l.events.items ++ entry ∷ []) c.in_ok-extend_from_slice.ensures.items c.in_ok-push.ensures.items
     ∙ (λ i. record {
       time = l.time;
       phase = l.phase;

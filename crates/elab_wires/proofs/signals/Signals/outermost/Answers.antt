@@ -8,7 +8,8 @@ joins-init c = whole-way c.args.self.now 64 c.args.name.now
 
 pub joins-preserved : goal.joins-preserved
 joins-preserved c =
-    one-join c.args.self.now 64 c.joins.counter c.args.name.now c.joins.now.now c.as_bytes-now.result.now (joining_borrowed c.in-Some.joining) (omega (arith, c.joins-test.true)) c.joins.invariant (sym c.in-Some.ensures)
+    one-join c.args.self.now 64 c.joins.counter c.args.name.now c.joins.now.now c.as_bytes-now.result.now (joining_borrowed c.in-Some.joining) (omega (arith, c.joins-test.true)) c.joins.invariant
+    (sym c.in-Some.ensures)
     c.as_bytes-now.ensures
 
 pub returns-in-None : goal.returns-in-None

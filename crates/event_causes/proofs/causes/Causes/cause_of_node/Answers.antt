@@ -11,7 +11,8 @@ use Rattle.event_causes.specs.CauseLaws.{all-numbers, latest-change, node-cause}
 use Rattle.event_causes.proofs.causes.Causes.cause_of_node.Goals as goal
 
 -- one input more
-stepped : (table : List ℕ) (inputs : List ObjectId) (i : ℕ) (d : ObjectId) (latest value new all : ℕ) → i < length inputs → value ≡ get_or table (object_number (get_or inputs i d)) 0 → new ≡ max latest value →
+stepped : (table : List ℕ) (inputs : List ObjectId) (i : ℕ) (d : ObjectId) (latest value new all : ℕ) → i < length inputs → value ≡ get_or table (object_number (get_or inputs i d)) 0 →
+    new ≡ max latest value →
     max latest (greatest_number table (map object_number (drop i inputs))) ≡ all →
     max new (greatest_number table (map object_number (drop (i + 1) inputs))) ≡ all
 stepped table inputs i d latest value new all low is greater had =
@@ -32,7 +33,8 @@ inputs-preserved c =
     let low : i < length c.args.inputs.now = search rules in
     let table = c.args.self.now.changes.items in
     stepped table c.args.inputs.now i (record { 0 = 0 }) c.inputs.latest c.index.result.now c.later-latest.result (greatest_number table (map object_number c.args.inputs.now)) low
-    (get_or_read table (object_number (get_or c.args.inputs.now i (record { 0 = 0 }))) c.index.result.now (c.requires i (record { 0 = 0 }) low) c.index.ensures 0) c.later-latest.ensures c.inputs.invariant
+    (get_or_read table (object_number (get_or c.args.inputs.now i (record { 0 = 0 }))) c.index.result.now (c.requires i (record { 0 = 0 }) low) c.index.ensures 0) c.later-latest.ensures
+    c.inputs.invariant
 
 pub returns-clause-evaluation : goal.returns-clause-evaluation
 returns-clause-evaluation c = λ machine earlier number node had at same.

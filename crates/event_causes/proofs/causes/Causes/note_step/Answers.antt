@@ -12,4 +12,5 @@ returns-clause-notes c = λ machine earlier state had tells is.
     notes-step machine earlier state p (record { process = p; line = c.args.line }) (map object_number c.args.changed.now) (map process_number c.args.ended.now) c.args.self.now _ had tells is
     (marked-by (p ∷ map process_number c.args.ended.now) [] (map object_number c.args.changed.now) (record { process = c.args.process; line = c.args.line }) c.in_ok-number.number c.args.self.now mid _
     c.in_ok-number.ensures.begins refl refl refl
-    (Marks-first p (map process_number c.args.ended.now) c.in_ok-number.number mid.steps.items _ low c.mark_processes.ensures) (Marks-none c.in_ok-number.number mid.lanes.items) c.mark_objects.ensures)
+    (Marks-first p (map process_number c.args.ended.now) c.in_ok-number.number mid.steps.items _ low c.mark_processes.ensures)
+    (Marks-none c.in_ok-number.number mid.lanes.items) c.mark_objects.ensures)

@@ -29,7 +29,8 @@ found c = (listed_in-Some _ _ (ap (option_map (map lane_of)) c.in_ok-lanes.ensur
 numbers : (c : goal.After-as_slice) → map lane_number c.as_slice.result.now ≡ numbers_where (λ h. is_any (updates_at c.args.time h)) 0 (held_by_process c.self.inside.processes.items)
 numbers c =
     let q = c.self.inside in
-    let list : c.as_slice.result.now ≡ list_or_none (get nat_cmp q.lanes c.args.time) = c.as_slice.ensures ∙ ap (λ (o : Option (List (ProcId × List Update))). list_or_none o) c.in_ok-lanes.ensures.value in
+    let list : c.as_slice.result.now ≡ list_or_none (get nat_cmp q.lanes c.args.time) = c.as_slice.ensures
+    ∙ ap (λ (o : Option (List (ProcId × List Update))). list_or_none o) c.in_ok-lanes.ensures.value in
     ap (map lane_number) list ∙ lanes-numbers (held_by_process q.processes.items) q.postponed q.sleepers q.lanes c.self.invariant c.args.time
 
 pub drop_each-requires : goal.drop_each-requires
@@ -47,7 +48,8 @@ after : (c : goal.After-self-1) → held_by_process (take c.self.inside.processe
 after c =
     let q = c.self.inside in
     let held : List HeldProcess = held_by_process q.processes.items in
-    let list : c.as_slice.result.now ≡ list_or_none (get nat_cmp q.lanes c.args.time) = c.as_slice.ensures ∙ ap (λ (o : Option (List (ProcId × List Update))). list_or_none o) c.in_ok-lanes.ensures.value in
+    let list : c.as_slice.result.now ≡ list_or_none (get nat_cmp q.lanes c.args.time) = c.as_slice.ensures
+    ∙ ap (λ (o : Option (List (ProcId × List Update))). list_or_none o) c.in_ok-lanes.ensures.value in
     held-after_each q.processes.len c.drop_each.new.processes c.deref_mut.result.now q.processes.items (without_at c.args.time) _ (numbers_where (λ h. is_any (updates_at c.args.time h)) 0 held) _
     c.drop_each.auto.processes c.deref_mut.ensures.len c.deref_mut.ensures.value c.drop_each.ensures
     (ap (map lane_number) list ∙ lanes-numbers held q.postponed q.sleepers q.lanes c.self.invariant c.args.time) (changed_each-without c.args.time held)

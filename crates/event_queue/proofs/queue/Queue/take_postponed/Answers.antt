@@ -50,4 +50,8 @@ returns c =
     let q = c.self.inside in
     let held : List HeldProcess = held_by_process q.processes.items in
     let some : is_any q.postponed ≡ true = ap is_any (sym c.as_slice.ensures) ∙ is_any-full c.as_slice.result.now c.if-is_empty.ensures in
-    rw (← c.self.view_is) (sym (processes_where-is_any is_postponed held) ∙ (ap is_any (sym c.self.invariant.postponed_are) ∙ some), c.replace-processes.ensures.value ∙ c.self.invariant.postponed_are, after c)
+    rw (← c.self.view_is) (
+      sym (processes_where-is_any is_postponed held) ∙ (ap is_any (sym c.self.invariant.postponed_are) ∙ some),
+      c.replace-processes.ensures.value ∙ c.self.invariant.postponed_are,
+      after c,
+    )

@@ -13,7 +13,8 @@ use Rattle.event_queue.proofs.queue.Queue.take_region.Goals as goal
 
 -- The postponed processes
 
-postponed : (c : goal.After-from_vec) → IsTurn c.args.now c.args.self.now (Some (record { time = c.args.now; processes = map process_number c.in-Some.processes; lanes = [] })) c.take_postponed.new.self
+postponed : (c : goal.After-from_vec) → IsTurn c.args.now c.args.self.now (Some (record { time = c.args.now; processes = map process_number c.in-Some.processes; lanes = [] }))
+    c.take_postponed.new.self
 postponed c = turn-postponed c.args.now c.args.self.now c.take_postponed.new.self c.in-Some.processes c.in-Some.ensures
 
 pub returns-in-Some-clause-turn : goal.returns-in-Some-clause-turn
@@ -26,7 +27,8 @@ returns-in-Some-clause-none c = ((λ e. absurd (true≢false e)), (λ n. absurd 
 
 -- The updates that are due
 
-updates : (c : goal.After-from_vec-in-Some-take_lanes) → IsTurn c.args.now c.args.self.now (Some (record { time = c.args.now; processes = []; lanes = map lane_of c.in-Some-take_lanes.lanes })) c.take_lanes.new.self
+updates : (c : goal.After-from_vec-in-Some-take_lanes) → IsTurn c.args.now c.args.self.now
+    (Some (record { time = c.args.now; processes = []; lanes = map lane_of c.in-Some-take_lanes.lanes })) c.take_lanes.new.self
 updates c = turn-updates c.args.now c.args.self.now c.take_postponed.new.self c.requires c.in_default.ensures c.take_lanes.new.self c.in-Some-take_lanes.lanes c.in-Some-take_lanes.ensures
 
 pub returns-in-Some-take_lanes-clause-turn : goal.returns-in-Some-take_lanes-clause-turn
@@ -59,7 +61,8 @@ returns-in_err-time-clause-none c = (
 
 -- A later time
 
-later : (c : goal.After-from_vec-2) → IsTurn c.args.now c.args.self.now (Some (record { time = c.in_ok-time.time; processes = map process_number c.take_sleepers.result; lanes = [] })) c.take_sleepers.new.self
+later : (c : goal.After-from_vec-2) → IsTurn c.args.now c.args.self.now (Some (record { time = c.in_ok-time.time; processes = map process_number c.take_sleepers.result; lanes = [] }))
+    c.take_sleepers.new.self
 later c =
     turn-time c.args.now c.args.self.now c.take_postponed.new.self c.requires c.in_default.ensures c.take_lanes.new.self c.take_sleepers.new.self c.in_ok-time.time c.take_sleepers.result
     c.in_default-take_lanes.ensures c.in_ok-time.ensures c.take_sleepers.ensures.taken c.take_sleepers.ensures.left

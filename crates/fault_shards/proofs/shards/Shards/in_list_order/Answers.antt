@@ -32,9 +32,11 @@ faults-preserved c =
     let seen : length c.as_slice-standing.result.now ≡ length c.args.self.now.standing.items = ap length c.as_slice-standing.ensures.value in
     let low : fault_number (get_or c.as_slice-standing.result.now c.faults.number (record { 0 = 0 })) < length c.in_ok-ends.ends.items = omega (arith, first, counted, size, seen) in
     subst (ListedSoFar (map fault_number c.as_slice-standing.result.now) c.in_ok-ends.ends.items (c.faults.number + 1)) (sym c.in_ok-push.ensures.items)
-    (listed-more (map fault_number c.as_slice-standing.result.now) c.in_ok-ends.ends.items c.faults.number c.faults.findings.items _ (fault_number (get_or c.as_slice-standing.result.now c.faults.number (record { 0 = 0 }))) c.faults.invariant refl
+    (listed-more (map fault_number c.as_slice-standing.result.now) c.in_ok-ends.ends.items c.faults.number c.faults.findings.items _
+    (fault_number (get_or c.as_slice-standing.result.now c.faults.number (record { 0 = 0 }))) c.faults.invariant refl
     (number-at c.as_slice-standing.result.now c.faults.number (record { 0 = 0 }) c.faults-test.true)
-    (slice_get_read c.in_ok-ends.ends.items (length c.in_ok-ends.ends.items) (fault_number (get_or c.as_slice-standing.result.now c.faults.number (record { 0 = 0 }))) c.index.result.now refl low c.index.ensures))
+    (slice_get_read c.in_ok-ends.ends.items (length c.in_ok-ends.ends.items) (fault_number (get_or c.as_slice-standing.result.now c.faults.number (record { 0 = 0 }))) c.index.result.now refl low
+    c.index.ensures))
 
 pub returns-clause-grades : goal.returns-clause-grades
 returns-clause-grades c design plan rules cut found =
@@ -44,5 +46,6 @@ returns-clause-grades c design plan rules cut found =
     let seen : length c.as_slice-standing.result.now ≡ length c.args.self.now.standing.items = ap length c.as_slice-standing.ensures.value in
     let past : length c.as_slice-standing.result.now ≤ c.faults.number = c.faults-test.false in
     let end : c.faults.number ≤ length c.as_slice-standing.result.now = c.faults.auto.number-end in
-    listed-grades design plan (map fault_number c.args.self.now.standing.items) c.args.found.now c.in_ok-ends.ends.items (length (map fault_number c.args.self.now.standing.items)) c.faults.number c.faults.findings.items c.one_class.ensures rules
+    listed-grades design plan (map fault_number c.args.self.now.standing.items) c.args.found.now c.in_ok-ends.ends.items
+    (length (map fault_number c.args.self.now.standing.items)) c.faults.number c.faults.findings.items c.one_class.ensures rules
     cut.counted cut.classes found c.in_ok-ends.ensures (omega (arith, size, seen, past, end)) so

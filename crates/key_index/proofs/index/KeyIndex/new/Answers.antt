@@ -24,7 +24,8 @@ keys-preserved c =
 pub invariant_of-result : goal.invariant_of-result
 invariant_of-result c =
     let done : c.keys.place ≡ 0 = omega arith in
-    let all : Noted (keys_of c.args.keys.items) (place_in c.keys.firsts) c.keys.nexts.items 0 = subst (Noted (keys_of c.args.keys.items) (place_in c.keys.firsts) c.keys.nexts.items) done c.keys.invariant in
+    let all : Noted (keys_of c.args.keys.items) (place_in c.keys.firsts) c.keys.nexts.items 0 =
+    subst (Noted (keys_of c.args.keys.items) (place_in c.keys.firsts) c.keys.nexts.items) done c.keys.invariant in
     let count : length c.keys.nexts.items + 0 ≡ length (keys_of c.args.keys.items) = all.count in
     record {
       firsts = all.firsts_found;

@@ -37,7 +37,8 @@ nodes-preserved c = record {
       (node_in c.args.design.now.nodes c.as_slice-node-items.result.now c.nodes.number c.node-item.result c.as_slice-node-items.ensures c.nodes-test.true c.node-item.is)
       (ap object_lists c.in_ok-push.ensures.items ∙ map_push (λ (list : Vec ObjectId Global). map object_number list.items) c.nodes.inputs.items c.in_ok-once.once)
       c.nodes.invariant.built
-      (subst (λ inputs. InputsAdded c.nodes.number (map object_number inputs) (node_lists c.nodes.readers.items) c.add_inputs.new.seen.items (map object_number c.in_ok-once.once.items) (node_lists c.add_inputs.new.readers.items)) c.as_slice-node_inputs.ensures c.in_ok-once.ensures.added);
+      (subst (λ inputs. InputsAdded c.nodes.number (map object_number inputs) (node_lists c.nodes.readers.items) c.add_inputs.new.seen.items (map object_number c.in_ok-once.once.items)
+      (node_lists c.add_inputs.new.readers.items)) c.as_slice-node_inputs.ensures c.in_ok-once.ensures.added);
   seen_length = search rules;
   readers_length = search rules;
 }

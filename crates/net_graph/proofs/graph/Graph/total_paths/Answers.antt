@@ -37,10 +37,12 @@ nodes-preserved c =
           (c.paths_through_node-through.ensures
           ∙ ap (λ inputs. min 2 (path_weight (node_of c.node-item.result).kind * sum_by (λ object. get_or c.nodes.totals.items object 0) inputs))
           (c.inputs_of.ensures ∙ distinct_inputs_at-node (design_of c.args.self.now.design.now) c.nodes.number (node_of c.node-item.result) at))
-          (subst (λ outputs. WritesTotals c.args.counts.now c.paths_through_node-through.result (map object_number outputs) c.nodes.totals.items c.write_totals.new.totals.items) c.as_slice.ensures c.write_totals.ensures.written);
+          (subst (λ outputs. WritesTotals c.args.counts.now c.paths_through_node-through.result (map object_number outputs) c.nodes.totals.items c.write_totals.new.totals.items) c.as_slice.ensures
+          c.write_totals.ensures.written);
       same = search rules;
     }
 
 pub returns-clause-totals : goal.returns-clause-totals
 returns-clause-totals c =
-    AreTotals-all (design_of c.args.self.now.design.now) c.args.self.now.design.now.rules c.args.counts.now c.nodes.number c.nodes.totals.items (rw (length-map, sym c.as_slice-node-items.ensures) c.nodes-test.false) c.nodes.invariant.totals
+    AreTotals-all (design_of c.args.self.now.design.now) c.args.self.now.design.now.rules c.args.counts.now c.nodes.number c.nodes.totals.items
+    (rw (length-map, sym c.as_slice-node-items.ensures) c.nodes-test.false) c.nodes.invariant.totals

@@ -14,5 +14,6 @@ mark_nodes-requires c =
 
 pub returns-clause-readers : goal.returns-clause-readers
 returns-clause-readers c =
-    MarksReaders-all (design_of c.args.self.now.graph.now.design.now) (object_number c.args.object) (map node_number c.readers-readers.result.now) c.args.self.now.marks.items c.mark_nodes.new.marks.items
+    MarksReaders-all (design_of c.args.self.now.graph.now.design.now) (object_number c.args.object)
+    (map node_number c.readers-readers.result.now) c.args.self.now.marks.items c.mark_nodes.new.marks.items
     c.readers-readers.ensures (search rules) c.mark_nodes.ensures.marked

@@ -9,7 +9,8 @@ use Rattle.net_settle.proofs.work.NodeWork.new.Goals as goal
 pub returns-clause-made : goal.returns-clause-made
 returns-clause-made c = record {
   outputs = λ number node at.
-      let few = few-outputs c.args.design.now.nodes c.most_outputs-most.result number node (subst (All (λ (node : Node). length node.outputs ≤ c.most_outputs-most.result)) c.as_slice.ensures c.most_outputs-most.ensures) at in
+      let few = few-outputs c.args.design.now.nodes c.most_outputs-most.result number node
+      (subst (All (λ (node : Node). length node.outputs ≤ c.most_outputs-most.result)) c.as_slice.ensures c.most_outputs-most.ensures) at in
       omega (arith, few, c.in_ok-results.ensures.len);
   objects = c.in_ok-block.ensures ∙ ap length c.as_slice-2.ensures ∙ sym (length-map c.args.design.now.objects object_of);
 }

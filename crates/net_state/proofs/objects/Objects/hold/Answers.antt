@@ -21,7 +21,8 @@ invariant_of-self c =
     let design = design_of c.args.self.now.settle.graph.now.design.now in
     record {
       are =
-          values-set (design_of c.outputs.self.settle.graph.now.design.now) c.outputs.self.values.items (object_number (get_or c.args.outputs.now c.outputs.at (record { 0 = 0 }))) c.index-values-at.result c.outputs.invariant.are
+          values-set (design_of c.outputs.self.settle.graph.now.design.now) c.outputs.self.values.items
+          (object_number (get_or c.args.outputs.now c.outputs.at (record { 0 = 0 }))) c.index-values-at.result c.outputs.invariant.are
           (output-width design c.args.outputs.now c.args.values.now c.outputs.at (record { 0 = 0 }) c.index-values-at.result c.requires.widths (search rules) c.index-values-at.is
           ∙ ap (λ (s : Settle). width_in (design_of s.graph.now.design.now) (object_number (get_or c.args.outputs.now c.outputs.at (record { 0 = 0 })))) (sym c.outputs.invariant.settle));
     }
@@ -34,12 +35,14 @@ outputs-preserved c =
     record {
       settle = c.outputs.invariant.settle;
       are =
-          values-set (design_of c.outputs.self.settle.graph.now.design.now) c.outputs.self.values.items (object_number (get_or c.args.outputs.now c.outputs.at (record { 0 = 0 }))) c.index-values-at.result c.outputs.invariant.are
+          values-set (design_of c.outputs.self.settle.graph.now.design.now) c.outputs.self.values.items
+          (object_number (get_or c.args.outputs.now c.outputs.at (record { 0 = 0 }))) c.index-values-at.result c.outputs.invariant.are
           (output-width design c.args.outputs.now c.args.values.now c.outputs.at (record { 0 = 0 }) c.index-values-at.result c.requires.widths low c.index-values-at.is
           ∙ ap (λ (s : Settle). width_in (design_of s.graph.now.design.now) (object_number (get_or c.args.outputs.now c.outputs.at (record { 0 = 0 })))) (sym c.outputs.invariant.settle));
       values =
           (λ j. set (c.outputs.invariant.values j) (sym (get_or-map object_number c.args.outputs.now c.outputs.at (record { 0 = 0 }) 0 low) j)
           ((c.index-values-at.is ∙ get_or_default c.args.values.now c.outputs.at c.index-values-at.result [] inside) j))
           ∙ sym
-          (with_outputs-more (map object_number c.args.outputs.now) c.args.values.now c.outputs.at c.args.self.now.values.items c.requires.widths.count (omega (arith, low, length-map c.args.outputs.now object_number)));
+          (with_outputs-more (map object_number c.args.outputs.now) c.args.values.now c.outputs.at c.args.self.now.values.items c.requires.widths.count
+          (omega (arith, low, length-map c.args.outputs.now object_number)));
     }

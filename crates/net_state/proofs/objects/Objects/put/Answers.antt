@@ -18,6 +18,7 @@ returns-clause-holds c machine state is h =
       nodes =
           put-nodes design c.args.self.now.values.items c.args.self.now.settle.marks.items c.mark_if.new.settle.marks.items (object_number c.args.object) c.args.new machine state is
           (c.mark_if.ensures.marks
-          ∙ ap (λ b. marks_with (design_of c.args.self.now.settle.graph.now.design.now) (object_number c.args.object) (not b) c.args.self.now.settle.marks.items) (c.same.ensures ∙ ap (λ v. same_value v c.args.new) read))
+          ∙ ap (λ b. marks_with (design_of c.args.self.now.settle.graph.now.design.now) (object_number c.args.object) (not b) c.args.self.now.settle.marks.items)
+          (c.same.ensures ∙ ap (λ v. same_value v c.args.new) read))
           h.values h.nodes;
     }

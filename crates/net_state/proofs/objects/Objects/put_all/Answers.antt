@@ -57,7 +57,8 @@ outputs-preserved c =
     let there : object_number (get_or c.args.outputs.now c.outputs.at (record { 0 = 0 })) < length c.outputs.self.values.items =
     output-there design c.args.outputs.now (length c.outputs.self.values.items) c.outputs.at (record { 0 = 0 }) c.requires.nets
     (c.outputs.self.are.count ∙ ap (λ (g : Graph). length (design_of g.design.now).objects) c.outputs.invariant.belongs) low in
-    let unchanged : value_at c.args.self.now.values.items (object_number (get_or c.args.outputs.now c.outputs.at (record { 0 = 0 }))) ≡ value_at c.outputs.self.values.items (object_number (get_or c.args.outputs.now c.outputs.at (record { 0 = 0 }))) =
+    let unchanged : value_at c.args.self.now.values.items (object_number (get_or c.args.outputs.now c.outputs.at (record { 0 = 0 }))) ≡ value_at c.outputs.self.values.items
+    (object_number (get_or c.args.outputs.now c.outputs.at (record { 0 = 0 }))) =
     sym
     (c.outputs.invariant.others (object_number (get_or c.args.outputs.now c.outputs.at (record { 0 = 0 })))
     (subst (λ o. has (take c.outputs.at (map object_number c.args.outputs.now)) o ≡ false) is_o (distinct-before (map object_number c.args.outputs.now) c.outputs.at c.requires.distinct within))) in
@@ -67,12 +68,14 @@ outputs-preserved c =
           c.in_ok-tell.ensures
           ∙ (λ j. with_change (record { object = object_number (c.put-change.ensures.object j); old = c.put-change.ensures.old j; new = c.put-change.ensures.new j }) (c.outputs.invariant.changes j))
           ∙ sym
-          (changes-more design (map object_number c.args.outputs.now) c.outputs.at (object_number (get_or c.args.outputs.now c.outputs.at (record { 0 = 0 }))) c.args.self.now.values.items c.outputs.self.values.items c.index-values-at.result
+          (changes-more design (map object_number c.args.outputs.now) c.outputs.at (object_number (get_or c.args.outputs.now c.outputs.at (record { 0 = 0 }))) c.args.self.now.values.items
+          c.outputs.self.values.items c.index-values-at.result
           c.requires.distinct c.requires.nets within is_o there unchanged)
           ∙ ap (net_changes design (take (c.outputs.at + 1) (map object_number c.args.outputs.now)) c.args.self.now.values.items) (sym c.put-change.ensures.values);
       others = λ x none.
           ap (λ vs. value_at vs x) c.put-change.ensures.values
-          ∙ others-more (map object_number c.args.outputs.now) c.outputs.at (object_number (get_or c.args.outputs.now c.outputs.at (record { 0 = 0 }))) x c.args.self.now.values.items c.outputs.self.values.items c.index-values-at.result
+          ∙ others-more (map object_number c.args.outputs.now) c.outputs.at (object_number (get_or c.args.outputs.now c.outputs.at (record { 0 = 0 }))) x c.args.self.now.values.items
+          c.outputs.self.values.items c.index-values-at.result
           within is_o c.outputs.invariant.others none;
       holds = λ machine state is h.
           subst (λ s. Holds c.put-change.new.self s)
@@ -84,9 +87,11 @@ outputs-preserved c =
 
 pub returns-clause-objects : goal.returns-clause-objects
 returns-clause-objects c =
-    told-objects (design_of c.args.self.now.settle.graph.now.design.now) (take c.outputs.at (map object_number c.args.outputs.now)) c.args.self.now.values.items c.outputs.self.values.items c.outputs.changes.items c.outputs.invariant.changes
+    told-objects (design_of c.args.self.now.settle.graph.now.design.now) (take c.outputs.at (map object_number c.args.outputs.now)) c.args.self.now.values.items c.outputs.self.values.items
+    c.outputs.changes.items c.outputs.invariant.changes
 
 pub returns-clause-widths : goal.returns-clause-widths
 returns-clause-widths c =
-    told-widths (design_of c.args.self.now.settle.graph.now.design.now) (take c.outputs.at (map object_number c.args.outputs.now)) c.args.self.now.values.items c.outputs.self.values.items c.outputs.changes.items
+    told-widths (design_of c.args.self.now.settle.graph.now.design.now) (take c.outputs.at (map object_number c.args.outputs.now)) c.args.self.now.values.items c.outputs.self.values.items
+    c.outputs.changes.items
     c.args.self.now.are (subst (λ (g : Graph). AreValuesOf (design_of g.design.now) c.outputs.self.values.items) c.outputs.invariant.belongs c.outputs.self.are) c.outputs.invariant.changes

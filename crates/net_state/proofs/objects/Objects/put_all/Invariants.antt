@@ -13,7 +13,8 @@ use Rattle.net_state.proofs.objects.Objects.put_all.Given as goal
 abbrev pub invariant-outputs : goal.invariant-outputs
 invariant-outputs l = record {
   belongs : l.self.settle.graph.now ≡ l.initial.self.settle.graph.now;
-  changes : map change_seen l.changes.items ≡ net_changes (design_of l.initial.self.settle.graph.now.design.now) (take l.at (map object_number l.outputs)) l.initial.self.values.items l.self.values.items;
+  changes : map change_seen l.changes.items ≡ net_changes (design_of l.initial.self.settle.graph.now.design.now)
+      (take l.at (map object_number l.outputs)) l.initial.self.values.items l.self.values.items;
   others : (x : ℕ) → has (take l.at (map object_number l.outputs)) x ≡ false → value_at l.self.values.items x ≡ value_at l.initial.self.values.items x;
   holds : (machine : Machine) (state : State) → machine.design ≡ design_of l.initial.self.settle.graph.now.design.now → Holds l.initial.self state →
       Holds l.self (with_values machine (take l.at (map object_number l.outputs)) (take l.at l.values) state);

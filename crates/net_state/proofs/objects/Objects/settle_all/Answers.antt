@@ -18,7 +18,8 @@ pub hold-requires-clause-nets : goal.hold-requires-clause-nets
 hold-requires-clause-nets c =
     let design = c.args.self.now.settle.graph.now.design.now in
     let test : c.nodes.number < length c.as_slice-node-items.result.now = search rules in
-    let low : c.nodes.number < length (design_of c.args.self.now.settle.graph.now.design.now).nodes = omega (arith, test, ap length c.as_slice-node-items.ensures, length-map c.args.self.now.settle.graph.now.design.now.nodes node_of) in
+    let low : c.nodes.number < length (design_of c.args.self.now.settle.graph.now.design.now).nodes =
+    omega (arith, test, ap length c.as_slice-node-items.ensures, length-map c.args.self.now.settle.graph.now.design.now.nodes node_of) in
     subst (λ (s : Settle). AreNets (design_of s.graph.now.design.now) (map object_number c.as_slice.result.now)) (sym c.nodes.invariant.settle)
     (nets-of design c.as_slice-node-items.result.now c.nodes.number c.node-item.result c.as_slice.result.now c.as_slice-node-items.ensures low c.node-item.is c.as_slice.ensures)
 
@@ -26,9 +27,11 @@ pub hold-requires-clause-widths : goal.hold-requires-clause-widths
 hold-requires-clause-widths c =
     let design = c.args.self.now.settle.graph.now.design.now in
     let test : c.nodes.number < length c.as_slice-node-items.result.now = search rules in
-    let low : c.nodes.number < length (design_of c.args.self.now.settle.graph.now.design.now).nodes = omega (arith, test, ap length c.as_slice-node-items.ensures, length-map c.args.self.now.settle.graph.now.design.now.nodes node_of) in
+    let low : c.nodes.number < length (design_of c.args.self.now.settle.graph.now.design.now).nodes =
+    omega (arith, test, ap length c.as_slice-node-items.ensures, length-map c.args.self.now.settle.graph.now.design.now.nodes node_of) in
     subst (λ (s : Settle). HaveWidths (design_of s.graph.now.design.now) (map object_number c.as_slice.result.now) c.outputs.result.now) (sym c.nodes.invariant.settle)
-    (wide-of design c.args.fault c.as_slice-node-items.result.now c.nodes.number c.node-item.result c.as_slice.result.now c.nodes.self.values.items c.outputs.result.now c.as_slice-node-items.ensures low c.node-item.is c.as_slice.ensures
+    (wide-of design c.args.fault c.as_slice-node-items.result.now c.nodes.number c.node-item.result c.as_slice.result.now c.nodes.self.values.items c.outputs.result.now c.as_slice-node-items.ensures
+    low c.node-item.is c.as_slice.ensures
     (subst (λ (s : Settle). AreValuesOf (design_of s.graph.now.design.now) c.nodes.self.values.items) c.nodes.invariant.settle c.nodes.self.are)
     (λ flat at. c.outputs.ensures ∙ c.evaluate.ensures.outputs flat at))
 
@@ -37,7 +40,8 @@ nodes-preserved c =
     let design = c.args.self.now.settle.graph.now.design.now in
     let machine = machine_with c.args.self.now.settle.graph.now.design.now c.args.fault in
     let test : c.nodes.number < length c.as_slice-node-items.result.now = search rules in
-    let low : c.nodes.number < length (design_of c.args.self.now.settle.graph.now.design.now).nodes = omega (arith, test, ap length c.as_slice-node-items.ensures, length-map c.args.self.now.settle.graph.now.design.now.nodes node_of) in
+    let low : c.nodes.number < length (design_of c.args.self.now.settle.graph.now.design.now).nodes =
+    omega (arith, test, ap length c.as_slice-node-items.ensures, length-map c.args.self.now.settle.graph.now.design.now.nodes node_of) in
     let at : slice_get (design_of c.args.self.now.settle.graph.now.design.now).nodes c.nodes.number ≡ Some (node_of c.node-item.result) =
     at-list design c.as_slice-node-items.result.now c.nodes.number c.node-item.result c.as_slice-node-items.ensures low c.node-item.is in
     record {
@@ -45,7 +49,8 @@ nodes-preserved c =
       made = c.evaluate.ensures.made;
       values =
           ap (settled_from machine (c.nodes.number + 1) (drop (c.nodes.number + 1) (design_of design).nodes))
-          (c.hold.ensures.values ∙ (λ j. with_outputs (map object_number (c.as_slice.ensures j)) ((c.outputs.ensures ∙ c.evaluate.ensures.outputs (node_of c.node-item.result) at) j) c.nodes.self.values.items))
+          (c.hold.ensures.values ∙ (λ j. with_outputs (map object_number (c.as_slice.ensures j))
+          ((c.outputs.ensures ∙ c.evaluate.ensures.outputs (node_of c.node-item.result) at) j) c.nodes.self.values.items))
           ∙ sym (settled-more machine (design_of design).nodes c.nodes.number (node_of c.node-item.result) c.nodes.self.values.items at)
           ∙ c.nodes.invariant.values;
     }

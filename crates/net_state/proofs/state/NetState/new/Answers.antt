@@ -15,7 +15,8 @@ pub invariant_of-objects : goal.invariant_of-objects
 invariant_of-objects c = record {
   are =
       subst (λ (d : Design). AreValuesOf (design_of d) c.in_ok-values.values.items) (sym (c.in_ok-settle.ensures.belongs ∙ c.requires))
-      (subst (AreValuesOf (design_of c.args.view.design.now)) (sym c.in_ok-values.ensures) (first-values (machine_of c.args.view) (rules_hold (design_of c.args.view.design.now) c.args.view.design.now.rules)));
+      (subst (AreValuesOf (design_of c.args.view.design.now)) (sym c.in_ok-values.ensures)
+      (first-values (machine_of c.args.view) (rules_hold (design_of c.args.view.design.now) c.args.view.design.now.rules)));
 }
 
 pub returns-clause-begins : goal.returns-clause-begins

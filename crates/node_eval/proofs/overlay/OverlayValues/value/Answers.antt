@@ -11,12 +11,14 @@ value-requires g c =
 pub returns-in-Some : goal.returns-in-Some
 returns-in-Some g c =
     let frame = c.args.self.now.frame.now in
-    let once = once-tabled (map object_number frame.outputs.now) frame.places.now 0 (λ k low. frame.tabled k (omega (arith, low, length-map frame.outputs.now object_number)) ∙ (let e : k ≡ 0 + k = omega arith in e)) in
+    let once = once-tabled (map object_number frame.outputs.now) frame.places.now 0 (λ k low. frame.tabled k (omega (arith, low, length-map frame.outputs.now object_number))
+    ∙ (let e : k ≡ 0 + k = omega arith in e)) in
     let there : object_number c.args.object < length (g.V.Values.values c.args.self.now.frame.now.values.now) =
     subst (λ n. object_number c.args.object < n) (length-overlaid frame.outputs.now c.args.self.now.held.now (g.V.Values.values c.args.self.now.frame.now.values.now)) c.requires in
     let inside : c.in-Some.place < length c.args.self.now.held.now = omega (arith, c.in-Some.ensures.0, c.args.self.now.alike) in
     get_or_default c.args.self.now.held.now c.in-Some.place c.index-self-place.result [] inside
-    ∙ sym (overlaid-front frame.outputs.now c.args.self.now.held.now (g.V.Values.values c.args.self.now.frame.now.values.now) c.in-Some.place (object_number c.args.object) once c.args.self.now.alike c.in-Some.ensures.0 c.in-Some.ensures.1 there)
+    ∙ sym (overlaid-front frame.outputs.now c.args.self.now.held.now (g.V.Values.values c.args.self.now.frame.now.values.now) c.in-Some.place
+    (object_number c.args.object) once c.args.self.now.alike c.in-Some.ensures.0 c.in-Some.ensures.1 there)
 
 pub returns-in-None : goal.returns-in-None
 returns-in-None g c =

@@ -12,7 +12,8 @@ read-requires-clause-there g c =
     let operands = c.deref.result.now in
     let value = expression_of c.args.value.now in
     let items = items_of c.args.items.now in
-    (subst (Bounds (reads_most value + reads_most_items items) limit operands) (c.in-Err.ensures.needs Null) (bounds-case limit c.args.kind value items Null operands c.requires.there.0 c.requires.there.1)).0
+    (subst (Bounds (reads_most value + reads_most_items items) limit operands) (c.in-Err.ensures.needs Null)
+    (bounds-case limit c.args.kind value items Null operands c.requires.there.0 c.requires.there.1)).0
 
 pub read-requires-clause-space : goal.read-requires-clause-space
 read-requires-clause-space g c =
@@ -20,4 +21,10 @@ read-requires-clause-space g c =
     let operands = c.deref.result.now in
     let value = expression_of c.args.value.now in
     let items = items_of c.args.items.now in
-    omega (arith, (subst (Bounds (reads_most value + reads_most_items items) limit operands) (c.in-Err.ensures.needs Null) (bounds-case limit c.args.kind value items Null operands c.requires.there.0 c.requires.there.1)).1, c.requires.space, ap length c.deref.ensures.value)
+    omega (
+      arith,
+      (subst (Bounds (reads_most value + reads_most_items items) limit operands) (c.in-Err.ensures.needs Null)
+          (bounds-case limit c.args.kind value items Null operands c.requires.there.0 c.requires.there.1)).1,
+      c.requires.space,
+      ap length c.deref.ensures.value,
+    )

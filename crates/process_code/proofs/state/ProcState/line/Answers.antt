@@ -16,8 +16,10 @@ use Rattle.process_code.proofs.FirstLines.{end-rest, spot-rest, first-line, none
 use Rattle.process_code.proofs.state.ProcState.line.Goals as goal
 
 -- without updates the tasks are those of the rest
-of-rest : (code : Code) (state : ProcState) → length state.updates.items ≡ 0 → tasks_at (rests_in_code code) (point_of state) ≡ tasks_of state.counts.items (get_or (rests_in_code code) state.position [])
-of-rest code state none = none-left (source_place state.place) state.delay (map (option_map update_of) state.updates.items) (tasks_of state.counts.items (get_or (rests_in_code code) state.position []))
+of-rest : (code : Code) (state : ProcState) → length state.updates.items ≡ 0 → tasks_at (rests_in_code code) (point_of state) ≡ tasks_of state.counts.items
+    (get_or (rests_in_code code) state.position [])
+of-rest code state none = none-left (source_place state.place) state.delay (map (option_map update_of) state.updates.items)
+    (tasks_of state.counts.items (get_or (rests_in_code code) state.position []))
     (length-map state.updates.items (option_map update_of) ∙ none)
 
 pub returns-then-self-eq0 : goal.returns-then-self-eq0

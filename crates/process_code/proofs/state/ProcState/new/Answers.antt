@@ -14,5 +14,13 @@ returns-clause-state c =
 pub returns-clause-activity : goal.returns-clause-activity
 returns-clause-activity c =
     activity-new c.args.code.now
-    (record { stage = Ready; position = c.args.code.now.start; operands = c.in_ok-operands.operands; counts = c.in_ok-counts.counts; place = c.args.code.now.process.now.place; delay = None; updates = c.in_ok-updates.updates })
+    (record {
+      stage = Ready;
+      position = c.args.code.now.start;
+      operands = c.in_ok-operands.operands;
+      counts = c.in_ok-counts.counts;
+      place = c.args.code.now.process.now.place;
+      delay = None;
+      updates = c.in_ok-updates.updates;
+    })
     c.requires refl refl c.in_ok-operands.ensures.items c.in_ok-updates.ensures.items

@@ -27,7 +27,8 @@ low : (t : ProcessTable) → IsKept t → (p : ℕ) → p < length (table_of t).
 low t kept p there = omega (arith, there, count-processes (design_of t.design.now) t.time t.rows.items t.index t.ready t.lanes t.queue kept)
 
 -- the row's code, and any other of the process
-one-process : (t : ProcessTable) → IsKept t → (p : ℕ) (row : Row) (code : Code) → p < length t.rows.items → row ≡ get_or t.rows.items p row → IsCodeAt (design_of t.design.now) p code → AreCodesOfOne row.code code
+one-process : (t : ProcessTable) → IsKept t → (p : ℕ) (row : Row) (code : Code) → p < length t.rows.items → row ≡ get_or t.rows.items p row → IsCodeAt (design_of t.design.now) p code →
+    AreCodesOfOne row.code code
 one-process t kept p row code there is at = record {
   same =
       sym (text-is t.rows.items p row there is) ∙ ap (λ texts. text_at texts p) kept.texts
@@ -53,7 +54,8 @@ returns-clause-state c = λ code at.
     let there = low t c.requires.kept p c.requires.number in
     let row : Row = c.index-row.result.now in
     let one : AreCodesOfOne row.code code = one-process t c.requires.kept p row code there c.index-row.ensures at in
-    (c.codes_are_one.ensures.read row.code code one).states c.in_ok-copy.copy (c.in_ok-copy.ensures.state row.code (AllHold-at IsGoodRow t.rows.items p row c.requires.kept.good there c.index-row.ensures).state)
+    (c.codes_are_one.ensures.read row.code code one).states c.in_ok-copy.copy (c.in_ok-copy.ensures.state row.code
+    (AllHold-at IsGoodRow t.rows.items p row c.requires.kept.good there c.index-row.ensures).state)
 
 pub returns-clause-activity : goal.returns-clause-activity
 returns-clause-activity c = λ code at.

@@ -47,7 +47,8 @@ pub returns-clause-update : goal.returns-clause-update
 returns-clause-update c =
     let t = c.args.self.now in
     c.take_update-update.ensures.update
-    ∙ ap (λ (process : ProcessState). first_update process.lane) (sym (process-row (design_of t.design.now) t.time t.rows.items t.index t.ready t.lanes t.queue c.requires.kept (process_number c.args.process)))
+    ∙ ap (λ (process : ProcessState). first_update process.lane) (sym (process-row (design_of t.design.now) t.time t.rows.items t.index t.ready t.lanes t.queue c.requires.kept
+    (process_number c.args.process)))
 
 pub returns-clause-rest : goal.returns-clause-rest
 returns-clause-rest c =

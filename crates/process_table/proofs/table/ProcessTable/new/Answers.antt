@@ -38,8 +38,10 @@ returns-clause-does c = λ machine same. record {
   time = refl;
   processes =
       let design = c.args.design.now in
-      ap (λ (states : List RowState). processes_of states c.in_ok-queue.queue) (c.in_ok-rows.ensures.states ∙ ap (λ (list : List Process). map new_state (map process_of list)) c.as_slice-processes.ensures)
-      ∙ ap (processes_of (map new_state (design_of design).processes)) (c.in_ok-queue.ensures ∙ ap (repeated nothing_held) (count design.processes c.as_slice-processes.result.now c.as_slice-processes.ensures))
+      ap (λ (states : List RowState). processes_of states c.in_ok-queue.queue) (c.in_ok-rows.ensures.states
+      ∙ ap (λ (list : List Process). map new_state (map process_of list)) c.as_slice-processes.ensures)
+      ∙ ap (processes_of (map new_state (design_of design).processes)) (c.in_ok-queue.ensures
+      ∙ ap (repeated nothing_held) (count design.processes c.as_slice-processes.result.now c.as_slice-processes.ensures))
       ∙ start-processes (design_of design).processes
       ∙ ap (λ (d : FlatDesign). map (λ (process : FlatProcess). record { activity = does.Ready (opened process.body []) []; later = []; lane = [] }) d.processes) same;
 }

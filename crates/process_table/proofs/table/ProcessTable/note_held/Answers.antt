@@ -54,12 +54,14 @@ rows-preserved c =
     let n = c.rows.number in
     record {
       accesses =
-          held-more design n (table_of t).processes (map noted_access c.args.accesses.now.items) (map noted_access c.rows.accesses.items) (map noted_access c.hold_row.new.accesses.items) c.rows.invariant.accesses
+          held-more design n (table_of t).processes (map noted_access c.args.accesses.now.items) (map noted_access c.rows.accesses.items)
+          (map noted_access c.hold_row.new.accesses.items) c.rows.invariant.accesses
           (c.in_ok-hold_row.ensures.accesses
           ∙ ap (λ (r : RowState). map noted_access c.rows.accesses.items ++ held_by design n (record { activity = r.activity; later = []; lane = [] }))
           (sym (state-is rows n c.row-item.result (low rows c.deref-row-items.result.now n c.deref-row-items.ensures.value c.rows-test.true)
           (read rows c.deref-row-items.result.now n c.row-item.result c.deref-row-items.ensures.value c.row-item.is)))
-          ∙ ap (λ (process : ProcessState). map noted_access c.rows.accesses.items ++ held_by design n process) (sym (process-row design t.time rows t.index t.ready t.lanes t.queue c.requires.kept n)));
+          ∙ ap (λ (process : ProcessState). map noted_access c.rows.accesses.items ++ held_by design n process)
+          (sym (process-row design t.time rows t.index t.ready t.lanes t.queue c.requires.kept n)));
       held = λ old. c.in_ok-hold_row.ensures.held (c.rows.invariant.held old);
     }
 

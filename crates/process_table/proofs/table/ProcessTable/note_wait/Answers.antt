@@ -29,7 +29,8 @@ returns-clause-accesses c =
     let xs = map noted_access c.args.accesses.now.items in
     accesses-behind kind.Await c.args.process c.args.line c.waits-entries.result.now c.args.accesses.now.items c.push_entries.new.accesses.items c.in_ok-push_entries.ensures
     ∙ ap (λ (es : List Entry). xs ++ map (access_of kind.Await p c.args.line) es)
-    (entries-row (design_of t.design.now) t.time t.rows.items t.index t.ready t.lanes t.queue c.requires.kept p c.index-row.result.now c.waits-entries.result.now (omega (arith, c.if-process-len.false, c.len.ensures)) c.index-row.ensures c.waits-entries.ensures
+    (entries-row (design_of t.design.now) t.time t.rows.items t.index t.ready t.lanes t.queue c.requires.kept p c.index-row.result.now c.waits-entries.result.now
+    (omega (arith, c.if-process-len.false, c.len.ensures)) c.index-row.ensures c.waits-entries.ensures
     ∙ ap waiting_entries (sym (activity-row (design_of t.design.now) t.time t.rows.items t.index t.ready t.lanes t.queue c.requires.kept p)))
 
 pub returns-clause-noted : goal.returns-clause-noted
@@ -38,5 +39,6 @@ returns-clause-noted c =
     let p = process_number c.args.process in
     await-behind (design_of t.design.now) c.args.process c.args.line c.waits-entries.result.now c.args.accesses.now.items c.push_entries.new.accesses.items c.in_ok-push_entries.ensures
     (subst (AllHold (IsEntryIn (design_of t.design.now)))
-    (sym (entries-row (design_of t.design.now) t.time t.rows.items t.index t.ready t.lanes t.queue c.requires.kept p c.index-row.result.now c.waits-entries.result.now (omega (arith, c.if-process-len.false, c.len.ensures)) c.index-row.ensures c.waits-entries.ensures))
+    (sym (entries-row (design_of t.design.now) t.time t.rows.items t.index t.ready t.lanes t.queue c.requires.kept p c.index-row.result.now c.waits-entries.result.now
+    (omega (arith, c.if-process-len.false, c.len.ensures)) c.index-row.ensures c.waits-entries.ensures))
     (entries-in (design_of t.design.now) t.time t.rows.items t.index t.ready t.lanes t.queue c.requires.kept p))

@@ -76,7 +76,8 @@ returns-clause-step g c =
     let design = design_of t.design.now in
     let p = process_number c.args.process in
     is-step design t.time t.rows.items t.index t.ready t.lanes t.queue c.requires.kept (bodies-waitable design (rules_hold design t.design.now.rules)) p (g.V.Values.values c.args.values.now)
-    c.step_row-line.new.rows.items c.step_row-line.result.0 (said_by c.step_row-line.result.1) c.step_row-line.ensures.step c.standing_of-standing.result.stage c.standing_of-standing.result.ready c.standing_of-standing.result.waits c.keep.new.queue _
+    c.step_row-line.new.rows.items c.step_row-line.result.0 (said_by c.step_row-line.result.1) c.step_row-line.ensures.step c.standing_of-standing.result.stage c.standing_of-standing.result.ready
+    c.standing_of-standing.result.waits c.keep.new.queue _
     c.standing_of-standing.ensures (low t c.requires.kept p c.requires.ready) c.in_ok-keep.ensures refl c.act_of.ensures.read c.act_of.ensures.write c.later_of.ensures refl refl
 
 pub returns-clause-kept : goal.returns-clause-kept
@@ -85,5 +86,6 @@ returns-clause-kept g c =
     let design = design_of t.design.now in
     let p = process_number c.args.process in
     table-step design t.time t.rows.items t.index t.ready t.lanes t.queue c.requires.kept (bodies-waitable design (rules_hold design t.design.now.rules)) p (g.V.Values.values c.args.values.now)
-    c.step_row-line.new.rows.items c.step_row-line.result.0 (said_by c.step_row-line.result.1) c.step_row-line.ensures.step c.standing_of-standing.result.stage c.standing_of-standing.result.ready c.standing_of-standing.result.waits c.mark.new.set c.keep.new.queue
+    c.step_row-line.new.rows.items c.step_row-line.result.0 (said_by c.step_row-line.result.1) c.step_row-line.ensures.step c.standing_of-standing.result.stage c.standing_of-standing.result.ready
+    c.standing_of-standing.result.waits c.mark.new.set c.keep.new.queue
     c.standing_of-standing.ensures (low t c.requires.kept p c.requires.ready) c.mark.ensures c.in_ok-keep.ensures

@@ -69,19 +69,23 @@ fill_lanes-requires-clause-numbers c =
 pub returns-clause-turned : goal.returns-clause-turned
 returns-clause-turned c machine state of =
     let t = c.args.self.now in
-    turned-state (design_of t.design.now) t.time t.rows.items t.index t.ready t.lanes t.queue c.requires.kept (turn_region c.in-Some.region) c.fill_lanes.new.rows.items c.take_region.new.self c.in-Some.ensures.turn
+    turned-state (design_of t.design.now) t.time t.rows.items t.index t.ready t.lanes t.queue c.requires.kept
+    (turn_region c.in-Some.region) c.fill_lanes.new.rows.items c.take_region.new.self c.in-Some.ensures.turn
     (c.fill_lanes.ensures.rows.states ∙ ap (λ (ls : List (ProcId × List Update)). lanes_put (map lane_of ls) (row_states c.ready_each.new.rows.items)) c.into_vec.ensures
-    ∙ ap (lanes_put (map lane_of c.in-Some.region.lanes)) (c.ready_each.ensures.rows.states ∙ ap (λ (ps : List ProcId). each_changed made_ready (map process_number ps) (row_states t.rows.items)) c.as_slice.ensures))
+    ∙ ap (lanes_put (map lane_of c.in-Some.region.lanes)) (c.ready_each.ensures.rows.states
+    ∙ ap (λ (ps : List ProcId). each_changed made_ready (map process_number ps) (row_states t.rows.items)) c.as_slice.ensures))
     c.take_region.ensures.left c.requires.quiet machine state of
 
 pub returns-clause-kept : goal.returns-clause-kept
 returns-clause-kept c =
     let t = c.args.self.now in
-    turned-table (design_of t.design.now) t.time t.rows.items t.index t.ready t.lanes t.queue c.requires.kept (turn_region c.in-Some.region) c.fill_lanes.new.rows.items c.ready_each.new.ready c.fill_lanes.new.busy c.take_region.new.self
+    turned-table (design_of t.design.now) t.time t.rows.items t.index t.ready t.lanes t.queue c.requires.kept
+    (turn_region c.in-Some.region) c.fill_lanes.new.rows.items c.ready_each.new.ready c.fill_lanes.new.busy c.take_region.new.self
     c.in-Some.ensures.turn
     (c.fill_lanes.ensures.rows.texts ∙ c.ready_each.ensures.rows.texts) (λ good. c.fill_lanes.ensures.rows.good (c.ready_each.ensures.rows.good good))
     (c.fill_lanes.ensures.rows.states ∙ ap (λ (ls : List (ProcId × List Update)). lanes_put (map lane_of ls) (row_states c.ready_each.new.rows.items)) c.into_vec.ensures
-    ∙ ap (lanes_put (map lane_of c.in-Some.region.lanes)) (c.ready_each.ensures.rows.states ∙ ap (λ (ps : List ProcId). each_changed made_ready (map process_number ps) (row_states t.rows.items)) c.as_slice.ensures))
+    ∙ ap (lanes_put (map lane_of c.in-Some.region.lanes)) (c.ready_each.ensures.rows.states
+    ∙ ap (λ (ps : List ProcId). each_changed made_ready (map process_number ps) (row_states t.rows.items)) c.as_slice.ensures))
     (c.ready_each.ensures.set ∙ ap (λ (ps : List ProcId). each_changed (λ (member : Bool). true) (map process_number ps) t.ready) c.as_slice.ensures)
     (c.fill_lanes.ensures.set ∙ ap (λ (ls : List (ProcId × List Update)). each_changed (λ (member : Bool). true) (map lane_number ls) t.lanes) c.into_vec.ensures
     ∙ ap (λ ns. each_changed (λ (member : Bool). true) ns t.lanes) (lanes-seen c.in-Some.region.lanes))

@@ -16,7 +16,8 @@ pub wake_each-requires-clause-all : goal.wake_each-requires-clause-all
 wake_each-requires-clause-all c =
     let t = c.args.self.now in
     subst (λ (numbers : List ℕ). HasWoken (map change_seen c.args.changes.now) (processes_of (row_states t.rows.items) t.queue) numbers) (sym c.deref.ensures.value)
-    (woken-candidates (design_of t.design.now) t.time t.rows.items t.index t.ready t.lanes t.queue c.requires.kept (map change_seen c.args.changes.now) c.list_candidates.new.candidates.items c.in_ok-list_candidates.ensures.waiters)
+    (woken-candidates (design_of t.design.now) t.time t.rows.items t.index t.ready t.lanes t.queue c.requires.kept
+    (map change_seen c.args.changes.now) c.list_candidates.new.candidates.items c.in_ok-list_candidates.ensures.waiters)
 
 pub returns-clause-ended : goal.returns-clause-ended
 returns-clause-ended c old =

@@ -23,16 +23,21 @@ candidates-preserved c =
     let woken = c.in_ok-wake_process.ensures.woken in
     record {
       woken =
-          wake-next (map change_seen c.args.changes.now) (table_of c.args.self.now) (map noted_access c.args.accesses.now.items) (map process_number c.args.ended.now.items) cands c.requires.all (table_of c.candidates.self)
+          wake-next (map change_seen c.args.changes.now) (table_of c.args.self.now) (map noted_access c.args.accesses.now.items) (map process_number c.args.ended.now.items) cands c.requires.all
+          (table_of c.candidates.self)
           (table_of c.wake_process.new.self) (map noted_access c.candidates.accesses.items) (map noted_access c.wake_process.new.accesses.items) (map process_number c.candidates.ended.items)
-          (map process_number c.wake_process.new.ended.items) i c.candidates.next number c.candidates-test.true refl (omega (arith, c.if-place-next.false)) c.requires.climbs had.reaches had.woken woken;
+          (map process_number c.wake_process.new.ended.items) i c.candidates.next number c.candidates-test.true refl
+          (omega (arith, c.if-place-next.false)) c.requires.climbs had.reaches had.woken woken;
       reaches = reach-next cands i c.candidates.next number refl (omega (arith, c.if-place-next.false)) c.requires.climbs had.reaches;
-      noted = λ old. noted-on (table_of c.candidates.self).design (table_of c.args.self.now).design c.candidates.accesses.items c.wake_process.new.accesses.items had.design c.in_ok-wake_process.ensures.noted (had.noted old);
+      noted = λ old. noted-on (table_of c.candidates.self).design (table_of c.args.self.now).design c.candidates.accesses.items c.wake_process.new.accesses.items had.design
+          c.in_ok-wake_process.ensures.noted (had.noted old);
       design = ap (λ (t : TableState). t.design) woken.table ∙ had.design;
       kept = c.in_ok-wake_process.ensures.kept;
     }
 
 pub returns-clause-woken : goal.returns-clause-woken
 returns-clause-woken c =
-    wake-end (map change_seen c.args.changes.now) (table_of c.args.self.now) (map noted_access c.args.accesses.now.items) (map process_number c.args.ended.now.items) c.args.candidates.now c.requires.all (table_of c.candidates.self)
-    (map noted_access c.candidates.accesses.items) (map process_number c.candidates.ended.items) c.candidates.number-index c.candidates.next (omega (arith, c.candidates-test.false)) c.candidates.invariant.reaches c.candidates.invariant.woken
+    wake-end (map change_seen c.args.changes.now) (table_of c.args.self.now) (map noted_access c.args.accesses.now.items)
+    (map process_number c.args.ended.now.items) c.args.candidates.now c.requires.all (table_of c.candidates.self)
+    (map noted_access c.candidates.accesses.items) (map process_number c.candidates.ended.items) c.candidates.number-index c.candidates.next
+    (omega (arith, c.candidates-test.false)) c.candidates.invariant.reaches c.candidates.invariant.woken

@@ -11,7 +11,8 @@ use Rattle.process_table.proofs.table.ProcessTable.wake_each.Given as goal
 
 abbrev pub invariant-candidates : goal.invariant-candidates
 invariant-candidates l = record {
-  woken : IsWokenBelow (map change_seen l.changes) (table_of l.fn.self) (table_of l.self) (map noted_access l.fn.accesses.items) (map noted_access l.accesses.items) (map process_number l.fn.ended.items) (map process_number l.ended.items) l.next;
+  woken : IsWokenBelow (map change_seen l.changes) (table_of l.fn.self) (table_of l.self) (map noted_access l.fn.accesses.items) (map noted_access l.accesses.items)
+      (map process_number l.fn.ended.items) (map process_number l.ended.items) l.next;
   reaches : Reaches l.candidates l.number-index l.next;
   noted : AreNoted (design_of l.fn.self.design.now) l.fn.accesses.items → AreNoted (design_of l.fn.self.design.now) l.accesses.items;
   design : design_of l.self.design.now ≡ design_of l.fn.self.design.now;

@@ -12,7 +12,8 @@ use Rattle.process_table.proofs.table.ProcessTable.wake_process.Goals as goal
 pub returns-then-process-len-clause-woken : goal.returns-then-process-len-clause-woken
 returns-then-process-len-clause-woken c =
     let t = c.args.self.now in
-    woken-past (design_of t.design.now) t.time t.rows.items t.index t.ready t.lanes t.queue c.requires.kept (map change_seen c.args.changes.now) (map noted_access c.args.accesses.now.items) (map process_number c.args.ended.now.items)
+    woken-past (design_of t.design.now) t.time t.rows.items t.index t.ready t.lanes t.queue c.requires.kept (map change_seen c.args.changes.now) (map noted_access c.args.accesses.now.items)
+    (map process_number c.args.ended.now.items)
     (process_number c.args.process) (omega (arith, c.if-process-len.true, c.len.ensures))
 
 pub note_ended-requires-clause-widths : goal.note_ended-requires-clause-widths
@@ -24,10 +25,12 @@ pub returns-then-not-branch-clause-woken : goal.returns-then-not-branch-clause-w
 returns-then-not-branch-clause-woken c =
     let t = c.args.self.now in
     let no : c.in_ok-note_ended.field-0 ≡ false = search (rules, c.if-not-branch.true) in
-    woken-stays (design_of t.design.now) t.time t.rows.items t.index t.ready t.lanes t.queue c.requires.kept (map change_seen c.args.changes.now) (process_number c.args.process) c.args.accesses.now.items c.note_ended.new.accesses.items
+    woken-stays (design_of t.design.now) t.time t.rows.items t.index t.ready t.lanes t.queue c.requires.kept (map change_seen c.args.changes.now)
+    (process_number c.args.process) c.args.accesses.now.items c.note_ended.new.accesses.items
     (map process_number c.args.ended.now.items)
     (subst
-    (λ b. EndsWait (map change_seen c.args.changes.now) (process_number c.args.process) (state_at (row_states t.rows.items) (process_number c.args.process)).activity b c.args.accesses.now.items c.note_ended.new.accesses.items) no
+    (λ b. EndsWait (map change_seen c.args.changes.now) (process_number c.args.process) (state_at (row_states t.rows.items) (process_number c.args.process)).activity b c.args.accesses.now.items
+    c.note_ended.new.accesses.items) no
     c.in_ok-note_ended.ensures)
 
 pub returns-then-not-branch-clause-noted : goal.returns-then-not-branch-clause-noted
@@ -39,10 +42,12 @@ pub returns-clause-woken : goal.returns-clause-woken
 returns-clause-woken c =
     let t = c.args.self.now in
     let yes : c.in_ok-note_ended.field-0 ≡ true = search (rules, c.if-not-branch.false) in
-    woken-ends (design_of t.design.now) t.time t.rows.items t.index t.ready t.lanes t.queue c.requires.kept (map change_seen c.args.changes.now) c.args.process c.args.accesses.now.items c.note_ended.new.accesses.items
+    woken-ends (design_of t.design.now) t.time t.rows.items t.index t.ready t.lanes t.queue c.requires.kept
+    (map change_seen c.args.changes.now) c.args.process c.args.accesses.now.items c.note_ended.new.accesses.items
     c.args.ended.now.items c.push.new.self.items c.make_ready.new.rows.items
     (subst
-    (λ b. EndsWait (map change_seen c.args.changes.now) (process_number c.args.process) (state_at (row_states t.rows.items) (process_number c.args.process)).activity b c.args.accesses.now.items c.note_ended.new.accesses.items) yes
+    (λ b. EndsWait (map change_seen c.args.changes.now) (process_number c.args.process) (state_at (row_states t.rows.items) (process_number c.args.process)).activity b c.args.accesses.now.items
+    c.note_ended.new.accesses.items) yes
     c.in_ok-note_ended.ensures)
     c.make_ready.ensures c.in_ok-push.ensures.items
 
@@ -55,5 +60,6 @@ pub returns-clause-kept : goal.returns-clause-kept
 returns-clause-kept c =
     let t = c.args.self.now in
     let yes : c.in_ok-note_ended.field-0 ≡ true = search (rules, c.if-not-branch.false) in
-    wake-table (design_of t.design.now) t.time t.rows.items t.index t.ready t.lanes t.queue c.requires.kept (map change_seen c.args.changes.now) (process_number c.args.process) c.make_ready.new.rows.items c.insert.new.self
+    wake-table (design_of t.design.now) t.time t.rows.items t.index t.ready t.lanes t.queue c.requires.kept (map change_seen c.args.changes.now)
+    (process_number c.args.process) c.make_ready.new.rows.items c.insert.new.self
     (sym c.in_ok-note_ended.ensures.told_is ∙ yes) c.make_ready.ensures c.insert.ensures

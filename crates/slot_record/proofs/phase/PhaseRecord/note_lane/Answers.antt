@@ -15,7 +15,8 @@ note-requires-clause-earlier c =
 
 pub returns : goal.returns
 returns c = λ machine number begins noted state had line accesses tells.
-    recorded machine number begins noted state (LaneStep (process_number c.args.process)) c.cause_of_lane-cause.result (map noted_access c.args.accesses.now) (Acts c.args.process) c.args.self.now _ had
+    recorded machine number begins noted state (LaneStep (process_number c.args.process)) c.cause_of_lane-cause.result (map noted_access c.args.accesses.now)
+    (Acts c.args.process) c.args.self.now _ had
     (record {
       grown = c.in_ok-note.ensures.ok;
       acts = c.in_ok-push.ensures.items;

@@ -12,7 +12,8 @@ use Rattle.slot_record.proofs.record.SlotRecord.end_phase.Goals as goal
 
 pub returns : goal.returns
 returns c = λ machine first before phase same had.
-    let present = same-record machine (length before + 1) phase.begins (noted_events machine phase.begins phase.events) c.args.self.now.phase c.race_or.new.phase c.in_ok-race.ensures.same had.present in
+    let present = same-record machine (length before + 1) phase.begins (noted_events machine phase.begins phase.events) c.args.self.now.phase c.race_or.new.phase c.in_ok-race.ensures.same
+    had.present in
     record {
       earlier = noted_events machine phase.begins phase.events;
       causes = subst (λ causes. AreCausesOf machine (noted_events machine phase.begins phase.events) causes) (sym c.in_ok-end_phase.ensures.causes) present.causes;

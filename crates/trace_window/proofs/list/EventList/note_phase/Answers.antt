@@ -13,7 +13,8 @@ pub events-preserved : goal.events-preserved
 events-preserved c =
     subst (λ l. Gathers l c.args.self.now c.note_event.new.self)
     (ap (λ a. take c.events.event (phase_accesses c.args.log.now) ++ a ∷ []) c.accesses_of.ensures.accesses ∙ sym (phase_accesses-more c.args.log.now c.events.event (search rules)))
-    (Gathers-more (take c.events.event (phase_accesses c.args.log.now)) (map noted_access c.accesses_of.result.now ∷ []) c.args.self.now c.events.self c.note_event.new.self c.events.invariant c.in_ok-note_event.ensures)
+    (Gathers-more (take c.events.event (phase_accesses c.args.log.now)) (map noted_access c.accesses_of.result.now ∷ []) c.args.self.now c.events.self c.note_event.new.self c.events.invariant
+    c.in_ok-note_event.ensures)
 
 pub returns : goal.returns
 returns c =

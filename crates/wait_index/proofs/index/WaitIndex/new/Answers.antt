@@ -35,7 +35,8 @@ stepped : (processes : List FlatProcess) (k : ℕ) (process : FlatProcess) (seen
     ((before : List (List ℕ)) → WaitersAdded k [] before seen lists → WaitersAdded k (waited_objects process.body) before later now) → TablesBuilt (take (k + 1) processes) later now
 stepped processes k process seen lists later now at had adds =
     let within : k < length processes = slice_get_within processes k process at in
-    let more : take (k + 1) processes ≡ take k processes ++ process ∷ [] = take_more processes k process within ∙ ap (λ p. take k processes ++ p ∷ []) (get_or_from_slice_get processes k process process at) in
+    let more : take (k + 1) processes ≡ take k processes ++ process ∷ [] = take_more processes k process within
+    ∙ ap (λ p. take k processes ++ p ∷ []) (get_or_from_slice_get processes k process process at) in
     let counted : length (take k processes) ≡ k = length-take-le k processes (omega arith) in
     let first : WaitersAdded k [] lists seen lists = begun processes k process seen lists at had in
     rw more (TablesBuilt-more (take k processes) seen lists process later now had (subst (λ n. WaitersAdded n (waited_objects process.body) lists later now) (sym counted) (adds lists first)))
@@ -60,7 +61,13 @@ processes-preserved c = record {
       (begun (design_of c.args.design.now).processes c.processes.number (process_of c.process-item.result) c.processes.seen.items (process_lists c.processes.waiters.items)
       (process_in c.args.design.now.processes c.as_slice-process-items.result.now c.processes.number c.process-item.result c.as_slice-process-items.ensures c.processes-test.true c.process-item.is)
       c.processes.invariant.built) in
-      omega (arith, added.same_length, length-map c.processes.waiters.items (λ (list : Vec ProcId Global). map process_number list.items), length-map c.add_waiters.new.waiters.items (λ (list : Vec ProcId Global). map process_number list.items), c.processes.invariant.waiters_length);
+      omega (
+        arith,
+        added.same_length,
+        length-map c.processes.waiters.items (λ (list : Vec ProcId Global). map process_number list.items),
+        length-map c.add_waiters.new.waiters.items (λ (list : Vec ProcId Global). map process_number list.items),
+        c.processes.invariant.waiters_length,
+      );
 }
 
 pub returns : goal.returns
@@ -68,6 +75,11 @@ returns c =
     let built = finished (design_of c.args.design.now).processes c.processes.number c.processes.seen.items (process_lists c.processes.waiters.items) c.processes.invariant.built
     (let same = ap length c.as_slice-process-items.ensures in omega (arith, length-map c.args.design.now.processes process_of, c.processes-test.false)) in
     record {
-      objects = omega (arith, length-map c.processes.waiters.items (λ (list : Vec ProcId Global). map process_number list.items), length-map c.args.design.now.objects object_of, c.processes.invariant.waiters_length);
+      objects = omega (
+        arith,
+        length-map c.processes.waiters.items (λ (list : Vec ProcId Global). map process_number list.items),
+        length-map c.args.design.now.objects object_of,
+        c.processes.invariant.waiters_length,
+      );
       listed = built.listed;
     }
