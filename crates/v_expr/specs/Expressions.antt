@@ -74,14 +74,22 @@ prefixed_by k inner (Some operator) = do
   operand ← inner 0
   give (Prefixed place operator operand)
 
-abbrev pub primary_by : ℕ → Inner → Option Class → Reader SourceExpression
-primary_by k inner (Some classes.Number) = do
+-- a number
+abbrev pub literal : Reader SourceExpression
+literal = do
   n ← number
   give (Number n.1 n.0.1 n.0.0)
-primary_by k inner (Some classes.Name) = do
+
+-- a name with what stands in brackets behind it
+abbrev pub named : ℕ → Inner → Reader SourceExpression
+named k inner = do
   n ← name
   at ← index k inner
   give (Selected n.1 n.0 at)
+
+abbrev pub primary_by : ℕ → Inner → Option Class → Reader SourceExpression
+primary_by k inner (Some classes.Number) = literal
+primary_by k inner (Some classes.Name) = named k inner
 primary_by k inner (Some classes.LeftParen) = do
   place ← down 0 k
   e ← inner 11

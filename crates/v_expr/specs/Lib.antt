@@ -6,3 +6,4 @@ pub mod Parts
 pub mod ExpressionExact
 pub mod ExpressionReads
 pub mod PartLaws
+pub mod Bounds

@@ -5,14 +5,16 @@ ghost use Rattle.vf_base.specs.Base.{source_place};
 ghost use Rattle.v_tree.specs.Trees.{parts_of, Selected};
 ghost use Rattle.v_tree.specs.Views.{expression_of, index_of};
 ghost use Rattle.v_readers.specs.Given.{Gives};
-ghost use Rattle.v_readers.specs.Reading.{repeat};
+ghost use Rattle.v_readers.specs.Reading.{by_class, repeat};
 ghost use Rattle.v_readers.specs.Separated.{element_turn};
 ghost use Rattle.v_readers.specs.declared.class.Class.TheVariants as classes;
 ghost use Rattle.v_expr.specs.Heights.{height_of, heights_of, index_height};
 ghost use Rattle.v_expr.specs.Expressions as read;
 ghost use Rattle.v_expr.specs.Expressions.{inner_of};
+ghost use Rattle.v_expr.specs.Bounds.{second_by, seen_in, IsMeasuredIn};
 
 use crate::operators::{joining, operand_rank, place_of, rank_of, unary_of};
+use crate::readers::closed;
 use four_value::{BinaryOperator, UnaryOperator};
 use std::alloc::Global;
 use v_readers::{Class, Lexeme, Stop, down, expect, is_next, name, next_class, number, step};
@@ -23,6 +25,13 @@ use vf_base::{NoMemory, Place, Text};
 #[derive(Drop)]
 struct Part {
     expr: Expr,
+    height: u32,
+}
+
+/// An expression as a node holds it, with its height.
+#[derive(Drop)]
+struct Held {
+    expr: Box<Expr>,
     height: u32,
 }
 
@@ -38,6 +47,29 @@ pub struct Behind {
 struct Row {
     parts: Vec<Expr>,
     height: u32,
+}
+
+/// A part as a node holds it.
+fn boxed(alloc: Global, part: Part) -> Result<Held, NoMemory>
+    ensures made { IfOk result (λ held. expression_of held.expr.value ≡ expression_of part.expr) }
+    ensures height { IfOk result (λ held. held.height ≡ part.height) }
+{
+    let Part { expr, height } = part;
+    let expr = Box::new(alloc, expr)?;
+    Ok(Held { expr, height })
+}
+
+/// A number.
+pub fn literal<'t>(tokens: &'t [Lexeme<'t>]) -> Result<(Expr, &'t [Lexeme<'t>]), Stop<'t>>
+    ensures reads { Gives (λ x. (expression_of x.0, x.1.now)) result (read.literal tokens.now) }
+    ensures height { IfOk result (λ x. height_of (expression_of x.0) ≡ 0) }
+    ensures shorter { IfOk result (λ x. length x.1.now < length tokens.now) }
+{
+    // a match, since `?` has no rule for a number beside what is left
+    match number(tokens) {
+        Ok(((value, form, place), rest)) => Ok((Expr::Number { place, form, value }, rest)),
+        Err(stop) => Err(stop),
+    }
 }
 
 /// A name with what stands in brackets behind it.
@@ -75,53 +107,52 @@ fn primary<'t>(
 {
     match next_class(tokens) {
         Some(Class::Number) => {
-            // a match, since `?` has no rule for a number beside what is left
-            match number(tokens) {
-                Ok(((value, form, place), rest)) => Ok((
-                    Part {
-                        expr: Expr::Number { place, form, value },
-                        height: 0,
-                    },
-                    rest,
-                )),
-                Err(stop) => Err(stop),
-            }
+            let (expr, rest) = literal(tokens)?;
+            Ok((Part { expr, height: 0 }, rest))
         }
-        Some(Class::Name) => {
-            let ((name, place), rest) = name(alloc, tokens)?;
-            let (behind, rest) = index(alloc, rest, levels)?;
-            let expr = selected(alloc, place, name, behind.index)?;
-            Ok((
-                Part {
-                    expr,
-                    height: behind.height,
-                },
-                rest,
-            ))
-        }
+        Some(Class::Name) => named(alloc, tokens, levels),
         Some(Class::LeftParen) => {
             let (place, rest) = down(tokens, 0, levels)?;
-            let (part, rest) = inner(alloc, rest, 11, levels)?;
+            let (held, rest) = inner(alloc, rest, 11, levels)?;
             let (_, rest) = expect(rest, Class::RightParen)?;
             Ok((
                 Part {
                     expr: Expr::Paren {
                         place,
-                        inner: Box::new(alloc, part.expr)?,
+                        inner: held.expr,
                     },
-                    height: part.height + 1,
+                    height: held.height + 1,
                 },
                 rest,
             ))
         }
         Some(Class::LeftBrace) => {
             let (place, rest) = down(tokens, 0, levels)?;
-            let (first, rest) = inner(alloc, rest, 11, levels)?;
+            let (first, rest) = below(alloc, rest, 11, levels)?;
             braced(alloc, rest, first, place, levels)
         }
         Some(class) => prefixed(alloc, tokens, unary_of(class), levels),
         None => Err(Stop::Wrong(tokens)),
     }
+}
+
+/// A name with what stands in brackets behind it.
+#[cycle(expression)]
+fn named<'t>(
+    alloc: Global,
+    tokens: &'t [Lexeme<'t>],
+    levels: u32,
+) -> Result<(Part, &'t [Lexeme<'t>]), Stop<'t>>
+    requires { levels < 256 }
+    ensures reads { Gives (λ x. (expression_of x.0.expr, x.1.now)) result (read.named levels (inner_of levels) tokens.now) }
+    ensures height { IfOk result (λ x. (x.0.height ≡ height_of (expression_of x.0.expr)) × (x.0.height ≤ levels)) }
+    ensures shorter { IfOk result (λ x. length x.1.now ≤ length tokens.now) }
+{
+    let ((name, place), rest) = name(alloc, tokens)?;
+    let (behind, rest) = index(alloc, rest, levels)?;
+    let Behind { index, height } = behind;
+    let expr = selected(alloc, place, name, index)?;
+    Ok((Part { expr, height }, rest))
 }
 
 /// A prefix with its operand.
@@ -147,7 +178,7 @@ fn prefixed<'t>(
             expr: Expr::Unary {
                 place,
                 operator,
-                operand: Box::new(alloc, operand.expr)?,
+                operand: operand.expr,
             },
             height: operand.height + 1,
         },
@@ -157,7 +188,7 @@ fn prefixed<'t>(
 
 /// What stands in brackets behind a name, if anything does.
 #[cycle(expression)]
-#[tactic(auto, unfolding(crate::specs::Expressions::index))]
+#[tactic(auto, unfolding(crate::specs::Expressions::index), using(crate::proofs::Bounds::bounds_is))]
 pub fn index<'t>(
     alloc: Global,
     tokens: &'t [Lexeme<'t>],
@@ -171,8 +202,24 @@ pub fn index<'t>(
     match next_class(tokens) {
         Some(Class::LeftBracket) => {
             let (_, rest) = down(tokens, 0, levels)?;
-            let (from, rest) = inner(alloc, rest, 11, levels)?;
-            bounds(alloc, rest, from, levels)
+            let (from, rest) = below(alloc, rest, 11, levels)?;
+            let (to, rest) = second_bound(alloc, rest, levels)?;
+            match to {
+                Some(to) => Ok((
+                    Behind {
+                        index: Index::Part(from.expr, to.expr),
+                        height: from.height.max(to.height) + 1,
+                    },
+                    rest,
+                )),
+                None => Ok((
+                    Behind {
+                        index: Index::Bit(from.expr),
+                        height: from.height + 1,
+                    },
+                    rest,
+                )),
+            }
         }
         _ => Ok((
             Behind {
@@ -184,44 +231,29 @@ pub fn index<'t>(
     }
 }
 
-/// An index behind its first expression.
+/// The second bound of an index, if it has one, and the end of the index.
 #[cycle(expression)]
-#[tactic(auto, unfolding(crate::specs::Expressions::bounds))]
-fn bounds<'t>(
+fn second_bound<'t>(
     alloc: Global,
     tokens: &'t [Lexeme<'t>],
-    from: Part,
     levels: u32,
-) -> Result<(Behind, &'t [Lexeme<'t>]), Stop<'t>>
+) -> Result<(Option<Part>, &'t [Lexeme<'t>]), Stop<'t>>
     requires few { levels < 256 }
-    requires within { from.height < levels }
-    requires height { from.height ≡ height_of (expression_of from.expr) }
-    ensures reads { Gives (λ x. (index_of x.0.index, x.1.now)) result (read.bounds (inner_of levels) (expression_of from.expr) tokens.now) }
-    ensures height { IfOk result (λ x. (x.0.height ≡ index_height (index_of x.0.index)) × (x.0.height ≤ levels)) }
+    requires some { 0 < levels }
+    ensures reads { Gives (λ x. (seen_in x.0, x.1.now)) result (by_class (second_by (inner_of levels)) tokens.now) }
+    ensures height { IfOk result (λ x. IsMeasuredIn levels x.0) }
     ensures shorter { IfOk result (λ x. length x.1.now ≤ length tokens.now) }
 {
     match next_class(tokens) {
         Some(Class::Colon) => {
             let (_, rest) = step(tokens)?;
-            let (to, rest) = inner(alloc, rest, 11, levels)?;
-            let (_, rest) = expect(rest, Class::RightBracket)?;
-            Ok((
-                Behind {
-                    index: Index::Part(from.expr, to.expr),
-                    height: from.height.max(to.height) + 1,
-                },
-                rest,
-            ))
+            let (to, rest) = below(alloc, rest, 11, levels)?;
+            let (to, _, rest) = closed(to, rest, Class::RightBracket)?;
+            Ok((Some(to), rest))
         }
         _ => {
             let (_, rest) = expect(tokens, Class::RightBracket)?;
-            Ok((
-                Behind {
-                    index: Index::Bit(from.expr),
-                    height: from.height + 1,
-                },
-                rest,
-            ))
+            Ok((None, rest))
         }
     }
 }
@@ -267,15 +299,16 @@ fn replication<'t>(
     ensures height { IfOk result (λ x. (x.0.height ≡ height_of (expression_of x.0.expr)) × (x.0.height ≤ levels)) }
     ensures shorter { IfOk result (λ x. length x.1.now ≤ length tokens.now) }
 {
+    let count = boxed(alloc, first)?;
     let (_, rest) = step(tokens)?;
-    let (part, rest) = inner(alloc, rest, 11, levels)?;
+    let (part, rest) = below(alloc, rest, 11, levels)?;
     let (row, rest) = more(alloc, rest, part, levels)?;
     let (_, rest) = expect(rest, Class::RightBrace)?;
     let (_, rest) = expect(rest, Class::RightBrace)?;
-    let height = first.height.max(row.height) + 1;
+    let height = count.height.max(row.height) + 1;
     let expr = Expr::Repeat {
         place,
-        count: Box::new(alloc, first.expr)?,
+        count: count.expr,
         parts: row.parts,
     };
     Ok((Part { expr, height }, rest))
@@ -349,7 +382,7 @@ fn more<'t>(
     let mut parts = row.parts;
     'parts: while is_next(rest, Class::Comma) {
         let (_, after) = step(rest)?;
-        let (part, after) = inner(alloc, after, 11, levels)?;
+        let (part, after) = below(alloc, after, 11, levels)?;
         height = height.max(part.height);
         parts.push(part.expr)?;
         rest = after;
@@ -373,23 +406,18 @@ fn operand<'t>(
     ensures height { IfOk result (λ x. (x.0.height ≡ height_of (expression_of x.0.expr)) × (x.0.height ≤ levels)) }
     ensures shorter { IfOk result (λ x. length x.1.now < length tokens.now) }
 {
+    let place = place_of(&left.expr);
+    let left = boxed(alloc, left)?;
     let (_, rest) = down(tokens, left.height, levels)?;
     let (right, rest) = inner(alloc, rest, operand_rank(operator), levels)?;
-    let height = left.height.max(right.height);
-    let place = place_of(&left.expr);
+    let height = left.height.max(right.height) + 1;
     let expr = Expr::Binary {
         place,
         operator,
-        left: Box::new(alloc, left.expr)?,
-        right: Box::new(alloc, right.expr)?,
+        left: left.expr,
+        right: right.expr,
     };
-    Ok((
-        Part {
-            expr,
-            height: height + 1,
-        },
-        rest,
-    ))
+    Ok((Part { expr, height }, rest))
 }
 
 /// Operands with operators up to a level, grouped to the left.
@@ -449,17 +477,18 @@ fn branches<'t>(
     ensures height { IfOk result (λ x. (x.0.height ≡ height_of (expression_of x.0.expr)) × (x.0.height ≤ levels)) }
     ensures shorter { IfOk result (λ x. length x.1.now ≤ length tokens.now) }
 {
+    let place = place_of(&condition.expr);
+    let condition = boxed(alloc, condition)?;
     let (_, rest) = down(tokens, condition.height, levels)?;
     let (first, rest) = inner(alloc, rest, 11, levels)?;
     let (_, rest) = expect(rest, Class::Colon)?;
     let (second, rest) = inner(alloc, rest, 11, levels)?;
-    let place = place_of(&condition.expr);
     let height = condition.height.max(first.height.max(second.height)) + 1;
     let expr = Expr::Conditional {
         place,
-        condition: Box::new(alloc, condition.expr)?,
-        first: Box::new(alloc, first.expr)?,
-        second: Box::new(alloc, second.expr)?,
+        condition: condition.expr,
+        first: first.expr,
+        second: second.expr,
     };
     Ok((Part { expr, height }, rest))
 }
@@ -467,7 +496,7 @@ fn branches<'t>(
 /// An expression of at most this rank, one level down.
 #[cycle(expression)]
 #[tactic(auto, using(crate::proofs::Steps::inner_of_operands, crate::proofs::Steps::inner_of_choice))]
-fn inner<'t>(
+fn below<'t>(
     alloc: Global,
     tokens: &'t [Lexeme<'t>],
     rank: u8,
@@ -484,6 +513,25 @@ fn inner<'t>(
     } else {
         choice(alloc, tokens, levels - 1)
     }
+}
+
+/// An expression of at most this rank, one level down, as a node holds it.
+#[cycle(expression)]
+fn inner<'t>(
+    alloc: Global,
+    tokens: &'t [Lexeme<'t>],
+    rank: u8,
+    levels: u32,
+) -> Result<(Held, &'t [Lexeme<'t>]), Stop<'t>>
+    requires few { levels < 256 }
+    requires some { 0 < levels }
+    ensures reads { Gives (λ x. (expression_of x.0.expr.value, x.1.now)) result (inner_of levels rank tokens.now) }
+    ensures height { IfOk result (λ x. (x.0.height ≡ height_of (expression_of x.0.expr.value)) × (x.0.height < levels)) }
+    ensures shorter { IfOk result (λ x. length x.1.now ≤ length tokens.now) }
+{
+    let (part, rest) = below(alloc, tokens, rank, levels)?;
+    let held = boxed(alloc, part)?;
+    Ok((held, rest))
 }
 
 /// An expression with at most so many levels below its outermost one.

@@ -10,8 +10,11 @@
 mod expressions;
 mod operators;
 mod parts;
+mod readers;
 
 pub use expressions::expression;
 pub use parts::{
-    delay, inner_delay, inner_expression, inner_select, inner_target, range, select, target,
+    ExpressionReader, delay, inner_delay, inner_expression, inner_select, inner_target, range,
+    select, target,
 };
+pub use readers::{PartReader, SeparatedReader, closed, separated, with_next};

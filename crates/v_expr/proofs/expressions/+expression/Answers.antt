@@ -1,6 +1,5 @@
 use Rattle.std.proofs.Common.{◌≡◌, true, refl, map, Some, None, Ok, ap, sym, ◌∙◌, arith}
 use Rattle.std.proofs.lemmas.Result.{err_from_is_err_and}
-use Rattle.v_tree.specs.declared.expression.Expr.{Expr}
 use Rattle.v_tree.specs.declared.expression.Expr.TheBlock.{hidden-the_row-Expr-0}
 use Rattle.v_tree.specs.Trees.{Concatenated, Replicated, parts_of}
 use Rattle.v_tree.specs.Views.{expression_of, expressions_of_row}
@@ -77,18 +76,18 @@ replication-returns-clause-reads t c =
     let read : replication (inner_of c.args.levels) (expression_of c.args.first.expr) (source_place c.args.place) c.args.tokens.now
     ≡ Ok (Replicated (source_place c.args.place) (expression_of c.args.first.expr) (parts_of (map expression_of parts.items)), c.in_ok-rest-3.rest.now) =
     rw (c.in_ok-rest.ensures.reads, c.in_ok-part.ensures.reads, c.in_ok-row.ensures.reads, c.in_ok-rest-2.ensures.reads, c.in_ok-rest-3.ensures.reads) refl in
-    let count = ap (λ (e : Expr). expression_of e) c.in_ok-new.ensures.ok in
+    let count = c.in_ok-count.ensures.made in
     read
     ∙ ap (λ w. Ok (Replicated (source_place c.args.place) w (parts_of (map expression_of parts.items)), c.in_ok-rest-3.rest.now)) (sym count)
-    ∙ ap (λ w. Ok (Replicated (source_place c.args.place) (expression_of c.in_ok-new.field-0.value) w, c.in_ok-rest-3.rest.now)) (sym (row-seen parts))
+    ∙ ap (λ w. Ok (Replicated (source_place c.args.place) (expression_of c.in_ok-count.count.expr.value) w, c.in_ok-rest-3.rest.now)) (sym (row-seen parts))
 
 pub replication-returns-clause-height : goal.replication-returns-clause-height
 replication-returns-clause-height t c =
     let parts = c.in_ok-row.row.parts in
     let seen : heights_of (expressions_of_row (hidden-the_row-Expr-0 parts)) ≡ heights_of (parts_of (map expression_of parts.items)) = ap heights_of (row-seen parts) in
-    let count : height_of (expression_of c.in_ok-new.field-0.value) ≡ height_of (expression_of c.args.first.expr) = ap (λ (e : Expr). height_of (expression_of e)) c.in_ok-new.ensures.ok in
+    let count : height_of (expression_of c.in_ok-count.count.expr.value) ≡ height_of (expression_of c.args.first.expr) = ap height_of c.in_ok-count.ensures.made in
     let row = c.in_ok-row.ensures.height in
-    (omega (arith, seen, count, c.max-height.ensures, c.requires.height, row.0), omega (arith, c.max-height.ensures, c.requires.within, row.1))
+    (omega (arith, seen, count, c.in_ok-count.ensures.height, c.max-height.ensures, c.requires.height, row.0), omega (arith, c.in_ok-count.ensures.height, c.max-height.ensures, c.requires.within, row.1))
 
 pub concatenation-returns-clause-reads : goal.concatenation-returns-clause-reads
 unfolding concatenation

@@ -9,44 +9,50 @@ use Rattle.v_expr.specs.Expressions.{inner_of, operands, operand_turn}
 use Rattle.v_expr.proofs.expressions.+expression.Given as goal
 use Rattle.v_tree.specs.Trees.{parts_of}
 
-abbrev pub decreases-inner : goal.decreases-inner
-decreases-inner l = 16 * l.levels
+abbrev pub decreases-below : goal.decreases-below
+decreases-below l = 16 * l.levels
 
-abbrev pub decreases-bounds : goal.decreases-bounds
-decreases-bounds l = 16 * l.levels + 1
+abbrev pub decreases-inner : goal.decreases-inner
+decreases-inner l = 16 * l.levels + 1
+
+abbrev pub decreases-second_bound : goal.decreases-second_bound
+decreases-second_bound l = 16 * l.levels + 2
 
 abbrev pub decreases-more : goal.decreases-more
-decreases-more l = 16 * l.levels + 1
+decreases-more l = 16 * l.levels + 2
 
 abbrev pub decreases-prefixed : goal.decreases-prefixed
-decreases-prefixed l = 16 * l.levels + 1
+decreases-prefixed l = 16 * l.levels + 2
 
 abbrev pub decreases-branches : goal.decreases-branches
-decreases-branches l = 16 * l.levels + 1
+decreases-branches l = 16 * l.levels + 2
 
 abbrev pub decreases-operand : goal.decreases-operand
-decreases-operand l = 16 * l.levels + 1
+decreases-operand l = 16 * l.levels + 2
 
 abbrev pub decreases-index : goal.decreases-index
-decreases-index l = 16 * l.levels + 2
+decreases-index l = 16 * l.levels + 3
 
 abbrev pub decreases-replication : goal.decreases-replication
-decreases-replication l = 16 * l.levels + 2
+decreases-replication l = 16 * l.levels + 3
 
 abbrev pub decreases-concatenation : goal.decreases-concatenation
-decreases-concatenation l = 16 * l.levels + 2
+decreases-concatenation l = 16 * l.levels + 3
 
 abbrev pub decreases-braced : goal.decreases-braced
-decreases-braced l = 16 * l.levels + 3
+decreases-braced l = 16 * l.levels + 4
+
+abbrev pub decreases-named : goal.decreases-named
+decreases-named l = 16 * l.levels + 4
 
 abbrev pub decreases-primary : goal.decreases-primary
-decreases-primary l = 16 * l.levels + 4
+decreases-primary l = 16 * l.levels + 5
 
 abbrev pub decreases-operands : goal.decreases-operands
-decreases-operands l = 16 * l.levels + 5
+decreases-operands l = 16 * l.levels + 6
 
 abbrev pub decreases-choice : goal.decreases-choice
-decreases-choice l = 16 * l.levels + 6
+decreases-choice l = 16 * l.levels + 7
 
 -- What was read so far, and what comes of it, is what is read from the start.
 abbrev pub invariant-operands-operands : goal.invariant-operands-operands
