@@ -1,2 +1,2 @@
-mod EntryLaws
-mod KeptLaws
+mod PlaceLaws
+mod ListLaws

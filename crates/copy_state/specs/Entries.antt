@@ -1,10 +1,5 @@
 -- Entries by number, in ascending order (nothing of the language).
-use Rattle.std.specs.Prelude.{◌≡◌, ℕ, ◌<◌, ◌≤◌, Bool, not, ◌==◌, nat_lt, if◌then◌else◌, List, [], ◌∷◌, filter, length, get_or, Option, Some, None}
-
--- what is kept under a number
-abbrev pub own_of : {A : Type 0} → List (ℕ × A) → ℕ → Option A
-own_of [] number = None
-own_of (entry ∷ entries) number = if entry.0 == number then Some entry.1 else own_of entries number
+use Rattle.std.specs.Prelude.{◌≡◌, ℕ, ◌<◌, ◌≤◌, Bool, not, ◌==◌, nat_lt, if◌then◌else◌, List, [], ◌∷◌, filter, map, length, get_or}
 
 -- an entry under a number, before those of greater numbers and in place of an old one
 abbrev pub with_entry : {A : Type 0} → ℕ → A → List (ℕ × A) → List (ℕ × A)
@@ -18,6 +13,14 @@ is_other number entry = not (entry.0 == number)
 -- without the entry under a number
 abbrev pub without_entry : {A : Type 0} → ℕ → List (ℕ × A) → List (ℕ × A)
 without_entry number entries = filter (is_other number) entries
+
+-- something of each entry, under its number
+abbrev pub each_by : {A B : Type 0} → (ℕ → A → B) → List (ℕ × A) → List (ℕ × B)
+each_by {A} f entries = map (λ (entry : ℕ × A). (entry.0, f entry.0 entry.1)) entries
+
+-- the numbers of entries
+abbrev pub numbers : {A : Type 0} → List (ℕ × A) → List ℕ
+numbers {A} entries = map (λ (entry : ℕ × A). entry.0) entries
 
 -- some numbers ascend, each once
 abbrev pub Rise : List ℕ → Type 0

@@ -1,2 +1,4 @@
 pub mod Entries
+pub mod EntryLaws
+pub mod Listed
 pub mod Kept

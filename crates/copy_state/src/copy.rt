@@ -1,72 +1,48 @@
 // A faulty machine as its differences from the good one.
 
-ghost use Rattle.std.specs.Prelude.{◌≡◌, [], length, map, unwrap_or, OnOk, OnErr};
-ghost use Rattle.vf_base.specs.Base.{object_number, fault_number};
-ghost use Rattle.copy_state.specs.Entries.{own_of, with_entry, without_entry, Rise};
-ghost use Rattle.copy_state.specs.Kept.{CopyKept, entry_of, objects_of, with_own_value};
+ghost use Rattle.std.specs.Prelude.{◌≡◌, length, map, option_map, OnOk, OnErr};
+ghost use Rattle.vf_base.specs.Base.{object_number, process_number, fault_number};
+ghost use Rattle.v_design.specs.Plain.{due_of};
+ghost use Rattle.v_design.specs.States.{found_or};
+ghost use Rattle.copy_laws.specs.Differences.{own_of, Ascend};
+ghost use Rattle.copy_state.specs.Entries.{with_entry, without_entry};
+ghost use Rattle.copy_state.specs.Kept.{nothing_kept, with_own_value};
 
-use crate::find::find;
-use crate::own::OwnValue;
+use crate::by_object::ByObject;
+use crate::by_process::ByProcess;
 use four_value::Vec4;
-use smallvec::SmallVec;
 use std::alloc::Global;
 use std::marker::Model;
-use vf_base::{FaultId, NoMemory, ObjectId};
+use v_design::Due;
+use vf_base::{FaultId, NoMemory, ObjectId, ProcId, Seq};
 
-/// What a faulty machine has otherwise than the good one, which contracts see as the place of its fault in the plan and its values by object.
+/// What a faulty machine has otherwise than the good one, which contracts see as the place of its fault in the plan, its values by object, and its states and
+/// updates by process.
 #[derive(Drop)]
 pub struct FaultCopy {
     fault: FaultId,
-    values: SmallVec<OwnValue, 4>,
+    values: ByObject,
+    updates: ByProcess<Seq<Due>>,
 }
 
 impl Model for FaultCopy {
     ghost use Rattle.vf_base.specs.Base.{fault_number};
-    ghost use Rattle.copy_state.specs.Entries.{Rise};
-    ghost use Rattle.copy_state.specs.Kept.{CopyKept, kept_of, objects_of};
+    ghost use Rattle.copy_state.specs.Kept.{CopyKept, updates_of};
 
     ghost Value = { CopyKept };
 
-    ghost view = { λ copy. kept_of (fault_number copy.fault) copy.values.items };
-
-    ghost invariant = { λ copy. Rise (objects_of copy.values.items) };
-}
-
-/// Puts an own value under an object, in place of an old one.
-fn put(values: &mut SmallVec<OwnValue, 4>, object: ObjectId, value: Vec4) -> Result<(), NoMemory>
-    requires { Rise (objects_of values.old.items) }
-    ensures ok { OnOk result (map entry_of values.new.items ≡ with_entry (object_number object) value (map entry_of values.old.items)) }
-    ensures err { OnErr result (values.new.items ≡ values.old.items) }
-{
-    match find(values.as_slice(), object) {
-        Ok(place) => {
-            values.as_mut_slice()[place].value = value;
-        }
-        Err(place) => {
-            values.insert(place, OwnValue { object, value })?;
-        }
-    }
-    Ok(())
-}
-
-/// Takes the own value of an object out, if there is one.
-fn take_out(values: &mut SmallVec<OwnValue, 4>, object: ObjectId)
-    requires { Rise (objects_of values.old.items) }
-    ensures { map entry_of values.new.items ≡ without_entry (object_number object) (map entry_of values.old.items) }
-{
-    if let Ok(place) = find(values.as_slice(), object) {
-        values.remove(place);
-    }
+    ghost view = { λ copy. record { fault = fault_number copy.fault; values = copy.values; updates = updates_of copy.updates } };
 }
 
 impl FaultCopy {
     /// The copy of a fault that keeps nothing. It takes no memory.
     pub fn new(alloc: Global, fault: FaultId) -> FaultCopy
-        ensures { result ≡ record { fault = fault_number fault; values = [] } }
+        ensures { result ≡ nothing_kept (fault_number fault) }
     {
         FaultCopy {
             fault,
-            values: SmallVec::new(alloc),
+            values: ByObject::new(alloc),
+            updates: ByProcess::new(alloc),
         }
     }
 
@@ -79,13 +55,9 @@ impl FaultCopy {
 
     /// The value of an object whose good value is given.
     pub fn value(&self, object: ObjectId, good: Vec4) -> Vec4
-        ensures { result ≡ unwrap_or (own_of self.now.values (object_number object)) good }
+        ensures { result ≡ found_or good (own_of self.now.values (object_number object)) }
     {
-        let values = self.values.as_slice();
-        match find(values, object) {
-            Ok(place) => values[place].value,
-            Err(_) => good,
-        }
+        self.values.value_or(object.0, good)
     }
 
     /// Gives an object a value; one that is the good value isn't kept.
@@ -99,17 +71,55 @@ impl FaultCopy {
         ensures err { OnErr result (self.new ≡ self.old) }
     {
         if good.same(own) {
-            take_out(&mut self.values, object);
+            self.values.take_out(object.0);
             return Ok(());
         }
-        put(&mut self.values, object, own)?;
-        Ok(())
+        self.values.put(object.0, own)
     }
 
     /// How many objects differ.
     pub fn size(&self) -> usize
         ensures { result ≡ length self.now.values }
     {
-        self.values.len()
+        self.values.size()
+    }
+
+    /// The updates that the copy keeps for a process, if it keeps some.
+    pub fn updates(&self, process: ProcId) -> Option<&[Due]>
+        ensures { option_map (λ own. map due_of own.now) result ≡ own_of self.now.updates (process_number process) }
+    {
+        match self.updates.get(process.0) {
+            None => None,
+            Some(own) => Some(own.as_slice()),
+        }
+    }
+
+    /// The copy keeps these as a process's updates, in order.
+    ///
+    /// # Errors
+    ///
+    /// Want of memory. The copy is unchanged then.
+    pub fn hold_updates(&mut self, process: ProcId, own: Vec<Due>) -> Result<(), NoMemory>
+        ensures ok { OnOk result (self.new ≡ record self.old { updates = with_entry (process_number process) (map due_of own.items) self.old.updates }) }
+        ensures err { OnErr result (self.new ≡ self.old) }
+    {
+        self.updates.put(process.0, Seq::from_vec(own))?;
+        Ok(())
+    }
+
+    /// The copy keeps no updates for a process.
+    pub fn drop_updates(&mut self, process: ProcId)
+        ensures { self.new ≡ record self.old { updates = without_entry (process_number process) self.old.updates } }
+    {
+        self.updates.take_out(process.0);
+    }
+
+    /// What is kept ascends, each object and process once.
+    pub fn ascending(&self)
+        ensures values { Ascend self.now.values }
+        ensures updates { Ascend self.now.updates }
+    {
+        self.values.ascending();
+        self.updates.ascending();
     }
 }

@@ -4,8 +4,10 @@
 //! value of an object whose good value is given, and `set` gives an object a value: one that is the good value isn't kept.
 #![tactic(auto)]
 
+mod by_object;
+mod by_process;
 mod copy;
+mod entry;
 mod find;
-mod own;
 
 pub use copy::FaultCopy;

@@ -1,29 +1,20 @@
-use Rattle.std.proofs.Common.{ltb, arith, rules, []}
+use Rattle.std.proofs.Common.{ltb, arith, rules}
 use Rattle.std.proofs.lemmas.Bool.{ltb-true, ltb-false}
 use Rattle.std.proofs.lemmas.List.Sorted.{IsPartitionPoint-from_clause, IsPartitionedBy-ltb}
-use Rattle.vf_base.specs.Base.{object_number}
-use Rattle.copy_state.specs.declared.own.OwnValue.{OwnValue}
-use Rattle.copy_state.proofs.KeptLaws.{ascending, object_at}
+use Rattle.copy_state.specs.declared.entry.Entry.{Entry}
+use Rattle.copy_state.proofs.ListLaws.{ascending, each-before, each-behind}
 use Rattle.copy_state.proofs.find.count_before.Goals as goal
 
 pub returns-clause-before : goal.returns-clause-before
-returns-clause-before c =
-    let parted = IsPartitionedBy-ltb (λ (own : OwnValue). object_number own.object) c.args.values.now (object_number c.args.object) (ascending c.args.values.now c.requires) in
+returns-clause-before g c =
+    let parted = IsPartitionedBy-ltb (λ (own : Entry g.row.T.Denot). own.number) c.args.entries.now c.args.number (ascending c.args.entries.now c.requires) in
     let point =
-    IsPartitionPoint-from_clause (λ (own : OwnValue). ltb (object_number own.object) (object_number c.args.object)) _ _ c.partition_point.ensures.partitioned parted (λ a r q k. search rules) in
-    λ place low.
-    let blank : OwnValue = record { object = record { 0 = 0 }; value = [] } in
-    let less = ltb-true _ _ (point.0 place blank (omega arith) low) in
-    let is = object_at c.args.values.now place blank (omega (arith, c.partition_point.ensures.bound)) in
-    omega arith
+    IsPartitionPoint-from_clause (λ (own : Entry g.row.T.Denot). ltb own.number c.args.number) _ _ c.partition_point.ensures.partitioned parted (λ a r q k. search rules) in
+    each-before c.args.entries.now c.partition_point.result c.args.number c.partition_point.ensures.bound (λ k d low. ltb-true _ _ (point.0 k d (omega (arith, c.partition_point.ensures.bound)) low))
 
 pub returns-clause-after : goal.returns-clause-after
-returns-clause-after c =
-    let parted = IsPartitionedBy-ltb (λ (own : OwnValue). object_number own.object) c.args.values.now (object_number c.args.object) (ascending c.args.values.now c.requires) in
+returns-clause-after g c =
+    let parted = IsPartitionedBy-ltb (λ (own : Entry g.row.T.Denot). own.number) c.args.entries.now c.args.number (ascending c.args.entries.now c.requires) in
     let point =
-    IsPartitionPoint-from_clause (λ (own : OwnValue). ltb (object_number own.object) (object_number c.args.object)) _ _ c.partition_point.ensures.partitioned parted (λ a r q k. search rules) in
-    λ place low within.
-    let blank : OwnValue = record { object = record { 0 = 0 }; value = [] } in
-    let not_less = ltb-false _ _ (point.1 place blank low within) in
-    let is = object_at c.args.values.now place blank within in
-    omega arith
+    IsPartitionPoint-from_clause (λ (own : Entry g.row.T.Denot). ltb own.number c.args.number) _ _ c.partition_point.ensures.partitioned parted (λ a r q k. search rules) in
+    each-behind c.args.entries.now c.partition_point.result c.args.number (λ k d low within. ltb-false _ _ (point.1 k d low within))

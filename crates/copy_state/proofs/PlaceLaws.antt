@@ -1,12 +1,9 @@
--- Laws on entries by number.
-use Rattle.std.proofs.Common.{◌≡◌, ℕ, zero, suc, ◌<◌, ◌≤◌, Bool, true, false, not, cond, List, [], ◌∷◌, length, get_or, set, map, refl, ap, subst, ◌∙◌, arith}
+-- Laws on entries by number at their places.
+use Rattle.std.proofs.Common.{◌≡◌, ℕ, zero, suc, ◌<◌, ◌≤◌, Bool, true, false, not, cond, List, [], ◌∷◌, length, get_or, set, refl, ap, subst, ◌∙◌, arith}
 use Rattle.std.specs.Prelude.{nat_eq, nat_lt, insert, remove, Some, None}
 use Rattle.std.proofs.lemmas.Bool.{eq-eqb, ne_eqb, eqb-true, eqb-false, lt-ltb, le-ltb, ltb-true, ltb-false}
-use Rattle.copy_state.specs.Entries.{own_of, with_entry, without_entry, Rise, IsAt, GoesTo}
-
--- the numbers of entries
-abbrev pub numbers : {A : Type 0} → List (ℕ × A) → List ℕ
-numbers {A} entries = map (λ (entry : ℕ × A). entry.0) entries
+use Rattle.copy_laws.specs.Differences.{own_of}
+use Rattle.copy_state.specs.Entries.{with_entry, without_entry, numbers, Rise, IsAt, GoesTo}
 
 at_rest : (x : ℕ) (ns : List ℕ) (p n : ℕ) → IsAt (x ∷ ns) (suc p) n → IsAt ns p n
 at_rest x ns p n had = record {
@@ -33,18 +30,20 @@ goes_first x ns n above = record {
 -- what is kept under a number that stands there
 pub own_of-at : {A : Type 0} (es : List (ℕ × A)) (p n : ℕ) (d : ℕ × A) → IsAt (numbers es) p n → own_of es n ≡ Some (get_or es p d).1
 own_of-at [] p n d had = absurd (let low : p < 0 = had.within in omega arith)
-own_of-at {A} (e ∷ es) zero n d had = ap (λ b. cond b (Some e.1) (own_of es n)) (eq-eqb e.0 n had.at)
+own_of-at {A} (e ∷ es) zero n d had = ap (λ (b : Bool). elim b [ true ↦ Some e.1 | false ↦ own_of es n ]) (eq-eqb e.0 n had.at)
 own_of-at {A} (e ∷ es) (suc p) n d had =
-    ap (λ b. cond b (Some e.1) (own_of es n)) (ne_eqb e.0 n (λ same. let less : e.0 < n = had.before zero (omega arith) in omega arith)) ∙ own_of-at es p n d (at_rest e.0 (numbers es) p n had)
+    ap (λ (b : Bool). elim b [ true ↦ Some e.1 | false ↦ own_of es n ]) (ne_eqb e.0 n (λ same. let less : e.0 < n = had.before zero (omega arith) in omega arith))
+    ∙ own_of-at es p n d (at_rest e.0 (numbers es) p n had)
 
 -- and under one that doesn't
 pub own_of-none : {A : Type 0} (es : List (ℕ × A)) (p n : ℕ) → GoesTo (numbers es) p n → own_of es n ≡ None
 own_of-none [] p n had = refl
 own_of-none {A} (e ∷ es) zero n had =
-    ap (λ b. cond b (Some e.1) (own_of es n)) (ne_eqb e.0 n (λ same. let less : n < e.0 = had.behind zero (omega arith) (omega arith) in omega arith))
+    ap (λ (b : Bool). elim b [ true ↦ Some e.1 | false ↦ own_of es n ]) (ne_eqb e.0 n (λ same. let less : n < e.0 = had.behind zero (omega arith) (omega arith) in omega arith))
     ∙ own_of-none es zero n (goes_first e.0 (numbers es) n (λ k low. had.behind k (omega arith) low))
 own_of-none {A} (e ∷ es) (suc p) n had =
-    ap (λ b. cond b (Some e.1) (own_of es n)) (ne_eqb e.0 n (λ same. let less : e.0 < n = had.before zero (omega arith) in omega arith)) ∙ own_of-none es p n (goes_rest e.0 (numbers es) p n had)
+    ap (λ (b : Bool). elim b [ true ↦ Some e.1 | false ↦ own_of es n ]) (ne_eqb e.0 n (λ same. let less : e.0 < n = had.before zero (omega arith) in omega arith))
+    ∙ own_of-none es p n (goes_rest e.0 (numbers es) p n had)
 
 -- an entry in place of the old one
 pub with_entry-at : {A : Type 0} (es : List (ℕ × A)) (p n : ℕ) (x : A) → IsAt (numbers es) p n → with_entry n x es ≡ set es p (n, x)
@@ -113,7 +112,8 @@ rise-rest x ns up i j order within = up (suc i) (suc j) (omega arith) (omega ari
 rise-first : (x : ℕ) (ns : List ℕ) → Rise (x ∷ ns) → Above x ns
 rise-first x ns up k within = up zero (suc k) (omega arith) (omega arith)
 
-above-with_by : {A : Type 0} (t u : Bool) (b n : ℕ) (x : A) (e : ℕ × A) (es rest : List (ℕ × A)) → b < e.0 → b < n → Above b (numbers es) → Above b (numbers rest) → Above b (numbers (cond t (e ∷ rest) (cond u ((n, x) ∷ es) ((n, x) ∷ e ∷ es))))
+above-with_by : {A : Type 0} (t u : Bool) (b n : ℕ) (x : A) (e : ℕ × A) (es rest : List (ℕ × A)) → b < e.0 → b < n → Above b (numbers es) → Above b (numbers rest) →
+    Above b (numbers (cond t (e ∷ rest) (cond u ((n, x) ∷ es) ((n, x) ∷ e ∷ es))))
 above-with_by true u b n x e es rest first own above more = above-cons b e.0 (numbers rest) first more
 above-with_by false true b n x e es rest first own above more = above-cons b n (numbers es) own above
 above-with_by false false b n x e es rest first own above more = above-cons b n (e.0 ∷ numbers es) own (above-cons b e.0 (numbers es) first above)
@@ -124,10 +124,12 @@ above-with b n x (e ∷ es) own above =
     let rest : Above b (numbers es) = λ k within. above (suc k) (omega arith) in
     above-with_by (nat_lt e.0 n) (nat_eq e.0 n) b n x e es (with_entry n x es) (above zero (omega arith)) own rest (above-with b n x es own rest)
 
-rise-with_by : {A : Type 0} (t u : Bool) (n : ℕ) (x : A) (e : ℕ × A) (es rest : List (ℕ × A)) → nat_lt e.0 n ≡ t → nat_eq e.0 n ≡ u → Rise (e.0 ∷ numbers es) → (e.0 < n → Above e.0 (numbers rest)) → Rise (numbers rest) →
+rise-with_by : {A : Type 0} (t u : Bool) (n : ℕ) (x : A) (e : ℕ × A) (es rest : List (ℕ × A)) → nat_lt e.0 n ≡ t → nat_eq e.0 n ≡ u → Rise (e.0 ∷ numbers es) →
+    (e.0 < n → Above e.0 (numbers rest)) → Rise (numbers rest) →
     Rise (numbers (cond t (e ∷ rest) (cond u ((n, x) ∷ es) ((n, x) ∷ e ∷ es))))
 rise-with_by true u n x e es rest less same up above more = rise-cons e.0 (numbers rest) (above (ltb-true e.0 n less)) more
-rise-with_by false true n x e es rest less same up above more = rise-cons n (numbers es) (subst (λ m. Above m (numbers es)) (eqb-true e.0 n same) (rise-first e.0 (numbers es) up)) (rise-rest e.0 (numbers es) up)
+rise-with_by false true n x e es rest less same up above more = rise-cons n (numbers es) (subst (λ m. Above m (numbers es)) (eqb-true e.0 n same) (rise-first e.0 (numbers es) up))
+    (rise-rest e.0 (numbers es) up)
 rise-with_by false false n x e es rest less same up above more =
     let not_less : n ≤ e.0 = ltb-false e.0 n less in
     let other : e.0 ≡ n → ⊥ = eqb-false e.0 n same in
@@ -138,7 +140,8 @@ rise-with_by false false n x e es rest less same up above more =
 pub rise-with : {A : Type 0} (n : ℕ) (x : A) (es : List (ℕ × A)) → Rise (numbers es) → Rise (numbers (with_entry n x es))
 rise-with n x [] up = rise-cons n [] (λ k within. absurd (omega arith)) up
 rise-with n x (e ∷ es) up =
-    rise-with_by (nat_lt e.0 n) (nat_eq e.0 n) n x e es (with_entry n x es) refl refl up (λ less. above-with e.0 n x es less (rise-first e.0 (numbers es) up)) (rise-with n x es (rise-rest e.0 (numbers es) up))
+    rise-with_by (nat_lt e.0 n) (nat_eq e.0 n) n x e es (with_entry n x es) refl refl up (λ less. above-with e.0 n x es less (rise-first e.0 (numbers es) up))
+    (rise-with n x es (rise-rest e.0 (numbers es) up))
 
 above-without_by : {A : Type 0} (t : Bool) (b : ℕ) (e : ℕ × A) (rest : List (ℕ × A)) → b < e.0 → Above b (numbers rest) → Above b (numbers (cond (not t) (e ∷ rest) rest))
 above-without_by true b e rest first more = more

@@ -1,0 +1,22 @@
+// What a list of a copy has.
+
+ghost use Rattle.std.specs.Prelude.{◌≡◌};
+
+use four_value::{Bit, Vec4};
+
+/// What is kept under a number: that of an object or of a process.
+#[derive(Clone, Copy, Debug, Drop)]
+pub(crate) struct Entry<T> {
+    pub(crate) number: u32,
+    pub(crate) kept: T,
+}
+
+/// What stands in the places of a list that aren't used.
+impl Default for Entry<Vec4> {
+    fn default() -> Entry<Vec4> {
+        Entry {
+            number: 0,
+            kept: Vec4::of_bit(Bit::X),
+        }
+    }
+}
