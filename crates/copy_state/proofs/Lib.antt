@@ -1,2 +1,3 @@
 mod PlaceLaws
 mod ListLaws
+mod TableLaws

@@ -1,14 +1,16 @@
 -- Laws on a list of entries as it is kept.
-use Rattle.std.proofs.Common.{◌≡◌, ℕ, ◌<◌, ◌≤◌, List, [], ◌∷◌, ◌++◌, length, get_or, set, take, drop, map, suc, refl, ap, sym, subst, ◌∙◌, arith, inl, inr}
+use Rattle.std.proofs.Common.{◌≡◌, ℕ, ◌<◌, ◌≤◌, List, [], ◌∷◌, ◌++◌, length, get_or, set, take, drop, map, zero, suc, ◌+◌, refl, ap, sym, subst, ◌∙◌, arith, inl, inr}
 use Rattle.std.specs.Prelude.{insert, remove, Some, None}
 use Rattle.std.specs.List.Sorted.{IsNonDecreasingBy}
 use Rattle.std.specs.List.{refill}
-use Rattle.std.proofs.lemmas.List.{map-set, map-append, take-map, drop-map, get_or-map, length-map, length-set, take_at}
+use Rattle.std.proofs.lemmas.List.{map-set, map-append, take-map, drop-map, get_or-map, length-map, length-set, take_at, take_more}
 use Rattle.std.proofs.lemmas.Bool.{cases_lt}
+use Rattle.vf_base.specs.Lists.{AllHold}
 use Rattle.copy_laws.specs.Differences.{own_of}
 use Rattle.copy_state.specs.declared.entry.Entry.{Entry}
 use Rattle.copy_state.specs.Entries.{with_entry, without_entry, numbers, Rise, IsAt, GoesTo}
 use Rattle.copy_state.specs.Listed.{entry_of, numbers_of}
+use Rattle.copy_state.proofs.TableLaws.{with-last}
 use Rattle.copy_state.proofs.PlaceLaws.{own_of-at, own_of-none, with_entry-at, with_entry-new, without_entry-at, without_entry-none, rise-with, rise-without}
 
 pub numbers_are : {T : Type 0} (entries : List (Entry T)) → numbers_of entries ≡ numbers (map entry_of entries)
@@ -143,3 +145,24 @@ goes_to-missed entries p n up within before after other =
 pub put-read : {T : Type 0} (entries : List (Entry T)) (p n : ℕ) (own : Entry T) (x : T) → own ≡ get_or entries p own → IsAt (numbers_of entries) p n →
     map entry_of (set entries p (record { number = own.number; kept = x })) ≡ with_entry n x (map entry_of entries)
 put-read {T} entries p n own x is had = ap (λ (e : Entry T). map entry_of (set entries p (record { number = e.number; kept = x }))) is ∙ put-at entries p n own x had
+
+-- A list into a table, entry by entry
+
+all-below : {T : Type 0} (entries : List (Entry T)) (i m : ℕ) → ((k : ℕ) → k < i → k < length entries → get_or (numbers_of entries) k 0 < m) →
+    AllHold (λ (before : ℕ × T). before.0 < m) (map entry_of (take i entries))
+all-below [] zero m low = tt
+all-below [] (suc i) m low = tt
+all-below (own ∷ entries) zero m low = tt
+all-below (own ∷ entries) (suc i) m low = (low zero (omega arith) (omega arith), all-below entries i m (λ k less within. low (suc k) (omega arith) (omega arith)))
+
+pub one_more : {T : Type 0} (entries : List (Entry T)) (i : ℕ) (own : Entry T) → Rise (numbers_of entries) → i < length entries → own ≡ get_or entries i own →
+    with_entry own.number own.kept (map entry_of (take i entries)) ≡ map entry_of (take (i + 1) entries)
+one_more {T} entries i own up within is =
+    let long = count-numbers entries in
+    let number : get_or (numbers_of entries) i 0 ≡ own.number = number_at entries i own within ∙ ap (λ (e : Entry T). e.number) (sym is) in
+    let below : (k : ℕ) → k < i → k < length entries → get_or (numbers_of entries) k 0 < own.number =
+    λ k less low. let order : get_or (numbers_of entries) k 0 < get_or (numbers_of entries) i 0 = up k i less (omega arith) in omega arith in
+    with-last own.number own.kept (map entry_of (take i entries)) (all-below entries i own.number below)
+    ∙ ap (λ (e : Entry T). map entry_of (take i entries) ++ entry_of e ∷ []) is
+    ∙ sym (map-append entry_of (take i entries) (get_or entries i own ∷ []))
+    ∙ ap (map entry_of) (sym (take_more entries i own within))

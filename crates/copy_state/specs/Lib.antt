@@ -1,4 +1,6 @@
 pub mod Entries
 pub mod EntryLaws
 pub mod Listed
+pub mod Tables
+pub mod Held
 pub mod Kept

@@ -1,35 +1,43 @@
 // The own values of a copy.
 
-ghost use Rattle.std.specs.Prelude.{◌≡◌, [], map, length, OnOk, OnErr};
+ghost use Rattle.std.specs.Prelude.{◌≡◌, [], length, OnOk, OnErr, IfOk};
 ghost use Rattle.v_design.specs.States.{found_or};
 ghost use Rattle.copy_laws.specs.Differences.{own_of, Ascend};
 ghost use Rattle.copy_state.specs.Entries.{with_entry, without_entry};
 
-use crate::entry::Entry;
-use crate::find::find;
+use crate::few_values::FewValues;
+use crate::value_table::ValueTable;
 use four_value::Vec4;
-use smallvec::SmallVec;
 use std::alloc::Global;
 use std::marker::Model;
 use vf_base::NoMemory;
 
-/// Values by object, in ascending order, of which contracts see each with its object's number.
+/// How many values stand in a list before they go into a table.
+const MOST_LISTED: usize = 256;
+
+/// A list of values, or a table of them by object.
+#[derive(Drop)]
+pub(crate) enum HeldValues {
+    Few(FewValues),
+    Many(ValueTable),
+}
+
+/// Values by object, of which contracts see each with its object's number, in ascending order. A few are a list; where there are many they are a table, so
+/// that no value costs a pass over the others.
 #[derive(Drop)]
 pub(crate) struct ByObject {
-    values: SmallVec<Entry<Vec4>, 4>,
+    alloc: Global,
+    held: HeldValues,
 }
 
 impl Model for ByObject {
-    ghost use Rattle.std.specs.Prelude.{ℕ, List, map};
+    ghost use Rattle.std.specs.Prelude.{ℕ, List};
     ghost use Rattle.four_value.specs.Values.{LogicValue};
-    ghost use Rattle.copy_state.specs.Entries.{Rise};
-    ghost use Rattle.copy_state.specs.Listed.{entry_of, numbers_of};
+    ghost use Rattle.copy_state.specs.Held.{entries_held};
 
     ghost Value = { List (ℕ × LogicValue) };
 
-    ghost view = { λ own. map entry_of own.values.items };
-
-    ghost invariant = { λ own. Rise (numbers_of own.values.items) };
+    ghost view = { λ own. entries_held own.held };
 }
 
 impl ByObject {
@@ -38,7 +46,8 @@ impl ByObject {
         ensures { result ≡ [] }
     {
         ByObject {
-            values: SmallVec::new(alloc),
+            alloc,
+            held: HeldValues::Few(FewValues::new(alloc)),
         }
     }
 
@@ -46,10 +55,9 @@ impl ByObject {
     pub(crate) fn value_or(&self, object: u32, other: Vec4) -> Vec4
         ensures { result ≡ found_or other (own_of self.now object) }
     {
-        let values = self.values.as_slice();
-        match find(values, object) {
-            Ok(place) => values[place].kept,
-            Err(_) => other,
+        match &self.held {
+            HeldValues::Few(few) => few.value_or(object, other),
+            HeldValues::Many(table) => table.value_or(object, other),
         }
     }
 
@@ -58,19 +66,10 @@ impl ByObject {
         ensures ok { OnOk result (self.new ≡ with_entry object value self.old) }
         ensures err { OnErr result (self.new ≡ self.old) }
     {
-        match find(self.values.as_slice(), object) {
-            Ok(place) => {
-                self.values.as_mut_slice()[place].kept = value;
-            }
-            Err(place) => {
-                self.values.insert(
-                    place,
-                    Entry {
-                        number: object,
-                        kept: value,
-                    },
-                )?;
-            }
+        self.spread()?;
+        match &mut self.held {
+            HeldValues::Few(few) => few.put(object, value)?,
+            HeldValues::Many(table) => table.put(object, value)?,
         }
         Ok(())
     }
@@ -79,22 +78,41 @@ impl ByObject {
     pub(crate) fn take_out(&mut self, object: u32)
         ensures { self.new ≡ without_entry object self.old }
     {
-        if let Ok(place) = find(self.values.as_slice(), object) {
-            self.values.remove(place);
+        match &mut self.held {
+            HeldValues::Few(few) => few.take_out(object),
+            HeldValues::Many(table) => table.take_out(object),
         }
+    }
+
+    /// Where the list is long, makes a table of it.
+    fn spread(&mut self) -> Result<(), NoMemory>
+        ensures { self.new ≡ self.old }
+    {
+        let table = match &self.held {
+            HeldValues::Few(few) if few.size() >= MOST_LISTED => few.table(self.alloc)?,
+            _ => return Ok(()),
+        };
+        self.held = HeldValues::Many(table);
+        Ok(())
     }
 
     /// How many objects have a value.
     pub(crate) fn size(&self) -> usize
         ensures { result ≡ length self.now }
     {
-        self.values.len()
+        match &self.held {
+            HeldValues::Few(few) => few.size(),
+            HeldValues::Many(table) => table.size(),
+        }
     }
 
     /// The objects ascend, each once.
     pub(crate) fn ascending(&self)
         ensures { Ascend self.now }
     {
-        let _count = self.values.len();
+        match &self.held {
+            HeldValues::Few(few) => few.ascending(),
+            HeldValues::Many(table) => table.ascending(),
+        }
     }
 }

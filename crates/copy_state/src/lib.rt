@@ -8,6 +8,8 @@ mod by_object;
 mod by_process;
 mod copy;
 mod entry;
+mod few_values;
 mod find;
+mod value_table;
 
 pub use copy::FaultCopy;

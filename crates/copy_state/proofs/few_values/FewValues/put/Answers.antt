@@ -3,7 +3,7 @@ use Rattle.std.specs.List.{refill}
 use Rattle.copy_state.specs.Entries.{IsAt, GoesTo, with_entry}
 use Rattle.copy_state.specs.Listed.{entry_of, numbers_of}
 use Rattle.copy_state.proofs.ListLaws.{put-over, put-new, rise-put}
-use Rattle.copy_state.proofs.by_object.ByObject.put.Goals as goal
+use Rattle.copy_state.proofs.few_values.FewValues.put.Goals as goal
 
 pub invariant_of-self : goal.invariant_of-self
 invariant_of-self c =

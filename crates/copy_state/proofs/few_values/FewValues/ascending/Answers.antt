@@ -4,7 +4,7 @@ use Rattle.copy_state.specs.Entries.{Rise}
 use Rattle.copy_state.specs.EntryLaws.{ascend-rise}
 use Rattle.copy_state.specs.Listed.{entry_of}
 use Rattle.copy_state.proofs.ListLaws.{numbers_are}
-use Rattle.copy_state.proofs.by_object.ByObject.ascending.Goals as goal
+use Rattle.copy_state.proofs.few_values.FewValues.ascending.Goals as goal
 
 pub returns : goal.returns
 returns c =

@@ -2,7 +2,7 @@ use Rattle.std.proofs.Common.{ap, sym, ◌∙◌, subst, map}
 use Rattle.copy_state.specs.Entries.{IsAt, GoesTo, without_entry}
 use Rattle.copy_state.specs.Listed.{entry_of, numbers_of}
 use Rattle.copy_state.proofs.ListLaws.{taken-at, taken-none, rise-taken}
-use Rattle.copy_state.proofs.by_object.ByObject.take_out.Goals as goal
+use Rattle.copy_state.proofs.few_values.FewValues.take_out.Goals as goal
 
 pub invariant_of-self : goal.invariant_of-self
 invariant_of-self c =

@@ -4,7 +4,7 @@ use Rattle.copy_laws.specs.Differences.{own_of}
 use Rattle.copy_state.specs.Entries.{IsAt, GoesTo}
 use Rattle.copy_state.specs.Listed.{numbers_of}
 use Rattle.copy_state.proofs.ListLaws.{kept-at, kept-none}
-use Rattle.copy_state.proofs.by_object.ByObject.value_or.Goals as goal
+use Rattle.copy_state.proofs.few_values.FewValues.value_or.Goals as goal
 
 pub returns-in-Ok : goal.returns-in-Ok
 returns-in-Ok c =
