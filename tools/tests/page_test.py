@@ -95,6 +95,13 @@ class Pages(Tools):
         self.assertEqual(kinds, {"bit of a reg": 36, "bit of a wire": 82, "input of a gate": 80})
         self.assertEqual(re.findall(r"https?://|\bsrc=|@import|url\(", text), [])
 
+    def test_unproved_is_said_where_it_is_told(self):
+        folder = os.path.join(EXAMPLES, "race")
+        plain, told = (self.page(folder, os.path.join(folder, "design.v"), os.path.join(folder, "report.txt"), *more) for more in ([], ["--unproved"]))
+        self.assertNotIn("without proofs", plain)
+        self.assertEqual([it["text"] for it in Page(told).elements if it.get("class") == "warning"], ["Made by a build without proofs: report none of these results."])
+        self.assertLess(told.index("without proofs"), told.index("</header>"))
+
     @needs("chromium")
     def test_browser(self):
         """The page as a browser has it once its script has run; and it draws it."""
