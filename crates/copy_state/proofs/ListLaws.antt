@@ -116,12 +116,9 @@ pub is_at-found : {T : Type 0} (entries : List (Entry T)) (p n : ℕ) (d : Entry
 is_at-found entries p n d up within at before =
     let long = count-numbers entries in
     let is : get_or (numbers_of entries) p 0 ≡ n = number_at entries p d within ∙ at in
-    record {
-      within = omega arith;
-      at = is;
-      before = before;
-      behind = λ k more low. let order : get_or (numbers_of entries) p 0 < get_or (numbers_of entries) k 0 = up p k more low in omega arith;
-    }
+    let behind : (k : ℕ) → p < k → k < length (numbers_of entries) → n < get_or (numbers_of entries) k 0 =
+    λ k more low. let order : get_or (numbers_of entries) p 0 < get_or (numbers_of entries) k 0 = up p k more low in omega arith in
+    record { within = omega arith; at = is; before = before; behind = behind }
 
 pub goes_to-missed : {T : Type 0} (entries : List (Entry T)) (p n : ℕ) → Rise (numbers_of entries) → p ≤ length entries → ((k : ℕ) → k < p → get_or (numbers_of entries) k 0 < n) →
     ((k : ℕ) → p ≤ k → k < length entries → n ≤ get_or (numbers_of entries) k 0) → (p < length entries → get_or (numbers_of entries) p 0 ≡ n → ⊥) → GoesTo (numbers_of entries) p n

@@ -4,3 +4,4 @@ pub mod Listed
 pub mod Tables
 pub mod Held
 pub mod Kept
+pub mod KeptLaws

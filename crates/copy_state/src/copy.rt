@@ -11,6 +11,7 @@ ghost use Rattle.copy_state.specs.Kept.{nothing_kept, with_own_value};
 use crate::by_object::ByObject;
 use crate::by_process::ByProcess;
 use four_value::Vec4;
+use process_code::ProcState;
 use std::alloc::Global;
 use std::marker::Model;
 use v_design::Due;
@@ -22,6 +23,7 @@ use vf_base::{FaultId, NoMemory, ObjectId, ProcId, Seq};
 pub struct FaultCopy {
     fault: FaultId,
     values: ByObject,
+    states: ByProcess<ProcState>,
     updates: ByProcess<Seq<Due>>,
 }
 
@@ -31,7 +33,7 @@ impl Model for FaultCopy {
 
     ghost Value = { CopyKept };
 
-    ghost view = { λ copy. record { fault = fault_number copy.fault; values = copy.values; updates = updates_of copy.updates } };
+    ghost view = { λ copy. record { fault = fault_number copy.fault; values = copy.values; states = copy.states; updates = updates_of copy.updates } };
 }
 
 impl FaultCopy {
@@ -42,6 +44,7 @@ impl FaultCopy {
         FaultCopy {
             fault,
             values: ByObject::new(alloc),
+            states: ByProcess::new(alloc),
             updates: ByProcess::new(alloc),
         }
     }
@@ -84,6 +87,33 @@ impl FaultCopy {
         self.values.size()
     }
 
+    /// The state that the copy keeps for a process, if it keeps one.
+    pub fn process(&self, process: ProcId) -> Option<&ProcState>
+        ensures { option_map (λ own. own.now) result ≡ own_of self.now.states (process_number process) }
+    {
+        self.states.get(process.0)
+    }
+
+    /// The copy keeps a state for a process.
+    ///
+    /// # Errors
+    ///
+    /// Want of memory. The copy is unchanged then.
+    pub fn split(&mut self, process: ProcId, state: ProcState) -> Result<(), NoMemory>
+        ensures ok { OnOk result (self.new ≡ record self.old { states = with_entry (process_number process) state self.old.states }) }
+        ensures err { OnErr result (self.new ≡ self.old) }
+    {
+        self.states.put(process.0, state)?;
+        Ok(())
+    }
+
+    /// The copy keeps no state for a process.
+    pub fn rejoin(&mut self, process: ProcId)
+        ensures { self.new ≡ record self.old { states = without_entry (process_number process) self.old.states } }
+    {
+        self.states.take_out(process.0);
+    }
+
     /// The updates that the copy keeps for a process, if it keeps some.
     pub fn updates(&self, process: ProcId) -> Option<&[Due]>
         ensures { option_map (λ own. map due_of own.now) result ≡ own_of self.now.updates (process_number process) }
@@ -117,9 +147,11 @@ impl FaultCopy {
     /// What is kept ascends, each object and process once.
     pub fn ascending(&self)
         ensures values { Ascend self.now.values }
+        ensures states { Ascend self.now.states }
         ensures updates { Ascend self.now.updates }
     {
         self.values.ascending();
+        self.states.ascending();
         self.updates.ascending();
     }
 }

@@ -1,7 +1,9 @@
-//! What a faulty machine has otherwise than the good one (nothing of the language).
+//! A faulty machine as its differences from the good one (what a state has, by IEEE 1364-2001, clauses 5 and 9).
 //!
-//! A `FaultCopy` keeps the own values of a faulty machine by their objects, in ascending order: those that aren't the good machine's. `value` is the
-//! value of an object whose good value is given, and `set` gives an object a value: one that is the good value isn't kept.
+//! A `FaultCopy` keeps what a faulty machine has otherwise than the good one: values by object, states and pending updates by process, in ascending order.
+//! Its main contract: `value`, `process` and `updates` read what is kept, and each call that changes it leaves just the old entries with one more or one less;
+//! `set` keeps a value only where it isn't the good one. A few values are a list; more than 256 are a table by object.
+//! With the code of each process `differences_of` gives the differences of the definitions for which a copy stands.
 #![tactic(auto)]
 
 mod by_object;

@@ -10,4 +10,4 @@ use Rattle.copy_state.proofs.copy.FaultCopy.ascending.Goals as goal
 pub returns-clause-updates : goal.returns-clause-updates
 returns-clause-updates c =
     subst (λ (k : CopyKept). Ascend k.updates) c.self.view_is
-    (ascend-each (λ (process : ℕ) (own : List Due). map due_of own) c.self.inside.updates c.ascending-2.ensures)
+    (ascend-each (λ (process : ℕ) (own : List Due). map due_of own) c.self.inside.updates c.ascending-3.ensures)

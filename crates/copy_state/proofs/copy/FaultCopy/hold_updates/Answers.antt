@@ -16,6 +16,7 @@ returns-clause-ok c =
     ∙ with-each (λ (process : ℕ) (own : List Due). map due_of own) (process_number c.args.process) c.from_vec.result c.self.inside.updates
     ∙ ap (λ (l : List Due). with_entry (process_number c.args.process) (map due_of l) (updates_of c.self.inside.updates)) c.from_vec.ensures in
     ap
-    (λ (l : List (ℕ × List LaterUpdate)). record (record { fault = c.self.inside.fault.0; values = c.self.inside.values; updates = updates_of c.self.inside.updates }) { updates = l })
+    (λ (l : List (ℕ × List LaterUpdate)). record (record { fault = c.self.inside.fault.0; values = c.self.inside.values; states = c.self.inside.states; updates = updates_of c.self.inside.updates })
+    { updates = l })
     updates
     ∙ ap (λ (k : CopyKept). record k { updates = with_entry (process_number c.args.process) (map due_of c.args.own.items) k.updates }) c.self.view_is

@@ -1,4 +1,4 @@
-use Rattle.std.proofs.Common.{arith, ap, sym, ◌∙◌, ◌≡◌, ◌<◌, length, set, subst}
+use Rattle.std.proofs.Common.{arith, ap, sym, ◌∙◌, ◌≡◌, length, set, subst}
 use Rattle.std.specs.Prelude.{Some}
 use Rattle.copy_state.specs.Entries.{with_entry}
 use Rattle.copy_state.specs.Tables.{entries_from}

@@ -1,9 +1,6 @@
-use Rattle.std.proofs.Common.{arith, ap, sym, ◌∙◌, ◌≡◌}
-use Rattle.std.specs.Prelude.{None, Option}
-use Rattle.four_value.specs.Values.{LogicValue}
+use Rattle.std.proofs.Common.{arith, ap, sym, ◌∙◌}
 use Rattle.v_design.specs.States.{found_or}
 use Rattle.copy_laws.specs.Differences.{own_of}
-use Rattle.copy_state.specs.Tables.{entries_from}
 use Rattle.copy_state.proofs.TableLaws.{own-table, read-at, read-past}
 use Rattle.copy_state.proofs.value_table.ValueTable.value_or.Goals as goal
 
