@@ -12,7 +12,9 @@ ghost use Rattle.v_stmt.specs.Spelling.{name_entry, is_unfinished};
 
 use four_value::Edge;
 use std::alloc::Global;
-use v_expr::{inner_delay, inner_expression, inner_select, inner_target};
+use v_expr::{
+    PartReader, closed, inner_delay, inner_expression, inner_select, inner_target, with_next,
+};
 use v_readers::{Class, Lexeme, Stop, expect, name, next_class, ready, step};
 use v_tree::{Entry, Expr, Index, Select, Stmt, Target, Waits};
 use vf_base::{NoMemory, Place, Seq, Text};
@@ -137,7 +139,7 @@ fn closed_entries<'t>(
     ensures shorter { IfOk result (λ x. length x.1.now < length tokens.now) }
 {
     let (entries, rest) = entry_row(alloc, tokens, levels)?;
-    let (_, rest) = expect(rest, Class::RightParen)?;
+    let (entries, _, rest) = closed(entries, rest, Class::RightParen)?;
     Ok((Waits::Entries(entries), rest))
 }
 
@@ -244,8 +246,71 @@ fn ended<'t>(
     ensures shorter { IfOk result (λ x. length x.1.now < length tokens.now) }
 {
     let (expr, rest) = inner_expression(alloc, tokens, levels)?;
-    let (_, rest) = expect(rest, class)?;
+    let (expr, _, rest) = closed(expr, rest, class)?;
     Ok((expr, rest))
+}
+
+/// Reads expressions one level down.
+#[derive(Drop)]
+pub struct InnerExpressionReader {
+    pub levels: u32,
+}
+
+impl PartReader for InnerExpressionReader {
+    ghost use Rattle.std.specs.Prelude.{◌<◌};
+    ghost use Rattle.v_tree.specs.Trees.{SourceExpression};
+    ghost use Rattle.v_tree.specs.Views.{expression_of};
+    ghost use Rattle.v_expr.specs.Parts.{inner_expression};
+
+    type Part = Expr;
+
+    ghost Tree = { SourceExpression };
+
+    ghost tree_of = { expression_of };
+
+    ghost reader = { λ it. inner_expression it.levels };
+
+    ghost can_read = { λ it. (0 < it.levels) × (it.levels < 256) };
+
+    fn read<'t>(
+        &self,
+        alloc: Global,
+        tokens: &'t [Lexeme<'t>],
+    ) -> Result<(Expr, &'t [Lexeme<'t>]), Stop<'t>> {
+        inner_expression(alloc, tokens, self.levels)
+    }
+}
+
+/// Reads an expression one level down, and a token of this class.
+#[derive(Drop)]
+struct EndedExpressionReader {
+    class: Class,
+    levels: u32,
+}
+
+impl PartReader for EndedExpressionReader {
+    ghost use Rattle.std.specs.Prelude.{◌<◌};
+    ghost use Rattle.v_tree.specs.Trees.{SourceExpression};
+    ghost use Rattle.v_tree.specs.Views.{expression_of};
+    ghost use Rattle.v_stmt.specs.Groups.{ended};
+
+    type Part = Expr;
+
+    ghost Tree = { SourceExpression };
+
+    ghost tree_of = { expression_of };
+
+    ghost reader = { λ it. ended it.class it.levels };
+
+    ghost can_read = { λ it. (0 < it.levels) × (it.levels < 256) };
+
+    fn read<'t>(
+        &self,
+        alloc: Global,
+        tokens: &'t [Lexeme<'t>],
+    ) -> Result<(Expr, &'t [Lexeme<'t>]), Stop<'t>> {
+        ended(alloc, tokens, self.class, self.levels)
+    }
 }
 
 /// An expression in the parentheses of a statement.
@@ -287,6 +352,37 @@ fn valued<'t>(
     inner_expression(alloc, rest, levels)
 }
 
+/// Reads the sign and the value of an assignment in the head of a `for`.
+#[derive(Drop)]
+struct SignedValueReader {
+    levels: u32,
+}
+
+impl PartReader for SignedValueReader {
+    ghost use Rattle.std.specs.Prelude.{◌<◌};
+    ghost use Rattle.v_tree.specs.Trees.{SourceExpression};
+    ghost use Rattle.v_tree.specs.Views.{expression_of};
+    ghost use Rattle.v_stmt.specs.Groups.{valued};
+
+    type Part = Expr;
+
+    ghost Tree = { SourceExpression };
+
+    ghost tree_of = { expression_of };
+
+    ghost reader = { λ it. valued it.levels };
+
+    ghost can_read = { λ it. (0 < it.levels) × (it.levels < 256) };
+
+    fn read<'t>(
+        &self,
+        alloc: Global,
+        tokens: &'t [Lexeme<'t>],
+    ) -> Result<(Expr, &'t [Lexeme<'t>]), Stop<'t>> {
+        valued(alloc, tokens, self.levels)
+    }
+}
+
 /// What is assigned in the head of a `for`.
 #[tactic(auto, using(crate::proofs::Groups::head_assignment_is))]
 fn head_assignment<'t>(
@@ -300,7 +396,7 @@ fn head_assignment<'t>(
     ensures shorter { IfOk result (λ x. length x.1.now < length tokens.now) }
 {
     let (target, rest) = inner_target(alloc, tokens, levels)?;
-    let (value, rest) = valued(alloc, rest, levels)?;
+    let (target, value, rest) = with_next(target, alloc, rest, &SignedValueReader { levels })?;
     Ok((Head { target, value }, rest))
 }
 
@@ -318,8 +414,40 @@ fn head_ended<'t>(
     ensures shorter { IfOk result (λ x. length x.1.now < length tokens.now) }
 {
     let (head, rest) = head_assignment(alloc, tokens, levels)?;
-    let (_, rest) = expect(rest, class)?;
+    let (head, _, rest) = closed(head, rest, class)?;
     Ok((head, rest))
+}
+
+/// Reads an assignment in the head of a `for`, and a token of this class.
+#[derive(Drop)]
+struct EndedHeadReader {
+    class: Class,
+    levels: u32,
+}
+
+impl PartReader for EndedHeadReader {
+    ghost use Rattle.std.specs.Prelude.{◌<◌};
+    ghost use Rattle.v_tree.specs.Trees.{SourceTarget, SourceExpression};
+    ghost use Rattle.v_tree.specs.Views.{target_of, expression_of};
+    ghost use Rattle.v_stmt.specs.Groups.{head_ended};
+
+    type Part = Head;
+
+    ghost Tree = { SourceTarget × SourceExpression };
+
+    ghost tree_of = { λ head. (target_of head.target, expression_of head.value) };
+
+    ghost reader = { λ it. head_ended it.class it.levels };
+
+    ghost can_read = { λ it. (0 < it.levels) × (it.levels < 256) };
+
+    fn read<'t>(
+        &self,
+        alloc: Global,
+        tokens: &'t [Lexeme<'t>],
+    ) -> Result<(Head, &'t [Lexeme<'t>]), Stop<'t>> {
+        head_ended(alloc, tokens, self.class, self.levels)
+    }
 }
 
 /// The condition and the second assignment in the head of a `for`.
@@ -342,8 +470,43 @@ fn for_steps<'t>(
     ensures shorter { IfOk result (λ x. length x.1.now < length tokens.now) }
 {
     let (condition, rest) = ended(alloc, tokens, Class::Semicolon, levels)?;
-    let (next, rest) = head_ended(alloc, rest, Class::RightParen, levels)?;
+    let next = EndedHeadReader {
+        class: Class::RightParen,
+        levels,
+    };
+    let (condition, next, rest) = with_next(condition, alloc, rest, &next)?;
     Ok((ForSteps { condition, next }, rest))
+}
+
+/// Reads the condition and the second assignment in the head of a `for`, and its end.
+#[derive(Drop)]
+struct ForStepsReader {
+    levels: u32,
+}
+
+impl PartReader for ForStepsReader {
+    ghost use Rattle.std.specs.Prelude.{◌<◌};
+    ghost use Rattle.v_tree.specs.Trees.{SourceTarget, SourceExpression};
+    ghost use Rattle.v_tree.specs.Views.{target_of, expression_of};
+    ghost use Rattle.v_stmt.specs.Groups.{for_steps};
+
+    type Part = ForSteps;
+
+    ghost Tree = { SourceExpression × (SourceTarget × SourceExpression) };
+
+    ghost tree_of = { λ steps. (expression_of steps.condition, (target_of steps.next.target, expression_of steps.next.value)) };
+
+    ghost reader = { λ it. for_steps it.levels };
+
+    ghost can_read = { λ it. (0 < it.levels) × (it.levels < 256) };
+
+    fn read<'t>(
+        &self,
+        alloc: Global,
+        tokens: &'t [Lexeme<'t>],
+    ) -> Result<(ForSteps, &'t [Lexeme<'t>]), Stop<'t>> {
+        for_steps(alloc, tokens, self.levels)
+    }
 }
 
 /// The head of a `for`.
@@ -367,7 +530,7 @@ pub fn for_head<'t>(
 {
     let (_, rest) = expect(tokens, Class::LeftParen)?;
     let (first, rest) = head_ended(alloc, rest, Class::Semicolon, levels)?;
-    let (steps, rest) = for_steps(alloc, rest, levels)?;
+    let (first, steps, rest) = with_next(first, alloc, rest, &ForStepsReader { levels })?;
     Ok((ForHead { first, steps }, rest))
 }
 
@@ -473,10 +636,14 @@ fn assigned<'t>(
     requires few { levels < 256 }
     requires some { 0 < levels }
     ensures reads { Gives (λ x. ((expression_in x.0.delay, expression_of x.0.value), x.1.now)) result (read.assigned levels tokens.now) }
-    ensures shorter { IfOk result (λ x. length x.1.now < length tokens.now) }
+    ensures shorter { IfOk result (λ x. length x.1.now ≤ length tokens.now) }
 {
     let (delay, rest) = assigned_delay(alloc, tokens, levels)?;
-    let (value, rest) = ended(alloc, rest, Class::Semicolon, levels)?;
+    let value = EndedExpressionReader {
+        class: Class::Semicolon,
+        levels,
+    };
+    let (delay, value, rest) = with_next(delay, alloc, rest, &value)?;
     Ok((RightSide { delay, value }, rest))
 }
 
@@ -502,6 +669,38 @@ fn signed_side<'t>(
     let (kind, rest) = sign(tokens)?;
     let (side, rest) = assigned(alloc, rest, levels)?;
     Ok((SignedSide { kind, side }, rest))
+}
+
+/// Reads the sign of an assignment, and what stands behind it.
+#[derive(Drop)]
+struct SignedSideReader {
+    levels: u32,
+}
+
+impl PartReader for SignedSideReader {
+    ghost use Rattle.std.specs.Prelude.{Option, ◌<◌};
+    ghost use Rattle.v_tree.specs.Trees.{SourceExpression};
+    ghost use Rattle.v_tree.specs.Views.{expression_in, expression_of};
+    ghost use Rattle.v_stmt.specs.declared.parts.AssignmentKind.{AssignmentKind};
+    ghost use Rattle.v_stmt.specs.Groups.{signed_side};
+
+    type Part = SignedSide;
+
+    ghost Tree = { AssignmentKind × (Option SourceExpression × SourceExpression) };
+
+    ghost tree_of = { λ x. (x.kind, (expression_in x.side.delay, expression_of x.side.value)) };
+
+    ghost reader = { λ it. signed_side it.levels };
+
+    ghost can_read = { λ it. (0 < it.levels) × (it.levels < 256) };
+
+    fn read<'t>(
+        &self,
+        alloc: Global,
+        tokens: &'t [Lexeme<'t>],
+    ) -> Result<(SignedSide, &'t [Lexeme<'t>]), Stop<'t>> {
+        signed_side(alloc, tokens, self.levels)
+    }
 }
 
 /// The place of a target.
@@ -551,7 +750,7 @@ pub fn assignment<'t>(
 {
     ready(tokens, 0, levels)?;
     let (target, rest) = inner_target(alloc, tokens, levels)?;
-    let (signed, rest) = signed_side(alloc, rest, levels)?;
+    let (target, signed, rest) = with_next(target, alloc, rest, &SignedSideReader { levels })?;
     let SignedSide { kind, side } = signed;
     Ok((assignment_of(kind, target, side), rest))
 }

@@ -13,10 +13,10 @@ ghost use Rattle.v_stmt.specs.Spelling.{defaults_in, is_unfinished};
 ghost use Rattle.v_stmt.specs.Statements as read;
 ghost use Rattle.v_stmt.specs.Statements.{items_list};
 
-use crate::parts::{assignment, task};
+use crate::parts::{InnerExpressionReader, assignment, task};
 use std::alloc::Global;
-use v_expr::inner_expression;
-use v_readers::{Class, Lexeme, Stop, is_next, next_class, step};
+use v_expr::separated;
+use v_readers::{Class, Lexeme, Stop, next_class, step};
 use v_tree::{CaseItem, Expr, Stmt};
 use vf_base::{NoMemory, Seq};
 
@@ -79,7 +79,6 @@ pub fn begins(tokens: &[Lexeme]) -> bool
 }
 
 /// The labels of an item of a case.
-#[tactic(auto, unfolding(v_readers::specs::Separated::separated))]
 pub fn labels<'t>(
     alloc: Global,
     tokens: &'t [Lexeme<'t>],
@@ -90,16 +89,7 @@ pub fn labels<'t>(
     ensures reads { Gives (λ x. (map expression_of x.0, x.1.now)) result (separated classes.Comma (inner_expression levels) tokens.now) }
     ensures shorter { IfOk result (λ x. length x.1.now ≤ length tokens.now) }
 {
-    let (first, mut rest) = inner_expression(alloc, tokens, levels)?;
-    let mut labels = Vec::new(alloc);
-    labels.push(first)?;
-    'labels: while is_next(rest, Class::Comma) {
-        let (_, after) = step(rest)?;
-        let (label, after) = inner_expression(alloc, after, levels)?;
-        labels.push(label)?;
-        rest = after;
-    }
-    Ok((Seq::from_vec(labels), rest))
+    separated(alloc, tokens, &InnerExpressionReader { levels })
 }
 
 /// Whether a default is among the items of a case.

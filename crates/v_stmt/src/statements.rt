@@ -16,8 +16,8 @@ use crate::parts::{colon, condition, for_head, label, waits};
 use crate::pieces::{Held, LoopKind, Piece, begins, boxed, has_default, labels, simple};
 use four_value::CaseKind;
 use std::alloc::Global;
-use v_expr::inner_delay;
-use v_readers::{Class, Lexeme, Stop, down, expect, is_next, next_class, ready, step};
+use v_expr::{closed, inner_delay};
+use v_readers::{Class, Lexeme, Stop, down, is_next, next_class, ready, step};
 use v_tree::{CaseItem, Expr, Stmt};
 use vf_base::Place;
 
@@ -94,8 +94,8 @@ fn block<'t>(
 {
     let (place, rest) = step(tokens)?;
     let (statements, rest) = block_body(alloc, rest, levels)?;
-    let (_, rest) = expect(rest, Class::End)?;
     let stmt = block_of(place, statements);
+    let (stmt, _, rest) = closed(stmt, rest, Class::End)?;
     Ok((
         Piece {
             stmt,
@@ -334,7 +334,7 @@ fn item<'t>(
         }
         _ => {
             let (labels, rest) = labels(alloc, tokens, levels)?;
-            let (_, rest) = expect(rest, Class::Colon)?;
+            let (labels, _, rest) = closed(labels, rest, Class::Colon)?;
             let (body, rest) = below(alloc, rest, levels)?;
             items.push(CaseItem::Labelled {
                 labels,
@@ -383,8 +383,8 @@ fn case<'t>(
     let (place, rest) = down(tokens, 0, levels)?;
     let (value, rest) = condition(alloc, rest, levels)?;
     let (items, rest) = items(alloc, rest, levels)?;
-    let (_, rest) = expect(rest, Class::EndCase)?;
     let stmt = case_of(place, kind, value, items);
+    let (stmt, _, rest) = closed(stmt, rest, Class::EndCase)?;
     Ok((
         Piece {
             stmt,
