@@ -4,7 +4,7 @@ ghost use Rattle.std.specs.Prelude.{◌≡◌, map, IfOk};
 ghost use Rattle.v_tree.specs.Views.{name_of, name_in, range_of, range_in, parameter_of, parameters_of, ports_of, wire_of, content_of, reg_of, assignment_of, gate_of, connection_of, instance_of, item_of, heads_of, module_of, unit_of};
 
 use crate::copy_statement::copy_stmt;
-use crate::{copy_assigned, copy_expr, copy_optional, copy_parts, copy_target, copy_text};
+use crate::{both, copy_assigned, copy_expr, copy_optional, copy_parts, copy_target, copy_text};
 use std::alloc::Global;
 use v_tree::{
     Assignment, Connection, Content, Gate, Heads, Instance, Item, Module, Name, Param, Params,
@@ -52,8 +52,9 @@ fn copy_name_in(alloc: Global, name: &Option<Name>) -> Result<Option<Name>, NoMe
 fn copy_range(alloc: Global, range: &Range) -> Result<Range, NoMemory>
     ensures { IfOk result (λ copy. range_of copy ≡ range_of range.now) }
 {
-    let high = copy_expr(alloc, &range.high)?;
-    let low = copy_expr(alloc, &range.low)?;
+    let high = copy_expr(alloc, &range.high);
+    let low = copy_expr(alloc, &range.low);
+    let (high, low) = both(high, low)?;
     Ok(Range {
         place: range.place,
         high,
@@ -103,8 +104,9 @@ fn copy_param_list(alloc: Global, params: &[Param]) -> Result<Seq<Param>, NoMemo
 fn copy_params(alloc: Global, group: &Params) -> Result<Params, NoMemory>
     ensures { IfOk result (λ copy. parameters_of copy ≡ parameters_of group.now) }
 {
-    let range = copy_range_in(alloc, &group.range)?;
-    let params = copy_param_list(alloc, group.params.as_slice())?;
+    let range = copy_range_in(alloc, &group.range);
+    let params = copy_param_list(alloc, group.params.as_slice());
+    let (range, params) = both(range, params)?;
     Ok(Params {
         place: group.place,
         is_local: group.is_local,
@@ -130,8 +132,9 @@ fn copy_param_groups(alloc: Global, groups: &[Params]) -> Result<Seq<Params>, No
 fn copy_ports(alloc: Global, group: &Ports) -> Result<Ports, NoMemory>
     ensures { IfOk result (λ copy. ports_of copy ≡ ports_of group.now) }
 {
-    let range = copy_range_in(alloc, &group.range)?;
-    let names = copy_names(alloc, group.names.as_slice())?;
+    let range = copy_range_in(alloc, &group.range);
+    let names = copy_names(alloc, group.names.as_slice());
+    let (range, names) = both(range, names)?;
     Ok(Ports {
         place: group.place,
         direction: group.direction,
@@ -245,9 +248,10 @@ fn copy_assignments(alloc: Global, assignments: &[Assignment]) -> Result<Seq<Ass
 fn copy_gate(alloc: Global, gate: &Gate) -> Result<Gate, NoMemory>
     ensures { IfOk result (λ copy. gate_of copy ≡ gate_of gate.now) }
 {
-    let name = copy_name_in(alloc, &gate.name)?;
-    let output = copy_target(alloc, &gate.output)?;
-    let inputs = copy_parts(alloc, gate.inputs.as_slice())?;
+    let name = copy_name_in(alloc, &gate.name);
+    let output = copy_target(alloc, &gate.output);
+    let inputs = copy_parts(alloc, gate.inputs.as_slice());
+    let (name, (output, inputs)) = both(name, both(output, inputs))?;
     Ok(Gate {
         name,
         output,
@@ -349,8 +353,9 @@ fn copy_item(alloc: Global, item: &Item) -> Result<Item, NoMemory>
             range,
             wires,
         } => {
-            let range = copy_range_in(alloc, range)?;
-            let wires = copy_wires(alloc, wires.as_slice())?;
+            let range = copy_range_in(alloc, range);
+            let wires = copy_wires(alloc, wires.as_slice());
+            let (range, wires) = both(range, wires)?;
             Ok(Item::Wire {
                 place: *place,
                 signed: *signed,
@@ -364,8 +369,9 @@ fn copy_item(alloc: Global, item: &Item) -> Result<Item, NoMemory>
             range,
             regs,
         } => {
-            let range = copy_range_in(alloc, range)?;
-            let regs = copy_regs(alloc, regs.as_slice())?;
+            let range = copy_range_in(alloc, range);
+            let regs = copy_regs(alloc, regs.as_slice());
+            let (range, regs) = both(range, regs)?;
             Ok(Item::Reg {
                 place: *place,
                 signed: *signed,
@@ -401,9 +407,13 @@ fn copy_item(alloc: Global, item: &Item) -> Result<Item, NoMemory>
             parameters,
             instances,
         } => {
-            let module_name = copy_text(alloc, module_name)?;
-            let parameters = copy_connections(alloc, parameters.as_slice())?;
-            let instances = copy_instances(alloc, instances.as_slice())?;
+            let module_name = copy_text(alloc, module_name);
+            let parameters = copy_connections(alloc, parameters.as_slice());
+            let instances = copy_instances(alloc, instances.as_slice());
+            let (module_name, (parameters, instances)) = both(
+                module_name,
+                both(parameters, instances),
+            )?;
             Ok(Item::Instance {
                 place: *place,
                 module_name,
@@ -460,10 +470,11 @@ fn copy_heads(alloc: Global, heads: &Heads) -> Result<Heads, NoMemory>
 fn copy_module(alloc: Global, source: &Module) -> Result<Module, NoMemory>
     ensures { IfOk result (λ copy. module_of copy ≡ module_of source.now) }
 {
-    let name = copy_text(alloc, &source.name)?;
-    let params = copy_param_groups(alloc, source.params.as_slice())?;
-    let ports = copy_heads(alloc, &source.ports)?;
-    let items = copy_items(alloc, source.items.as_slice())?;
+    let name = copy_text(alloc, &source.name);
+    let params = copy_param_groups(alloc, source.params.as_slice());
+    let ports = copy_heads(alloc, &source.ports);
+    let items = copy_items(alloc, source.items.as_slice());
+    let ((name, params), (ports, items)) = both(both(name, params), both(ports, items))?;
     Ok(Module {
         name,
         place: source.place,

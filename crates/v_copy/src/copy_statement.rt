@@ -4,7 +4,7 @@ ghost use Rattle.std.specs.Prelude.{◌≡◌, map, IfOk};
 ghost use Rattle.v_tree.specs.Views.{statement_of};
 ghost use Rattle.v_tree.specs.CaseParts.{case_part_of};
 
-use crate::{copy_assigned, copy_expr, copy_optional, copy_parts, copy_waits};
+use crate::{both, copy_assigned, copy_expr, copy_optional, copy_parts, copy_waits};
 use std::alloc::Global;
 use v_tree::{CaseItem, Stmt};
 use vf_base::{NoMemory, Seq};
@@ -31,8 +31,9 @@ pub fn copy_stmt(alloc: Global, stmt: &Stmt) -> Result<Stmt, NoMemory>
             first,
             second: None,
         } => {
-            let condition = copy_expr(alloc, condition)?;
-            let first = copy_boxed(alloc, first)?;
+            let condition = copy_expr(alloc, condition);
+            let first = copy_boxed(alloc, first);
+            let (condition, first) = both(condition, first)?;
             Ok(Stmt::If {
                 place: *place,
                 condition,
@@ -46,9 +47,10 @@ pub fn copy_stmt(alloc: Global, stmt: &Stmt) -> Result<Stmt, NoMemory>
             first,
             second: Some(second),
         } => {
-            let condition = copy_expr(alloc, condition)?;
-            let first = copy_boxed(alloc, first)?;
-            let second = copy_boxed(alloc, second)?;
+            let condition = copy_expr(alloc, condition);
+            let first = copy_boxed(alloc, first);
+            let second = copy_boxed(alloc, second);
+            let (condition, (first, second)) = both(condition, both(first, second))?;
             Ok(Stmt::If {
                 place: *place,
                 condition,
@@ -80,10 +82,16 @@ pub fn copy_stmt(alloc: Global, stmt: &Stmt) -> Result<Stmt, NoMemory>
             next,
             body,
         } => {
-            let (first_target, first) = copy_assigned(alloc, first_target, first)?;
-            let condition = copy_expr(alloc, condition)?;
-            let (next_target, next) = copy_assigned(alloc, next_target, next)?;
-            let body = copy_boxed(alloc, body)?;
+            let start = copy_assigned(alloc, first_target, first);
+            let condition = copy_expr(alloc, condition);
+            let step = copy_assigned(alloc, next_target, next);
+            let body = copy_boxed(alloc, body);
+            let ((start, condition), (step, body)) = both(
+                both(start, condition),
+                both(step, body),
+            )?;
+            let (first_target, first) = start;
+            let (next_target, next) = step;
             Ok(Stmt::For {
                 place: *place,
                 first_target,
@@ -102,8 +110,9 @@ pub fn copy_stmt(alloc: Global, stmt: &Stmt) -> Result<Stmt, NoMemory>
             })
         }
         Stmt::Event { place, waits, body } => {
-            let waits = copy_waits(alloc, waits)?;
-            let body = copy_boxed(alloc, body)?;
+            let waits = copy_waits(alloc, waits);
+            let body = copy_boxed(alloc, body);
+            let (waits, body) = both(waits, body)?;
             Ok(Stmt::Event {
                 place: *place,
                 waits,
@@ -115,8 +124,9 @@ pub fn copy_stmt(alloc: Global, stmt: &Stmt) -> Result<Stmt, NoMemory>
             condition,
             body,
         } => {
-            let condition = copy_expr(alloc, condition)?;
-            let body = copy_boxed(alloc, body)?;
+            let condition = copy_expr(alloc, condition);
+            let body = copy_boxed(alloc, body);
+            let (condition, body) = both(condition, body)?;
             Ok(Stmt::While {
                 place: *place,
                 condition,
@@ -124,8 +134,9 @@ pub fn copy_stmt(alloc: Global, stmt: &Stmt) -> Result<Stmt, NoMemory>
             })
         }
         Stmt::Repeat { place, count, body } => {
-            let count = copy_expr(alloc, count)?;
-            let body = copy_boxed(alloc, body)?;
+            let count = copy_expr(alloc, count);
+            let body = copy_boxed(alloc, body);
+            let (count, body) = both(count, body)?;
             Ok(Stmt::Repeat {
                 place: *place,
                 count,
@@ -137,8 +148,9 @@ pub fn copy_stmt(alloc: Global, stmt: &Stmt) -> Result<Stmt, NoMemory>
             condition,
             body,
         } => {
-            let condition = copy_expr(alloc, condition)?;
-            let body = copy_boxed(alloc, body)?;
+            let condition = copy_expr(alloc, condition);
+            let body = copy_boxed(alloc, body);
+            let (condition, body) = both(condition, body)?;
             Ok(Stmt::Wait {
                 place: *place,
                 condition,
@@ -146,8 +158,9 @@ pub fn copy_stmt(alloc: Global, stmt: &Stmt) -> Result<Stmt, NoMemory>
             })
         }
         Stmt::Delay { place, delay, body } => {
-            let delay = copy_expr(alloc, delay)?;
-            let body = copy_boxed(alloc, body)?;
+            let delay = copy_expr(alloc, delay);
+            let body = copy_boxed(alloc, body);
+            let (delay, body) = both(delay, body)?;
             Ok(Stmt::Delay {
                 place: *place,
                 delay,
@@ -160,8 +173,9 @@ pub fn copy_stmt(alloc: Global, stmt: &Stmt) -> Result<Stmt, NoMemory>
             delay,
             value,
         } => {
-            let (target, value) = copy_assigned(alloc, target, value)?;
-            let delay = copy_optional(alloc, delay)?;
+            let assigned = copy_assigned(alloc, target, value);
+            let delay = copy_optional(alloc, delay);
+            let ((target, value), delay) = both(assigned, delay)?;
             Ok(Stmt::Blocking {
                 place: *place,
                 target,
@@ -175,8 +189,9 @@ pub fn copy_stmt(alloc: Global, stmt: &Stmt) -> Result<Stmt, NoMemory>
             delay,
             value,
         } => {
-            let (target, value) = copy_assigned(alloc, target, value)?;
-            let delay = copy_optional(alloc, delay)?;
+            let assigned = copy_assigned(alloc, target, value);
+            let delay = copy_optional(alloc, delay);
+            let ((target, value), delay) = both(assigned, delay)?;
             Ok(Stmt::Nonblocking {
                 place: *place,
                 target,
@@ -229,8 +244,9 @@ fn copy_item(alloc: Global, item: &CaseItem) -> Result<CaseItem, NoMemory>
 {
     match item {
         CaseItem::Labelled { labels, statement } => {
-            let labels = copy_parts(alloc, labels.as_slice())?;
-            let statement = copy_stmt(alloc, statement)?;
+            let labels = copy_parts(alloc, labels.as_slice());
+            let statement = copy_stmt(alloc, statement);
+            let (labels, statement) = both(labels, statement)?;
             Ok(CaseItem::Labelled {
                 labels: Seq::from_vec(labels),
                 statement,

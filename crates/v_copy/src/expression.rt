@@ -3,6 +3,7 @@
 ghost use Rattle.std.specs.Prelude.{◌≡◌, map, IfOk};
 ghost use Rattle.v_tree.specs.Views.{expression_of};
 
+use crate::both;
 use std::alloc::Global;
 use v_tree::Expr;
 use vf_base::{NoMemory, Text};
@@ -33,8 +34,9 @@ pub fn copy_expr(alloc: Global, expr: &Expr) -> Result<Expr, NoMemory>
             })
         }
         Expr::BitSelect { place, name, index } => {
-            let name = copy_text(alloc, name)?;
-            let index = copy_box(alloc, index)?;
+            let name = copy_text(alloc, name);
+            let index = copy_box(alloc, index);
+            let (name, index) = both(name, index)?;
             Ok(Expr::BitSelect {
                 place: *place,
                 name,
@@ -47,9 +49,10 @@ pub fn copy_expr(alloc: Global, expr: &Expr) -> Result<Expr, NoMemory>
             from,
             to,
         } => {
-            let name = copy_text(alloc, name)?;
-            let from = copy_box(alloc, from)?;
-            let to = copy_box(alloc, to)?;
+            let name = copy_text(alloc, name);
+            let from = copy_box(alloc, from);
+            let to = copy_box(alloc, to);
+            let (name, (from, to)) = both(name, both(from, to))?;
             Ok(Expr::PartSelect {
                 place: *place,
                 name,
@@ -82,8 +85,9 @@ pub fn copy_expr(alloc: Global, expr: &Expr) -> Result<Expr, NoMemory>
             left,
             right,
         } => {
-            let left = copy_box(alloc, left)?;
-            let right = copy_box(alloc, right)?;
+            let left = copy_box(alloc, left);
+            let right = copy_box(alloc, right);
+            let (left, right) = both(left, right)?;
             Ok(Expr::Binary {
                 place: *place,
                 operator: *operator,
@@ -97,9 +101,10 @@ pub fn copy_expr(alloc: Global, expr: &Expr) -> Result<Expr, NoMemory>
             first,
             second,
         } => {
-            let condition = copy_box(alloc, condition)?;
-            let first = copy_box(alloc, first)?;
-            let second = copy_box(alloc, second)?;
+            let condition = copy_box(alloc, condition);
+            let first = copy_box(alloc, first);
+            let second = copy_box(alloc, second);
+            let (condition, (first, second)) = both(condition, both(first, second))?;
             Ok(Expr::Conditional {
                 place: *place,
                 condition,

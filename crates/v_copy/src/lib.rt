@@ -4,11 +4,13 @@
 //! `copy_expr`, `copy_target`, `copy_waits` and the others do so for the parts of a tree. A call answers nothing else than that copy or want of memory.
 #![tactic(auto)]
 
+mod copied;
 mod copy_item;
 mod copy_statement;
 mod expression;
 mod select;
 
+pub use copied::both;
 pub use copy_item::copy_tree;
 pub use expression::{copy_expr, copy_parts, copy_text};
 pub use select::{copy_assigned, copy_optional, copy_target, copy_waits};

@@ -3,6 +3,7 @@
 ghost use Rattle.std.specs.Prelude.{◌≡◌, map, IfOk};
 ghost use Rattle.v_tree.specs.Views.{expression_of, expression_in, index_of, select_of, target_of, entry_of, waits_of};
 
+use crate::both;
 use crate::expression::{copy_expr, copy_text};
 use std::alloc::Global;
 use v_tree::{Entry, Expr, Index, Select, Target, Waits};
@@ -19,8 +20,9 @@ fn copy_index(alloc: Global, index: &Index) -> Result<Index, NoMemory>
             Ok(Index::Bit(at))
         }
         Index::Part(from, to) => {
-            let from = copy_expr(alloc, from)?;
-            let to = copy_expr(alloc, to)?;
+            let from = copy_expr(alloc, from);
+            let to = copy_expr(alloc, to);
+            let (from, to) = both(from, to)?;
             Ok(Index::Part(from, to))
         }
     }
@@ -89,9 +91,10 @@ pub fn copy_assigned(
     ensures target { IfOk result (λ copy. target_of copy.0 ≡ target_of target.now) }
     ensures value { IfOk result (λ copy. expression_of copy.1 ≡ expression_of value.now) }
 {
-    let target = copy_target(alloc, target)?;
-    let value = copy_expr(alloc, value)?;
-    Ok((target, value))
+    let target = copy_target(alloc, target);
+    let value = copy_expr(alloc, value);
+    let copy = both(target, value)?;
+    Ok(copy)
 }
 
 /// An entry of an event control with the same view.
