@@ -21,10 +21,11 @@ use Rattle.machine.specs.declared.parts.Stage.{Stage}
 use Rattle.machine.specs.declared.parts.Stage.TheVariants.{Start, Between, Over}
 use Rattle.machine.specs.declared.parts.Machine.{Machine as Simulated}
 use Rattle.machine.specs.Standing.{machine_kept, state_kept, slot_after, begins_at, begins_next, notes_runs, first_turn, IsStanding}
-use Rattle.machine.specs.Moments.{AreBothOf}
-use Rattle.machine.specs.Phases.{held_in, Runs}
+use Rattle.machine_events.specs.Parts.{AreBothOf}
+use Rattle.machine_events.specs.Turns.{held_in}
+use Rattle.machine_events.specs.PartLaws.{turned-nets, held-is}
+use Rattle.machine.specs.Phases.{Runs}
 use Rattle.machine.proofs.Moved.{moved}
-use Rattle.machine.proofs.TurnsOn.{turned-nets, held-is}
 
 pub some-state : (x y : State) → Some x ≡ Some y → x ≡ y
 some-state x y e = ap (found_or x) e
@@ -54,10 +55,12 @@ pub begins-table : (m : Simulated) → IsStanding m → IsTableOf (machine_kept 
 begins-table m standing = record { design = standing.design; time = refl; processes = refl }
 
 -- the slot begins, and is recorded
-pub slot-begun : SlotsBegin → SlotsBeginNotes → (begins : State) (old new : Simulated) (log : SlotLog) (turn : Turn) (between : SlotRecord) → IsStanding old → begins_next old ≡ Some begins → begins.time ≤ 2 ^ 63 →
+pub slot-begun : SlotsBegin → SlotsBeginNotes → (begins : State) (old new : Simulated) (log : SlotLog) (turn : Turn) (between : SlotRecord) → IsStanding old → begins_next old ≡ Some begins →
+    begins.time ≤ 2 ^ 63 →
     turn ≡ first_turn old.stage → IsTableOf (machine_kept old) begins (table_of new.table) → IsKept new.table → AreNetsOf new.nets (state_kept old) → machine_kept new ≡ machine_kept old →
     design_of new.graph.now.design.now ≡ design_of old.graph.now.design.now → IsEmptyLog log → BeginsSlot old.record between →
-    BeginsPhase turn (table_of new.table).time (held_in (table_of new.table)) between new.record → new.runs.ended.items ≡ [] → runs_so_far new.runs ≡ runs_so_far old.runs → notes_runs new ≡ notes_runs old →
+    BeginsPhase turn (table_of new.table).time (held_in (table_of new.table)) between new.record → new.runs.ended.items ≡ [] → runs_so_far new.runs ≡ runs_so_far old.runs →
+    notes_runs new ≡ notes_runs old →
     Runs (machine_kept old) (first_turn old.stage) begins 0 new log
 slot-begun law notes begins old new log turn between standing next low first table kept nets same graph empty slot phase none stay noted =
     let machine = machine_kept old in
@@ -65,25 +68,29 @@ slot-begun law notes begins old new log turn between standing next low first tab
     record {
       at = first_moment begins;
       is = moved machine (first_turn old.stage) (first_moment begins) new log (law machine begins (standing.begins begins next)) both kept (graph ∙ standing.graph)
-          (phase machine (first_turn old.stage) [] None begins log (slot machine (first_turn old.stage) standing.earlier log standing.causes empty) first (sym table.time) (held-is machine begins (table_of new.table) table)) low
+          (phase machine (first_turn old.stage) [] None begins log (slot machine (first_turn old.stage) standing.earlier log standing.causes empty) first (sym table.time)
+          (held-is machine begins (table_of new.table) table)) low
           (λ on. notes machine begins new.runs (subst (AreAtRest (length machine.design.processes)) (sym stay) (standing.rests begins next (sym noted ∙ on))) none);
       begins_is = refl;
       steps_is = refl;
     }
 
 -- there is room for as many objects as the design has
-pub begun-room : (m : Simulated) (between : SlotRecord) (log : SlotLog) → IsStanding m → BeginsSlot m.record between → IsEmptyLog log → object_count between.phase ≡ length (machine_kept m).design.objects
+pub begun-room : (m : Simulated) (between : SlotRecord) (log : SlotLog) → IsStanding m → BeginsSlot m.record between → IsEmptyLog log →
+    object_count between.phase ≡ length (machine_kept m).design.objects
 begun-room m between log standing slot empty = (slot (machine_kept m) (first_turn m.stage) standing.earlier log standing.causes empty).causes.objects
 
 -- The turn before a slot
 
 -- at the start there is none
-pub start-table : (stage : Stage) (machine : Machine) (state begins : State) (table : TableState) → stage ≡ Start → IsTableOf machine state table → begins_at stage state ≡ Some begins → IsTableOf machine begins table
+pub start-table : (stage : Stage) (machine : Machine) (state begins : State) (table : TableState) → stage ≡ Start → IsTableOf machine state table → begins_at stage state ≡ Some begins →
+    IsTableOf machine begins table
 start-table stage machine state begins table is of next =
     subst (λ s. IsTableOf machine s table) (some-state state begins (sym (ap (λ g. begins_at g state) is) ∙ next)) of
 
 -- between two slots time moves on
-pub between-table : (stage : Stage) (machine : Machine) (state begins : State) (table : TableState) → stage ≡ Between → IsTableOf machine (turned_by (turn_of state) state) table → begins_at stage state ≡ Some begins → IsTableOf machine begins table
+pub between-table : (stage : Stage) (machine : Machine) (state begins : State) (table : TableState) → stage ≡ Between → IsTableOf machine (turned_by (turn_of state) state) table →
+    begins_at stage state ≡ Some begins → IsTableOf machine begins table
 between-table stage machine state begins table is of next =
     let l = later-slot state begins (turn_of state) (sym (ap (λ g. begins_at g state) is) ∙ next) in
     subst (λ s. IsTableOf machine s table) (ap (λ o. turned_by o state) l.1 ∙ l.2) of

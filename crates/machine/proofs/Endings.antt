@@ -49,13 +49,16 @@ next-is machine begins state false is same =
     ∙ sym (ap (λ b. elim b [ true ↦ None | false ↦ slot_after (slot_end machine (slot_from machine begins)) (turn_of (slot_end machine (slot_from machine begins))) ]) is)
 
 -- the last phase is recorded
-pub ended-record : (machine : Machine) (first : Turn) (begins : State) (hyper : Bool) (old : Simulated) (log logged : SlotLog) (kept : SlotRecord) (ends : EndsSlot machine first begins hyper old log) →
+pub ended-record : (machine : Machine) (first : Turn) (begins : State) (hyper : Bool) (old : Simulated) (log logged : SlotLog) (kept : SlotRecord)
+    (ends : EndsSlot machine first begins hyper old log) →
     EndsPhase (design_of old.graph.now.design.now) old.record kept log logged → RecordedSlot machine first (phases_so_far ends.at) kept logged
 ended-record machine first begins hyper old log logged kept ends phase = phase machine first ends.at.ended _ (sym (graph-of machine first ends.at old log ends.is)) ends.is.recorded
 
 -- what the slot gives
-pub slot-run : SlotsEndNotes → (machine : Machine) (first : Turn) (begins : State) (hyper : Bool) (end : SlotEnd) (old new : Simulated) (log logged timed : SlotLog) → EndsSlot machine first begins hyper old log →
-    EndsPhase (design_of old.graph.now.design.now) old.record new.record log logged → outcome_of end ≡ outcome_told hyper new.record.race → state_kept new ≡ state_kept old → new.stage ≡ stage_after hyper →
+pub slot-run : SlotsEndNotes → (machine : Machine) (first : Turn) (begins : State) (hyper : Bool) (end : SlotEnd) (old new : Simulated) (log logged timed : SlotLog) →
+    EndsSlot machine first begins hyper old log →
+    EndsPhase (design_of old.graph.now.design.now) old.record new.record log logged → outcome_of end ≡ outcome_told hyper new.record.race → state_kept new ≡ state_kept old →
+    new.stage ≡ stage_after hyper →
     timed.phases ≡ logged.phases → timed.actors ≡ logged.actors → timed.turns ≡ logged.turns → timed.time ≡ (table_of old.table).time →
     new.runs ≡ old.runs → notes_runs new ≡ notes_runs old → RunsSlot machine begins first end new timed
 slot-run law machine first begins hyper end old new log logged timed ends phase says same stage phases actors turns time noted notes =
@@ -78,7 +81,8 @@ between-not-hyper : (hyper : Bool) → stage_after hyper ≡ Between → hyper �
 between-not-hyper true e = cc
 between-not-hyper false e = refl
 
-next-begins : NextSlotsBegin → (machine : Machine) (first : Turn) (begins next : State) (hyper : Bool) (old : Simulated) (log : SlotLog) → EndsSlot machine first begins hyper old log → begins_at (stage_after hyper) (state_kept old) ≡ Some next →
+next-begins : NextSlotsBegin → (machine : Machine) (first : Turn) (begins next : State) (hyper : Bool) (old : Simulated) (log : SlotLog) → EndsSlot machine first begins hyper old log →
+    begins_at (stage_after hyper) (state_kept old) ≡ Some next →
     BeginsPhase machine next
 next-begins law machine first begins next true old log ends e = cc
 next-begins law machine first begins next false old log ends e =
@@ -87,15 +91,18 @@ next-begins law machine first begins next false old log ends e =
     (law machine ends.at l.0 (rules-at machine first ends.at old log ends.is) ends.is.comes (ends.idle refl) (ap turn_of (sym ends.is.state_is) ∙ l.1))
 
 -- no process is in a run
-next-rests : SlotsEndNotes → (machine : Machine) (first : Turn) (begins next : State) (hyper : Bool) (old : Simulated) (log : SlotLog) → EndsSlot machine first begins hyper old log → begins_at (stage_after hyper) (state_kept old) ≡ Some next →
+next-rests : SlotsEndNotes → (machine : Machine) (first : Turn) (begins next : State) (hyper : Bool) (old : Simulated) (log : SlotLog) → EndsSlot machine first begins hyper old log →
+    begins_at (stage_after hyper) (state_kept old) ≡ Some next →
     notes_runs old ≡ true → IsAtRest (length machine.design.processes) old.runs
 next-rests law machine first begins next true old log ends e on = cc
 next-rests law machine first begins next false old log ends e on =
     (law machine ends.at.ended (present_phase ends.at) old.runs (none-ready machine ends.at ends.is.comes (ends.idle refl)) (ends.is.runs on)).rests
 
 -- the machine stands between two slots
-pub slot-stands : NextSlotsBegin → SlotsEndNotes → FirstRunsGoOn → (machine : Machine) (first : Turn) (begins : State) (hyper : Bool) (old new : Simulated) (log logged : SlotLog) → BeginsInFirstRun machine begins → EndsSlot machine first begins hyper old log →
-    EndsPhase (design_of old.graph.now.design.now) old.record new.record log logged → new.nets ≡ old.nets → new.table ≡ old.table → design_of new.graph.now.design.now ≡ design_of old.graph.now.design.now → new.stage ≡ stage_after hyper →
+pub slot-stands : NextSlotsBegin → SlotsEndNotes → FirstRunsGoOn → (machine : Machine) (first : Turn) (begins : State) (hyper : Bool) (old new : Simulated) (log logged : SlotLog) →
+    BeginsInFirstRun machine begins → EndsSlot machine first begins hyper old log →
+    EndsPhase (design_of old.graph.now.design.now) old.record new.record log logged → new.nets ≡ old.nets → new.table ≡ old.table →
+    design_of new.graph.now.design.now ≡ design_of old.graph.now.design.now → new.stage ≡ stage_after hyper →
     new.runs ≡ old.runs → notes_runs new ≡ notes_runs old → IsStanding new
 slot-stands law quiet follows machine first begins hyper old new log logged within ends phase nets table graph stage noted notes =
     let recorded : RecordedSlot machine first (phases_so_far ends.at) new.record logged = ended-record machine first begins hyper old log logged new.record ends phase in
@@ -112,16 +119,31 @@ slot-stands law quiet follows machine first begins hyper old new log logged with
           ∙ idle-processes ends.at.state (ends.idle (between-not-hyper hyper (sym stage ∙ between)));
       begins = λ next e. subst (λ k. BeginsPhase k next) (sym same)
           (next-begins law machine first begins next hyper old log ends
-          ((λ i. begins_at (sym stage i) (record { time = (table_of (sym table i)).time; values = values_in (sym nets i); nodes = nodes_in (sym nets i); processes = (table_of (sym table i)).processes })) ∙ e));
+          ((λ i. begins_at (sym stage i) (record {
+            time = (table_of (sym table i)).time;
+            values = values_in (sym nets i);
+            nodes = nodes_in (sym nets i);
+            processes = (table_of (sym table i)).processes;
+          })) ∙ e));
       reached = λ next e.
           subst (λ k. BeginsInFirstRun k next) (sym same)
           (next-in-run follows machine begins next (rules-at machine first ends.at old log ends.is) within
           (sym (next-is machine begins (state_kept old) hyper (subst (λ b. is_hyper (slot_from machine b) ≡ hyper) ends.begins_is ends.ends.hyper_is)
           (subst (λ b. state_kept old ≡ slot_end machine (slot_from machine b)) ends.begins_is (ends.is.state_is ∙ sym ends.ends.end_is)))
-          ∙ (λ i. begins_at (sym stage i) (record { time = (table_of (sym table i)).time; values = values_in (sym nets i); nodes = nodes_in (sym nets i); processes = (table_of (sym table i)).processes })) ∙ e));
+          ∙ (λ i. begins_at (sym stage i) (record {
+            time = (table_of (sym table i)).time;
+            values = values_in (sym nets i);
+            nodes = nodes_in (sym nets i);
+            processes = (table_of (sym table i)).processes;
+          })) ∙ e));
       rests = λ next e on.
           subst (λ (kept : RunRecord). IsAtRest (length (machine_kept new).design.processes) kept) (sym noted)
           (subst (λ (k : Machine). IsAtRest (length k.design.processes) old.runs) (sym same)
           (next-rests quiet machine first begins next hyper old log ends
-          ((λ i. begins_at (sym stage i) (record { time = (table_of (sym table i)).time; values = values_in (sym nets i); nodes = nodes_in (sym nets i); processes = (table_of (sym table i)).processes })) ∙ e) (sym notes ∙ on)));
+          ((λ i. begins_at (sym stage i) (record {
+            time = (table_of (sym table i)).time;
+            values = values_in (sym nets i);
+            nodes = nodes_in (sym nets i);
+            processes = (table_of (sym table i)).processes;
+          })) ∙ e) (sym notes ∙ on)));
     }

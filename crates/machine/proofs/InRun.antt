@@ -17,7 +17,8 @@ follow-first machine time begins [] follow = absurd follow
 follow-first machine time begins (slot ∷ slots) follow = ap Some follow.0
 
 -- behind each slot comes the one to which it leads
-follow-next : (machine : Machine) (time : ℕ) (begins : Option State) (slots : List FirstSlot) (number : ℕ) (slot : FirstSlot) (next : State) → Follow machine time begins slots → slice_get slots number ≡ Some slot →
+follow-next : (machine : Machine) (time : ℕ) (begins : Option State) (slots : List FirstSlot) (number : ℕ) (slot : FirstSlot) (next : State) → Follow machine time begins slots →
+    slice_get slots number ≡ Some slot →
     next_slot machine time slot ≡ Some next → slice_get slots (suc number) ≡ Some (slot_from machine next)
 follow-next machine time None [] number slot next follow here leads = cc
 follow-next machine time None (one ∷ slots) number slot next follow here leads = absurd follow
@@ -32,7 +33,8 @@ all-first : (P : FirstSlot → Type 0) (slots : List FirstSlot) (slot : FirstSlo
 all-first P [] slot all here = cc
 all-first P (one ∷ slots) slot all here = let same : one ≡ slot = cc in subst P same all.0
 
-rise-next : (slots : List FirstSlot) (number : ℕ) (slot later : FirstSlot) → Rise slots → slice_get slots number ≡ Some slot → slice_get slots (suc number) ≡ Some later → slot.begins.time < later.begins.time
+rise-next : (slots : List FirstSlot) (number : ℕ) (slot later : FirstSlot) → Rise slots → slice_get slots number ≡ Some slot → slice_get slots (suc number) ≡ Some later →
+    slot.begins.time < later.begins.time
 rise-next [] number slot later rise here there = cc
 rise-next (one ∷ slots) zero slot later rise here there =
     let same : one ≡ slot = cc in
@@ -47,7 +49,8 @@ start-in-run law machine rules = record {
 }
 
 -- and so is the one after a slot of it
-pub next-in-run : FirstRunsGoOn → (machine : Machine) (begins next : State) → KeepsRules machine.design → BeginsInFirstRun machine begins → following machine (slot_from machine begins) ≡ Some next → BeginsInFirstRun machine next
+pub next-in-run : FirstRunsGoOn → (machine : Machine) (begins next : State) → KeepsRules machine.design → BeginsInFirstRun machine begins → following machine (slot_from machine begins) ≡ Some next →
+    BeginsInFirstRun machine next
 next-in-run law machine begins next rules within leads = record {
   number = suc within.number;
   stands = λ time low. behind time (omega (arith, low, later)) low;
@@ -59,7 +62,8 @@ next-in-run law machine begins next rules within leads = record {
 
     behind : (time : ℕ) → begins.time ≤ time → next.time ≤ time → slice_get (first_run machine time) (suc within.number) ≡ Some (slot_from machine next)
     behind time early low =
-        follow-next machine time (Some (start machine)) (first_run machine time) within.number (slot_from machine begins) next (law.follow machine time rules) (within.stands time early) (leads-by time low)
+        follow-next machine time (Some (start machine)) (first_run machine time) within.number (slot_from machine begins) next (law.follow machine time rules) (within.stands time early)
+        (leads-by time low)
 
     later : begins.time < next.time
     later =

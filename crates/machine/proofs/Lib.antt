@@ -1,7 +1,5 @@
-pub mod Counts
+pub mod Places
 pub mod Moved
-pub mod Written
-pub mod Finished
 pub mod Events
 pub mod TurnsOn
 pub mod Made

@@ -20,7 +20,12 @@ use Rattle.machine.specs.declared.moves.Made.TheVariants.{Counted, Uncounted, No
 
 -- what holds where a machine stays holds still
 pub moving-stays : (old new : Simulated) (log : SlotLog) → StaysAt old new → IsMovingIn old log → IsMovingIn new log
-moving-stays old new log stays moving = record { first = moving.first; at = moving.at; is = subst (λ k. IsAt k moving.first moving.at new log) (sym stays.machine_is) (stays.at (machine_kept old) moving.first moving.at log moving.is) }
+moving-stays old new log stays moving = record {
+  first = moving.first;
+  at = moving.at;
+  is =
+      subst (λ k. IsAt k moving.first moving.at new log) (sym stays.machine_is) (stays.at (machine_kept old) moving.first moving.at log moving.is);
+}
 
 pub moving-any : (m : Simulated) (log : SlotLog) → IsMovingIn m log → IsMoving m
 moving-any m log moving = record { first = moving.first; at = moving.at; log = log; is = moving.is }
@@ -37,11 +42,13 @@ made-event step count old mid new log same counted stays goes machine first begi
 }
 
 -- a machine that stays stands in the slot as before
-pub stays-runs : (old new : Simulated) (log : SlotLog) → StaysAt old new → (machine : Machine) (first : Turn) (begins : State) (steps : ℕ) → Runs machine first begins steps old log → Runs machine first begins steps new log
+pub stays-runs : (old new : Simulated) (log : SlotLog) → StaysAt old new → (machine : Machine) (first : Turn) (begins : State) (steps : ℕ) → Runs machine first begins steps old log →
+    Runs machine first begins steps new log
 stays-runs old new log stays machine first begins steps runs = record { at = runs.at; is = stays.at machine first runs.at log runs.is; begins_is = runs.begins_is; steps_is = runs.steps_is }
 
 -- where the values and the nodes are told to be the same, the machine stays
-pub stays-nets : (old new : Simulated) → machine_in new.nets ≡ machine_in old.nets → values_in new.nets ≡ values_in old.nets → nodes_in new.nets ≡ nodes_in old.nets → new.table ≡ old.table → new.record ≡ old.record →
+pub stays-nets : (old new : Simulated) → machine_in new.nets ≡ machine_in old.nets → values_in new.nets ≡ values_in old.nets → nodes_in new.nets ≡ nodes_in old.nets → new.table ≡ old.table →
+    new.record ≡ old.record →
     design_of new.graph.now.design.now ≡ design_of old.graph.now.design.now → new.runs ≡ old.runs → notes_runs new ≡ notes_runs old → StaysAt old new
 stays-nets old new machine values nodes table kept graph runs notes =
     let state : state_kept new ≡ state_kept old =
@@ -69,7 +76,8 @@ stays-nets old new machine values nodes table kept graph runs notes =
 -- The end of a slot
 
 -- where neither an event nor a turn within the slot is possible, the slot is at its end
-pub ends-quiet : QuietSlotsEnd → (machine : Machine) (first : Turn) (begins : State) (steps : ℕ) (m : Simulated) (log : SlotLog) → Runs machine first begins steps m log → steps ≤ most_steps → IsQuiet (state_kept m) →
+pub ends-quiet : QuietSlotsEnd → (machine : Machine) (first : Turn) (begins : State) (steps : ℕ) (m : Simulated) (log : SlotLog) → Runs machine first begins steps m log → steps ≤ most_steps →
+    IsQuiet (state_kept m) →
     EndsSlot machine first begins false m log
 ends-quiet law machine first begins steps m log runs few quiet =
     let idle : IsIdle runs.at.state = subst IsIdle runs.is.state_is quiet.idle in

@@ -10,7 +10,7 @@ use Rattle.process_table.specs.Arranged.{IsKept, table_of}
 use Rattle.machine.specs.declared.parts.Stage.TheVariants.{Start, Between}
 use Rattle.machine.specs.declared.parts.Machine.{Machine as Simulated}
 use Rattle.machine.specs.Standing.{machine_kept, state_kept, begins_at, begins_next, notes_runs, BeginsInFirstRun, IsStanding}
-use Rattle.machine.specs.Moments.{AreBothOf}
+use Rattle.machine_events.specs.Parts.{AreBothOf}
 use Rattle.machine.proofs.Moved.{state-of, rules-of}
 use Rattle.order_laws.specs.FirstRuns.{FirstRunsGoOn}
 use Rattle.machine.proofs.Beginnings.{some-state}
@@ -26,7 +26,8 @@ start-begins law machine m both =
     (subst (λ k. BeginsPhase (machine_kept m) (start k)) both.machine_is (law.first (machine_kept m) (rules-of m)))
 
 -- the machine stands before its first slot
-pub start-stands : PhasesBegin → FirstRunsGoOn → (machine : Machine) (m : Simulated) → AreBothOf machine (start machine) m.nets m.table → m.stage ≡ Start → IsKept m.table → design_of m.graph.now.design.now ≡ machine.design →
+pub start-stands : PhasesBegin → FirstRunsGoOn → (machine : Machine) (m : Simulated) → AreBothOf machine (start machine) m.nets m.table → m.stage ≡ Start → IsKept m.table →
+    design_of m.graph.now.design.now ≡ machine.design →
     AreCausesOf (machine_kept m) [] m.record.phase.causes → notes_runs m ≡ false → IsStanding m
 start-stands law follows machine m both stage kept graph causes off = record {
   table = kept;
@@ -39,7 +40,8 @@ start-stands law follows machine m both stage kept graph causes off = record {
   begins = λ begins next.
       subst (BeginsPhase (machine_kept m)) (some-state (state_kept m) begins (sym (ap (λ g. begins_at g (state_kept m)) stage) ∙ next)) (start-begins law machine m both);
   reached = λ begins next.
-      subst (BeginsInFirstRun (machine_kept m)) (some-state (start (machine_kept m)) begins (sym (start-next (machine_kept m) m (subst (λ k. AreBothOf k (start k) m.nets m.table) (sym both.machine_is) both) stage) ∙ next))
+      subst (BeginsInFirstRun (machine_kept m)) (some-state (start (machine_kept m)) begins
+      (sym (start-next (machine_kept m) m (subst (λ k. AreBothOf k (start k) m.nets m.table) (sym both.machine_is) both) stage) ∙ next))
       (start-in-run follows (machine_kept m) (rules-of m));
   rests = λ begins next on. absurd (let no : true ≡ false = sym on ∙ off in cc);
 }

@@ -24,8 +24,11 @@ use Rattle.process_table.specs.Tables.{TableState, IsTableOf}
 use Rattle.process_table.specs.Arranged.{IsKept, table_of}
 use Rattle.machine.specs.declared.parts.Machine.{Machine as Simulated}
 use Rattle.machine.specs.Standing.{machine_kept, state_kept, notes_runs}
-use Rattle.machine.specs.Moments.{AreBothOf, IsAt, IsMovingIn}
-use Rattle.machine.specs.Phases.{held_in, TellsTurn, Runs}
+use Rattle.machine_events.specs.Parts.{AreBothOf}
+use Rattle.machine_events.specs.Turns.{held_in, TellsTurn}
+use Rattle.machine_events.specs.PartLaws.{turned-nets, held-is}
+use Rattle.machine.specs.Moments.{IsAt, IsMovingIn}
+use Rattle.machine.specs.Phases.{Runs}
 use Rattle.machine.proofs.Moved.{both-at, moved, graph-of}
 use Rattle.machine.proofs.Events.{rules-at}
 
@@ -76,28 +79,21 @@ none-ready machine at comes idle = subst NoneReady comes.happened_so_far (none-a
 
 -- Turns
 
--- a turn changes no value and no node
-pub turned-nets : (kind : TurnKind) (nets : NetState) (state : State) → AreNetsOf nets state → AreNetsOf nets (turned kind state)
-turned-nets PostponedTurn nets state are = record { values = are.values; nodes = are.nodes }
-turned-nets UpdatesTurn nets state are = record { values = are.values; nodes = are.nodes }
-turned-nets (TimeTurn time) nets state are = record { values = are.values; nodes = are.nodes }
-
--- what a phase holds which begins with the processes of a state
-pub held-is : (machine : Machine) (state : State) (table : TableState) → IsTableOf machine state table → held_in table ≡ held_accesses machine state
-held-is machine state table is = λ i. joined (map_numbered (held_by (is.design i)) 0 (is.processes i))
-
 -- the log of the phase names objects of the graph's design
 pub log-named : (m : Simulated) (log : SlotLog) → IsMovingIn m log → IsLogOf (design_of m.graph.now.design.now) m.record.phase.log.log
 log-named m log moving = subst (λ d. IsLogOf d m.record.phase.log.log) (sym moving.is.parts.graph) moving.is.recorded.present.names
 
 -- after it there is still room for as many objects as the design has
-pub ended-room : (m : Simulated) (after : SlotRecord) (log logged : SlotLog) → IsMovingIn m log → EndsPhase (design_of m.graph.now.design.now) m.record after log logged → object_count after.phase ≡ length (machine_kept m).design.objects
+pub ended-room : (m : Simulated) (after : SlotRecord) (log logged : SlotLog) → IsMovingIn m log → EndsPhase (design_of m.graph.now.design.now) m.record after log logged →
+    object_count after.phase ≡ length (machine_kept m).design.objects
 ended-room m after log logged moving ends = (ends (machine_kept m) moving.first moving.at.ended _ (sym moving.is.parts.graph) moving.is.recorded).causes.objects
 
 -- the turn leads to the next moment
-pub turn-moved : TurnsGoOn → PhasesNoteNothing → (machine : Machine) (first : Turn) (begins : State) (steps : ℕ) (old new : Simulated) (log logged : SlotLog) (turn : Turn) (between : SlotRecord) → Runs machine first begins steps old log → steps ≤ most_steps →
+pub turn-moved : TurnsGoOn → PhasesNoteNothing → (machine : Machine) (first : Turn) (begins : State) (steps : ℕ) (old new : Simulated) (log logged : SlotLog) (turn : Turn) (between : SlotRecord) →
+    Runs machine first begins steps old log → steps ≤ most_steps →
     IsIdle (state_kept old) → TellsTurn (Some turn) (turn_of (state_kept old)) → EndsPhase (design_of old.graph.now.design.now) old.record between log logged →
-    ((state : State) → IsTableOf machine state (table_of old.table) → IsTableOf machine (turned_by (turn_of state) state) (table_of new.table)) → IsKept new.table → AreNetsOf new.nets (state_kept old) →
+    ((state : State) → IsTableOf machine state (table_of old.table) → IsTableOf machine (turned_by (turn_of state) state) (table_of new.table)) → IsKept new.table →
+    AreNetsOf new.nets (state_kept old) →
     machine_kept new ≡ machine_kept old → design_of new.graph.now.design.now ≡ design_of old.graph.now.design.now →
     BeginsPhase turn (table_of new.table).time (held_in (table_of new.table)) between new.record → new.runs ≡ old.runs → notes_runs new ≡ notes_runs old → Runs machine first begins steps new logged
 turn-moved law quiet machine first begins steps old new log logged turn between runs few idle told ends turns kept nets same graph starts noted notes =

@@ -1,4 +1,4 @@
 pub mod Standing
 pub mod Moments
-pub mod StepDeeds
+pub mod RunNotes
 pub mod Phases

@@ -1,19 +1,15 @@
 -- A machine at the beginning and at the end of a slot and of its phases (IEEE 1364-2001, clause 5).
-use Rattle.std.specs.Prelude.{◌≡◌, ℕ, ◌+◌, ◌≤◌, Bool, true, false, Option, Some, None, List}
+use Rattle.std.specs.Prelude.{◌≡◌, ℕ, ◌+◌, ◌≤◌, Bool, true, false, Option, Some, None}
 use Rattle.std.specs.Option.{option_map}
 use Rattle.vf_base.specs.Base.{reported_pair}
 use Rattle.vf_base.specs.declared.finding.Pair.{Pair}
 use Rattle.v_design.specs.Grades.{SlotOutcome, Hyper, race_or_fine}
-use Rattle.vf_base.specs.Lists.{joined, map_numbered}
 use Rattle.v_design.specs.Designs.{Machine}
-use Rattle.v_design.specs.States.{State, TurnKind, PostponedTurn, UpdatesTurn, TimeTurn, turn_of}
-use Rattle.v_design.specs.Runs.{Turns, most_steps, turn_in_slot}
-use Rattle.v_design.specs.Accesses.{ObjectAccess, held_by}
+use Rattle.v_design.specs.States.{State, turn_of}
+use Rattle.v_design.specs.Runs.{most_steps, turn_in_slot}
 use Rattle.causal_monitor.specs.declared.slot.Turn.{Turn}
 use Rattle.causal_monitor.specs.declared.slot.SlotLog.{SlotLog}
-use Rattle.slot_record.specs.SlotLogs.{turn_before}
 use Rattle.machine_laws.specs.SlotLoop.{Moment, EndsAt, IsIdle}
-use Rattle.process_table.specs.Tables.{TableState}
 use Rattle.machine.specs.declared.end.SlotEnd.{SlotEnd}
 use Rattle.machine.specs.declared.moves.Made.{Made}
 use Rattle.machine.specs.declared.moves.Made.TheVariants.{Counted, Uncounted, Nothing}
@@ -22,25 +18,6 @@ use Rattle.machine.specs.declared.parts.Stage.{Stage}
 use Rattle.machine.specs.declared.parts.Stage.TheVariants.{Between, Over}
 use Rattle.machine.specs.Standing.{machine_kept, state_kept, begins_next, notes_runs, first_turn, BeginsInFirstRun, IsStanding, RunsSlot}
 use Rattle.machine.specs.Moments.{IsAt}
-
--- Turns
-
--- the accesses that a phase holds which begins with the processes of a table
-abbrev pub held_in : TableState → List ObjectAccess
-held_in table = joined (map_numbered (held_by table.design) 0 table.processes)
-
--- the turn before the next phase, as it is logged: none exactly where no turn within the slot comes
-abbrev pub TellsTurn : Option Turn → Option TurnKind → Type 0
-TellsTurn None kind = turn_in_slot kind ≡ None
-TellsTurn (Some turn) None = ⊥
-TellsTurn (Some turn) (Some kind) = (turn_in_slot (Some kind) ≡ Some Turns) × ((first : Turn) → turn ≡ turn_before first (Some kind))
-
--- the time to which a turn leads, where it leads to a later one
-abbrev pub time_in : Option TurnKind → Option ℕ
-time_in None = None
-time_in (Some PostponedTurn) = None
-time_in (Some UpdatesTurn) = None
-time_in (Some (TimeTurn time)) = Some time
 
 -- Moves
 
@@ -81,7 +58,8 @@ QuietIfNothing Nothing state = IsQuiet state
 
 -- from wherever the machine stood in a slot, it made a move of it
 pub record MakesMove (made : Made) (old new : Simulated) (log_old log_new : SlotLog) : Type 0 where
-  pub goes_on : (machine : Machine) (first : Turn) (begins : State) (steps : ℕ) → Runs machine first begins steps old log_old → steps ≤ most_steps → Runs machine first begins (steps + steps_made made) new log_new
+  pub goes_on : (machine : Machine) (first : Turn) (begins : State) (steps : ℕ) → Runs machine first begins steps old log_old → steps ≤ most_steps →
+      Runs machine first begins (steps + steps_made made) new log_new
   pub quiet : QuietIfNothing made (state_kept new)
   pub notes_are : notes_runs new ≡ notes_runs old
 

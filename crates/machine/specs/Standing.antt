@@ -146,7 +146,8 @@ pub record RunsSlot (machine : Machine) (begins : State) (first : Turn) (end : S
 -- where a slot is fine, every legal run of it ends in the state in which the machine stands
 abbrev pub EveryOrderEndsHere : (machine : Machine) (begins : State) (m : Simulated) → Type 0
 EveryOrderEndsHere machine begins m =
-    slot_outcome machine (slot_from machine begins) ≡ Fine → (moves : List Move) (final : State) → Leads machine begins.time begins moves final → IsTrue (ends_by begins.time final) → final ≡ state_kept m
+    slot_outcome machine (slot_from machine begins) ≡ Fine → (moves : List Move) (final : State) → Leads machine begins.time begins moves final → IsTrue (ends_by begins.time final) →
+    final ≡ state_kept m
 
 -- the next slot of the first run up to a time is the following one, if it begins by then
 pub next-is-following : (machine : Machine) (time : ℕ) (slot : FirstSlot) → next_slot machine time slot ≡ begun_within time (following machine slot)

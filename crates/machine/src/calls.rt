@@ -8,9 +8,8 @@ ghost use Rattle.machine.specs.Standing.{IsStanding, RunsSlot, EveryOrderEndsHer
 
 use crate::end::SlotEnd;
 use crate::parts::{Machine, Stage};
-use crate::phases::later_time;
-use crate::told::Told;
 use causal_monitor::SlotLog;
+use machine_events::{Told, later_time};
 use net_graph::Graph;
 use net_state::NetState;
 use process_table::ProcessTable;
@@ -53,7 +52,6 @@ impl<'d> Machine<'d> {
             runs: RunRecord::none(alloc),
             noting: false,
             stage: Stage::Start,
-            changes: Vec::new(alloc),
             told: Told::new(alloc),
         })
     }

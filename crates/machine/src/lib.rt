@@ -11,14 +11,11 @@ mod calls;
 mod end;
 mod moves;
 mod nodes;
-mod notes;
 mod parts;
 mod phases;
 mod runs;
 mod slots;
 mod steps;
-mod told;
-mod write;
 
 pub use end::SlotEnd;
 pub use parts::Machine;

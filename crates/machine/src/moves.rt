@@ -9,11 +9,12 @@ ghost use Rattle.machine_laws.specs.SlotLoop.{IsIdle, NoNodeWorks, first_lane};
 ghost use Rattle.net_state.specs.States.{nodes_in};
 ghost use Rattle.machine.specs.Standing.{state_kept};
 ghost use Rattle.machine.specs.Moments.{IsMovingIn, StaysAt};
-ghost use Rattle.machine.specs.Phases.{TellsTurn, IsBegun, MakesMove, ComesToEnd, TurnsPhase, steps_made};
+ghost use Rattle.machine_events.specs.Turns.{TellsTurn};
+ghost use Rattle.machine.specs.Phases.{IsBegun, MakesMove, ComesToEnd, TurnsPhase, steps_made};
 
 use crate::parts::Machine;
-use crate::phases::{begin_phase, slot_turn};
 use causal_monitor::{SlotLog, Turn};
+use machine_events::{begin_phase, slot_turn};
 use std::sync::ledger::Ledger;
 use vf_base::{MAX_SLOT_STEPS, NoMemory, NodeId, Steps};
 

@@ -8,8 +8,8 @@ ghost use Rattle.machine_laws.specs.SlotLoop.{after_node};
 ghost use Rattle.net_state.specs.States.{nodes_in};
 ghost use Rattle.machine.specs.Moments.{IsMoving, GoesOn};
 
-use crate::notes::note_node;
 use crate::parts::Machine;
+use machine_events::work_node;
 use vf_base::{NoMemory, NodeId};
 
 impl<'d> Machine<'d> {
@@ -25,11 +25,14 @@ impl<'d> Machine<'d> {
     {
         machine_laws::slot_goes_on();
         run_record::runs_go_on();
-        self.told.clear();
-        self.nets.work(node, &mut self.changes)?;
-        self.table.wake(&self.changes, &mut self.told.accesses, &mut self.told.ended)?;
-        let own = &self.graph.design.nodes.as_slice()[node.0 as usize];
-        note_node(&mut self.record, &self.told, node, own, &self.changes)?;
+        work_node(
+            self.graph.design,
+            &mut self.nets,
+            &mut self.table,
+            &mut self.record,
+            &mut self.told,
+            node,
+        )?;
         Ok(())
     }
 }

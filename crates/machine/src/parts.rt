@@ -2,15 +2,14 @@
 
 ghost use Rattle.std.specs.Prelude.{◌≡◌};
 
-use crate::told::Told;
 use four_value::Vec4;
+use machine_events::Told;
 use net_graph::Graph;
 use net_state::NetState;
 use process_table::ProcessTable;
 use run_record::RunRecord;
 use slot_record::SlotRecord;
 use v_design::Values;
-use value_change::Change;
 use vf_base::ObjectId;
 
 /// Where a machine stands in its run: at the start, after a slot, or after one that was hyperactive, after which there is none.
@@ -34,7 +33,6 @@ pub struct Machine<'d> {
     pub(crate) runs: RunRecord,
     pub(crate) noting: bool,
     pub(crate) stage: Stage,
-    pub(crate) changes: Vec<Change>,
     pub(crate) told: Told,
 }
 

@@ -5,7 +5,7 @@ ghost use Rattle.vf_base.specs.Base.{process_number};
 ghost use Rattle.run_record.specs.RunRecords.{runs_so_far};
 ghost use Rattle.process_table.specs.Arranged.{IsKept, table_of};
 ghost use Rattle.machine.specs.Standing.{IsStanding, StaysStanding, notes_runs, runs_kept};
-ghost use Rattle.machine.specs.StepDeeds.{NotesRun};
+ghost use Rattle.machine.specs.RunNotes.{NotesRun};
 
 use crate::parts::Machine;
 use process_code::RunEnd;

@@ -6,8 +6,9 @@ ghost use Rattle.machine.specs.Phases.{IsBegun, BeginsSlotHere, IsEnded, Finishe
 
 use crate::end::SlotEnd;
 use crate::parts::{Machine, Stage};
-use crate::phases::{begin_phase, turn_to_slot};
+use crate::phases::turn_to_slot;
 use causal_monitor::SlotLog;
+use machine_events::begin_phase;
 use vf_base::{NoMemory, Pair};
 
 /// How a slot ends, by whether it is hyperactive and by its first race.

@@ -1,7 +1,6 @@
 -- The processes are those with which the slot begins.
 use Rattle.std.proofs.Common.{◌≡◌, ◌∙◌, refl, sym, ap}
 use Rattle.machine.specs.Standing.{first_turn}
-use Rattle.machine.specs.Phases.{held_in}
 use Rattle.machine.proofs.Beginnings.{start-table, between-table, over-none}
 use Rattle.machine.proofs.phases.turn_to_slot.Goals as goal
 
@@ -18,7 +17,8 @@ pub returns-in_ok-turn-in-Between-clause-turn : goal.returns-in_ok-turn-in-Betwe
 returns-in_ok-turn-in-Between-clause-turn c = sym (ap first_turn c.in-Between.is)
 
 pub returns-in_ok-turn-in-Between-clause-begins : goal.returns-in_ok-turn-in-Between-clause-begins
-returns-in_ok-turn-in-Between-clause-begins c = λ machine state begins of next. between-table c.args.stage machine state begins _ c.in-Between.is (c.in_ok-turn-in-Between.ensures.turned machine state of) next
+returns-in_ok-turn-in-Between-clause-begins c = λ machine state begins of next. between-table c.args.stage machine state begins _ c.in-Between.is
+    (c.in_ok-turn-in-Between.ensures.turned machine state of) next
 
 pub returns-in-Over-clause-turn : goal.returns-in-Over-clause-turn
 returns-in-Over-clause-turn c = sym (ap first_turn c.in-Over.is)

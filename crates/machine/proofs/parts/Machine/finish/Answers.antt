@@ -14,8 +14,10 @@ returns c = record {
   machine_is = refl;
   notes_are = refl;
   runs = λ machine first begins ends.
-      slot-run c.runs_go_on.ensures.end machine first begins c.args.hyper c.end_of.result c.args.self.now _ c.args.log.now c.end_phase.new.log _ ends c.in_ok-end_phase.ensures (c.end_of.ensures ∙ ap (outcome_told c.args.hyper) c.race.ensures) refl
+      slot-run c.runs_go_on.ensures.end machine first begins c.args.hyper c.end_of.result c.args.self.now _ c.args.log.now c.end_phase.new.log _ ends c.in_ok-end_phase.ensures
+      (c.end_of.ensures ∙ ap (outcome_told c.args.hyper) c.race.ensures) refl
       c.stage_after-self.ensures refl refl refl c.time-log.ensures refl refl;
   standing = λ machine first begins within ends.
-      slot-stands c.slot_ends.ensures.next c.runs_go_on.ensures.end c.first_run_goes_on.ensures machine first begins c.args.hyper c.args.self.now _ c.args.log.now c.end_phase.new.log within ends c.in_ok-end_phase.ensures refl refl refl c.stage_after-self.ensures refl refl;
+      slot-stands c.slot_ends.ensures.next c.runs_go_on.ensures.end c.first_run_goes_on.ensures machine first begins c.args.hyper c.args.self.now _ c.args.log.now c.end_phase.new.log within ends
+      c.in_ok-end_phase.ensures refl refl refl c.stage_after-self.ensures refl refl;
 }

@@ -13,7 +13,7 @@ use Rattle.net_state.specs.declared.state.NetState.{NetState}
 use Rattle.net_state.specs.States.{values_in, nodes_in}
 use Rattle.process_table.specs.declared.table.ProcessTable.{ProcessTable}
 use Rattle.process_table.specs.Arranged.{table_of}
-use Rattle.machine.specs.Moments.{AreBothOf}
+use Rattle.machine_events.specs.Parts.{AreBothOf}
 use Rattle.machine.proofs.Started.{start-stands}
 use Rattle.machine.proofs.parts.Machine.new.Goals as goal
 
@@ -33,13 +33,18 @@ causes-of machine other causes same are = subst (λ k. AreCausesOf k [] causes) 
 pub returns-clause-begins : goal.returns-clause-begins
 returns-clause-begins c =
     let machine = machine_with c.args.design.now c.args.fault in
-    state-is machine (start machine) c.in_ok-nets.nets c.in_ok-table.table (record { machine_is = c.in_ok-nets.ensures.machine; nets_are = c.in_ok-nets.ensures.begins; table_is = c.in_ok-table.ensures.does machine refl })
+    state-is machine (start machine) c.in_ok-nets.nets c.in_ok-table.table (record {
+      machine_is = c.in_ok-nets.ensures.machine;
+      nets_are = c.in_ok-nets.ensures.begins;
+      table_is = c.in_ok-table.ensures.does machine refl;
+    })
 
 pub returns-clause-standing : goal.returns-clause-standing
 returns-clause-standing c =
     let machine = machine_with c.args.design.now c.args.fault in
     let same = c.in_ok-nets.ensures.machine in
     let objects = sym (c.object_count.ensures.count ∙ c.object_count.ensures.all ∙ ap (λ (k : Machine). length k.design.objects) same) in
-    start-stands c.nets.ensures.begin c.first_run_goes_on.ensures machine _ (record { machine_is = same; nets_are = c.in_ok-nets.ensures.begins; table_is = c.in_ok-table.ensures.does machine refl }) refl
+    start-stands c.nets.ensures.begin c.first_run_goes_on.ensures machine _ (record { machine_is = same; nets_are = c.in_ok-nets.ensures.begins; table_is = c.in_ok-table.ensures.does machine refl })
+    refl
     c.in_ok-table.ensures.kept (ap design_of c.requires)
     (causes-of _ _ _ same (c.in_ok-record.ensures machine (length-map c.args.design.now.processes process_of ∙ sym (ap length c.as_slice-processes.ensures)) objects)) refl

@@ -4,7 +4,7 @@ use Rattle.std.specs.Prelude.{Option}
 use Rattle.std.specs.Option.{option_map}
 use Rattle.v_design.specs.States.{State, TurnKind, PostponedTurn, UpdatesTurn, TimeTurn, turn_of}
 use Rattle.machine.specs.Standing.{machine_kept, state_kept, slot_after, begins_at}
-use Rattle.machine.specs.Phases.{time_in}
+use Rattle.machine_events.specs.Turns.{time_in}
 use Rattle.machine.proofs.Beginnings.{begins-table}
 use Rattle.machine.proofs.parts.Machine.next_time.Goals as goal
 

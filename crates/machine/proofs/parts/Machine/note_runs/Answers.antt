@@ -26,6 +26,7 @@ returns-clause-stays c =
         reached = s.reached;
         rests = λ begins next on.
             subst (λ n. AreAtRest n (runs_so_far c.in_ok-runs.runs))
-            (ap length c.as_slice-processes.ensures ∙ sym (length-map c.args.self.now.graph.now.design.now.processes process_of) ∙ ap (λ (d : FlatDesign). length d.processes) s.graph) c.in_ok-runs.ensures;
+            (ap length c.as_slice-processes.ensures ∙ sym (length-map c.args.self.now.graph.now.design.now.processes process_of) ∙ ap (λ (d : FlatDesign). length d.processes) s.graph)
+            c.in_ok-runs.ensures;
       };
     }

@@ -15,7 +15,8 @@ use Rattle.machine.proofs.Made.{ends-quiet, ends-hyper, runs-moving}
 use Rattle.machine.proofs.parts.Machine.run.Goals as goal
 
 -- where nothing was made, the slot is at its end
-ends-nothing : QuietSlotsEnd → (machine : Machine) (first : Turn) (begins : State) (steps : ℕ) (made : Made) (old new : Simulated) (log logged : SlotLog) → MakesMove made old new log logged → made ≡ Nothing → steps ≤ most_steps →
+ends-nothing : QuietSlotsEnd → (machine : Machine) (first : Turn) (begins : State) (steps : ℕ) (made : Made) (old new : Simulated) (log logged : SlotLog) → MakesMove made old new log logged →
+    made ≡ Nothing → steps ≤ most_steps →
     Runs machine first begins steps old log → EndsSlot machine first begins false new logged
 ends-nothing law machine first begins steps made old new log logged makes is few runs =
     let none : steps + steps_made made ≡ steps = ap (λ m. steps + steps_made m) is ∙ plus-none steps in
@@ -33,7 +34,8 @@ make_move-requires g c =
 pub returns-then-taken-gt-MAX_SLOT_STEPS : goal.returns-then-taken-gt-MAX_SLOT_STEPS
 returns-then-taken-gt-MAX_SLOT_STEPS g c = record {
   notes_are = c.moves.invariant.notes;
-  ends = λ machine first begins runs. ends-hyper c.slot_ends.ensures.hyper machine first begins c.moves.taken c.moves.self c.moves.log (c.moves.invariant.runs machine first begins runs) (omega (arith, c.moves.invariant.few));
+  ends = λ machine first begins runs. ends-hyper c.slot_ends.ensures.hyper machine first begins c.moves.taken c.moves.self c.moves.log (c.moves.invariant.runs machine first begins runs)
+      (omega (arith, c.moves.invariant.few));
 }
 
 pub returns-in-Nothing : goal.returns-in-Nothing
@@ -41,6 +43,7 @@ returns-in-Nothing g c =
     let few : c.moves.taken ≤ most_steps = omega (arith, c.if-taken-gt-MAX_SLOT_STEPS.false) in
     record {
       notes_are = c.in_ok-made.ensures.notes_are ∙ c.moves.invariant.notes;
-      ends = λ machine first begins runs. ends-nothing c.slot_ends.ensures.quiet machine first begins c.moves.taken c.in_ok-made.made c.moves.self c.make_move.new.self c.moves.log c.make_move.new.log c.in_ok-made.ensures c.in-Nothing.is few
+      ends = λ machine first begins runs. ends-nothing c.slot_ends.ensures.quiet machine first begins c.moves.taken c.in_ok-made.made c.moves.self c.make_move.new.self c.moves.log
+          c.make_move.new.log c.in_ok-made.ensures c.in-Nothing.is few
           (c.moves.invariant.runs machine first begins runs);
     }

@@ -41,13 +41,15 @@ returns-clause-every_order g c = λ begins next fine moves final leads ends.
     let m = c.args.self.now in
     let within = c.requires.standing.reached begins next in
     c.fine_slots.ensures (machine_kept m) begins.time within.number (slot_from (machine_kept m) begins) (rules-of m) (within.stands begins.time (omega arith)) fine moves final leads ends
-    ∙ sym (c.in_ok-end.ensures.runs (machine_kept m) (first_turn m.stage) begins (c.in_ok-hyper.ensures.ends (machine_kept m) (first_turn m.stage) begins (c.in_ok-begin_slot.ensures.runs begins next))).state
+    ∙ sym (c.in_ok-end.ensures.runs (machine_kept m) (first_turn m.stage) begins (c.in_ok-hyper.ensures.ends (machine_kept m) (first_turn m.stage) begins
+    (c.in_ok-begin_slot.ensures.runs begins next))).state
 
 pub returns-clause-standing : goal.returns-clause-standing
 returns-clause-standing g c =
     let m = c.args.self.now in
     let f = found-some (begins_next m) (λ begins. begins.time ≤ 2 ^ 63) c.requires.left in
-    c.in_ok-end.ensures.standing (machine_kept m) (first_turn m.stage) f.0 (c.requires.standing.reached f.0 f.1) (c.in_ok-hyper.ensures.ends (machine_kept m) (first_turn m.stage) f.0 (c.in_ok-begin_slot.ensures.runs f.0 f.1))
+    c.in_ok-end.ensures.standing (machine_kept m) (first_turn m.stage) f.0 (c.requires.standing.reached f.0 f.1)
+    (c.in_ok-hyper.ensures.ends (machine_kept m) (first_turn m.stage) f.0 (c.in_ok-begin_slot.ensures.runs f.0 f.1))
 
 pub returns-clause-notes : goal.returns-clause-notes
 returns-clause-notes g c = c.in_ok-end.ensures.notes_are ∙ c.in_ok-hyper.ensures.notes_are ∙ c.in_ok-begin_slot.ensures.notes_are

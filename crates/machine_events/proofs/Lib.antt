@@ -1,0 +1,4 @@
+pub mod Written
+pub mod Finished
+pub mod Recorded
+pub mod NodesOn

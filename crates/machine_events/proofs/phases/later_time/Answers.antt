@@ -1,0 +1,18 @@
+-- The time is that of the state's turn.
+use Rattle.std.proofs.Common.{◌∙◌, Some, sym, ap}
+use Rattle.process_table.specs.declared.deed.TableTurn.{TableTurn}
+use Rattle.process_table.specs.Deeds.{turn_kind}
+use Rattle.machine_events.specs.Turns.{time_in}
+use Rattle.machine_events.proofs.phases.later_time.Goals as goal
+
+pub returns-in-Some-Time : goal.returns-in-Some-Time
+returns-in-Some-Time c = λ machine state of. ap time_in (ap (λ (t : TableTurn). Some (turn_kind t)) (sym c.in-Some-Time.field-0-is) ∙ c.in-Some-Time.ensures machine state of)
+
+pub returns-in-Some-Postponed : goal.returns-in-Some-Postponed
+returns-in-Some-Postponed c = λ machine state of. ap time_in (ap (λ (t : TableTurn). Some (turn_kind t)) (sym c.in-Some-Postponed.field-0-is) ∙ c.in-Some-Postponed.ensures machine state of)
+
+pub returns-in-Some-Updates : goal.returns-in-Some-Updates
+returns-in-Some-Updates c = λ machine state of. ap time_in (ap (λ (t : TableTurn). Some (turn_kind t)) (sym c.in-Some-Updates.field-0-is) ∙ c.in-Some-Updates.ensures machine state of)
+
+pub returns-in-None : goal.returns-in-None
+returns-in-None c = λ machine state of. ap time_in (c.in-None.ensures machine state of)

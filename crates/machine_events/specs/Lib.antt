@@ -1,0 +1,4 @@
+pub mod Parts
+pub mod StepDeeds
+pub mod Turns
+pub mod PartLaws

@@ -1,0 +1,44 @@
+// A step of a process's lane.
+
+ghost use Rattle.std.specs.Prelude.{◌≡◌, true, OnOk};
+ghost use Rattle.vf_base.specs.Base.{process_number};
+ghost use Rattle.v_design.specs.States.{LaneStep, is_any};
+ghost use Rattle.process_table.specs.Arranged.{table_of};
+ghost use Rattle.process_table.specs.Tables.{process_in};
+ghost use Rattle.slot_record.specs.SlotRecords.{one_more};
+ghost use Rattle.machine_events.specs.Parts.{IsInSlot, Leads};
+
+use crate::notes::note_lane;
+use crate::told::Told;
+use crate::write::{is_there, write_update};
+use net_state::NetState;
+use process_table::ProcessTable;
+use slot_record::SlotRecord;
+use vf_base::{NoMemory, ProcId};
+
+/// The first update of a process's lane is written. A process names objects of its design alone.
+///
+/// # Errors
+///
+/// Want of memory.
+pub fn step_lane(
+    nets: &mut NetState,
+    table: &mut ProcessTable,
+    record: &mut SlotRecord,
+    told: &mut Told,
+    process: ProcId,
+) -> Result<(), NoMemory>
+    requires stands { IsInSlot nets.old table.old record.old }
+    requires lane { is_any (process_in (table_of table.old) (process_number process)).lane ≡ true }
+    ensures { OnOk result (Leads (one_more (LaneStep (process_number process))) nets.old nets.new table.old table.new record.old record.new) }
+{
+    let Some(update) = table.lane_step(process) else {
+        unreachable!();
+    };
+    if !is_there(nets, update.object) {
+        return Err(NoMemory);
+    }
+    write_update(nets, table, told, &update, process, update.line)?;
+    note_lane(record, told, process, update.line)?;
+    Ok(())
+}

@@ -1,0 +1,21 @@
+//! The single events of a machine, on the parts that they change: the values and the nodes, the processes, and the record of the present slot (IEEE 1364-2001,
+//! clause 5).
+//!
+//! Whoever runs a machine chooses the order of events. Main contract: `work_node`, `step_process` and `step_lane` lead from wherever the parts stood in a slot, by
+//! whatever events, to the state to which the event's definition leads, with the event recorded in the present phase. `begin_phase` begins the next phase after the
+//! turn that `slot_turn` tells.
+#![tactic(auto)]
+
+mod lanes;
+mod nodes;
+mod notes;
+mod phases;
+mod steps;
+mod told;
+mod write;
+
+pub use lanes::step_lane;
+pub use nodes::work_node;
+pub use phases::{begin_phase, later_time, slot_turn};
+pub use steps::{finish_step, step_process};
+pub use told::Told;
