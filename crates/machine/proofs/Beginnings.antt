@@ -1,16 +1,15 @@
 -- The next slot begins (IEEE 1364-2001, clause 5.4).
-use Rattle.std.proofs.Common.{◌≡◌, ℕ, ◌≤◌, ◌^◌, List, [], length, refl, sym, ap, subst, ◌∙◌}
+use Rattle.std.proofs.Common.{◌≡◌, ℕ, ◌≤◌, ◌^◌, [], length, refl, sym, ap, subst, ◌∙◌}
 use Rattle.std.specs.Prelude.{Option, Some, None, IsSomeAnd}
 use Rattle.v_design.specs.PlainDesigns.{design_of}
-use Rattle.v_design.specs.Designs.{FlatDesign, Machine}
+use Rattle.v_design.specs.Designs.{Machine}
 use Rattle.v_design.specs.States.{State, TurnKind, PostponedTurn, UpdatesTurn, TimeTurn, found_or, turn_of, time_turn}
-use Rattle.v_design.specs.PhaseLogs.{NotedEvent}
 use Rattle.causal_monitor.specs.declared.slot.Turn.{Turn}
 use Rattle.causal_monitor.specs.declared.slot.SlotLog.{SlotLog}
 use Rattle.slot_record.specs.Records.{object_count}
 use Rattle.machine_laws.specs.SlotLoop.{SlotsBegin, first_moment}
 use Rattle.slot_record.specs.declared.record.SlotRecord.{SlotRecord}
-use Rattle.slot_record.specs.SlotRecords.{BeginsSlot, BeginsPhase, RecordedSlot, IsEmptyLog}
+use Rattle.slot_record.specs.SlotRecords.{BeginsSlot, BeginsPhase, IsEmptyLog}
 use Rattle.run_record.specs.RunRecords.{runs_so_far, AreAtRest, SlotsBeginNotes}
 use Rattle.net_state.specs.declared.state.NetState.{NetState}
 use Rattle.net_state.specs.States.{AreNetsOf}

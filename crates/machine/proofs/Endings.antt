@@ -1,9 +1,9 @@
 -- A slot is at its end (IEEE 1364-2001, clause 5.4).
-use Rattle.std.proofs.Common.{◌≡◌, ℕ, ◌≤◌, List, map, length, Bool, true, false, refl, sym, ap, subst, ◌∙◌}
-use Rattle.std.specs.Prelude.{Option, Some, None}
+use Rattle.std.proofs.Common.{◌≡◌, List, map, length, Bool, true, false, refl, sym, ap, subst, ◌∙◌}
+use Rattle.std.specs.Prelude.{Some, None}
 use Rattle.v_design.specs.PlainDesigns.{design_of}
 use Rattle.v_design.specs.Designs.{Machine}
-use Rattle.v_design.specs.States.{State, ProcessState, TimeTurn, time_turn, turn_of, has_event, some_in}
+use Rattle.v_design.specs.States.{State, time_turn, turn_of, has_event, some_in}
 use Rattle.v_design.specs.Runs.{slot_end, is_hyper}
 use Rattle.v_design.specs.Laws.{BeginsPhase}
 use Rattle.v_design.specs.Grades as plain
@@ -13,8 +13,7 @@ use Rattle.causal_monitor.specs.declared.slot.SlotLog.{SlotLog}
 use Rattle.causal_monitor.specs.declared.slot.Actor.{Actor}
 use Rattle.event_causes.specs.Causes.{AreCausesOf}
 use Rattle.slot_record.specs.Records.{event_of}
-use Rattle.slot_record.specs.SlotLogs.{IsSlotLog}
-use Rattle.machine_laws.specs.SlotLoop.{Moment, present_phase, NextSlotsBegin, EndsAt, slot_from, phases_so_far}
+use Rattle.machine_laws.specs.SlotLoop.{present_phase, NextSlotsBegin, slot_from, phases_so_far}
 use Rattle.slot_record.specs.declared.record.SlotRecord.{SlotRecord}
 use Rattle.slot_record.specs.SlotRecords.{EndsPhase, RecordedSlot}
 use Rattle.slot_record.specs.SlotEnds.{outcome_kept, outcome-recorded, log-recorded}
@@ -24,10 +23,9 @@ use Rattle.run_record.specs.declared.record.RunRecord.{RunRecord}
 use Rattle.net_state.specs.States.{machine_in, values_in, nodes_in}
 use Rattle.process_table.specs.Arranged.{IsKept, table_of}
 use Rattle.machine.specs.declared.end.SlotEnd.{SlotEnd}
-use Rattle.machine.specs.declared.parts.Stage.{Stage}
-use Rattle.machine.specs.declared.parts.Stage.TheVariants.{Start, Between, Over}
+use Rattle.machine.specs.declared.parts.Stage.TheVariants.{Between}
 use Rattle.machine.specs.declared.parts.Machine.{Machine as Simulated}
-use Rattle.machine.specs.Standing.{machine_kept, state_kept, slot_after, begins_at, begins_next, notes_runs, following, outcome_of, BeginsInFirstRun, IsStanding, RunsSlot}
+use Rattle.machine.specs.Standing.{machine_kept, state_kept, slot_after, begins_at, notes_runs, following, outcome_of, BeginsInFirstRun, IsStanding, RunsSlot}
 use Rattle.machine.specs.Phases.{EndsSlot, outcome_told, stage_after}
 use Rattle.order_laws.specs.FirstRuns.{FirstRunsGoOn}
 use Rattle.machine.proofs.Moved.{graph-of}

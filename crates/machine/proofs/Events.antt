@@ -1,5 +1,5 @@
 -- The event of the least node, lane or process leads to the next moment (IEEE 1364-2001, clause 5).
-use Rattle.std.proofs.Common.{◌≡◌, ℕ, ◌+◌, ◌<◌, ◌≤◌, ◌^◌, List, length, refl, sym, ap, subst, ◌∙◌}
+use Rattle.std.proofs.Common.{◌≡◌, ℕ, ◌<◌, ◌≤◌, ◌^◌, List, length, refl, sym, ap, subst, ◌∙◌}
 use Rattle.std.specs.Prelude.{Some, None, Bool, slice_get, true, false}
 use Rattle.v_design.specs.PlainDesigns.{design_of}
 use Rattle.v_design.specs.WellFormed.{KeepsRules}

@@ -1,17 +1,16 @@
 -- A machine moves from one moment of a slot to the next (IEEE 1364-2001, clause 5).
-use Rattle.std.proofs.Common.{◌≡◌, ℕ, ◌+◌, ◌<◌, ◌≤◌, ◌^◌, List, length, true, sym, ap, subst, ◌∙◌}
+use Rattle.std.proofs.Common.{◌≡◌, ◌≤◌, ◌^◌, true, sym, ap, subst, ◌∙◌}
 use Rattle.v_design.specs.PlainDesigns.{design_of}
 use Rattle.v_design.specs.RulesHold.{rules_hold}
 use Rattle.v_design.specs.WellFormed.{KeepsRules}
-use Rattle.v_design.specs.Designs.{FlatDesign, Machine}
-use Rattle.v_design.specs.States.{State, ProcessState, NodeState, Event}
-use Rattle.four_value.specs.Values.{LogicValue}
+use Rattle.v_design.specs.Designs.{Machine}
+use Rattle.v_design.specs.States.{State}
 use Rattle.causal_monitor.specs.declared.slot.Turn.{Turn}
 use Rattle.causal_monitor.specs.declared.slot.SlotLog.{SlotLog}
 use Rattle.machine_laws.specs.SlotLoop.{Moment, ComesTo, present_phase}
-use Rattle.slot_record.specs.SlotRecords.{RecordsSlot, state_in}
+use Rattle.slot_record.specs.SlotRecords.{RecordsSlot}
 use Rattle.run_record.specs.RunRecords.{RecordsRuns}
-use Rattle.process_table.specs.Arranged.{IsKept, table_of}
+use Rattle.process_table.specs.Arranged.{IsKept}
 use Rattle.machine.specs.declared.parts.Machine.{Machine as Simulated}
 use Rattle.machine.specs.Standing.{machine_kept, state_kept, notes_runs}
 use Rattle.machine_events.specs.Parts.{AreBothOf, IsAmid, IsInSlot}

@@ -1,12 +1,12 @@
 -- A machine at the start of its run (IEEE 1364-2001, clause 5).
-use Rattle.std.proofs.Common.{◌≡◌, ℕ, List, [], length, map, true, false, refl, sym, ap, subst, ◌∙◌}
+use Rattle.std.proofs.Common.{◌≡◌, [], true, false, sym, ap, subst, ◌∙◌}
 use Rattle.std.specs.Prelude.{Some}
 use Rattle.v_design.specs.PlainDesigns.{design_of}
 use Rattle.v_design.specs.Designs.{Machine}
-use Rattle.v_design.specs.States.{State, start}
+use Rattle.v_design.specs.States.{start}
 use Rattle.v_design.specs.Laws.{BeginsPhase, PhasesBegin}
 use Rattle.event_causes.specs.Causes.{AreCausesOf}
-use Rattle.process_table.specs.Arranged.{IsKept, table_of}
+use Rattle.process_table.specs.Arranged.{IsKept}
 use Rattle.machine.specs.declared.parts.Stage.TheVariants.{Start, Between}
 use Rattle.machine.specs.declared.parts.Machine.{Machine as Simulated}
 use Rattle.machine.specs.Standing.{machine_kept, state_kept, begins_at, begins_next, notes_runs, BeginsInFirstRun, IsStanding}

@@ -1,33 +1,28 @@
 -- A phase ends, and a turn within the slot begins the next one (IEEE 1364-2001, clauses 5.3 and 5.4).
-use Rattle.std.proofs.Common.{◌≡◌, ℕ, zero, suc, ◌+◌, ◌<◌, ◌≤◌, ◌^◌, List, [], ◌∷◌, ◌++◌, Bool, true, false, not, ◌&&◌, ◌||◌, map, length, refl, sym, ap, subst, ◌∙◌}
+use Rattle.std.proofs.Common.{◌≡◌, ℕ, zero, suc, ◌≤◌, List, [], ◌∷◌, Bool, true, false, ◌||◌, length, refl, sym, subst, ◌∙◌}
 use Rattle.std.specs.Prelude.{Option, Some, None, slice_get}
-use Rattle.four_value.specs.Values.{LogicValue}
 use Rattle.v_design.specs.PlainDesigns.{design_of}
-use Rattle.vf_base.specs.Lists.{first_place, earlier_place, joined, map_numbered}
-use Rattle.v_design.specs.Designs.{FlatDesign, Machine}
-use Rattle.v_design.specs.States.{State, ProcessState, NodeState, TurnKind, PostponedTurn, UpdatesTurn, TimeTurn, found_or, idle_process, turn_of, turned, has_event, some_in, is_ready, is_any}
-use Rattle.v_design.specs.Runs.{Turns, most_steps, turn_in_slot, turned_by}
-use Rattle.v_design.specs.Accesses.{ObjectAccess, held_by, held_accesses}
+use Rattle.vf_base.specs.Lists.{first_place, earlier_place}
+use Rattle.v_design.specs.Designs.{Machine}
+use Rattle.v_design.specs.States.{State, ProcessState, TurnKind, found_or, idle_process, turn_of, turned, has_event, some_in, is_ready, is_any}
+use Rattle.v_design.specs.Runs.{most_steps, turned_by}
 use Rattle.causal_monitor.specs.declared.slot.Turn.{Turn}
 use Rattle.causal_monitor.specs.declared.slot.SlotLog.{SlotLog}
 use Rattle.causal_monitor.specs.Phases.{IsLogOf}
-use Rattle.slot_record.specs.SlotLogs.{turn_before}
 use Rattle.slot_record.specs.Records.{object_count}
-use Rattle.machine_laws.specs.SlotLoop.{Moment, ComesTo, present_phase, TurnsGoOn, IsIdle, after_turn, phases_so_far, first_lane, first_ready}
+use Rattle.machine_laws.specs.SlotLoop.{Moment, ComesTo, present_phase, TurnsGoOn, IsIdle, after_turn, phases_so_far}
 use Rattle.slot_record.specs.declared.record.SlotRecord.{SlotRecord}
 use Rattle.slot_record.specs.SlotRecords.{BeginsPhase, EndsPhase, RecordedSlot, state_in}
 use Rattle.run_record.specs.RunRecords.{RecordsRuns, NoneReady, PhasesNoteNothing}
-use Rattle.net_state.specs.declared.state.NetState.{NetState}
 use Rattle.net_state.specs.States.{AreNetsOf}
-use Rattle.process_table.specs.declared.table.ProcessTable.{ProcessTable}
-use Rattle.process_table.specs.Tables.{TableState, IsTableOf}
+use Rattle.process_table.specs.Tables.{IsTableOf}
 use Rattle.process_table.specs.Arranged.{IsKept, table_of}
 use Rattle.machine.specs.declared.parts.Machine.{Machine as Simulated}
 use Rattle.machine.specs.Standing.{machine_kept, state_kept, notes_runs}
 use Rattle.machine_events.specs.Parts.{AreBothOf}
 use Rattle.machine_events.specs.Turns.{held_in, TellsTurn}
 use Rattle.machine_events.specs.PartLaws.{turned-nets, held-is}
-use Rattle.machine.specs.Moments.{IsAt, IsMovingIn}
+use Rattle.machine.specs.Moments.{IsMovingIn}
 use Rattle.machine.specs.Phases.{Runs}
 use Rattle.machine.proofs.Moved.{both-at, moved, graph-of}
 use Rattle.machine.proofs.Events.{rules-at}

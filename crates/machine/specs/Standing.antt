@@ -1,9 +1,8 @@
 -- Where a machine stands in its first run, and what the run of a slot gives (slots and phases by IEEE 1364-2001, clause 5).
-use Rattle.std.specs.Prelude.{◌≡◌, ℕ, ◌<◌, ◌≤◌, Bool, true, false, Option, Some, None, IsTrue, IsSomeAnd, nat_le, slice_get, List, length}
+use Rattle.std.specs.Prelude.{◌≡◌, ℕ, ◌≤◌, Bool, true, false, Option, Some, None, IsTrue, IsSomeAnd, nat_le, slice_get, List, length}
 use Rattle.std.specs.Option.{option_map}
 use Rattle.std.proofs.Common.{refl, subst}
 use Rattle.vf_base.specs.Base.{reported_pair}
-use Rattle.four_value.specs.Values.{LogicValue}
 use Rattle.v_design.specs.PlainDesigns.{design_of}
 use Rattle.v_design.specs.Designs.{Machine}
 use Rattle.v_design.specs.States.{State, TurnKind, PostponedTurn, UpdatesTurn, TimeTurn, turn_of, time_turn, has_event, some_in}

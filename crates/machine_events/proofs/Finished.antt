@@ -1,14 +1,12 @@
 -- A step of a process is finished: what it writes is written, and what it does is told (IEEE 1364-2001, clauses 5 and 9).
-use Rattle.std.proofs.Common.{◌≡◌, ℕ, List, [], ◌∷◌, ◌++◌, map, refl, sym, ap, subst, ◌∙◌}
+use Rattle.std.proofs.Common.{◌≡◌, ℕ, List, [], ◌++◌, map, refl, sym, ap, subst, ◌∙◌}
 use Rattle.std.specs.Prelude.{Option, Some, None}
 use Rattle.vf_base.specs.Base.{object_number, process_number}
-use Rattle.v_design.specs.Trees.{Entry}
 use Rattle.v_design.specs.Designs.{Machine}
 use Rattle.v_design.specs.Assignments.{ValueUpdate}
 use Rattle.v_design.specs.Processes.{Action, ReadsObject, WritesObject, AppendsUpdate, TouchesNothing}
-use Rattle.v_design.specs.States.{State, Step, write_of, step_of, process_at, is_ready, after}
+use Rattle.v_design.specs.States.{State, Step, write_of, step_of}
 use Rattle.v_design.specs.Accesses.{ObjectAccess, action_accesses, waiting_entries, await_accesses}
-use Rattle.causal_monitor.specs.Notes.{noted_access}
 use Rattle.net_state.specs.declared.state.NetState.{NetState}
 use Rattle.process_table.specs.declared.table.ProcessTable.{ProcessTable}
 use Rattle.process_table.specs.declared.deed.Stepped.{Stepped}
@@ -17,7 +15,7 @@ use Rattle.process_table.specs.Tables.{process_in}
 use Rattle.process_table.specs.Arranged.{IsKept, table_of}
 use Rattle.machine_laws.specs.StepTells.{TellsStep, gone_on, write-step-after, write-step-told, quiet-step-after, quiet-step-told}
 use Rattle.machine_events.specs.declared.told.Told.{Told}
-use Rattle.machine_events.specs.Parts.{FitsDesign, AreBothOf, WritesUpdate, Happens}
+use Rattle.machine_events.specs.Parts.{FitsDesign, AreBothOf, WritesUpdate}
 use Rattle.machine_events.specs.StepDeeds.{read_accesses, entry_accesses, TellsQuiet, IsStepped, CarriesOut}
 
 -- the values, the nodes and the processes are those in the midst of the step

@@ -1,5 +1,5 @@
 -- A node is evaluated, its nets get the values, and the processes that they wake are woken (IEEE 1364-2001, clauses 5 and 9.7).
-use Rattle.std.proofs.Common.{◌≡◌, ℕ, zero, suc, ◌+◌, ◌<◌, List, [], ◌∷◌, ◌++◌, not, ◌&&◌, map, length, refl, sym, ap, subst, ◌∙◌, arith}
+use Rattle.std.proofs.Common.{◌≡◌, ℕ, zero, suc, ◌<◌, List, [], ◌∷◌, ◌++◌, not, ◌&&◌, map, length, refl, sym, ap, subst, ◌∙◌, arith}
 use Rattle.std.specs.Prelude.{Option, Some, None, slice_get}
 use Rattle.std.specs.List.{All}
 use Rattle.vf_base.specs.Base.{object_number}
@@ -7,11 +7,8 @@ use Rattle.four_value.specs.Values.{LogicValue, same_value}
 use Rattle.vf_base.specs.Lists.{has, AllHold, joined, map_numbered}
 use Rattle.v_design.specs.Designs.{FlatNode, Machine}
 use Rattle.v_design.specs.Assignments.{value_at}
-use Rattle.v_design.specs.States.{State, ProcessState, Evaluation, NetUpdate, found_or, idle_process, is_ready, after, evaluated}
-use Rattle.v_design.specs.Grades.{Phase}
+use Rattle.v_design.specs.States.{State, Evaluation, NetUpdate, found_or, idle_process, is_ready, after, evaluated}
 use Rattle.v_design.specs.Accesses.{ObjectAccess, is_waiting}
-use Rattle.causal_monitor.specs.declared.slot.Turn.{Turn}
-use Rattle.causal_monitor.specs.declared.slot.SlotLog.{SlotLog}
 use Rattle.event_queue.specs.Queues.{numbers_where}
 use Rattle.value_change.specs.declared.change.Change.{Change}
 use Rattle.value_change.specs.Changes.{ObjectChange, change_seen, woken_by, ended_by_changes}
@@ -26,7 +23,7 @@ use Rattle.process_table.specs.declared.table.ProcessTable.{ProcessTable}
 use Rattle.process_table.specs.Tables.{TableState, IsTableOf, is_woken}
 use Rattle.process_table.specs.Arranged.{IsKept, table_of}
 use Rattle.machine_laws.specs.WriteTells.{woken-numbers}
-use Rattle.machine_events.specs.Parts.{AreBothOf, IsAmid, Leads}
+use Rattle.machine_events.specs.Parts.{AreBothOf, Leads}
 use Rattle.machine_events.specs.PartLaws.{happened-node}
 
 -- a fact of each element, by its place

@@ -1,21 +1,17 @@
 -- A write of an update, with the processes that it wakes (IEEE 1364-2001, clauses 5 and 9.7).
-use Rattle.std.proofs.Common.{◌≡◌, ℕ, ◌<◌, List, [], ◌∷◌, ◌++◌, map, length, refl, sym, ap, subst, ◌∙◌}
-use Rattle.std.specs.List.{All}
-use Rattle.vf_base.specs.Base.{object_number, process_number}
-use Rattle.four_value.specs.Values.{LogicValue, same_value}
+use Rattle.std.proofs.Common.{◌≡◌, ℕ, ◌<◌, List, [], ◌∷◌, map, length, sym, ap, subst, ◌∙◌}
+use Rattle.four_value.specs.Values.{same_value}
 use Rattle.vf_base.specs.Lists.{joined, map_numbered}
 use Rattle.v_design.specs.Designs.{Machine}
 use Rattle.v_design.specs.Assignments.{ValueUpdate, value_at}
-use Rattle.v_design.specs.States.{State, ProcessState, written, value_written}
+use Rattle.v_design.specs.States.{State, written, value_written}
 use Rattle.v_design.specs.Accesses.{ObjectAccess}
-use Rattle.value_change.specs.declared.change.Change.{Change}
-use Rattle.value_change.specs.Changes.{ObjectChange, change_seen, woken_by, ended_by_changes}
+use Rattle.value_change.specs.Changes.{ObjectChange, woken_by, ended_by_changes}
 use Rattle.value_change.specs.ChangeLaws.{write_of_change}
 use Rattle.event_queue.specs.Queues.{numbers_where}
 use Rattle.net_state.specs.declared.state.NetState.{NetState}
 use Rattle.net_state.specs.States.{machine_in, values_in, AreNetsOf}
 use Rattle.process_table.specs.Tables.{TableState, IsTableOf, is_woken}
-use Rattle.process_table.specs.Wakes.{IsWoken}
 use Rattle.process_table.specs.declared.table.ProcessTable.{ProcessTable}
 use Rattle.process_table.specs.Arranged.{table_of}
 use Rattle.machine_laws.specs.WriteTells.{change_by, object_if, TellsWrite, written-processes, write-told}

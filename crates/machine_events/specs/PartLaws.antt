@@ -1,10 +1,10 @@
 -- What holds of the parts of a machine in a slot, for who runs one (IEEE 1364-2001, clause 5).
-use Rattle.std.proofs.Common.{◌≡◌, ℕ, zero, suc, ◌+◌, ◌<◌, ◌≤◌, ◌⊎◌, inl, inr, get_or, List, [], ◌∷◌, ◌++◌, length, map, Bool, true, false, refl, sym, ap, ◌∙◌, arith}
+use Rattle.std.proofs.Common.{◌≡◌, ℕ, zero, suc, ◌<◌, ◌≤◌, ◌⊎◌, inl, inr, get_or, List, [], ◌∷◌, ◌++◌, length, Bool, true, false, refl, sym, ap, ◌∙◌, arith}
 use Rattle.std.specs.Prelude.{Some, None, slice_get}
 use Rattle.std.proofs.lemmas.List.{length-map}
 use Rattle.std.proofs.lemmas.Option.{slice_get_cases}
-use Rattle.vf_base.specs.Lists.{zip_with, joined, map_numbered}
-use Rattle.v_design.specs.Designs.{FlatDesign, FlatNode, Machine}
+use Rattle.vf_base.specs.Lists.{joined, map_numbered}
+use Rattle.v_design.specs.Designs.{FlatNode, Machine}
 use Rattle.v_design.specs.States.{State, Event, Evaluation, NetUpdate, TurnKind, PostponedTurn, UpdatesTurn, TimeTurn, after, found_or, turned}
 use Rattle.v_design.specs.Accesses.{held_by, held_accesses}
 use Rattle.v_design.specs.Runs.{happened}
@@ -17,7 +17,7 @@ use Rattle.net_state.specs.States.{machine_in, nodes_in, AreNetsOf}
 use Rattle.process_table.specs.Tables.{TableState, IsTableOf}
 use Rattle.process_table.specs.declared.table.ProcessTable.{ProcessTable}
 use Rattle.process_table.specs.Rows.{RowState, row_state, row_states, row_text}
-use Rattle.process_table.specs.Arranged.{IsKept, table_of, processes_of, with_held, row_holding}
+use Rattle.process_table.specs.Arranged.{IsKept, table_of, processes_of, row_holding}
 use Rattle.machine_events.specs.Turns.{held_in}
 
 -- one event more
@@ -67,7 +67,8 @@ node-low nets node low = omega (arith, low, length-map nets.objects.settle.marks
 pub node-there : (nets : NetState) (node : ℕ) → node < length (nodes_in nets) → (text : FlatNode) × (slice_get (machine_in nets).design.nodes node ≡ Some text)
 node-there nets node low = found (slice_get_cases (machine_in nets).design.nodes node).1
   where
-    found : ((text : FlatNode) × (node < length (machine_in nets).design.nodes) × (slice_get (machine_in nets).design.nodes node ≡ Some text) × (get_or (machine_in nets).design.nodes node text ≡ text))
+    found : ((text : FlatNode) × (node < length (machine_in nets).design.nodes) × (slice_get (machine_in nets).design.nodes node ≡ Some text)
+        × (get_or (machine_in nets).design.nodes node text ≡ text))
         ⊎ ((length (machine_in nets).design.nodes ≤ node) × (slice_get (machine_in nets).design.nodes node ≡ None)) →
         (text : FlatNode) × (slice_get (machine_in nets).design.nodes node ≡ Some text)
     found (inl there) = (there.0, there.2)

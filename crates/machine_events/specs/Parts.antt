@@ -1,6 +1,5 @@
 -- The parts of a machine in the midst of a slot: the values and the nodes, the processes, and the record of the slot; and what an event does to them and tells (IEEE 1364-2001, clause 5).
-use Rattle.std.proofs.Common.{refl}
-use Rattle.std.specs.Prelude.{◌≡◌, ℕ, ◌<◌, List, [], ◌∷◌, ◌++◌, map, length}
+use Rattle.std.specs.Prelude.{◌≡◌, ℕ, ◌<◌, List, map, length}
 use Rattle.std.specs.List.{All}
 use Rattle.vf_base.specs.Base.{object_number, process_number}
 use Rattle.vf_base.specs.Lists.{AllHold}
@@ -8,7 +7,6 @@ use Rattle.v_design.specs.Designs.{FlatDesign, Machine}
 use Rattle.v_design.specs.Assignments.{ValueUpdate}
 use Rattle.v_design.specs.States.{State, Event, after, written}
 use Rattle.v_design.specs.Grades.{Phase}
-use Rattle.v_design.specs.Runs.{happened}
 use Rattle.causal_monitor.specs.Notes.{IsNoted, noted_access}
 use Rattle.causal_monitor.specs.declared.slot.Turn.{Turn}
 use Rattle.causal_monitor.specs.declared.slot.SlotLog.{SlotLog}

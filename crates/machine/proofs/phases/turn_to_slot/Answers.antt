@@ -1,5 +1,5 @@
 -- The processes are those with which the slot begins.
-use Rattle.std.proofs.Common.{◌≡◌, ◌∙◌, refl, sym, ap}
+use Rattle.std.proofs.Common.{sym, ap}
 use Rattle.machine.specs.Standing.{first_turn}
 use Rattle.machine.proofs.Beginnings.{start-table, between-table, over-none}
 use Rattle.machine.proofs.phases.turn_to_slot.Goals as goal

@@ -1,5 +1,5 @@
 -- The slot begins.
-use Rattle.std.proofs.Common.{◌≡◌, ◌≤◌, ◌^◌, ◌∙◌, length, refl, sym, ap, subst}
+use Rattle.std.proofs.Common.{◌≤◌, ◌^◌, ◌∙◌, length, refl, sym, ap, subst}
 use Rattle.v_design.specs.Designs.{FlatDesign}
 use Rattle.v_design.specs.States.{State}
 use Rattle.machine.specs.Standing.{machine_kept, state_kept, begins_next}

@@ -1,6 +1,5 @@
 -- The last phase is logged, and the machine stands between two slots.
-use Rattle.std.proofs.Common.{◌≡◌, ◌∙◌, refl, sym, ap}
-use Rattle.machine.specs.Standing.{machine_kept}
+use Rattle.std.proofs.Common.{◌∙◌, refl, ap}
 use Rattle.machine.specs.Phases.{outcome_told}
 use Rattle.machine.proofs.TurnsOn.{log-named}
 use Rattle.machine.proofs.Endings.{slot-run, slot-stands}

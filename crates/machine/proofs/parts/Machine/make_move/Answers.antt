@@ -1,8 +1,5 @@
 -- The least node is worked on, else a lane, a process or a turn goes on.
-use Rattle.std.proofs.Common.{◌∙◌, refl, sym, ap}
 use Rattle.vf_base.specs.Base.{node_number}
-use Rattle.v_design.specs.States.{State}
-use Rattle.v_design.specs.Runs.{work_of}
 use Rattle.machine.proofs.Made.{moving-stays, moving-any, node-made, move-after}
 use Rattle.machine.proofs.parts.Machine.make_move.Goals as goal
 

@@ -1,5 +1,5 @@
 -- The values, the nodes and the processes are those of the start.
-use Rattle.std.proofs.Common.{◌≡◌, ◌∙◌, List, [], length, map, refl, sym, ap, subst}
+use Rattle.std.proofs.Common.{◌≡◌, ◌∙◌, [], length, refl, sym, ap, subst}
 use Rattle.std.proofs.lemmas.List.{length-map}
 use Rattle.v_design.specs.Designs.{Machine}
 use Rattle.v_design.specs.Plain.{process_of}

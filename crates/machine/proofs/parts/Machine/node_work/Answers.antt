@@ -1,5 +1,5 @@
 -- The work leads to the next moment.
-use Rattle.std.proofs.Common.{◌<◌, ◌+◌, length, refl, arith}
+use Rattle.std.proofs.Common.{refl, arith}
 use Rattle.vf_base.specs.Base.{node_number}
 use Rattle.net_state.specs.States.{nodes_in}
 use Rattle.machine.proofs.Moved.{in-slot}

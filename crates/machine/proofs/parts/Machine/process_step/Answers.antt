@@ -1,8 +1,6 @@
 -- The step is recorded, and leads to the next moment.
-use Rattle.std.proofs.Common.{◌≡◌, ◌<◌, ◌∙◌, length, refl, sym, ap, subst}
+use Rattle.std.proofs.Common.{◌<◌, ◌∙◌, refl, sym, subst}
 use Rattle.vf_base.specs.Base.{process_number}
-use Rattle.v_design.specs.Designs.{FlatDesign}
-use Rattle.process_table.specs.Arranged.{table_of}
 use Rattle.machine.specs.Standing.{machine_kept, state_kept}
 use Rattle.machine_laws.specs.SlotLoop.{present_phase}
 use Rattle.machine.proofs.Events.{ready-there, ready-low, stepped-count, stepped-at, step-moved}

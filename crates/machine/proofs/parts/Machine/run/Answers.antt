@@ -7,7 +7,7 @@ use Rattle.causal_monitor.specs.declared.slot.Turn.{Turn}
 use Rattle.causal_monitor.specs.declared.slot.SlotLog.{SlotLog}
 use Rattle.machine_laws.specs.SlotLoop.{QuietSlotsEnd}
 use Rattle.machine.specs.declared.moves.Made.{Made}
-use Rattle.machine.specs.declared.moves.Made.TheVariants.{Counted, Uncounted, Nothing}
+use Rattle.machine.specs.declared.moves.Made.TheVariants.{Nothing}
 use Rattle.machine.specs.declared.parts.Machine.{Machine as Simulated}
 use Rattle.machine.specs.Standing.{machine_kept, state_kept}
 use Rattle.machine.specs.Phases.{Runs, EndsSlot, MakesMove, QuietIfNothing, steps_made}

@@ -1,8 +1,7 @@
 -- The slot begins, its moves are made, and it ends.
-use Rattle.std.proofs.Common.{◌≡◌, ◌≤◌, ◌^◌, ◌∙◌, refl, sym, ap, subst, arith}
-use Rattle.v_design.specs.States.{State}
+use Rattle.std.proofs.Common.{◌≤◌, ◌^◌, ◌∙◌, sym, subst, arith}
 use Rattle.machine_laws.specs.SlotLoop.{slot_from}
-use Rattle.machine.specs.Standing.{machine_kept, state_kept, begins_next, first_turn}
+use Rattle.machine.specs.Standing.{machine_kept, begins_next, first_turn}
 use Rattle.machine.specs.Phases.{Runs, EndsSlot}
 use Rattle.machine.proofs.Moved.{rules-of}
 use Rattle.machine.proofs.Beginnings.{found-some}

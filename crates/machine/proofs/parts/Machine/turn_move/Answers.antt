@@ -1,7 +1,7 @@
 -- A turn is made, or nothing is left.
 use Rattle.std.proofs.Common.{refl}
 use Rattle.machine.specs.Standing.{machine_kept, state_kept}
-use Rattle.machine.proofs.Made.{turn-made, nothing-made}
+use Rattle.machine.proofs.Made.{nothing-made}
 use Rattle.machine.proofs.parts.Machine.turn_move.Goals as goal
 
 pub turn_phase-requires-clause-turn : goal.turn_phase-requires-clause-turn

@@ -1,8 +1,8 @@
 -- The phase ends, and the next one begins.
-use Rattle.std.proofs.Common.{◌≡◌, ◌∙◌, length, refl, sym, ap}
+use Rattle.std.proofs.Common.{◌∙◌, length, refl, sym, ap}
 use Rattle.v_design.specs.Designs.{FlatDesign}
 use Rattle.machine.specs.Standing.{machine_kept, state_kept}
-use Rattle.machine.proofs.TurnsOn.{idle-processes, log-named, ended-room, turn-moved}
+use Rattle.machine.proofs.TurnsOn.{idle-processes, ended-room, turn-moved}
 use Rattle.machine.proofs.parts.Machine.turn_phase.Goals as goal
 
 pub turn-requires-clause-quiet : goal.turn-requires-clause-quiet
