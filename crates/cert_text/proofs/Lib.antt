@@ -1,0 +1,10 @@
+pub mod Cutting
+pub mod Numbers
+pub mod Objects
+pub mod Claimed
+pub mod Digits
+pub mod Worded
+pub mod CertWords
+pub mod FaultWords
+pub mod FaultRead
+pub mod Certificates

@@ -1,0 +1,4 @@
+pub mod Views
+pub mod Behind
+pub mod Fits
+pub mod Readable

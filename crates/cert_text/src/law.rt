@@ -1,0 +1,11 @@
+// What the text of certificates is for.
+
+ghost use Rattle.cert_text.specs.Readable.{CertificatesAreRead};
+
+/// The text of the certificate of each fault with a verdict or a race is read as a valid certificate, of that fault and of that claim.
+pub fn certificates_are_read()
+    ensures { CertificatesAreRead }
+{
+    fault_list::names_read();
+    cert_laws::what_is_certified();
+}

@@ -1,0 +1,130 @@
+// The text of an object, as a report names it.
+
+ghost use Rattle.std.specs.Prelude.{◌≡◌, ◌++◌, IfOk, OnOk, nat_lt, count_by};
+ghost use Rattle.std.specs.Str.{bytes_eq};
+ghost use Rattle.v_design.specs.Plain.{object_of};
+ghost use Rattle.v_design.specs.PlainDesigns.{design_of};
+ghost use Rattle.grade_report.specs.Objects.{is_piece_of, has_pieces, between, bounds_text};
+ghost use Rattle.cert_laws.specs.Claims.{is_object};
+ghost use Rattle.cert_text.specs.Behind.{behind_name, prints_as};
+
+use fault_list::{append, append_number};
+use std::alloc::Global;
+use v_design::{Design, Object, ObjectKind};
+use vf_base::NoMemory;
+
+/// Whether an object is a net piece of a name.
+fn is_piece_of(name: &[u8], object: &Object) -> bool
+    ensures { result ≡ is_piece_of name.now (object_of object.now) }
+{
+    matches!(object.kind, ObjectKind::Net) && object.name.as_bytes() == name
+}
+
+/// How many net pieces a name has.
+fn count_pieces(objects: &[Object], name: &[u8]) -> usize
+    ensures { result ≡ count_by (λ object. is_piece_of name.now (object_of object)) objects.now }
+{
+    objects
+        .iter()
+        .filter(|object| is_piece_of(name, object))
+        .count()
+}
+
+/// Whether a net of a name has several pieces.
+fn has_pieces(design: &Design, name: &[u8]) -> bool
+    ensures { result ≡ has_pieces (design_of design.now) name.now }
+{
+    1 < count_pieces(design.objects.as_slice(), name)
+}
+
+/// Writes indexes between brackets, of one bit its index, else both, in place of what stood there.
+fn write_bounds(alloc: Global, text: &mut Vec<u8>, high: u32, low: u32) -> Result<(), NoMemory>
+    ensures { OnOk result (text.new.items ≡ between (bounds_text high low)) }
+{
+    text.clear();
+    append(text, b"[")?;
+    append_number(alloc, text, u64::from(high))?;
+    if high != low {
+        append(text, b":")?;
+        append_number(alloc, text, u64::from(low))?;
+    }
+    append(text, b"]")?;
+    Ok(())
+}
+
+/// Whether some bytes are what stands behind the name of a net piece; `several` is asked where there are none.
+fn is_behind_piece(
+    alloc: Global,
+    design: &Design,
+    text: &mut Vec<u8>,
+    object: &Object,
+    several: bool,
+    bytes: &[u8],
+) -> Result<bool, NoMemory>
+    requires { several ≡ has_pieces (design_of design.now) ((object_of object.now).name ++ bytes.now) }
+    ensures { IfOk result (λ same. same ≡ bytes_eq bytes.now (behind_name (design_of design.now) (object_of object.now) ObjectKind.Net)) }
+{
+    if bytes.is_empty() {
+        return Ok(!several);
+    }
+    write_bounds(alloc, text, object.high, object.low)?;
+    if bytes != text.as_slice() {
+        return Ok(false);
+    }
+    Ok(has_pieces(design, object.name.as_bytes()))
+}
+
+/// Whether some bytes are what stands behind the name of an object in its text.
+fn is_behind(
+    alloc: Global,
+    design: &Design,
+    text: &mut Vec<u8>,
+    object: &Object,
+    several: bool,
+    bytes: &[u8],
+) -> Result<bool, NoMemory>
+    requires { several ≡ has_pieces (design_of design.now) ((object_of object.now).name ++ bytes.now) }
+    ensures { IfOk result (λ same. same ≡ bytes_eq bytes.now (behind_name (design_of design.now) (object_of object.now) object.now.kind)) }
+{
+    match object.kind {
+        ObjectKind::Var => Ok(bytes.is_empty()),
+        ObjectKind::Word => {
+            write_bounds(alloc, text, object.address, object.address)?;
+            Ok(bytes == text.as_slice())
+        }
+        ObjectKind::Net => is_behind_piece(alloc, design, text, object, several, bytes),
+    }
+}
+
+/// Whether an object prints as a word; `several` says whether a net of this name has several pieces.
+fn prints_as(
+    alloc: Global,
+    design: &Design,
+    text: &mut Vec<u8>,
+    object: &Object,
+    several: bool,
+    word: &[u8],
+) -> Result<bool, NoMemory>
+    requires { several ≡ has_pieces (design_of design.now) word.now }
+    ensures { IfOk result (λ same. same ≡ prints_as (design_of design.now) word.now (object_of object.now)) }
+{
+    match word.strip_prefix(object.name.as_bytes()) {
+        Some(bytes) => is_behind(alloc, design, text, object, several, bytes),
+        None => Ok(false),
+    }
+}
+
+/// Whether a word is the text of an object of the design.
+pub fn is_object(alloc: Global, design: &Design, word: &[u8]) -> Result<bool, NoMemory>
+    ensures { IfOk result (λ named. named ≡ is_object (design_of design.now) word.now) }
+{
+    let objects = design.objects.as_slice();
+    let several = has_pieces(design, word);
+    let mut text = Vec::new(alloc);
+    'objects: for object in objects {
+        if prints_as(alloc, design, &mut text, object, several, word)? {
+            return Ok(true);
+        }
+    }
+    Ok(false)
+}
