@@ -113,7 +113,7 @@ fault-text design fault line =
     ∙ (ap (λ g. ((site_name design fault.site ++ 32 ∷ value_word fault.value) ++ g) ++ 10 ∷ []) (grade-as design line)
     ∙ ap (λ l. l ++ 10 ∷ []) (words-more (site_name design fault.site) (value_word fault.value) (claim_words design line) (words-some design line)))
 
-kind-is_word : (kind : AccessKind) → IsOneWord (kind_text kind)
+pub kind-is_word : (kind : AccessKind) → IsOneWord (kind_text kind)
 kind-is_word Read = closed-word (codes "read") refl
 kind-is_word Write = closed-word (codes "write") refl
 kind-is_word Await = closed-word (codes "await") refl
@@ -129,13 +129,13 @@ value-is_word : (value : Bool) → IsOneWord (value_word value)
 value-is_word true = closed-word (codes "sa1") refl
 value-is_word false = closed-word (codes "sa0") refl
 
-lettered-word : (letter n : ℕ) → ends_word letter ≡ false → IsOneWord (letter ∷ decimal n)
+pub lettered-word : (letter n : ℕ) → ends_word letter ≡ false → IsOneWord (letter ∷ decimal n)
 lettered-word letter n h = (h, decimal-word n)
 
 moment-is_word : (time phase : ℕ) → IsOneWord (moment_word time phase)
 moment-is_word time phase = word-append (decimal time) (46 ∷ decimal phase) (decimal-word time) (refl, decimal-word phase)
 
-access-are : (design : FlatDesign) (access : ReportedAccess) → KeepsRules design → AreWords (access_words design access)
+pub access-are : (design : FlatDesign) (access : ReportedAccess) → KeepsRules design → AreWords (access_words design access)
 access-are design access k =
     (kind-is_word access.kind, (object_text-word design access.object k.words, (lettered-word 112 access.process refl, (lettered-word 108 access.line refl, tt))))
 

@@ -8,3 +8,4 @@ pub mod CertWords
 pub mod FaultWords
 pub mod FaultRead
 pub mod Certificates
+pub mod SameText

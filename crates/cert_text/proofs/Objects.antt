@@ -1,9 +1,10 @@
 -- The text of an object by its name and what stands behind it.
-use Rattle.std.proofs.Common.{◌≡◌, ℕ, ◌+◌, ◌<◌, ◌&&◌, ◌||◌, List, [], ◌∷◌, ◌++◌, Bool, true, false, length, take, drop, map, get_or, refl, sym, ap, ◌∙◌, append-nil}
-use Rattle.std.specs.Prelude.{nat_eq, if◌then◌else◌}
+use Rattle.std.proofs.Common.{◌≡◌, ℕ, ◌+◌, ◌<◌, ◌&&◌, ◌||◌, List, [], ◌∷◌, ◌++◌, Bool, true, false, length, take, drop, map, get_or, refl, sym, ap, ◌∙◌}
+use Rattle.std.proofs.Common.{append-nil, zero, suc, ◌≤◌, Some, None, arith}
+use Rattle.std.specs.Prelude.{nat_eq, slice_get, if◌then◌else◌}
 use Rattle.std.specs.List.{list_any}
 use Rattle.std.specs.Str.{bytes_eq}
-use Rattle.std.proofs.lemmas.Bool.{eqb-true, and_parts, false≢true}
+use Rattle.std.proofs.lemmas.Bool.{ne_eqb, eqb-true, and_parts, false≢true}
 use Rattle.std.proofs.lemmas.List.{drop_more}
 use Rattle.v_design.specs.Designs.{FlatObject, FlatDesign}
 use Rattle.v_design.specs.declared.logic.ObjectKind.{ObjectKind}
@@ -92,3 +93,22 @@ pub objects-more : (design : FlatDesign) (word : List ℕ) (objects : List Objec
 objects-more design word objects i object below there is other =
     is ∙ (ap (list_any (λ object. prints_as design word (object_of object))) (drop_more objects i object below)
     ∙ ap (λ b. b || list_any (λ object. prints_as design word (object_of object)) (drop (i + 1) objects)) (ap (λ o. prints_as design word (object_of o)) (sym there) ∙ other))
+
+-- By number
+
+-- one that is there
+pub object-there : (objects : List Object) (place : ℕ) (object : Object) → place < length objects → object ≡ get_or objects place object →
+    slice_get (map object_of objects) place ≡ Some (object_of object)
+object-there [] place object below is = absurd (omega arith)
+object-there (other ∷ others) zero object below is = ap (λ o. Some (object_of o)) (sym is)
+object-there (other ∷ others) (suc place) object below is = object-there others place object (omega arith) is
+
+-- one that isn't
+pub object-missing : (objects : List Object) (place : ℕ) → length objects ≤ place → slice_get (map object_of objects) place ≡ None
+object-missing [] place above = refl
+object-missing (other ∷ others) zero above = absurd (omega arith)
+object-missing (other ∷ others) (suc place) above = object-missing others place (omega arith)
+
+pub empty-word : (word : List ℕ) → nat_eq (length word) 0 ≡ bytes_eq word []
+empty-word [] = refl
+empty-word (b ∷ bs) = ne_eqb (suc (length bs)) 0 (λ e. omega arith)

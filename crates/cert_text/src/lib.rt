@@ -4,8 +4,9 @@
 //! a run is `slot T`, `phase K`, `p P C` (steps of a process) or `u P C` (nonblocking updates of a process), in the slots and phases of IEEE 1364-2001,
 //! clause 5. Parts of a line stand between single blanks, and numbers are in decimal without leading zeros.
 //!
-//! Its main contracts: `read_claim` and `read_cert_line` say of a line just what `cert_laws` says that it means, `append_cert_line` writes just its text, and
-//! `certificates_are_read` that the text of each certificate is read as a valid one of its own fault and claim.
+//! Its main contracts: `read_claim` and `read_cert_line` say of a line just what `cert_laws` says that it means, `prints_access` whether an access prints as
+//! it is claimed, `append_cert_line` writes just the text of a line, and `certificates_are_read` says that the text of each certificate is read as a valid one
+//! of its own fault and claim.
 #![tactic(auto)]
 
 mod access;
@@ -15,10 +16,12 @@ mod line;
 mod number;
 mod object;
 mod parts;
+mod printed;
 mod write;
 
 pub use access::ClaimedAccess;
 pub use claim::{Claim, ClaimedRace, read_claim};
 pub use law::certificates_are_read;
 pub use line::{CertLine, RunLine, is_head, read_cert_line};
+pub use printed::prints_access;
 pub use write::{append_cert_line, append_head, append_run_line};

@@ -4,14 +4,15 @@ ghost use Rattle.std.specs.Prelude.{◌≡◌, ◌++◌, IfOk, OnOk, nat_lt, cou
 ghost use Rattle.std.specs.Str.{bytes_eq};
 ghost use Rattle.v_design.specs.Plain.{object_of};
 ghost use Rattle.v_design.specs.PlainDesigns.{design_of};
-ghost use Rattle.grade_report.specs.Objects.{is_piece_of, has_pieces, between, bounds_text};
+ghost use Rattle.vf_base.specs.Base.{object_number};
+ghost use Rattle.grade_report.specs.Objects.{is_piece_of, has_pieces, between, bounds_text, object_text};
 ghost use Rattle.cert_laws.specs.Claims.{is_object};
 ghost use Rattle.cert_text.specs.Behind.{behind_name, prints_as};
 
 use fault_list::{append, append_number};
 use std::alloc::Global;
 use v_design::{Design, Object, ObjectKind};
-use vf_base::NoMemory;
+use vf_base::{NoMemory, ObjectId};
 
 /// Whether an object is a net piece of a name.
 fn is_piece_of(name: &[u8], object: &Object) -> bool
@@ -127,4 +128,34 @@ pub fn is_object(alloc: Global, design: &Design, word: &[u8]) -> Result<bool, No
         }
     }
     Ok(false)
+}
+
+/// Whether an object that is there prints as a word.
+fn prints_found(
+    alloc: Global,
+    design: &Design,
+    object: &Object,
+    word: &[u8],
+) -> Result<bool, NoMemory>
+    ensures { IfOk result (λ same. same ≡ prints_as (design_of design.now) word.now (object_of object.now)) }
+{
+    let several = has_pieces(design, word);
+    let mut text = Vec::new(alloc);
+    let same = prints_as(alloc, design, &mut text, object, several, word)?;
+    Ok(same)
+}
+
+/// Whether the object of a number prints as a word; one that isn't there prints as none.
+pub fn prints_object(
+    alloc: Global,
+    design: &Design,
+    object: ObjectId,
+    word: &[u8],
+) -> Result<bool, NoMemory>
+    ensures { IfOk result (λ same. same ≡ bytes_eq word.now (object_text (design_of design.now) (object_number object))) }
+{
+    match design.objects.as_slice().get(object.0 as usize) {
+        Some(found) => prints_found(alloc, design, found, word),
+        None => Ok(word.is_empty()),
+    }
 }
