@@ -50,8 +50,8 @@ module _ (design : FlatDesign) (plan : TestPlan) (fault : StuckAt) (line : Fault
       ∙ ap (λ l. outcome_by fault claim (failing_from design plan fault claim 3 Before l)) (lines-read lines h))
 
 pub certificates-read : NamesAreRead → GradesCertified → CertificatesAreRead
-certificates-read read certified design plan fault line claim k is_plan there numbered graded as_claim fits h =
+certificates-read read certified design plan fault line claim k is_plan there numbered graded as_claim of fits h =
     let lines = lines_by design plan fault (Some claim) in
-    let said = fault-read design fault line claim k (read design fault.site k numbered there) fits as_claim in
+    let said = fault-read design fault line claim k (read design fault.site k numbered there) of fits as_claim in
     cert-outcome design plan fault line lines claim k said (ap (lines_by design plan fault) as_claim) h
     ∙ ap (outcome_by fault claim) (certified design plan fault line claim 3 k is_plan graded as_claim)

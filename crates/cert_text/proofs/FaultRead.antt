@@ -25,7 +25,8 @@ use Rattle.grade_report.specs.Report.{kind_text, access_text}
 use Rattle.cert_laws.specs.Claims.{Claim, Races, is_dot, most_short, most_long, number_within, both_of, moment_by, moment_of, is_kind, is_object, is_below, spaced, access_of, side_of}
 use Rattle.cert_laws.specs.Claims.{race_by, race_of_side, timed, claim_by, value_of_word, named_site, fault_by, claims_by, line_claims, claim_of}
 use Rattle.cert_laws.specs.Written.{claim_as}
-use Rattle.cert_text.specs.Readable.{IsAccessOf, IsPairOf, GradeFits}
+use Rattle.cert_text.specs.Readable.{IsAccessOf, IsGradeOf}
+use Rattle.cert_text.specs.Fits.{PairFits, GradeFits}
 use Rattle.cert_text.proofs.Numbers.{number-spelled}
 use Rattle.cert_text.proofs.Digits.{decimal-all}
 use Rattle.cert_text.proofs.Worded.{in_words, parts-words}
@@ -85,14 +86,14 @@ object-read design object h =
     any-there (λ (o : FlatObject). bytes_eq (object_text design object) (text_by_kind design o o.kind)) design.objects object found.0 found.1
     (ap (bytes_eq (object_text design object)) (sym text) ∙ same-text (object_text design object))
 
-access-read : (design : FlatDesign) (access : ReportedAccess) → KeepsRules design → IsAccessOf design access →
+access-read : (design : FlatDesign) (access : ReportedAccess) → KeepsRules design → IsAccessOf design access → access.line ≤ most_short →
     access_of design (kind_text access.kind) (object_text design access.object) (112 ∷ decimal access.process) (108 ∷ decimal access.line) ≡ Some (access_text design access)
-access-read design access k h =
+access-read design access k h line_fits =
     let words = spaced (kind_text access.kind) (spaced (object_text design access.object) (spaced (112 ∷ decimal access.process) (108 ∷ decimal access.line))) in
     let few : access.process ≤ most_short = omega (arith, h.process, k.few_processes) in
     let below : is_below (length design.processes) (number_within most_short (decimal access.process)) ≡ true =
     ap (is_below (length design.processes)) (short-spelled access.process few) ∙ lt-ltb access.process (length design.processes) h.process in
-    let some : is_some (number_within most_short (decimal access.line)) ≡ true = ap is_some (short-spelled access.line h.line) in
+    let some : is_some (number_within most_short (decimal access.line)) ≡ true = ap is_some (short-spelled access.line line_fits) in
     cond-true (is_kind (kind_text access.kind) && is_object design (object_text design access.object)
     && is_below (length design.processes) (number_within most_short (decimal access.process)) && is_some (number_within most_short (decimal access.line))) (Some words) None
     (and_from (is_kind (kind_text access.kind) && is_object design (object_text design access.object) && is_below (length design.processes) (number_within most_short (decimal access.process)))
@@ -107,22 +108,22 @@ side-read : (side : Side) → side_of (side_word side) ≡ Some side
 side-read Good = refl
 side-read Faulty = refl
 
-race-read : (design : FlatDesign) (side : Side) (pair : ReportedPair) → KeepsRules design → IsPairOf design pair →
+race-read : (design : FlatDesign) (side : Side) (pair : ReportedPair) → KeepsRules design → IsGradeOf design (Raced side pair) → PairFits pair →
     claim_by design (claim_words design (Raced side pair)) ≡ Some (Races side pair.time pair.phase (access_text design pair.first) (access_text design pair.second))
-race-read design side pair k h =
+race-read design side pair k of h =
     let first = access_of design (kind_text pair.first.kind) (object_text design pair.first.object) (112 ∷ decimal pair.first.process) (108 ∷ decimal pair.first.line) in
     let second = access_of design (kind_text pair.second.kind) (object_text design pair.second.object) (112 ∷ decimal pair.second.process) (108 ∷ decimal pair.second.line) in
     ap (λ s. race_of_side s (moment_of (moment_word pair.time pair.phase)) first second) (side-read side)
     ∙ (ap (λ m. race_by side m first second) (moment-read pair.time pair.phase h.time h.phase)
-    ∙ (ap (λ a. race_by side (Some (pair.time, pair.phase)) a second) (access-read design pair.first k h.first)
-    ∙ ap (race_by side (Some (pair.time, pair.phase)) (Some (access_text design pair.first))) (access-read design pair.second k h.second)))
+    ∙ (ap (λ a. race_by side (Some (pair.time, pair.phase)) a second) (access-read design pair.first k of.0 h.first)
+    ∙ ap (race_by side (Some (pair.time, pair.phase)) (Some (access_text design pair.first))) (access-read design pair.second k of.1 h.second)))
 
-claim-read : (design : FlatDesign) (line : FaultGrade) → KeepsRules design → GradeFits design line → claim_by design (claim_words design line) ≡ claim_as design line
-claim-read design (Judged (Detected time)) k h = ap (timed Detected) (long-spelled time h)
-claim-read design (Judged (Possible time)) k h = ap (timed Possible) (long-spelled time h)
-claim-read design (Judged Undetected) k h = refl
-claim-read design (Raced side pair) k h = race-read design side pair k h
-claim-read design (Looped time) k h = refl
+claim-read : (design : FlatDesign) (line : FaultGrade) → KeepsRules design → IsGradeOf design line → GradeFits line → claim_by design (claim_words design line) ≡ claim_as design line
+claim-read design (Judged (Detected time)) k of h = ap (timed Detected) (long-spelled time h)
+claim-read design (Judged (Possible time)) k of h = ap (timed Possible) (long-spelled time h)
+claim-read design (Judged Undetected) k of h = refl
+claim-read design (Raced side pair) k of h = race-read design side pair k of h
+claim-read design (Looped time) k of h = refl
 
 value-read : (value : Bool) → value_of_word (value_word value) ≡ Some value
 value-read true = refl
@@ -136,9 +137,9 @@ site-read design site spelled =
 
 -- the line of a fault is read as that fault with its claim
 pub fault-read : (design : FlatDesign) (fault : StuckAt) (line : FaultGrade) (claim : Claim) → KeepsRules design → site_spelled design (site_name design fault.site) ≡ Some fault.site →
-    GradeFits design line → claim_as design line ≡ Some claim → claim_of design (in_words (fault_words design fault line)) ≡ Some (fault, claim)
-fault-read design fault line claim k spelled h as_claim =
+    IsGradeOf design line → GradeFits line → claim_as design line ≡ Some claim → claim_of design (in_words (fault_words design fault line)) ≡ Some (fault, claim)
+fault-read design fault line claim k spelled of h as_claim =
     ap (line_claims design) (parts-words (site_name design fault.site) (value_word fault.value ∷ claim_words design line) (fault-are design fault line k))
     ∙ (ap (λ s. claims_by (fault_by s (value_of_word (value_word fault.value))) (claim_by design (claim_words design line))) (site-read design fault.site spelled)
     ∙ (ap (λ v. claims_by (fault_by (Some fault.site) v) (claim_by design (claim_words design line))) (value-read fault.value)
-    ∙ ap (claims_by (Some fault)) (claim-read design line k h ∙ as_claim)))
+    ∙ ap (claims_by (Some fault)) (claim-read design line k of h ∙ as_claim)))

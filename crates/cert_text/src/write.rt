@@ -4,10 +4,11 @@ ghost use Rattle.std.specs.Prelude.{◌≡◌, ◌++◌, ◌∷◌, [], OnOk, co
 ghost use Rattle.std.specs.Fmt.{decimal};
 ghost use Rattle.v_design.specs.Plain.{fault_of, grade_of};
 ghost use Rattle.v_design.specs.PlainDesigns.{design_of};
+ghost use Rattle.fault_list.specs.RoundTrip.{HasNumber};
 ghost use Rattle.grade_report.specs.Report.{fault_line};
 ghost use Rattle.cert_laws.specs.Written.{run_line_text, cert_line_text};
 ghost use Rattle.cert_text.specs.Views.{run_line_said, cert_line_plain};
-ghost use Rattle.cert_text.specs.Fits.{RunFits, LineFits};
+ghost use Rattle.cert_text.specs.Fits.{RunFits, LineFits, GradeFits};
 
 use crate::line::{CertLine, RunLine};
 use fault_list::{append, append_number};
@@ -91,11 +92,13 @@ pub fn append_head(
     out: &mut Vec<u8>,
     design: &Design,
     fault: Fault,
-    end: &End,
+    end: End,
 ) -> Result<(), NoMemory>
-    ensures { OnOk result (out.new.items ≡ out.old.items ++ (codes "vfault cert 1" ++ 10 ∷ fault_line (design_of design.now) (fault_of fault) (grade_of end.now))) }
+    ensures text { OnOk result (out.new.items ≡ out.old.items ++ (codes "vfault cert 1" ++ 10 ∷ fault_line (design_of design.now) (fault_of fault) (grade_of end))) }
+    ensures site { HasNumber (fault_of fault).site }
+    ensures fits { GradeFits (grade_of end) }
 {
     append(out, b"vfault cert 1\n")?;
-    write_line(alloc, design, fault, end, out)?;
+    write_line(alloc, design, fault, &end, out)?;
     Ok(())
 }
