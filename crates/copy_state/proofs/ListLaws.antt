@@ -1,14 +1,14 @@
 -- Laws on a list of entries as it is kept.
-use Rattle.std.proofs.Common.{◌≡◌, ℕ, ◌<◌, ◌≤◌, List, [], ◌∷◌, ◌++◌, length, get_or, set, take, drop, map, zero, suc, ◌+◌, refl, ap, sym, subst, ◌∙◌, arith, inl, inr}
+use Rattle.std.proofs.Common.{◌≡◌, ℕ, cond, ◌<◌, ◌≤◌, List, [], ◌∷◌, ◌++◌, length, get_or, set, take, drop, map, zero, suc, ◌+◌, refl, ap, sym, subst, ◌∙◌, arith, inl, inr}
 use Rattle.std.specs.Prelude.{insert, remove, Some, None}
 use Rattle.std.specs.List.Sorted.{IsNonDecreasingBy}
 use Rattle.std.specs.List.{refill}
 use Rattle.std.proofs.lemmas.List.{map-set, map-append, take-map, drop-map, get_or-map, length-map, length-set, take_at, take_more}
-use Rattle.std.proofs.lemmas.Bool.{cases_lt}
+use Rattle.std.proofs.lemmas.Bool.{cases_lt, lt-ltb, le-ltb}
 use Rattle.vf_base.specs.Lists.{AllHold}
 use Rattle.copy_laws.specs.Differences.{own_of}
 use Rattle.copy_state.specs.declared.entry.Entry.{Entry}
-use Rattle.copy_state.specs.Entries.{with_entry, without_entry, numbers, Rise, IsAt, GoesTo}
+use Rattle.copy_state.specs.Entries.{with_entry, without_entry, first_from, numbers, Rise, IsAt, GoesTo}
 use Rattle.copy_state.specs.Listed.{entry_of, numbers_of}
 use Rattle.copy_state.proofs.TableLaws.{with-last}
 use Rattle.copy_state.proofs.PlaceLaws.{own_of-at, own_of-none, with_entry-at, with_entry-new, without_entry-at, without_entry-none, rise-with, rise-without}
@@ -163,3 +163,26 @@ one_more {T} entries i own up within is =
     ∙ ap (λ (e : Entry T). map entry_of (take i entries) ++ entry_of e ∷ []) is
     ∙ sym (map-append entry_of (take i entries) (get_or entries i own ∷ []))
     ∙ ap (map entry_of) (sym (take_more entries i own within))
+
+-- The first entry from a number on
+
+first-here : {A : Type 0} (from : ℕ) (e : ℕ × A) (es : List (ℕ × A)) → from ≤ e.0 → first_from from (e ∷ es) ≡ Some e.0
+first-here from e es low = ap (λ b. cond b (first_from from es) (Some e.0)) (le-ltb e.0 from low)
+
+first-later : {A : Type 0} (from : ℕ) (e : ℕ × A) (es : List (ℕ × A)) → e.0 < from → first_from from (e ∷ es) ≡ first_from from es
+first-later from e es low = ap (λ b. cond b (first_from from es) (Some e.0)) (lt-ltb e.0 from low)
+
+pub first-at : {T : Type 0} (entries : List (Entry T)) (p from : ℕ) (own : Entry T) → ((k : ℕ) → k < p → get_or (numbers_of entries) k 0 < from) →
+    ((k : ℕ) → p ≤ k → k < length entries → from ≤ get_or (numbers_of entries) k 0) → p < length entries → own ≡ get_or entries p own → first_from from (map entry_of entries) ≡ Some own.number
+first-at [] p from own before behind within is = absurd (let none : p < 0 = within in omega arith)
+first-at {T} (e ∷ es) zero from own before behind within is =
+    first-here from (entry_of e) (map entry_of es) (behind zero (omega arith) within) ∙ ap (λ (x : Entry T). Some x.number) (sym is)
+first-at (e ∷ es) (suc p) from own before behind within is =
+    first-later from (entry_of e) (map entry_of es) (before zero (omega arith))
+    ∙ first-at es p from own (λ k low. before (suc k) (omega arith)) (λ k low less. behind (suc k) (omega arith) (omega arith)) (omega arith) is
+
+pub first-none : {T : Type 0} (entries : List (Entry T)) (p from : ℕ) → ((k : ℕ) → k < p → get_or (numbers_of entries) k 0 < from) → length entries ≤ p →
+    first_from from (map entry_of entries) ≡ None
+first-none [] p from before past = refl
+first-none (e ∷ es) zero from before past = absurd (omega arith)
+first-none (e ∷ es) (suc p) from before past = first-later from (entry_of e) (map entry_of es) (before zero (omega arith)) ∙ first-none es p from (λ k low. before (suc k) (omega arith)) (omega arith)

@@ -1,5 +1,5 @@
 -- Entries by number, in ascending order (nothing of the language).
-use Rattle.std.specs.Prelude.{◌≡◌, ℕ, ◌<◌, ◌≤◌, Bool, not, ◌==◌, nat_lt, if◌then◌else◌, List, [], ◌∷◌, filter, map, length, get_or}
+use Rattle.std.specs.Prelude.{◌≡◌, ℕ, ◌<◌, ◌≤◌, Bool, not, ◌==◌, nat_lt, if◌then◌else◌, List, [], ◌∷◌, filter, map, length, get_or, Option, Some, None}
 
 -- an entry under a number, before those of greater numbers and in place of an old one
 abbrev pub with_entry : {A : Type 0} → ℕ → A → List (ℕ × A) → List (ℕ × A)
@@ -13,6 +13,11 @@ is_other number entry = not (entry.0 == number)
 -- without the entry under a number
 abbrev pub without_entry : {A : Type 0} → ℕ → List (ℕ × A) → List (ℕ × A)
 without_entry number entries = filter (is_other number) entries
+
+-- the first number that isn't before one
+abbrev pub first_from : {A : Type 0} → ℕ → List (ℕ × A) → Option ℕ
+first_from from [] = None
+first_from from (entry ∷ entries) = if nat_lt entry.0 from then first_from from entries else Some entry.0
 
 -- something of each entry, under its number
 abbrev pub each_by : {A B : Type 0} → (ℕ → A → B) → List (ℕ × A) → List (ℕ × B)

@@ -1,18 +1,19 @@
 // What a copy keeps of processes.
 
 ghost use Rattle.std.specs.Prelude.{◌≡◌, [], map, OnOk, OnErr, option_map};
+ghost use Rattle.vf_base.specs.Base.{process_number};
 ghost use Rattle.copy_laws.specs.Differences.{own_of, Ascend};
-ghost use Rattle.copy_state.specs.Entries.{with_entry, without_entry};
+ghost use Rattle.copy_state.specs.Entries.{with_entry, without_entry, first_from};
 
 use crate::entry::Entry;
-use crate::find::find;
+use crate::find::{count_before, find};
 use std::alloc::Global;
 use std::marker::Model;
-use vf_base::NoMemory;
+use vf_base::{NoMemory, ProcId};
 
 /// Something of each of some processes, in ascending order, which contracts see with the process's number.
 #[derive(Drop)]
-pub(crate) struct ByProcess<T> {
+pub struct ByProcess<T> {
     entries: Vec<Entry<T>>,
 }
 
@@ -30,7 +31,7 @@ impl<T> Model for ByProcess<T> {
 
 impl<T: Drop> ByProcess<T> {
     /// Nothing. It takes no memory.
-    pub(crate) fn new(alloc: Global) -> ByProcess<T>
+    pub fn new(alloc: Global) -> ByProcess<T>
         ensures { result ≡ [] }
     {
         ByProcess {
@@ -39,21 +40,25 @@ impl<T: Drop> ByProcess<T> {
     }
 
     /// What is kept of a process.
-    pub(crate) fn get(&self, process: u32) -> Option<&T>
-        ensures { option_map (λ own. own.now) result ≡ own_of self.now process }
+    pub fn get(&self, process: ProcId) -> Option<&T>
+        ensures { option_map (λ own. own.now) result ≡ own_of self.now (process_number process) }
     {
-        match find(&self.entries, process) {
+        match find(&self.entries, process.0) {
             Ok(place) => Some(&self.entries[place].kept),
             Err(_) => None,
         }
     }
 
     /// Puts something under a process, in place of what was kept.
-    pub(crate) fn put(&mut self, process: u32, kept: T) -> Result<(), NoMemory>
-        ensures ok { OnOk result (self.new ≡ with_entry process kept self.old) }
+    ///
+    /// # Errors
+    ///
+    /// Want of memory. What is kept is unchanged then.
+    pub fn put(&mut self, process: ProcId, kept: T) -> Result<(), NoMemory>
+        ensures ok { OnOk result (self.new ≡ with_entry (process_number process) kept self.old) }
         ensures err { OnErr result (self.new ≡ self.old) }
     {
-        match find(&self.entries, process) {
+        match find(&self.entries, process.0) {
             Ok(place) => {
                 self.entries[place].kept = kept;
             }
@@ -61,7 +66,7 @@ impl<T: Drop> ByProcess<T> {
                 self.entries.insert(
                     place,
                     Entry {
-                        number: process,
+                        number: process.0,
                         kept,
                     },
                 )?;
@@ -71,16 +76,34 @@ impl<T: Drop> ByProcess<T> {
     }
 
     /// Takes out what is kept of a process, if there is something.
-    pub(crate) fn take_out(&mut self, process: u32)
-        ensures { self.new ≡ without_entry process self.old }
+    pub fn take_out(&mut self, process: ProcId)
+        ensures { self.new ≡ without_entry (process_number process) self.old }
     {
-        if let Ok(place) = find(&self.entries, process) {
+        if let Ok(place) = find(&self.entries, process.0) {
             self.entries.remove(place);
         }
     }
 
+    /// Takes everything out.
+    pub fn clear(&mut self)
+        ensures { self.new ≡ [] }
+    {
+        self.entries.clear();
+    }
+
+    /// The first process that isn't before one and of which something is kept.
+    pub fn next(&self, from: ProcId) -> Option<ProcId>
+        ensures { option_map process_number result ≡ first_from (process_number from) self.now }
+    {
+        let place = count_before(&self.entries, from.0);
+        if place < self.entries.len() {
+            return Some(ProcId(self.entries[place].number));
+        }
+        None
+    }
+
     /// The processes ascend, each once.
-    pub(crate) fn ascending(&self)
+    pub fn ascending(&self)
         ensures { Ascend self.now }
     {
         let _count = self.entries.len();

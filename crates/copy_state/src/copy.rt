@@ -91,7 +91,7 @@ impl FaultCopy {
     pub fn process(&self, process: ProcId) -> Option<&ProcState>
         ensures { option_map (λ own. own.now) result ≡ own_of self.now.states (process_number process) }
     {
-        self.states.get(process.0)
+        self.states.get(process)
     }
 
     /// The copy keeps a state for a process.
@@ -103,7 +103,7 @@ impl FaultCopy {
         ensures ok { OnOk result (self.new ≡ record self.old { states = with_entry (process_number process) state self.old.states }) }
         ensures err { OnErr result (self.new ≡ self.old) }
     {
-        self.states.put(process.0, state)?;
+        self.states.put(process, state)?;
         Ok(())
     }
 
@@ -111,14 +111,14 @@ impl FaultCopy {
     pub fn rejoin(&mut self, process: ProcId)
         ensures { self.new ≡ record self.old { states = without_entry (process_number process) self.old.states } }
     {
-        self.states.take_out(process.0);
+        self.states.take_out(process);
     }
 
     /// The updates that the copy keeps for a process, if it keeps some.
     pub fn updates(&self, process: ProcId) -> Option<&[Due]>
         ensures { option_map (λ own. map due_of own.now) result ≡ own_of self.now.updates (process_number process) }
     {
-        match self.updates.get(process.0) {
+        match self.updates.get(process) {
             None => None,
             Some(own) => Some(own.as_slice()),
         }
@@ -133,7 +133,7 @@ impl FaultCopy {
         ensures ok { OnOk result (self.new ≡ record self.old { updates = with_entry (process_number process) (map due_of own.items) self.old.updates }) }
         ensures err { OnErr result (self.new ≡ self.old) }
     {
-        self.updates.put(process.0, Seq::from_vec(own))?;
+        self.updates.put(process, Seq::from_vec(own))?;
         Ok(())
     }
 
@@ -141,7 +141,7 @@ impl FaultCopy {
     pub fn drop_updates(&mut self, process: ProcId)
         ensures { self.new ≡ record self.old { updates = without_entry (process_number process) self.old.updates } }
     {
-        self.updates.take_out(process.0);
+        self.updates.take_out(process);
     }
 
     /// What is kept ascends, each object and process once.

@@ -7,7 +7,7 @@ ghost use Rattle.copy_state.specs.Listed.{numbers_of};
 use crate::entry::Entry;
 
 /// How many entries have lesser numbers, by binary search.
-fn count_before<T>(entries: &[Entry<T>], number: u32) -> usize
+pub(crate) fn count_before<T>(entries: &[Entry<T>], number: u32) -> usize
     requires { Rise (numbers_of entries.now) }
     ensures within { result ≤ length entries.now }
     ensures before { (place : ℕ) → place < result → get_or (numbers_of entries.now) place 0 < number }

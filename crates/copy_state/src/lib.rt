@@ -14,4 +14,5 @@ mod few_values;
 mod find;
 mod value_table;
 
+pub use by_process::ByProcess;
 pub use copy::FaultCopy;
