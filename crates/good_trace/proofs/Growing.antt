@@ -34,7 +34,8 @@ AreCompiled-none = record {
 }
 
 -- one process more with its code
-pub AreCompiled-more : (processes : List Process) (i : ℕ) (process : Process) (codes : List Code) (code : Code) → i < length processes → process ≡ get_or processes i process → AreCompiled (take i processes) codes → IsCodeOf process code →
+pub AreCompiled-more : (processes : List Process) (i : ℕ) (process : Process) (codes : List Code) (code : Code) → i < length processes → process ≡ get_or processes i process →
+    AreCompiled (take i processes) codes → IsCodeOf process code →
     AreCompiled (take (i + 1) processes) (codes ++ code ∷ [])
 AreCompiled-more processes i process codes code low read had is =
     subst (λ l. AreCompiled l (codes ++ code ∷ [])) (sym grown) record {
@@ -70,6 +71,7 @@ AreCodesOf-compiled design codes had = record {
 }
 
 -- the bodies of a design's processes are sized
-pub sized-processes : (design : FlatDesign) (processes : List Process) → AllHold (IsProcessOf design) (map process_of processes) → AllHold (λ (process : Process). IsSizedStatement (statement_of process.body)) processes
+pub sized-processes : (design : FlatDesign) (processes : List Process) → AllHold (IsProcessOf design) (map process_of processes) →
+    AllHold (λ (process : Process). IsSizedStatement (statement_of process.body)) processes
 sized-processes design [] h = tt
 sized-processes design (process ∷ processes) h = (h.0.sized, sized-processes design processes h.1)

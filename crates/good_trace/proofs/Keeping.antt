@@ -5,14 +5,19 @@ use Rattle.std.proofs.lemmas.Bool.{leb-false}
 use Rattle.std.proofs.lemmas.List.{length_push}
 use Rattle.std.proofs.lemmas.Option.{slice_get_within}
 use Rattle.vf_base.specs.declared.limits.TheConstants.{WINDOW_SLOTS, WINDOW_STEPS}
+use Rattle.four_value.specs.Values.{LogicValue}
 use Rattle.v_design.specs.Designs.{FlatDesign, TestPlan, good_machine}
+use Rattle.v_design.specs.WellFormed.{KeepsRules}
+use Rattle.trace_window.specs.Moments.{values_through}
 use Rattle.v_design.specs.Runs.{counted_steps}
 use Rattle.process_code.specs.declared.code.Code.{Code}
 use Rattle.process_code.specs.declared.state.RunEnd.{RunEnd}
 use Rattle.causal_monitor.specs.declared.slot.SlotLog.{SlotLog}
 use Rattle.copy_laws.specs.Windows.{WindowEnd, IsWindow, good_slots, window_steps}
 use Rattle.good_trace.specs.declared.slot.PushedSlot.{PushedSlot}
+use Rattle.good_trace.specs.declared.events.Events.{Events}
 use Rattle.good_trace.specs.Counted.{steps_logged}
+use Rattle.good_trace.specs.Events.{AreWindowEvents}
 use Rattle.good_trace.specs.Slots.{IsSlotAt, is_full, first_turn}
 use Rattle.good_trace.specs.Traces.{TraceKept, IsTrace, IsTraceWindow}
 use Rattle.good_trace.proofs.Growing.{slice_get-push}
@@ -29,13 +34,19 @@ room-left slots steps e =
     let parts = or-parts (nat_le WINDOW_SLOTS slots) (nat_le WINDOW_STEPS steps) e in (leb-false WINDOW_SLOTS slots parts.0, leb-false WINDOW_STEPS steps parts.1)
 
 -- the steps of a slot of the good first run
-pub steps_logged-at : (codes : List Code) (design : FlatDesign) (plan : TestPlan) (number : ℕ) (log : SlotLog) (runs : List RunEnd) → IsSlotAt codes design plan number log runs → steps_logged log ≤ 100000
+pub steps_logged-at : (codes : List Code) (design : FlatDesign) (plan : TestPlan) (number : ℕ) (log : SlotLog) (runs : List RunEnd) → IsSlotAt codes design plan number log runs →
+    steps_logged log ≤ 100000
 steps_logged-at codes design plan number log runs is =
     let same = steps-are (good_machine design) (first_turn number) is.slot log is.logged in let few = few-steps is.slot is.few_steps in omega (arith, same, few)
 
 -- a trace of no slots
-pub IsTrace-none : (codes : List Code) (design : FlatDesign) (plan : TestPlan) (number : ℕ) → length (good_slots design plan) < 2 ^ 63 → IsTrace codes design plan number number 0 []
-IsTrace-none codes design plan number fits = record {
+pub IsTrace-none : (codes : List Code) (design : FlatDesign) (plan : TestPlan) (number : ℕ) (values : List LogicValue) → KeepsRules design → values ≡ values_through design plan number →
+    length values ≡ length design.objects →
+    length (good_slots design plan) < 2 ^ 63 → IsTrace codes design plan number number 0 values []
+IsTrace-none codes design plan number values rules are count fits = record {
+  rules = rules;
+  values_are = are;
+  values_count = count;
   run_fits = fits;
   held = omega arith;
   slots_are = record { each = λ place slot at. let low : place < 0 = slice_get_within [] place slot at in absurd (omega arith) };
@@ -45,10 +56,14 @@ IsTrace-none codes design plan number fits = record {
 }
 
 -- one slot more
-pub IsTrace-more : (codes : List Code) (design : FlatDesign) (plan : TestPlan) (pushed closed steps : ℕ) (slots : List PushedSlot) (slot : PushedSlot) → IsTrace codes design plan pushed closed steps slots →
+pub IsTrace-more : (codes : List Code) (design : FlatDesign) (plan : TestPlan) (pushed closed steps : ℕ) (values : List LogicValue) (slots : List PushedSlot) (slot : PushedSlot) →
+    IsTrace codes design plan pushed closed steps values slots →
     IsSlotAt codes design plan pushed slot.log slot.runs.items → is_full (pushed - closed) (window_steps design plan closed pushed) ≡ false →
-    IsTrace codes design plan (pushed + 1) closed (steps + steps_logged slot.log) (slots ++ slot ∷ [])
-IsTrace-more codes design plan pushed closed steps slots slot had next room = record {
+    IsTrace codes design plan (pushed + 1) closed (steps + steps_logged slot.log) values (slots ++ slot ∷ [])
+IsTrace-more codes design plan pushed closed steps values slots slot had next room = record {
+  rules = had.rules;
+  values_are = had.values_are;
+  values_count = had.values_count;
   run_fits = had.run_fits;
   held = omega (arith, had.held, more);
   slots_are = record {
@@ -80,16 +95,20 @@ IsTrace-more codes design plan pushed closed steps slots slot had next room = re
     small a b c e h k = omega arith
 
 -- what is pushed can be counted
-pub push-fits : (codes : List Code) (design : FlatDesign) (plan : TestPlan) (pushed closed steps : ℕ) (slots : List PushedSlot) (log : SlotLog) (runs : List RunEnd) → IsTrace codes design plan pushed closed steps slots →
+pub push-fits : (codes : List Code) (design : FlatDesign) (plan : TestPlan) (pushed closed steps : ℕ) (values : List LogicValue) (slots : List PushedSlot) (log : SlotLog) (runs : List RunEnd) →
+    IsTrace codes design plan pushed closed steps values slots →
     IsSlotAt codes design plan pushed log runs → (pushed + 1 < 2 ^ 64) × (steps + steps_logged log < 2 ^ 32)
-push-fits codes design plan pushed closed steps slots log runs had next =
+push-fits codes design plan pushed closed steps values slots log runs had next =
     let low : pushed < length (good_slots design plan) = slice_get_within (good_slots design plan) pushed next.slot next.stands in
     let few = steps_logged-at codes design plan pushed log runs next in (omega (arith, low, had.run_fits), omega (arith, few, had.few_steps))
 
 -- the slots of a trace as a window
-pub IsTraceWindow-closed : (codes : List Code) (design : FlatDesign) (plan : TestPlan) (pushed closed steps : ℕ) (slots : List PushedSlot) (ending : WindowEnd) → IsTrace codes design plan pushed closed steps slots →
-    IsWindow design plan closed pushed ending → IsTraceWindow design plan closed pushed ending slots
-IsTraceWindow-closed codes design plan pushed closed steps slots ending had window = record {
+pub IsTraceWindow-closed : (codes : List Code) (design : FlatDesign) (plan : TestPlan) (pushed closed steps : ℕ) (values : List LogicValue) (events : Events) (slots : List PushedSlot)
+    (ending : WindowEnd) →
+    IsTrace codes design plan pushed closed steps values slots → AreWindowEvents design plan closed pushed values events → IsWindow design plan closed pushed ending →
+    IsTraceWindow design plan closed pushed ending values events slots
+IsTraceWindow-closed codes design plan pushed closed steps values events slots ending had are window = record {
+  events_are = are;
   codes = codes;
   stands = record {
     window = window;
@@ -104,7 +123,8 @@ IsTraceWindow-closed codes design plan pushed closed steps slots ending had wind
     few a b e h = omega arith
 
 -- the slot that comes next, by what contracts see of a trace
-pub next-is : (codes : List Code) (design : FlatDesign) (plan : TestPlan) (pushed closed : ℕ) (kept : TraceKept) (log : SlotLog) (runs : List RunEnd) → record { codes = codes; pushed = pushed; closed = closed } ≡ kept →
+pub next-is : (codes : List Code) (design : FlatDesign) (plan : TestPlan) (pushed closed : ℕ) (kept : TraceKept) (log : SlotLog) (runs : List RunEnd) →
+    record { codes = codes; pushed = pushed; closed = closed } ≡ kept →
     IsSlotAt kept.codes design plan kept.pushed log runs → IsSlotAt codes design plan pushed log runs
 next-is codes design plan pushed closed kept log runs view is = subst (λ (k : TraceKept). IsSlotAt k.codes design plan k.pushed log runs) (sym view) is
 
@@ -112,21 +132,26 @@ pub room-is : (codes : List Code) (design : FlatDesign) (plan : TestPlan) (pushe
     is_full (kept.pushed - kept.closed) (window_steps design plan kept.closed kept.pushed) ≡ false → is_full (pushed - closed) (window_steps design plan closed pushed) ≡ false
 room-is codes design plan pushed closed kept view is = subst (λ (k : TraceKept). is_full (k.pushed - k.closed) (window_steps design plan k.closed k.pushed) ≡ false) (sym view) is
 
-pub window-is : (codes : List Code) (design : FlatDesign) (plan : TestPlan) (pushed closed : ℕ) (kept : TraceKept) (ending : WindowEnd) → record { codes = codes; pushed = pushed; closed = closed } ≡ kept →
+pub window-is : (codes : List Code) (design : FlatDesign) (plan : TestPlan) (pushed closed : ℕ) (kept : TraceKept) (ending : WindowEnd) →
+    record { codes = codes; pushed = pushed; closed = closed } ≡ kept →
     IsWindow design plan kept.closed kept.pushed ending → IsWindow design plan closed pushed ending
 window-is codes design plan pushed closed kept ending view is = subst (λ (k : TraceKept). IsWindow design plan k.closed k.pushed ending) (sym view) is
 
 -- what a trace keeps once a slot is pushed
-pub push-keeps : (codes : List Code) (design : FlatDesign) (plan : TestPlan) (pushed closed steps : ℕ) (slots : List PushedSlot) (kept : TraceKept) (slot : PushedSlot) (count : ℕ) (items : List PushedSlot) →
-    IsTrace codes design plan pushed closed steps slots → record { codes = codes; pushed = pushed; closed = closed } ≡ kept → IsSlotAt kept.codes design plan kept.pushed slot.log slot.runs.items →
+pub push-keeps : (codes : List Code) (design : FlatDesign) (plan : TestPlan) (pushed closed steps : ℕ) (values : List LogicValue) (slots : List PushedSlot) (kept : TraceKept) (slot : PushedSlot)
+    (count : ℕ) (items : List PushedSlot) →
+    IsTrace codes design plan pushed closed steps values slots → record { codes = codes; pushed = pushed; closed = closed } ≡ kept →
+    IsSlotAt kept.codes design plan kept.pushed slot.log slot.runs.items →
     is_full (kept.pushed - kept.closed) (window_steps design plan kept.closed kept.pushed) ≡ false → count ≡ steps_logged slot.log → items ≡ slots ++ slot ∷ [] →
-    IsTrace codes design plan (pushed + 1) closed (steps + count) items
-push-keeps codes design plan pushed closed steps slots kept slot count items had view next room is grown =
-    subst (λ l. IsTrace codes design plan (pushed + 1) closed (steps + count) l) (sym grown)
-    (subst (λ n. IsTrace codes design plan (pushed + 1) closed (steps + n) (slots ++ slot ∷ [])) (sym is)
-    (IsTrace-more codes design plan pushed closed steps slots slot had (next-is codes design plan pushed closed kept slot.log slot.runs.items view next) (room-is codes design plan pushed closed kept view room)))
+    IsTrace codes design plan (pushed + 1) closed (steps + count) values items
+push-keeps codes design plan pushed closed steps values slots kept slot count items had view next room is grown =
+    subst (λ l. IsTrace codes design plan (pushed + 1) closed (steps + count) values l) (sym grown)
+    (subst (λ n. IsTrace codes design plan (pushed + 1) closed (steps + n) values (slots ++ slot ∷ [])) (sym is)
+    (IsTrace-more codes design plan pushed closed steps values slots slot had (next-is codes design plan pushed closed kept slot.log slot.runs.items view next)
+    (room-is codes design plan pushed closed kept view room)))
 
 -- whether the window is full then
-pub full-is : (codes : List Code) (design : FlatDesign) (plan : TestPlan) (pushed closed steps : ℕ) (slots : List PushedSlot) (count : ℕ) → IsTrace codes design plan pushed closed steps slots → count ≡ length slots →
+pub full-is : (codes : List Code) (design : FlatDesign) (plan : TestPlan) (pushed closed steps : ℕ) (values : List LogicValue) (slots : List PushedSlot) (count : ℕ) →
+    IsTrace codes design plan pushed closed steps values slots → count ≡ length slots →
     is_full count steps ≡ is_full (pushed - closed) (window_steps design plan closed pushed)
-full-is codes design plan pushed closed steps slots count had is = let e : count ≡ pushed - closed = omega (arith, had.held, is) in λ i. is_full (e i) (had.counted i)
+full-is codes design plan pushed closed steps values slots count had is = let e : count ≡ pushed - closed = omega (arith, had.held, is) in λ i. is_full (e i) (had.counted i)

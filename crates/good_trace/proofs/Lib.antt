@@ -2,3 +2,5 @@ mod Growing
 mod Counting
 mod Steps
 mod Keeping
+mod Gathering
+mod Following

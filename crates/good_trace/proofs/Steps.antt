@@ -28,7 +28,8 @@ window_steps-more design plan begins number slot stands low = steps-more (good_s
     steps-more slots at =
         let within : number < length slots = slice_get_within slots number slot at in
         let long : length (take number slots) ≡ number = length-take-le number slots (omega arith) in
-        let grown : take (number + 1) slots ≡ take number slots ++ slot ∷ [] = take_more slots number slot within ∙ ap (λ s. take number slots ++ s ∷ []) (get_or_from_slice_get slots number slot slot at) in
+        let grown : take (number + 1) slots ≡ take number slots ++ slot ∷ [] = take_more slots number slot within
+        ∙ ap (λ s. take number slots ++ s ∷ []) (get_or_from_slice_get slots number slot slot at) in
         ap (λ l. sum_by slot_steps (drop begins l)) grown
         ∙ ap (λ l. sum_by slot_steps l) (drop-append-le begins (take number slots) (slot ∷ []) (omega arith))
         ∙ sum_by-append slot_steps (drop begins (take number slots)) (slot ∷ [])

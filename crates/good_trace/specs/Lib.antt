@@ -1,4 +1,6 @@
 pub mod Setups
 pub mod Slots
 pub mod Counted
+pub mod Events
+pub mod Closing
 pub mod Traces

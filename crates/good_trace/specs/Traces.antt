@@ -1,9 +1,14 @@
 -- The good first run as it is pushed, and its windows (slots by IEEE 1364-2001, clause 5).
 use Rattle.std.specs.Prelude.{◌≡◌, ℕ, ◌+◌, ◌^◌, ◌<◌, ◌≤◌, List, length, Some, slice_get}
+use Rattle.four_value.specs.Values.{LogicValue}
 use Rattle.v_design.specs.Designs.{FlatDesign, TestPlan}
+use Rattle.v_design.specs.WellFormed.{KeepsRules}
 use Rattle.process_code.specs.declared.code.Code.{Code}
 use Rattle.copy_laws.specs.Windows.{WindowEnd, IsWindow, good_slots, window_steps}
+use Rattle.trace_window.specs.Moments.{values_through}
 use Rattle.good_trace.specs.declared.slot.PushedSlot.{PushedSlot}
+use Rattle.good_trace.specs.declared.events.Events.{Events}
+use Rattle.good_trace.specs.Events.{AreWindowEvents}
 use Rattle.good_trace.specs.Slots.{IsSlotAt}
 
 -- what contracts see of a trace: the code of each process, how many slots were pushed, and how many of these stand in windows that were closed
@@ -22,8 +27,11 @@ pub record WindowKept : Type 0 where
 pub record AreSlotsFrom (codes : List Code) (design : FlatDesign) (plan : TestPlan) (number : ℕ) (slots : List PushedSlot) : Type 0 where
   pub each : (place : ℕ) (slot : PushedSlot) → slice_get slots place ≡ Some slot → IsSlotAt codes design plan (number + place) slot.log slot.runs.items
 
--- a trace holds the slots since its last close and counts their process and lane steps; they are a window at most
-pub record IsTrace (codes : List Code) (design : FlatDesign) (plan : TestPlan) (pushed closed steps : ℕ) (slots : List PushedSlot) : Type 0 where
+-- a trace holds the slots since its last close and counts their process and lane steps, and has what the objects hold before them; they are a window at most
+pub record IsTrace (codes : List Code) (design : FlatDesign) (plan : TestPlan) (pushed closed steps : ℕ) (values : List LogicValue) (slots : List PushedSlot) : Type 0 where
+  pub rules : KeepsRules design
+  pub values_are : values ≡ values_through design plan closed
+  pub values_count : length values ≡ length design.objects
   pub run_fits : length (good_slots design plan) < 2 ^ 63
   pub held : closed + length slots ≡ pushed
   pub slots_are : AreSlotsFrom codes design plan closed slots
@@ -39,7 +47,8 @@ pub record IsWindowOf (codes : List Code) (design : FlatDesign) (plan : TestPlan
   pub few_slots : through ≤ before + 64
   pub few_steps : window_steps design plan before through ≤ 300000
 
--- the same, with some codes
-pub record IsTraceWindow (design : FlatDesign) (plan : TestPlan) (before through : ℕ) (ending : WindowEnd) (slots : List PushedSlot) : Type 0 where
+-- the same, with some codes, and with what its events write and touch
+pub record IsTraceWindow (design : FlatDesign) (plan : TestPlan) (before through : ℕ) (ending : WindowEnd) (values : List LogicValue) (events : Events) (slots : List PushedSlot) : Type 0 where
+  pub events_are : AreWindowEvents design plan before through values events
   pub codes : List Code
   pub stands : IsWindowOf codes design plan before through ending slots

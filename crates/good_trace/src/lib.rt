@@ -3,10 +3,13 @@
 //! A `Setup` is what all windows of a run stand on: the design, its graph, the plan, and the compiled code of each process. `Trace::push` puts the next slot of
 //! the good first run, with the ends of its process runs, behind those before it, and tells whether the window is full now; `Trace::close_window` gives the slots
 //! since the last close as a `TraceWindow`. Its main contract: a window is the slots of the good first run from one number to another, at most 64 of them with at
-//! most 300,000 process and lane steps, and it tells whether slots come after it, the run is through, or its last slot has a race.
+//! most 300,000 process and lane steps, and it tells whether slots come after it, the run is through, or its last slot has a race. All its events are
+//! numbered through by their moments: `value_at` is what an object holds before the event of a moment, and `next_touch` the next event that reads or writes it.
 #![tactic(auto)]
 
 mod ending;
+mod events;
+mod first;
 mod setup;
 mod slot;
 mod trace;

@@ -5,10 +5,13 @@ ghost use Rattle.copy_laws.specs.Windows.{IsWindow, window_steps};
 ghost use Rattle.good_trace.specs.Slots.{IsSlotAt, is_full, end_of};
 
 use crate::ending::GoodEnd;
+use crate::events::{ClosedEvents, close_events};
+use crate::first::first_values;
 use crate::setup::Setup;
 use crate::slot::{PushedSlot, count_steps};
 use crate::window::TraceWindow;
 use causal_monitor::SlotLog;
+use four_value::Vec4;
 use process_code::RunEnd;
 use std::alloc::Global;
 use std::marker::{Model, PhantomData};
@@ -22,7 +25,9 @@ use vf_base::{NoMemory, WINDOW_SLOTS, WINDOW_STEPS};
 pub struct Trace<'s, 'd, N: World> {
     alloc: Global,
     setup: &'s Setup<'d, N>,
-    /// The slots since the last close, and their process and lane steps.
+    /// What the objects hold after the last close.
+    values: Vec<Vec4>,
+    /// The slots since then, and their process and lane steps.
     slots: Vec<PushedSlot>,
     steps: u32,
     pushed: u64,
@@ -42,7 +47,7 @@ impl<'s, 'd, N: World> Model for Trace<'s, 'd, N> {
 
     ghost view = { λ t. record { codes = t.setup.now.codes; pushed = t.pushed; closed = t.closed } };
 
-    ghost invariant = { λ t. IsTrace t.setup.now.codes N.design N.plan t.pushed t.closed t.steps t.slots.items };
+    ghost invariant = { λ t. IsTrace t.setup.now.codes N.design N.plan t.pushed t.closed t.steps t.values.items t.slots.items };
 }
 
 /// Whether a window that has so many slots and steps is full.
@@ -62,10 +67,11 @@ impl<'s, 'd, N: World> Trace<'s, 'd, N> {
         ensures codes { IfOk result (λ trace. trace.codes ≡ setup.now.codes) }
         ensures none { IfOk result (λ trace. (trace.pushed ≡ 0) × (trace.closed ≡ 0)) }
     {
-        let _plan = setup.plan;
+        let values = first_values(alloc, setup.design, setup.graph)?;
         Ok(Trace {
             alloc,
             setup,
+            values,
             slots: Vec::new(alloc),
             steps: 0,
             pushed: 0,
@@ -96,7 +102,7 @@ impl<'s, 'd, N: World> Trace<'s, 'd, N> {
     ///
     /// # Errors
     ///
-    /// Want of memory. The trace is as before then.
+    /// Want of memory, or no further number of a moment. The trace is as before then.
     pub fn close_window(&mut self, last: GoodEnd) -> Result<TraceWindow<N>, NoMemory>
         requires some { self.old.closed < self.old.pushed }
         requires last { IsWindow N.design N.plan self.old.closed self.old.pushed (end_of last) }
@@ -106,7 +112,10 @@ impl<'s, 'd, N: World> Trace<'s, 'd, N> {
         ensures closed { OnOk result (self.new ≡ record self.old { closed = self.old.pushed }) }
         ensures err { OnErr result (self.new ≡ self.old) }
     {
+        let closed = close_events(self.alloc, &self.values, &self.slots)?;
+        let ClosedEvents { events, later } = closed;
         let slots = mem::replace(&mut self.slots, Vec::new(self.alloc));
+        let values = mem::replace(&mut self.values, later);
         let begins = self.closed;
         let ends = self.pushed;
         self.closed = ends;
@@ -115,6 +124,8 @@ impl<'s, 'd, N: World> Trace<'s, 'd, N> {
             begins,
             ends,
             last,
+            values,
+            events,
             slots,
             world: PhantomData,
         })

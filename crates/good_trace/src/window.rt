@@ -1,12 +1,20 @@
 // A window of the good first run.
 
-ghost use Rattle.std.specs.Prelude.{◌≡◌, ◌+◌, ◌≤◌};
+ghost use Rattle.std.specs.Prelude.{◌≡◌, ◌+◌, ◌<◌, ◌≤◌, length};
+ghost use Rattle.vf_base.specs.Base.{object_number};
+ghost use Rattle.v_design.specs.Assignments.{value_at};
+ghost use Rattle.v_design.specs.Designs.{good_machine};
+ghost use Rattle.trace_window.specs.Moments.{window_events, window_values};
+ghost use Rattle.trace_window.specs.Touched.{touched_at, IsFirstFrom};
 ghost use Rattle.copy_laws.specs.Windows.{IsWindow, window_steps};
 
 use crate::ending::GoodEnd;
+use crate::events::Events;
 use crate::slot::PushedSlot;
+use four_value::Vec4;
 use std::marker::{Model, PhantomData};
 use v_design::World;
+use vf_base::ObjectId;
 
 /// Slots of the good first run of the world `N` in a row, which contracts see as how many slots of the run stand before the window and before its end, and how it ends.
 #[derive(Drop)]
@@ -14,6 +22,9 @@ pub struct TraceWindow<N: World> {
     pub(crate) begins: u64,
     pub(crate) ends: u64,
     pub(crate) last: GoodEnd,
+    /// What the objects hold before the window.
+    pub(crate) values: Vec<Vec4>,
+    pub(crate) events: Events,
     pub(crate) slots: Vec<PushedSlot>,
     pub(crate) world: PhantomData<N>,
 }
@@ -26,7 +37,7 @@ impl<N: World> Model for TraceWindow<N> {
 
     ghost view = { λ w. record { before = w.begins; through = w.ends; ending = end_of w.last } };
 
-    ghost invariant = { λ w. IsTraceWindow N.design N.plan w.begins w.ends (end_of w.last) w.slots.items };
+    ghost invariant = { λ w. IsTraceWindow N.design N.plan w.begins w.ends (end_of w.last) w.values.items w.events w.slots.items };
 }
 
 impl<N: World> TraceWindow<N> {
@@ -45,5 +56,30 @@ impl<N: World> TraceWindow<N> {
         ensures steps { window_steps N.design N.plan self.now.before self.now.through ≤ 300000 }
     {
         self.ends
+    }
+
+    /// How many events the window has. They are numbered through from 0 on, and the number of an event is its moment.
+    pub fn moments(&self) -> u32
+        ensures { result ≡ length (window_events N.design N.plan self.now.before self.now.through) }
+    {
+        self.events.count
+    }
+
+    /// What an object holds before the event of a moment; behind the last event what it holds at the window's end.
+    pub fn value_at(&self, object: ObjectId, moment: u32) -> Vec4
+        requires { object_number object < length N.design.objects }
+        ensures { result ≡ value_at (window_values N.design N.plan self.now.before self.now.through moment) (object_number object) }
+    {
+        let first = self.values[object.0 as usize];
+        self.events.changes.value_at(first, object, moment)
+    }
+
+    /// The first moment that isn't before another and at which an event reads or writes an object, a net piece only where that changes; none where none does.
+    pub fn next_touch(&self, object: ObjectId, moment: u32) -> Option<u32>
+        requires { object_number object < length N.design.objects }
+        ensures { IsFirstFrom (touched_at (good_machine N.design) (window_events N.design N.plan self.now.before self.now.through) (object_number object))
+            (length (window_events N.design N.plan self.now.before self.now.through)) moment result }
+    {
+        self.events.touches.first_at_or_after(object.0, moment)
     }
 }

@@ -21,12 +21,14 @@ fits all phases i actors own same few low read is =
 
 pub count_in-steps-requires : goal.count_in-steps-requires
 count_in-steps-requires c =
-    let few = fits c.args.log.now.actors c.as_slice-phases.result.now c.phases.actors-index c.actors-item.result c.as_slice.result.now c.as_slice-phases.ensures c.requires c.phases-test.true c.actors-item.is c.as_slice.ensures in
+    let few = fits c.args.log.now.actors c.as_slice-phases.result.now c.phases.actors-index c.actors-item.result c.as_slice.result.now c.as_slice-phases.ensures c.requires c.phases-test.true
+    c.actors-item.is c.as_slice.ensures in
     omega (arith, few)
 
 pub overflow_add-steps : goal.overflow_add-steps
 overflow_add-steps c =
-    let few = fits c.args.log.now.actors c.as_slice-phases.result.now c.phases.actors-index c.actors-item.result c.as_slice.result.now c.as_slice-phases.ensures c.requires c.phases-test.true c.actors-item.is c.as_slice.ensures in
+    let few = fits c.args.log.now.actors c.as_slice-phases.result.now c.phases.actors-index c.actors-item.result c.as_slice.result.now c.as_slice-phases.ensures c.requires c.phases-test.true
+    c.actors-item.is c.as_slice.ensures in
     omega (arith, few, c.phases.invariant, c.count_in-steps.ensures)
 
 pub phases-preserved : goal.phases-preserved

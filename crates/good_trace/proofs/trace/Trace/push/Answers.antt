@@ -9,26 +9,28 @@ pub overflow_add-self : goal.overflow_add-self
 overflow_add-self g c =
     let t = c.self.inside in
     let next = next-is t.setup.now.codes g.N.World.design g.N.World.plan t.pushed t.closed c.args.self.now c.args.slot c.args.runs.items c.self.view_is c.requires.next in
-    let fits = push-fits t.setup.now.codes g.N.World.design g.N.World.plan t.pushed t.closed t.steps t.slots.items c.args.slot c.args.runs.items c.self.invariant next in
+    let fits = push-fits t.setup.now.codes g.N.World.design g.N.World.plan t.pushed t.closed t.steps t.values.items t.slots.items c.args.slot c.args.runs.items c.self.invariant next in
     omega (arith, fits.1, c.count_steps-steps.ensures)
 
 pub overflow_add-self-2 : goal.overflow_add-self-2
 overflow_add-self-2 g c =
     let t = c.self.inside in
     let next = next-is t.setup.now.codes g.N.World.design g.N.World.plan t.pushed t.closed c.args.self.now c.args.slot c.args.runs.items c.self.view_is c.requires.next in
-    let fits = push-fits t.setup.now.codes g.N.World.design g.N.World.plan t.pushed t.closed t.steps t.slots.items c.args.slot c.args.runs.items c.self.invariant next in
+    let fits = push-fits t.setup.now.codes g.N.World.design g.N.World.plan t.pushed t.closed t.steps t.values.items t.slots.items c.args.slot c.args.runs.items c.self.invariant next in
     omega (arith, fits.0)
 
 pub invariant_of-self-2 : goal.invariant_of-self-2
 invariant_of-self-2 g c =
     let t = c.self.inside in
-    push-keeps t.setup.now.codes g.N.World.design g.N.World.plan t.pushed t.closed t.steps t.slots.items c.args.self.now (record { log = c.args.slot; runs = c.args.runs }) c.count_steps-steps.result c.push.new.self.items
+    push-keeps t.setup.now.codes g.N.World.design g.N.World.plan t.pushed t.closed t.steps t.values.items t.slots.items c.args.self.now
+    (record { log = c.args.slot; runs = c.args.runs }) c.count_steps-steps.result c.push.new.self.items
     c.self.invariant c.self.view_is c.requires.next c.requires.room c.count_steps-steps.ensures c.in_ok-push.ensures.items
 
 pub returns-clause-full : goal.returns-clause-full
 returns-clause-full g c =
     let t = c.self.inside in
     c.is_full.ensures
-    ∙ full-is t.setup.now.codes g.N.World.design g.N.World.plan (t.pushed + 1) t.closed (t.steps + c.count_steps-steps.result) c.push.new.self.items c.len.result
-    (push-keeps t.setup.now.codes g.N.World.design g.N.World.plan t.pushed t.closed t.steps t.slots.items c.args.self.now (record { log = c.args.slot; runs = c.args.runs }) c.count_steps-steps.result c.push.new.self.items
+    ∙ full-is t.setup.now.codes g.N.World.design g.N.World.plan (t.pushed + 1) t.closed (t.steps + c.count_steps-steps.result) t.values.items c.push.new.self.items c.len.result
+    (push-keeps t.setup.now.codes g.N.World.design g.N.World.plan t.pushed t.closed t.steps t.values.items t.slots.items c.args.self.now
+    (record { log = c.args.slot; runs = c.args.runs }) c.count_steps-steps.result c.push.new.self.items
     c.self.invariant c.self.view_is c.requires.next c.requires.room c.count_steps-steps.ensures c.in_ok-push.ensures.items) (search rules)

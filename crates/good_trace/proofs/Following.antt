@@ -1,0 +1,136 @@
+-- What the events of a window lead to.
+use Rattle.std.proofs.Common.{◌≡◌, ℕ, suc, ◌+◌, ◌-◌, ◌<◌, ◌≤◌, List, [], ◌∷◌, ◌++◌, length, get_or, below_more, refl, sym, ap, subst, ◌∙◌, arith}
+use Rattle.std.specs.Prelude.{Option, Some, None, option_map, slice_get}
+use Rattle.std.proofs.lemmas.List.{ext_get_or, get_or_read, length-map}
+use Rattle.std.proofs.Math.ListN.{get_or-append}
+use Rattle.std.proofs.lemmas.Option.{slice_get_within, slice_get-map}
+use Rattle.four_value.specs.Values.{LogicValue}
+use Rattle.v_design.specs.Designs.{FlatDesign, TestPlan, good_machine}
+use Rattle.v_design.specs.Assignments.{value_at}
+use Rattle.v_design.specs.Runs.{FirstSlot}
+use Rattle.process_code.specs.declared.code.Code.{Code}
+use Rattle.causal_monitor.specs.declared.slot.SlotLog.{SlotLog}
+use Rattle.copy_laws.specs.Windows.{WindowEnd, IsWindow, good_slots}
+use Rattle.window_index.specs.Moments.{IsFirstAtOrAfter}
+use Rattle.trace_window.specs.Listed.{AreListed}
+use Rattle.trace_window.specs.LogLaws.{IsLoggedSlot, window-listed}
+use Rattle.trace_window.specs.Moments.{window_events, values_through, values_before, window_values}
+use Rattle.trace_window.specs.Touched.{touched_at, IsFirstFrom}
+use Rattle.trace_window.specs.TouchLaws.{listed-length, first-touch}
+use Rattle.trace_window.specs.ValueLaws.{ValuesFollow, window-follow, follow-count, values_before-end, values-are}
+use Rattle.trace_window.specs.Writes.{Written, latest, writes_from}
+use Rattle.good_trace.specs.declared.slot.PushedSlot.{PushedSlot}
+use Rattle.good_trace.specs.declared.events.Events.{Events}
+use Rattle.good_trace.specs.Slots.{IsSlotAt, first_turn}
+use Rattle.good_trace.specs.Events.{logs_of, slots_accesses, AreEvents, AreWindowEvents}
+use Rattle.good_trace.specs.Traces.{AreSlotsFrom, IsTrace}
+
+-- a window ends within the good first run
+pub ends-within : (design : FlatDesign) (plan : TestPlan) (begins ends : ℕ) (ending : WindowEnd) → IsWindow design plan begins ends ending → (begins ≤ ends) × (ends ≤ length (good_slots design plan))
+ends-within design plan begins ends ending window =
+    let some : begins < ends = window.some in
+    let last : ends ≡ suc (ends - 1) = omega arith in
+    let low : ends - 1 < length (good_slots design plan) = slice_get_within (good_slots design plan) (ends - 1) window.last (window.stands (ends - 1) last) in
+    (omega arith, omega arith)
+
+-- the slots of a window have the accesses of its events
+pub window-accesses : (codes : List Code) (design : FlatDesign) (plan : TestPlan) (begins ends : ℕ) (slots : List PushedSlot) → begins + length slots ≡ ends →
+    ends ≤ length (good_slots design plan) → AreSlotsFrom codes design plan begins slots →
+    AreListed (good_machine design) (window_events design plan begins ends) (slots_accesses slots)
+window-accesses codes design plan begins ends slots held fits are =
+    window-listed design plan begins ends (logs_of slots) (let long : length (logs_of slots) ≡ length slots = length-map slots (λ (s : PushedSlot). s.log) in omega (arith, held, long)) fits each
+  where
+    same_some : {A : Type 0} (x y : A) → Some x ≡ Some y → x ≡ y
+    same_some x y e = cc
+
+    at : (place : ℕ) (slot : FirstSlot) (log : SlotLog) → slice_get (good_slots design plan) (begins + place) ≡ Some slot → (found : Option PushedSlot) → slice_get slots place ≡ found →
+        option_map (λ (s : PushedSlot). s.log) found ≡ Some log → IsLoggedSlot (good_machine design) slot log
+    at place slot log stands None is e = cc
+    at place slot log stands (Some pushed) is e =
+        let own : IsSlotAt codes design plan (begins + place) pushed.log pushed.runs.items = are.each place pushed is in
+        let one : own.slot ≡ slot = same_some own.slot slot (sym own.stands ∙ stands) in
+        let other : pushed.log ≡ log = same_some pushed.log log e in
+        subst (λ (l : SlotLog). IsLoggedSlot (good_machine design) slot l) other
+        (subst (λ (s : FirstSlot). IsLoggedSlot (good_machine design) s pushed.log) one (record { first = first_turn (begins + place); is = own.logged }))
+
+    each : (place : ℕ) (slot : FirstSlot) (log : SlotLog) → slice_get (good_slots design plan) (begins + place) ≡ Some slot → slice_get (logs_of slots) place ≡ Some log →
+        IsLoggedSlot (good_machine design) slot log
+    each place slot log stands here = at place slot log stands (slice_get slots place) refl (sym (slice_get-map (λ (s : PushedSlot). s.log) slots place) ∙ here)
+
+-- a trace's slots with their events
+pub AreWindowEvents-closed : (codes : List Code) (design : FlatDesign) (plan : TestPlan) (pushed closed steps : ℕ) (values : List LogicValue) (slots : List PushedSlot) (ending : WindowEnd)
+    (objects : ℕ) (events : Events) →
+    IsTrace codes design plan pushed closed steps values slots → IsWindow design plan closed pushed ending → objects ≡ length values → AreEvents objects (slots_accesses slots) events →
+    AreWindowEvents design plan closed pushed values events
+AreWindowEvents-closed codes design plan pushed closed steps values slots ending objects events had window is are = record {
+  rules = had.rules;
+  values_are = had.values_are;
+  values_count = had.values_count;
+  accesses = slots_accesses slots;
+  listed = window-accesses codes design plan closed pushed slots had.held (ends-within design plan closed pushed ending window).1 had.slots_are;
+  events_are = subst (λ n. AreEvents n (slots_accesses slots) events) (is ∙ had.values_count) are;
+}
+
+-- the values of a window follow each other
+follows : (design : FlatDesign) (plan : TestPlan) (before through : ℕ) (values : List LogicValue) (events : Events) (ending : WindowEnd) → IsWindow design plan before through ending →
+    AreWindowEvents design plan before through values events →
+    ValuesFollow (good_machine design) values (window_events design plan before through) (values_through design plan through)
+follows design plan before through values events ending window are =
+    let within = ends-within design plan before through ending window in
+    subst (λ v. ValuesFollow (good_machine design) v (window_events design plan before through) (values_through design plan through)) (sym are.values_are)
+    (window-follow design plan before through within.0 within.1)
+
+-- what an object holds before a moment
+pub value-is : (design : FlatDesign) (plan : TestPlan) (before through : ℕ) (values : List LogicValue) (events : Events) (ending : WindowEnd) → IsWindow design plan before through ending →
+    AreWindowEvents design plan before through values events →
+    (object moment : ℕ) → object < length design.objects →
+    latest (value_at values object) object moment events.changes.writes ≡ value_at (window_values design plan before through moment) object
+value-is design plan before through values events ending window are object moment low =
+    ap (λ w. latest (value_at values object) object moment w) are.events_are.changes_are
+    ∙ (let e : moment ≡ 0 + moment = omega arith in ap (λ n. latest (value_at values object) object n (writes_from 0 are.accesses)) e)
+    ∙ sym (values-are (good_machine design) are.rules (window_events design plan before through) are.accesses are.listed values (values_through design plan through)
+    (follows design plan before through values events ending window are) object (omega (arith, low, are.values_count)) 0 moment)
+
+-- how many events there are
+pub count-is : (design : FlatDesign) (plan : TestPlan) (before through : ℕ) (values : List LogicValue) (events : Events) → AreWindowEvents design plan before through values events →
+    events.count ≡ length (window_events design plan before through)
+count-is design plan before through values events are = are.events_are.count ∙ listed-length (good_machine design) (window_events design plan before through) are.accesses are.listed
+
+-- what the objects hold behind the last event
+pub later-is : (design : FlatDesign) (plan : TestPlan) (before through : ℕ) (values : List LogicValue) (events : Events) (ending : WindowEnd) (later : List LogicValue) →
+    IsWindow design plan before through ending →
+    AreWindowEvents design plan before through values events → length later ≡ length values →
+    ((object : ℕ) → object < length values → get_or later object [] ≡ latest (get_or values object []) object events.count events.changes.writes) → later ≡ values_through design plan through
+later-is design plan before through values events ending later window are count each =
+    ext_get_or [] later (values_through design plan through) (count ∙ sym long)
+    (λ object low. each object (omega (arith, count, low)) ∙ value-is design plan before through values events ending window are object events.count (omega (arith, count, low, are.values_count))
+    ∙ ap (λ n. value_at (values_before (window_events design plan before through) (values_through design plan through) n) object) (count-is design plan before through values events are)
+    ∙ ap (λ v. value_at v object) (values_before-end (window_events design plan before through) (values_through design plan through)))
+  where
+    long : length (values_through design plan through) ≡ length values
+    long = follow-count (good_machine design) values (window_events design plan before through) (values_through design plan through)
+        (follows design plan before through values events ending window are)
+
+-- the next touch of an object
+pub touch-is : (design : FlatDesign) (plan : TestPlan) (before through : ℕ) (values : List LogicValue) (events : Events) (object moment : ℕ) (answer : Option ℕ) →
+    AreWindowEvents design plan before through values events → object < length design.objects →
+    IsFirstAtOrAfter (get_or events.touches object []) moment answer →
+    IsFirstFrom (touched_at (good_machine design) (window_events design plan before through) object) (length (window_events design plan before through)) moment answer
+touch-is design plan before through values events object moment answer are low first =
+    first-touch (good_machine design) (window_events design plan before through) are.accesses object moment answer are.listed
+    (subst (λ l. IsFirstAtOrAfter l moment answer) (are.events_are.touches_are.moments object low) first)
+
+-- the last of a list
+get-last : (xs : List LogicValue) (v d : LogicValue) → get_or (xs ++ v ∷ []) (length xs) d ≡ v
+get-last [] v d = refl
+get-last (x ∷ xs) v d = get-last xs v d
+
+-- one object more has its value behind the last event
+pub later-more : (values later : List LogicValue) (number moment : ℕ) (writes : List Written) (first v : LogicValue) → length later ≡ number → number < length values →
+    first ≡ get_or values number first →
+    ((object : ℕ) → object < number → get_or later object [] ≡ latest (get_or values object []) object moment writes) → v ≡ latest first number moment writes →
+    (object : ℕ) → object < number + 1 → get_or (later ++ v ∷ []) object [] ≡ latest (get_or values object []) object moment writes
+later-more values later number moment writes first v long low read had is =
+    below_more (λ object. get_or (later ++ v ∷ []) object [] ≡ latest (get_or values object []) object moment writes) number
+    (λ object below. get_or-append later (v ∷ []) [] object (omega (arith, long, below)) ∙ had object below)
+    (ap (λ n. get_or (later ++ v ∷ []) n []) (sym long) ∙ get-last later v [] ∙ is ∙ ap (λ x. latest x number moment writes) (get_or_read values number first low read []))

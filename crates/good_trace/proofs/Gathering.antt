@@ -1,0 +1,42 @@
+-- What is gathered of a window's slots.
+use Rattle.std.proofs.Common.{◌≡◌, ℕ, ◌+◌, ◌<◌, List, [], ◌∷◌, ◌++◌, map, length, get_or, take, refl, sym, ap, ◌∙◌, arith, append-nil, append_assoc, length-append}
+use Rattle.std.proofs.lemmas.List.{take_more, map_push}
+use Rattle.vf_base.specs.Lists.{joined}
+use Rattle.v_design.specs.Accesses.{ObjectAccess}
+use Rattle.causal_monitor.specs.declared.slot.SlotLog.{SlotLog}
+use Rattle.trace_window.specs.declared.list.EventList.{EventList}
+use Rattle.trace_window.specs.GatherLaws.{writes_from-append, touches_from-append}
+use Rattle.trace_window.specs.Gathered.{Gathers}
+use Rattle.trace_window.specs.Listed.{log_accesses}
+use Rattle.trace_window.specs.Touched.{touches_from}
+use Rattle.trace_window.specs.Writes.{written_of, writes_from}
+use Rattle.good_trace.specs.declared.slot.PushedSlot.{PushedSlot}
+use Rattle.good_trace.specs.Events.{logs_of, slots_accesses, IsGathered}
+
+-- of no slot
+pub IsGathered-none : (list : EventList) → list.moment ≡ 0 → list.changes.items ≡ [] → list.touches.items ≡ [] → IsGathered [] list
+IsGathered-none list moment changes touches = record { moment = moment; changes = ap (map written_of) changes; touches = touches }
+
+-- of some events and then of others
+pub IsGathered-more : (xs ys : List (List ObjectAccess)) (old new : EventList) → IsGathered xs old → Gathers ys old new → IsGathered (xs ++ ys) new
+IsGathered-more xs ys old new had more =
+    let at : old.moment ≡ 0 + length xs = omega (arith, had.moment) in
+    record {
+      moment = let long = length-append xs ys in omega (arith, had.moment, more.moment, long);
+      changes = more.changes ∙ (λ i. had.changes i ++ writes_from (at i) ys) ∙ sym (writes_from-append 0 xs ys);
+      touches = more.touches ∙ (λ i. had.touches i ++ touches_from (at i) ys) ∙ sym (touches_from-append 0 xs ys);
+    }
+
+joined-append : {A : Type 0} (xs ys : List (List A)) → joined (xs ++ ys) ≡ joined xs ++ joined ys
+joined-append [] ys = refl
+joined-append (x ∷ xs) ys = ap (λ l. x ++ l) (joined-append xs ys) ∙ sym (append_assoc x (joined xs) (joined ys))
+
+-- of one slot more
+pub slots_accesses-more : (slots : List PushedSlot) (i : ℕ) (slot : PushedSlot) → i < length slots → slot ≡ get_or slots i slot →
+    slots_accesses (take (i + 1) slots) ≡ slots_accesses (take i slots) ++ log_accesses slot.log
+slots_accesses-more slots i slot low read =
+    ap slots_accesses (take_more slots i slot low ∙ ap (λ s. take i slots ++ s ∷ []) (sym read))
+    ∙ ap (λ (l : List SlotLog). joined (map log_accesses l)) (map_push (λ (s : PushedSlot). s.log) (take i slots) slot)
+    ∙ ap joined (map_push log_accesses (logs_of (take i slots)) slot.log)
+    ∙ joined-append (map log_accesses (logs_of (take i slots))) (log_accesses slot.log ∷ [])
+    ∙ ap (λ l. slots_accesses (take i slots) ++ l) (append-nil (log_accesses slot.log))
