@@ -1,0 +1,5 @@
+pub mod Picking
+pub mod Parting
+pub mod Finding
+pub mod Joining
+pub mod Standing

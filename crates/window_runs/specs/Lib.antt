@@ -1,0 +1,4 @@
+pub mod Placed
+pub mod RunsByProcess
+pub mod Standing
+pub mod RunLaws

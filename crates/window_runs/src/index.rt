@@ -1,0 +1,135 @@
+// The index of a window's runs by process.
+
+ghost use Rattle.std.specs.Prelude.{◌≡◌, ◌-◌, ◌<◌, ◌≤◌, ◌^◌, ℕ, All, [], get_or, length, map, slice_get, IfOk};
+ghost use Rattle.std.specs.Option.{option_map};
+ghost use Rattle.std.specs.List.Sorted.{IsNonDecreasingBy};
+ghost use Rattle.vf_base.specs.Base.{process_number};
+ghost use Rattle.window_runs.specs.Placed.{at_moment, at_places};
+ghost use Rattle.run_ends.specs.RunEnds.{ends_of};
+ghost use Rattle.window_runs.specs.RunsByProcess.{run_process, run_phase, runs_of_process, only_at, IsRunIndexOf};
+
+use process_code::RunEnd;
+use std::alloc::Global;
+use vf_base::{NoMemory, ProcId};
+use window_index::{Occurrence, WindowIndex};
+
+/// Of each process the phases of its runs, and their places among all runs, both in ascending order.
+#[derive(Drop)]
+pub struct RunIndex {
+    pub phases: WindowIndex,
+    pub places: WindowIndex,
+}
+
+/// Each run as an occurrence of its process at its phase.
+fn list_phases(alloc: Global, runs: &[RunEnd]) -> Result<Vec<Occurrence>, NoMemory>
+    ensures { IfOk result (λ list. list.items ≡ map (at_moment run_process run_phase) runs.now) }
+{
+    let list = runs
+        .iter()
+        .map(|run| Occurrence {
+            number: run.process.0,
+            moment: run.phase,
+        })
+        .collect(alloc)?;
+    Ok(list)
+}
+
+/// Each run as an occurrence of its process at its place.
+fn list_places(alloc: Global, runs: &[RunEnd]) -> Result<Vec<Occurrence>, NoMemory>
+    requires { length runs.now < 2 ^ 32 }
+    ensures { IfOk result (λ list. list.items ≡ at_places run_process 0 runs.now) }
+{
+    let mut occurrences = Vec::new(alloc);
+    'runs: for (place, run) in runs.iter().enumerate() {
+        occurrences.push(Occurrence {
+            number: run.process.0,
+            moment: place as u32,
+        })?;
+    }
+    Ok(occurrences)
+}
+
+/// A run that was found, if it is of a phase.
+fn only_in<'r>(found: Option<&'r RunEnd>, phase: u32) -> Option<&'r RunEnd>
+    ensures { option_map (λ run. run.now) result ≡ only_at phase (option_map (λ run. run.now) found.entry) }
+{
+    match found {
+        None => None,
+        Some(run) => { if run.phase == phase { Some(run) } else { None } }
+    }
+}
+
+impl RunIndex {
+    /// The index of some runs of so many processes, which come in ascending order of their phases.
+    ///
+    /// # Errors
+    ///
+    /// Want of memory, or more runs than numbers for them.
+    pub fn build(alloc: Global, processes: u32, runs: &[RunEnd]) -> Result<RunIndex, NoMemory>
+        requires within { All (λ run. process_number run.process < processes) runs.now }
+        requires rise { IsNonDecreasingBy run_phase runs.now }
+        ensures { IfOk result (λ index. IsRunIndexOf processes runs.now index) }
+    {
+        if runs.len() >= u32::MAX as usize {
+            return Err(NoMemory);
+        }
+        let by_phase = list_phases(alloc, runs)?;
+        let phases = WindowIndex::build(alloc, processes, &by_phase)?;
+        let by_place = list_places(alloc, runs)?;
+        let places = WindowIndex::build(alloc, processes, &by_place)?;
+        Ok(RunIndex { phases, places })
+    }
+
+    /// How many runs of a process come before a phase.
+    fn count_before(&self, process: ProcId, phase: u32) -> usize
+        requires { process_number process < length self.now.phases }
+        ensures few { result < 2 ^ 63 }
+        ensures before { (place : ℕ) → place < result → get_or (get_or self.now.phases (process_number process) []) place 0 < phase }
+        ensures behind { (place : ℕ) → result ≤ place → place < length (get_or self.now.phases (process_number process) []) →
+            phase ≤ get_or (get_or self.now.phases (process_number process) []) place 0 }
+    {
+        let phases = self.phases.moments(process.0);
+        phases.partition_point(|other| *other < phase)
+    }
+
+    /// The run at a place among those of a process, by some runs of which this is the index; none past the last.
+    fn run_at<'r>(&self, runs: &'r [RunEnd], process: ProcId, place: usize) -> Option<&'r RunEnd>
+        requires process { process_number process < length self.now.phases }
+        requires index { IsRunIndexOf (length self.now.phases) runs.now self.now }
+        ensures { option_map (λ run. run.now) result ≡ slice_get (runs_of_process (process_number process) runs.now) place }
+    {
+        let places = self.places.moments(process.0);
+        if place < places.len() {
+            Some(&runs[places[place] as usize])
+        } else {
+            None
+        }
+    }
+
+    /// The run of a number, counted from 0, among those of a process in a phase, by some runs of which this is the index; none where there are fewer.
+    pub fn run<'r>(
+        &self,
+        runs: &'r [RunEnd],
+        process: ProcId,
+        phase: u32,
+        number: u32,
+    ) -> Option<&'r RunEnd>
+        requires process { process_number process < length self.now.phases }
+        requires index { IsRunIndexOf (length self.now.phases) runs.now self.now }
+        ensures { option_map (λ run. run.now) result ≡ slice_get (ends_of phase (process_number process) runs.now) number }
+    {
+        let before = self.count_before(process, phase);
+        let found = self.run_at(runs, process, before + number as usize);
+        only_in(found, phase)
+    }
+
+    /// The last run of a process, by some runs of which this is the index; none where it has none.
+    pub fn last<'r>(&self, runs: &'r [RunEnd], process: ProcId) -> Option<&'r RunEnd>
+        requires process { process_number process < length self.now.phases }
+        requires index { IsRunIndexOf (length self.now.phases) runs.now self.now }
+        ensures { let own = runs_of_process (process_number process) runs.now in option_map (λ run. run.now) result ≡ slice_get own (length own - 1) }
+    {
+        let count = self.places.moments(process.0).len();
+        self.run_at(runs, process, count.saturating_sub(1))
+    }
+}
