@@ -117,6 +117,7 @@ module _ (design : FlatDesign) (access : ReportedAccess) (kind : AccessKind) (ob
   pub same-object : access.kind ≡ kind → access.process ≡ process → access.line ≡ line → bytes_eq object (object_text design access.object) ≡ bytes_eq (access_text design access) other_text
   same-object one two three =
       same-parts (kind_text kind) (object_text design access.object) object (112 ∷ decimal process) (108 ∷ decimal line)
-      ∙ ap (λ t. bytes_eq t other_text) (sym (access-text design access ∙ (ap (λ k. said (kind_text k) (object_text design access.object) (112 ∷ decimal access.process) (108 ∷ decimal access.line)) one
+      ∙ ap (λ t. bytes_eq t other_text) (sym (access-text design access ∙ (ap (λ k. said (kind_text k) (object_text design access.object) (112 ∷ decimal access.process) (108 ∷ decimal access.line))
+      one
       ∙ (ap (λ p. said (kind_text kind) (object_text design access.object) (112 ∷ decimal p) (108 ∷ decimal access.line)) two
       ∙ ap (λ l. said (kind_text kind) (object_text design access.object) (112 ∷ decimal process) (108 ∷ decimal l)) three))))

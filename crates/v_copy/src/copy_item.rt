@@ -1,7 +1,8 @@
 // Copies of modules and their items.
 
 ghost use Rattle.std.specs.Prelude.{◌≡◌, map, IfOk};
-ghost use Rattle.v_tree.specs.Views.{name_of, name_in, range_of, range_in, parameter_of, parameters_of, ports_of, wire_of, content_of, reg_of, assignment_of, gate_of, connection_of, instance_of, item_of, heads_of, module_of, unit_of};
+ghost use Rattle.v_tree.specs.Views.{name_of, name_in, range_of, range_in, parameter_of, parameters_of, ports_of, wire_of, content_of};
+ghost use Rattle.v_tree.specs.Views.{reg_of, assignment_of, gate_of, connection_of, instance_of, item_of, heads_of, module_of, unit_of};
 
 use crate::copy_statement::copy_stmt;
 use crate::{both, copy_assigned, copy_expr, copy_optional, copy_parts, copy_target, copy_text};

@@ -8,7 +8,8 @@ use Rattle.vf_base.specs.Base.{SourcePlace}
 use Rattle.v_tree.specs.Tokens.{SourceToken}
 use Rattle.v_tree.specs.declared.token.NumberForm.TheVariants.{Plain}
 use Rattle.v_tree.specs.declared.token.TokenKind.TheVariants as kinds
-use Rattle.v_tree.specs.Trees.{SourceExpression, Number, Selected, Parenthesised, Prefixed, Infixed, Chosen, Concatenated, Replicated, SourceIndex, NoIndex, IndexAt, IndexRange, place_of_expression, parts_of}
+use Rattle.v_tree.specs.Trees.{SourceExpression, Number, Selected, Parenthesised, Prefixed, Infixed, Chosen, Concatenated, Replicated, SourceIndex, NoIndex, IndexAt, IndexRange, place_of_expression}
+use Rattle.v_tree.specs.Trees.{parts_of}
 use Rattle.v_readers.specs.declared.class.Class.{Class}
 use Rattle.v_readers.specs.declared.class.Class.TheVariants as classes
 use Rattle.v_readers.specs.Classes.{token_at, token_of, is_fixed}
@@ -21,7 +22,8 @@ use Rattle.v_readers.specs.SeparatedLaws.{EachFits, exact-separated, turn-exact}
 use Rattle.v_expr.specs.Operators.{unary_of, binary_of, level_of}
 use Rattle.v_expr.specs.Spelling.{rank_of, SpellsExpression, SpellsIndex, SpellsParts, SpellsMoreParts}
 use Rattle.v_expr.specs.Heights.{height_of, index_height, heights_of}
-use Rattle.v_expr.specs.Expressions.{bounds_by, bounds, index_by, index, replication, concatenation, braced_by, braced, prefixed_by, primary_by, primary, operator_of, joining, operand_rank, operand_by, operand_turn, operands, branches, choice_by, choice, inner_of, expression}
+use Rattle.v_expr.specs.Expressions.{bounds_by, bounds, index_by, index, replication, concatenation, braced_by, braced, prefixed_by, primary_by, primary, operator_of, joining, operand_rank}
+use Rattle.v_expr.specs.Expressions.{operand_by, operand_turn, operands, branches, choice_by, choice, inner_of, expression}
 
 abbrev pub SpellsRanked : ℕ → Language SourceExpression
 SpellsRanked rank e ts = (rank_of e ≤ rank) × SpellsExpression e ts
@@ -185,7 +187,13 @@ module _ (k : ℕ) (inner : InnerExact k) where
       → Braced place before (Concatenated place (parts_of parts)) (others ++ token_of classes.RightBrace closing ∷ [])
   joined place parts before others closing all = (
     omega arith,
-    (closing, before ++ others, parts-spelled parts (before ++ others) all, ap (λ ts. token_of classes.LeftBrace place ∷ ts) (sym (append_assoc before others (token_of classes.RightBrace closing ∷ [])))),
+    (
+      closing,
+      before ++ others,
+      parts-spelled parts (before ++ others) all,
+      ap (λ ts. token_of classes.LeftBrace place ∷ ts)
+          (sym (append_assoc before others (token_of classes.RightBrace closing ∷ []))),
+    ),
   )
 
   concatenation-exact : {C : Type 0} (place : SourcePlace) (first : SourceExpression) (before : List SourceToken) → SpellsRanked 11 first before
@@ -262,7 +270,8 @@ module _ (k : ℕ) (inner : InnerExact k) where
       exact-bind primary-exact (λ left front spelled.
       exact-repeat (λ m. operand_turn m (inner_of m) greatest) {N = SpellsRanked greatest} {G = Within k} each left front (omega arith, spelled.1))
     where
-      at : (left : SourceExpression) (front : List SourceToken) → SpellsRanked greatest left front → (class : Option Class) (o : Option BinaryOperator) → joining greatest (rank_of left) (operator_of class) ≡ o
+      at : (left : SourceExpression) (front : List SourceToken) → SpellsRanked greatest left front → (class : Option Class) (o : Option BinaryOperator) →
+          joining greatest (rank_of left) (operator_of class) ≡ o
           → Branch (C × Within k left) (λ m. operand_by m (inner_of m) left o) k (Turn (SpellsRanked greatest) left front) (TurnFits (Within k)) class
       at left front here class None e = branch (exact-give None refl (λ c. tt))
       at left front here class (Some operator) e =
@@ -272,11 +281,14 @@ module _ (k : ℕ) (inner : InnerExact k) where
           subst (λ w. Branch (C × Within k left) (λ m. operand_by m (inner_of m) left (Some operator)) k (Turn (SpellsRanked greatest) left front) (TurnFits (Within k)) w) (sym by'.1)
           (branch-down (binary-fixed by'.0 operator by'.2) (height_of left) (λ sign.
           exact-bind (exact-under (λ c. omega (arith, c.1)) (inner (operand_rank operator))) (λ right inside spelled.
-          exact-give (Some (Infixed (place_of_expression left) operator left right))
-          ((is.1, (is.2, omega (arith, level.0, spelled.0), refl, by'.0, by'.2, sign, front, inside ++ [], here.1, subst (SpellsExpression right) (sym (append-nil inside)) spelled.1, refl)), omega arith)
+          exact-give (Some (Infixed (place_of_expression left) operator left right)) (
+            (is.1, (is.2, omega (arith, level.0, spelled.0), refl, by'.0, by'.2, sign, front, inside ++ [], here.1, subst (SpellsExpression right) (sym (append-nil inside)) spelled.1, refl)),
+            omega arith,
+          )
           (λ c. omega (arith, c.0.0.1, c.0.1, c.1)))))
 
-      each : (left : SourceExpression) (front : List SourceToken) → SpellsRanked greatest left front → Exact (C × Within k left) (λ m. operand_turn m (inner_of m) greatest left) k (Turn (SpellsRanked greatest) left front) (TurnFits (Within k))
+      each : (left : SourceExpression) (front : List SourceToken) → SpellsRanked greatest left front →
+          Exact (C × Within k left) (λ m. operand_turn m (inner_of m) greatest left) k (Turn (SpellsRanked greatest) left front) (TurnFits (Within k))
       each left front here = exact-by_class (λ m class. operand_by m (inner_of m) left (joining greatest (rank_of left) (operator_of class)))
           ((None, [], refl), λ c. (None, [], refl, tt))
           (λ class. at left front here class (joining greatest (rank_of left) (operator_of class)) refl)
@@ -317,7 +329,8 @@ inner-exact zero rank = record {
   some = λ c. absurd (let p : 0 < 0 = c in omega arith);
   tells = λ c tokens. absurd (let p : 0 < 0 = c in omega arith);
 }
-inner-exact (suc k) rank = exact-shift {C = Unit {0}} (λ m. inner_of m rank) (Below (suc k)) (λ m tokens. refl) (λ e h. omega arith) (λ d. tt) (ranked-exact k (inner-exact k) rank (nat_le rank 10) refl)
+inner-exact (suc k) rank = exact-shift {C = Unit {0}} (λ m. inner_of m rank) (Below (suc k)) (λ m tokens. refl) (λ e h. omega arith) (λ d. tt)
+    (ranked-exact k (inner-exact k) rank (nat_le rank 10) refl)
 
 -- an expression within k levels
 pub expression-exact : {C : Type 0} (k : ℕ) → Exact C expression k (SpellsRanked 11) (Within k)

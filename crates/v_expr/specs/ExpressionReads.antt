@@ -1,11 +1,13 @@
 -- Every spelled expression is read.
-use Rattle.std.proofs.Common.{◌≡◌, ℕ, max, zero, suc, ◌<◌, ◌≤◌, List, [], ◌∷◌, ◌++◌, Option, Some, None, Ok, refl, sym, ◌∙◌, ap, subst, arith, append_assoc, length-append, lt-ltb, Bool, true, false, leb-true, leb-false, le-leb}
+use Rattle.std.proofs.Common.{◌≡◌, ℕ, max, zero, suc, ◌<◌, ◌≤◌, List, [], ◌∷◌, ◌++◌, Option, Some, None, Ok, refl, sym, ◌∙◌, ap, subst, arith, append_assoc, length-append, lt-ltb, Bool, true, false}
+use Rattle.std.proofs.Common.{leb-true, leb-false, le-leb}
 use Rattle.std.specs.Prelude.{nat_lt, nat_le, if◌then◌else◌}
 use Rattle.four_value.specs.declared.operator.UnaryOperator.{UnaryOperator}
 use Rattle.four_value.specs.declared.operator.BinaryOperator.{BinaryOperator}
 use Rattle.vf_base.specs.Base.{SourcePlace}
 use Rattle.v_tree.specs.Tokens.{SourceToken}
-use Rattle.v_tree.specs.Trees.{Identifier, SourceExpression, Number, Selected, Parenthesised, Prefixed, Infixed, Chosen, Concatenated, Replicated, SourceIndex, NoIndex, IndexAt, IndexRange, SourceExpressions, no_parts, more_parts, parts_of}
+use Rattle.v_tree.specs.Trees.{Identifier, SourceExpression, Number, Selected, Parenthesised, Prefixed, Infixed, Chosen, Concatenated, Replicated, SourceIndex, NoIndex, IndexAt, IndexRange}
+use Rattle.v_tree.specs.Trees.{SourceExpressions, no_parts, more_parts, parts_of}
 use Rattle.v_readers.specs.declared.class.Class.{Class}
 use Rattle.v_readers.specs.declared.class.Class.TheVariants as classes
 use Rattle.v_readers.specs.Classes.{token_of, name_token, IsName}
@@ -17,7 +19,8 @@ use Rattle.v_readers.specs.SeparatedLaws.{EachFits}
 use Rattle.v_expr.specs.Operators.{unary_of, binary_of, level_of}
 use Rattle.v_expr.specs.Spelling.{rank_of, SpellsExpression, SpellsIndex, SpellsParts, SpellsMoreParts}
 use Rattle.v_expr.specs.Heights.{height_of, index_height, heights_of}
-use Rattle.v_expr.specs.Expressions.{bounds, index_by, index, replication, concatenation, braced_by, braced, prefixed_by, primary_by, primary, operator_of, joining, operand_rank, operand_by, operand_turn, operands, branches, choice_by, choice, inner_of, expression}
+use Rattle.v_expr.specs.Expressions.{bounds, index_by, index, replication, concatenation, braced_by, braced, prefixed_by, primary_by, primary, operator_of, joining, operand_rank, operand_by}
+use Rattle.v_expr.specs.Expressions.{operand_turn, operands, branches, choice_by, choice, inner_of, expression}
 use Rattle.v_expr.specs.ExpressionExact.{SpellsRanked, Below, level_of-some}
 
 -- the level of an operator, or 12 where there is none
@@ -155,11 +158,13 @@ module _ (k : ℕ) (inner : InnerReads k) where
 
   parts-read : (es : List SourceExpression) (ts : List SourceToken) (closing : SourcePlace) (rest : List SourceToken) → SpellsList (SpellsRanked 11) classes.Comma es ts → EachFits (Below k) es
       → separated classes.Comma (inner_of k 11) (ts ++ token_of classes.RightBrace closing ∷ rest) ≡ Ok (es, token_of classes.RightBrace closing ∷ rest)
-  parts-read es ts closing rest s fits = separated-reads (inner_of k 11) (SpellsRanked 11) (Below k) (EndsBefore 11) classes.Comma (omega arith) part-read es ts (token_of classes.RightBrace closing ∷ rest) s fits (omega arith) refl
+  parts-read es ts closing rest s fits = separated-reads (inner_of k 11) (SpellsRanked 11) (Below k) (EndsBefore 11) classes.Comma (omega arith) part-read es ts
+      (token_of classes.RightBrace closing ∷ rest) s fits (omega arith) refl
 
   others-read : (es done : List SourceExpression) (ts : List SourceToken) (closing : SourcePlace) (rest : List SourceToken) → SpellsBehind (SpellsRanked 11) classes.Comma es ts → EachFits (Below k) es
       → repeat (element_turn classes.Comma (inner_of k 11)) done (ts ++ token_of classes.RightBrace closing ∷ rest) ≡ Ok (done ++ es, token_of classes.RightBrace closing ∷ rest)
-  others-read es done ts closing rest s fits = behind-reads (inner_of k 11) (SpellsRanked 11) (Below k) (EndsBefore 11) classes.Comma (omega arith) part-read es done ts (token_of classes.RightBrace closing ∷ rest) s fits (omega arith) refl
+  others-read es done ts closing rest s fits = behind-reads (inner_of k 11) (SpellsRanked 11) (Below k) (EndsBefore 11) classes.Comma (omega arith) part-read es done ts
+      (token_of classes.RightBrace closing ∷ rest) s fits (omega arith) refl
 
   -- behind a part comes a comma or the end of the parts
   more-ends : (all : SourceExpressions) (ts : List SourceToken) (closing : SourcePlace) (rest : List SourceToken) → SpellsMoreParts all ts → Ends 11 (ts ++ token_of classes.RightBrace closing ∷ rest)
@@ -183,7 +188,8 @@ module _ (k : ℕ) (inner : InnerReads k) where
   prefixed-reads sign operator place rest e =
       ap (λ c. primary_by k (inner_of k) c (token_of sign place ∷ rest)) (sign-class sign place rest) ∙ by' sign e
     where
-      by' : (class : Class) → unary_of class ≡ Some operator → primary_by k (inner_of k) (Some class) (token_of sign place ∷ rest) ≡ prefixed_by k (inner_of k) (Some operator) (token_of sign place ∷ rest)
+      by' : (class : Class) → unary_of class ≡ Some operator → primary_by k (inner_of k) (Some class) (token_of sign place ∷ rest) ≡ prefixed_by k (inner_of k) (Some operator)
+          (token_of sign place ∷ rest)
       by' classes.Number e = absurd (let p : ◌≡◌ {A = Option UnaryOperator} None (Some operator) = e in cc)
       by' classes.Name e = absurd (let p : ◌≡◌ {A = Option UnaryOperator} None (Some operator) = e in cc)
       by' classes.LeftParen e = absurd (let p : ◌≡◌ {A = Option UnaryOperator} None (Some operator) = e in cc)
@@ -267,7 +273,8 @@ module _ (k : ℕ) (inner : InnerReads k) where
   chain-reads greatest (Concatenated place es) ts rest few s h ends next = rw (primary-reads (Concatenated place es) ts rest (omega arith, s.1) h ends) refl
   chain-reads greatest (Replicated place n es) ts rest few s h ends next = rw (primary-reads (Replicated place n es) ts rest (omega arith, s.1) h ends) refl
 
-  pub operands-reads : (greatest : ℕ) → greatest ≤ 10 → (e : SourceExpression) (ts rest : List SourceToken) → SpellsRanked greatest e ts → height_of e ≤ k → Ends greatest rest → operands k (inner_of k) greatest (ts ++ rest) ≡ Ok (e, rest)
+  pub operands-reads : (greatest : ℕ) → greatest ≤ 10 → (e : SourceExpression) (ts rest : List SourceToken) → SpellsRanked greatest e ts → height_of e ≤ k → Ends greatest rest →
+      operands k (inner_of k) greatest (ts ++ rest) ≡ Ok (e, rest)
   unfolding operand_turn
   operands-reads greatest few e ts rest s h ends =
       chain-reads greatest e ts rest few s h (omega (arith, ends)) (omega (arith, s.0, ends))

@@ -1,7 +1,8 @@
 -- How many levels stand below the outermost one of a tree. Each operand, part in parentheses, part of a concatenation, index and
 -- branch is one level below what it stands in.
 use Rattle.std.specs.Prelude.{ℕ, suc, max, List, [], ◌∷◌}
-use Rattle.v_tree.specs.Trees.{SourceExpression, Number, Selected, Parenthesised, Prefixed, Infixed, Chosen, Concatenated, Replicated, SourceIndex, NoIndex, IndexAt, IndexRange, SourceExpressions, no_parts, more_parts, SourceSelect, SourceTarget, OneSelect, JoinedSelects, SourceRange}
+use Rattle.v_tree.specs.Trees.{SourceExpression, Number, Selected, Parenthesised, Prefixed, Infixed, Chosen, Concatenated, Replicated, SourceIndex, NoIndex, IndexAt, IndexRange, SourceExpressions}
+use Rattle.v_tree.specs.Trees.{no_parts, more_parts, SourceSelect, SourceTarget, OneSelect, JoinedSelects, SourceRange}
 
 abbrev mutual
   pub height_of : SourceExpression → ℕ

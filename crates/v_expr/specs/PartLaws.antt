@@ -2,7 +2,8 @@
 use Rattle.std.proofs.Common.{◌≡◌, ℕ, zero, suc, ◌<◌, ◌≤◌, List, [], ◌∷◌, ◌++◌, Option, Some, Ok, refl, sym, ◌∙◌, ap, subst, arith, append_assoc, lt-ltb, true, inl, inr}
 use Rattle.std.specs.Prelude.{nat_lt}
 use Rattle.v_tree.specs.Tokens.{SourceToken}
-use Rattle.v_tree.specs.Trees.{SourceExpression, Number, Selected, Parenthesised, Prefixed, Infixed, Chosen, Concatenated, Replicated, NoIndex, IndexAt, IndexRange, SourceSelect, SourceTarget, OneSelect, JoinedSelects, SourceRange}
+use Rattle.v_tree.specs.Trees.{SourceExpression, Number, Selected, Parenthesised, Prefixed, Infixed, Chosen, Concatenated, Replicated, NoIndex, IndexAt, IndexRange, SourceSelect, SourceTarget}
+use Rattle.v_tree.specs.Trees.{OneSelect, JoinedSelects, SourceRange}
 use Rattle.v_tree.specs.declared.token.NumberForm.TheVariants.{Plain}
 use Rattle.v_tree.specs.declared.token.TokenKind.TheVariants as kinds
 use Rattle.v_readers.specs.declared.class.Class.{Class}
@@ -34,7 +35,8 @@ abbrev pub RangeWithin : ℕ → SourceRange → Type 0
 RangeWithin k r = range_height r ≤ k
 
 -- a reader one level down
-pub exact-inner : {A : Type 0} {P R : Family A} {L : Language A} (height : A → ℕ) → ((tokens : List SourceToken) → R 0 tokens ≡ wrong tokens) → ((k : ℕ) (tokens : List SourceToken) → R (suc k) tokens ≡ P k tokens)
+pub exact-inner : {A : Type 0} {P R : Family A} {L : Language A} (height : A → ℕ) → ((tokens : List SourceToken) → R 0 tokens ≡ wrong tokens) →
+    ((k : ℕ) (tokens : List SourceToken) → R (suc k) tokens ≡ P k tokens)
     → ((k : ℕ) → Exact (Unit {0}) P k L (λ x. height x ≤ k)) → (k : ℕ) → Exact (0 < k) R k L (λ x. height x < k)
 exact-inner {A} {P} {R} {L} height none same exact zero = record {
   any = (exact 0).any;
@@ -129,7 +131,8 @@ target-reads k (OneSelect s) ts rest h low ends =
 target-reads k (JoinedSelects place selects) ts rest h low ends =
     let some : nat_lt 0 k ≡ true = lt-ltb 0 k (omega (arith, low)) in
     let brace = token_of classes.RightBrace h.0 ∷ rest in
-    let read = separated-reads (inner_select k) SpellsSelect (SelectBelow k) (EndsBefore 0) classes.Comma (omega arith) (inner_select-reads k) selects h.1 brace h.2 (each-below k selects (omega (arith, low))) (omega arith) refl in
+    let read = separated-reads (inner_select k) SpellsSelect (SelectBelow k) (EndsBefore 0) classes.Comma (omega arith) (inner_select-reads k) selects h.1 brace h.2
+    (each-below k selects (omega (arith, low))) (omega arith) refl in
     ap (λ f. target k (f ++ rest)) h.3
     ∙ rw (some, append_assoc h.1 (token_of classes.RightBrace h.0 ∷ []) rest, read) refl
 

@@ -6,7 +6,8 @@ use Rattle.v_tree.specs.Tokens.{SourceToken}
 use Rattle.v_tree.specs.declared.token.TokenKind.TheVariants as kinds
 use Rattle.v_readers.specs.declared.class.Class.{Class}
 use Rattle.v_readers.specs.declared.class.Class.TheVariants.{Question, Colon, Comma, LeftParen, RightParen, LeftBracket, RightBracket, LeftBrace, RightBrace}
-use Rattle.v_tree.specs.Trees.{SourceExpression, Number, Selected, Parenthesised, Prefixed, Infixed, Chosen, Concatenated, Replicated, SourceIndex, NoIndex, IndexAt, IndexRange, SourceExpressions, no_parts, more_parts, SourceSelect, SourceTarget, OneSelect, JoinedSelects, SourceRange, place_of_expression}
+use Rattle.v_tree.specs.Trees.{SourceExpression, Number, Selected, Parenthesised, Prefixed, Infixed, Chosen, Concatenated, Replicated, SourceIndex, NoIndex, IndexAt, IndexRange, SourceExpressions}
+use Rattle.v_tree.specs.Trees.{no_parts, more_parts, SourceSelect, SourceTarget, OneSelect, JoinedSelects, SourceRange, place_of_expression}
 use Rattle.v_readers.specs.Classes.{token_at, token_of, name_token, IsName}
 use Rattle.v_readers.specs.Separated.{SpellsList}
 use Rattle.v_expr.specs.Operators.{unary_of, binary_of, level_of}

@@ -35,7 +35,8 @@ module _ (k : ℕ) (done : List SourceEntry) (rest : List SourceToken) where
 
   pub entries-next : (place : SourcePlace) (between after : List SourceToken) (e : SourceEntry) → separates (next_class rest) ≡ true → step rest ≡ Ok (place, between) → entry k between ≡ Ok (e, after)
       → length after < length rest → repeat (entries_turn k) done rest ≡ repeat (entries_turn k) (done ++ e ∷ []) after
-  entries-next place between after e h s r less = turn-is (entries_turn k) done (done ++ e ∷ []) rest after (turn-entry h place between s ∙ ap (λ r. followed r (λ e. give (Some (done ++ e ∷ [])))) r) less
+  entries-next place between after e h s r less = turn-is (entries_turn k) done (done ++ e ∷ []) rest after
+      (turn-entry h place between s ∙ ap (λ r. followed r (λ e. give (Some (done ++ e ∷ [])))) r) less
 
   pub entries-fail : (place : SourcePlace) (between : List SourceToken) (stop : Stop) → separates (next_class rest) ≡ true → step rest ≡ Ok (place, between) → Fails stop (entry k between)
       → Fails stop (repeat (entries_turn k) done rest)

@@ -1,5 +1,6 @@
 -- Reading the parts of statements is exact.
-use Rattle.std.proofs.Common.{◌≡◌, ℕ, zero, suc, ◌+◌, ◌-◌, ◌<◌, Bool, true, false, List, [], ◌∷◌, ◌++◌, Option, Some, None, Ok, Err, refl, sym, ◌∙◌, ap, subst, arith, append_assoc, lt-ltb, ◌⊎◌, inl, inr}
+use Rattle.std.proofs.Common.{◌≡◌, ℕ, zero, suc, ◌+◌, ◌-◌, ◌<◌, Bool, true, false, List, [], ◌∷◌, ◌++◌, Option, Some, None, Ok, Err, refl, sym, ◌∙◌, ap, subst, arith, append_assoc, lt-ltb, ◌⊎◌, inl}
+use Rattle.std.proofs.Common.{inr}
 use Rattle.std.specs.Prelude.{nat_lt, if◌then◌else◌}
 use Rattle.vf_base.specs.Base.{SourcePlace}
 use Rattle.four_value.specs.declared.logic.Edge.{Edge}
@@ -18,9 +19,11 @@ use Rattle.v_expr.specs.Spelling.{SpellsExpression, SpellsSelect, SpellsTarget, 
 use Rattle.v_expr.specs.Heights.{select_height, target_height}
 use Rattle.v_expr.specs.ExpressionExact.{Below}
 use Rattle.v_expr.specs.PartLaws.{inner_expression-exact, inner_select-exact, inner_target-exact, inner_delay-exact}
-use Rattle.v_stmt.specs.Spelling.{SpellsLabel, SpellsColon, SpellsEdge, SpellsEntry, is_entry_separator, SpellsMoreEntries, SpellsEntries, name_entry, SpellsWaits, SpellsInnerDelay, is_balanced, SpellsArguments}
+use Rattle.v_stmt.specs.Spelling.{SpellsLabel, SpellsColon, SpellsEdge, SpellsEntry, is_entry_separator, SpellsMoreEntries, SpellsEntries, name_entry, SpellsWaits, SpellsInnerDelay, is_balanced}
+use Rattle.v_stmt.specs.Spelling.{SpellsArguments}
 use Rattle.v_stmt.specs.Heights.{entries_height, waits_height, delay_height}
-use Rattle.v_stmt.specs.Statements.{label_by, label, colon_by, colon, edged, entry_by, entry, another_entry, entries_by, entries_turn, entry_row, entries, inside_by, waits_by, waits, assigned_delay_by, assigned_delay, skipped, arguments_by, arguments, condition, head_assignment}
+use Rattle.v_stmt.specs.Statements.{label_by, label, colon_by, colon, edged, entry_by, entry, another_entry, entries_by, entries_turn, entry_row, entries, inside_by, waits_by, waits}
+use Rattle.v_stmt.specs.Statements.{assigned_delay_by, assigned_delay, skipped, arguments_by, arguments, condition, head_assignment}
 
 -- What stands one level down
 
@@ -269,7 +272,12 @@ module _ (k : ℕ) (t : SourceToken) (from to : ℕ)
     where
       begun : {front : List SourceToken} → (front ≡ []) ⊎ ((x : Unit {0}) × (ts : List SourceToken) × SpellsSkipped to x (front ++ ts) × Unit {0})
           → (x : Unit {0}) × (ts : List SourceToken) × SpellsSkipped from x ((t ∷ front) ++ ts) × Unit {0}
-      begun {front} (inl e) = (tt, closers to ++ token_of classes.RightParen nowhere ∷ [], subst (λ f. SpellsSkipped from tt (t ∷ (f ++ (closers to ++ token_of classes.RightParen nowhere ∷ [])))) (sym e) (onward (skipped-some to)), tt)
+      begun {front} (inl e) = (
+        tt,
+        closers to ++ token_of classes.RightParen nowhere ∷ [],
+        subst (λ f. SpellsSkipped from tt (t ∷ (f ++ (closers to ++ token_of classes.RightParen nowhere ∷ [])))) (sym e) (onward (skipped-some to)),
+        tt,
+      )
       begun {front} (inr b) = (tt, b.1, onward b.2, tt)
 
       stops : (why : Why) (rest : List SourceToken) → Stops (λ m. skipped to) k (SpellsSkipped to) Always ts why rest → Stops (λ m. skipped from) k (SpellsSkipped from) Always (t ∷ ts) why rest

@@ -6,7 +6,8 @@ use Rattle.four_value.specs.declared.logic.Edge.{Edge}
 use Rattle.four_value.specs.declared.logic.Edge.TheVariants.{Any, Pos, Neg}
 use Rattle.four_value.specs.declared.operator.UnaryOperator.{UnaryOperator}
 use Rattle.v_tree.specs.Tokens.{SourceToken}
-use Rattle.v_tree.specs.Trees.{SourceExpression, Number, Selected, Parenthesised, Prefixed, Infixed, Chosen, Concatenated, Replicated, SourceSelect, SourceTarget, SourceEntry, SourceWaits, OnAnyRead, OnEntries}
+use Rattle.v_tree.specs.Trees.{SourceExpression, Number, Selected, Parenthesised, Prefixed, Infixed, Chosen, Concatenated, Replicated, SourceSelect, SourceTarget, SourceEntry, SourceWaits}
+use Rattle.v_tree.specs.Trees.{OnAnyRead, OnEntries}
 use Rattle.v_readers.specs.declared.class.Class.{Class}
 use Rattle.v_readers.specs.declared.class.Class.TheVariants as classes
 use Rattle.v_readers.specs.Classes.{class_of, same_class, token_of, name_token}
@@ -18,9 +19,11 @@ use Rattle.v_expr.specs.Spelling.{SpellsExpression, SpellsSelect}
 use Rattle.v_expr.specs.Heights.{height_of, select_height, target_height}
 use Rattle.v_expr.specs.ExpressionReads.{Ends, EndsBefore}
 use Rattle.v_expr.specs.PartLaws.{inner_expression-reads, inner_select-reads, inner_target-reads, inner_delay-reads}
-use Rattle.v_stmt.specs.Spelling.{SpellsLabel, SpellsColon, SpellsEdge, SpellsEntry, is_entry_separator, SpellsMoreEntries, SpellsEntries, name_entry, SpellsWaits, SpellsInnerDelay, is_balanced, SpellsArguments}
+use Rattle.v_stmt.specs.Spelling.{SpellsLabel, SpellsColon, SpellsEdge, SpellsEntry, is_entry_separator, SpellsMoreEntries, SpellsEntries, name_entry, SpellsWaits, SpellsInnerDelay, is_balanced}
+use Rattle.v_stmt.specs.Spelling.{SpellsArguments}
 use Rattle.v_stmt.specs.Heights.{entries_height, waits_height, delay_height}
-use Rattle.v_stmt.specs.Statements.{label_by, label, colon_by, colon, edged, entry_by, entry, another_entry, entries_by, entries_turn, entry_row, entries, inside_by, waits_by, waits, assigned_delay_by, assigned_delay, skipped, arguments, condition, head_assignment}
+use Rattle.v_stmt.specs.Statements.{label_by, label, colon_by, colon, edged, entry_by, entry, another_entry, entries_by, entries_turn, entry_row, entries, inside_by, waits_by, waits}
+use Rattle.v_stmt.specs.Statements.{assigned_delay_by, assigned_delay, skipped, arguments, condition, head_assignment}
 use Rattle.v_stmt.specs.PartExact.{SpellsCondition, SpellsHead}
 
 -- What an expression begins with
@@ -162,7 +165,8 @@ more_entries-reads k (e ∷ es) done ts closing rest h low =
     ∙ ap (λ r. followed r (λ e. give (Some (done ++ e ∷ [])))) read in
     ap (λ f. repeat (entries_turn k) done (f ++ token_of classes.RightParen closing ∷ rest)) h.7
     ∙ ap (λ f. repeat (entries_turn k) done (token_of h.0 h.2 ∷ f)) (append_assoc h.3 h.4 (token_of classes.RightParen closing ∷ rest))
-    ∙ turn-is (entries_turn k) done (done ++ e ∷ []) tokens (h.4 ++ token_of classes.RightParen closing ∷ rest) turn (omega (arith, length-append h.3 (h.4 ++ token_of classes.RightParen closing ∷ rest)))
+    ∙ turn-is (entries_turn k) done (done ++ e ∷ []) tokens (h.4 ++ token_of classes.RightParen closing ∷ rest) turn
+    (omega (arith, length-append h.3 (h.4 ++ token_of classes.RightParen closing ∷ rest)))
     ∙ more_entries-reads k es (done ++ e ∷ []) h.4 closing rest h.6 (omega arith)
     ∙ ap (λ w. Ok (w, token_of classes.RightParen closing ∷ rest)) (append_assoc done (e ∷ []) es)
 

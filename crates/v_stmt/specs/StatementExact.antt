@@ -1,5 +1,6 @@
 -- Reading statements is exact.
-use Rattle.std.proofs.Common.{◌≡◌, ℕ, zero, suc, ◌+◌, ◌<◌, ◌≤◌, max, Bool, true, false, List, [], ◌∷◌, ◌++◌, length, Option, Some, None, refl, sym, ◌∙◌, ap, subst, arith, append_assoc, length-append, ltb-false, inl}
+use Rattle.std.proofs.Common.{◌≡◌, ℕ, zero, suc, ◌+◌, ◌<◌, ◌≤◌, max, Bool, true, false, List, [], ◌∷◌, ◌++◌, length, Option, Some, None, refl, sym, ◌∙◌, ap, subst, arith, append_assoc}
+use Rattle.std.proofs.Common.{length-append, ltb-false, inl}
 use Rattle.std.specs.Prelude.{nat_lt, if◌then◌else◌}
 use Rattle.vf_base.specs.Base.{SourcePlace}
 use Rattle.four_value.specs.declared.operator.CaseKind.{CaseKind}
@@ -8,7 +9,9 @@ use Rattle.v_tree.specs.declared.token.NumberForm.TheVariants.{Plain}
 use Rattle.v_tree.specs.declared.token.TokenKind.{TokenKind}
 use Rattle.v_tree.specs.declared.token.TokenKind.TheVariants as kinds
 use Rattle.v_tree.specs.Tokens.{SourceToken}
-use Rattle.v_tree.specs.Trees.{SourceExpression, Number, NoIndex, SourceTarget, OneSelect, JoinedSelects, OnAnyRead, SourceStatement, NullStatement, BlockStatement, IfStatement, IfElseStatement, CaseStatement, ForStatement, WhileStatement, RepeatStatement, ForeverStatement, WaitStatement, EventStatement, DelayStatement, BlockingStatement, NonblockingStatement, IgnoredTask, FinishTask, no_source_statements, no_source_items, otherwise, place_of_target, parts_of}
+use Rattle.v_tree.specs.Trees.{SourceExpression, Number, NoIndex, SourceTarget, OneSelect, JoinedSelects, OnAnyRead, SourceStatement, NullStatement, BlockStatement, IfStatement, IfElseStatement}
+use Rattle.v_tree.specs.Trees.{CaseStatement, ForStatement, WhileStatement, RepeatStatement, ForeverStatement, WaitStatement, EventStatement, DelayStatement, BlockingStatement, NonblockingStatement}
+use Rattle.v_tree.specs.Trees.{IgnoredTask, FinishTask, no_source_statements, no_source_items, otherwise, place_of_target, parts_of}
 use Rattle.v_readers.specs.declared.class.Class.{Class}
 use Rattle.v_readers.specs.declared.class.Class.TheVariants as classes
 use Rattle.v_readers.specs.Classes.{class_of, is_fixed, token_at, token_of, name_token, IsName}
@@ -26,7 +29,9 @@ use Rattle.v_stmt.specs.Spelling.{SpellsLabel, SpellsInnerDelay, SpellsTask, cas
 use Rattle.v_stmt.specs.Heights.{waits_height, delay_height, statement_height, body_height, items_height}
 use Rattle.v_expr.specs.Parts.{inner_expression}
 use Rattle.v_expr.specs.PartLaws.{inner_expression-exact, inner_target-exact, inner_delay-exact}
-use Rattle.v_stmt.specs.Statements.{task, assigned, assignment_by, assignment, another, begins_statement, begins, body_by, body_turn, statements_list, block_body, block, condition, second_branch, else_by, conditional, Looping, looped, forever, for_loop, event, delayed, CasePart, item_before, items_list, default_item, labelled_item, item_by, item, items_by, items_turn, items, case, statement_by, below_of, statement}
+use Rattle.v_stmt.specs.Statements.{task, assigned, assignment_by, assignment, another, begins_statement, begins, body_by, body_turn, statements_list, block_body, block, condition, second_branch}
+use Rattle.v_stmt.specs.Statements.{else_by, conditional, Looping, looped, forever, for_loop, event, delayed, CasePart, item_before, items_list, default_item, labelled_item, item_by, item, items_by}
+use Rattle.v_stmt.specs.Statements.{items_turn, items, case, statement_by, below_of, statement}
 use Rattle.v_stmt.specs.PartExact.{TargetBelow, DelayBelow, label-exact, colon-exact, a_name, a_name-is, a_select, waits-exact, assigned_delay-exact, condition-exact, head-exact, arguments-exact}
 
 abbrev pub StatementWithin : ℕ → SourceStatement → Type 0
@@ -255,7 +260,8 @@ module _ (k : ℕ) where
 
   -- an assignment by its sign, behind a target that is spelled so
   assigned-branch : (t : SourceTarget) (before : List SourceToken) → SpellsTarget t before → (sign : Class) → is_fixed sign ≡ true → (made : Assigning)
-      → ((delay : Option SourceExpression) (value : SourceExpression) (sign_place end_place : SourcePlace) (between after : List SourceToken) → SpellsInnerDelay delay between → SpellsExpression value after
+      → ((delay : Option SourceExpression) (value : SourceExpression) (sign_place end_place : SourcePlace) (between after : List SourceToken) → SpellsInnerDelay delay between →
+      SpellsExpression value after
       → SpellsStatement (made delay value) (before ++ token_of sign sign_place ∷ (between ++ (after ++ token_of classes.Semicolon end_place ∷ []))))
       → ((delay : Option SourceExpression) (value : SourceExpression) → statement_height (made delay value) ≡ suc (max (target_height t) (max (delay_height delay) (height_of value))))
       → Branch ((0 < k) × TargetBelow k t) (λ m. step >>= λ sign. assigned m >>= λ x. give (made x.0 x.1)) k (behind before SpellsStatement) (StatementWithin k) (Some sign)
@@ -280,7 +286,11 @@ module _ (k : ℕ) where
 
       some : Some-of ((0 < k) × TargetBelow k t) (behind before SpellsStatement) (StatementWithin k)
       some = (
-        (BlockingStatement (place_of_target t) t None zero_number, token_of classes.Assign nowhere ∷ zero_token ∷ null_token ∷ [], (refl, nowhere, nowhere, before, [], zero_token ∷ [], targeted, refl, refl, refl)),
+        (
+          BlockingStatement (place_of_target t) t None zero_number,
+          token_of classes.Assign nowhere ∷ zero_token ∷ null_token ∷ [],
+          (refl, nowhere, nowhere, before, [], zero_token ∷ [], targeted, refl, refl, refl),
+        ),
         λ c. (
           BlockingStatement (place_of_target t) t None zero_number,
           token_of classes.Assign nowhere ∷ zero_token ∷ null_token ∷ [],
@@ -427,7 +437,16 @@ module _ (k : ℕ) (below : BelowExact k) where
       head = token_of classes.If place ∷ token_of classes.LeftParen opening ∷ (inside ++ token_of classes.RightParen closing ∷ between)
 
       alone : SpellsStatement (IfStatement place test first) ((token_of classes.If place ∷ token_of classes.LeftParen opening ∷ (inside ++ token_of classes.RightParen closing ∷ between)) ++ [])
-      alone = (opening, closing, inside, between, spelled, held, append-nil (token_of classes.If place ∷ token_of classes.LeftParen opening ∷ (inside ++ token_of classes.RightParen closing ∷ between)))
+      alone = (
+        opening,
+        closing,
+        inside,
+        between,
+        spelled,
+        held,
+        append-nil (token_of classes.If place ∷ token_of classes.LeftParen opening ∷
+            (inside ++ token_of classes.RightParen closing ∷ between)),
+      )
 
       low : ((0 < k) × Below k test) × StatementBelow k first → statement_height (IfStatement place test first) ≤ k
       low c = let a : height_of test < k = c.0.1 in let b : statement_height first < k = c.1 in omega arith
@@ -449,7 +468,8 @@ module _ (k : ℕ) (below : BelowExact k) where
             spelled,
             held,
             subst (SpellsStatement second) (sym (append-nil after)) ends,
-            ap (λ f. token_of classes.If place ∷ token_of classes.LeftParen opening ∷ f) (append_assoc inside (token_of classes.RightParen closing ∷ between) (token_of classes.Else word ∷ (after ++ []))),
+            ap (λ f. token_of classes.If place ∷ token_of classes.LeftParen opening ∷ f) (append_assoc inside (token_of classes.RightParen closing ∷ between)
+                (token_of classes.Else word ∷ (after ++ []))),
           )
           (λ c.
           let a : height_of test < k = c.0.0.1 in
@@ -491,7 +511,8 @@ module _ (k : ℕ) (below : BelowExact k) where
       exact-bind (exact-under (λ c. c.0.1) below) (λ body after held.
       exact-give (made place test body)
       (subst (SpellsStatement (made place test body))
-      (ap (λ f. token_of word place ∷ f) (sym (regroup (token_of classes.LeftParen spelled.0) spelled.2 (token_of classes.RightParen spelled.1) (after ++ [])) ∙ ap (λ f. f ++ (after ++ [])) (sym spelled.4)))
+      (ap (λ f. token_of word place ∷ f) (sym (regroup (token_of classes.LeftParen spelled.0) spelled.2 (token_of classes.RightParen spelled.1) (after ++ []))
+      ∙ ap (λ f. f ++ (after ++ [])) (sym spelled.4)))
       (so place spelled.0 spelled.1 test body spelled.2 (after ++ []) spelled.3 (subst (SpellsStatement body) (sym (append-nil after)) held)))
       (λ c. let a : height_of test < k = c.0.1 in let b : statement_height body < k = c.1 in omega (arith, high place test body)))))
 
@@ -549,7 +570,8 @@ module _ (k : ℕ) (below : BelowExact k) where
         ended.4,
         subst (SpellsStatement body) (sym (append-nil after)) held,
         ap (λ f. token_of classes.For place ∷ token_of classes.LeftParen opening ∷ f)
-            (grouped headed.1 headed.2 before headed.0 headed.5 (token_of classes.Semicolon first_end ∷ (between ++ token_of classes.Semicolon test_end ∷ (behind_test ++ token_of classes.RightParen closing ∷ (after ++ []))))
+            (grouped headed.1 headed.2 before headed.0 headed.5 (token_of classes.Semicolon first_end ∷
+            (between ++ token_of classes.Semicolon test_end ∷ (behind_test ++ token_of classes.RightParen closing ∷ (after ++ []))))
             ∙ ap (λ f. headed.1 ++ token_of classes.Assign headed.0 ∷ (headed.2 ++ token_of classes.Semicolon first_end ∷ (between ++ token_of classes.Semicolon test_end ∷ f)))
             (grouped ended.1 ended.2 behind_test ended.0 ended.5 (token_of classes.RightParen closing ∷ (after ++ [])))),
       )

@@ -1,12 +1,16 @@
 -- Each spelled statement is read.
-use Rattle.std.proofs.Common.{◌≡◌, ℕ, zero, suc, ◌+◌, ◌<◌, ◌≤◌, true, false, List, [], ◌∷◌, ◌++◌, Option, Some, None, Ok, refl, sym, ◌∙◌, ap, subst, arith, append_assoc, length-append, lt-ltb, ◌⊎◌, inl, inr}
+use Rattle.std.proofs.Common.{◌≡◌, ℕ, zero, suc, ◌+◌, ◌<◌, ◌≤◌, true, false, List, [], ◌∷◌, ◌++◌, Option, Some, None, Ok, refl, sym, ◌∙◌, ap, subst, arith, append_assoc, length-append, lt-ltb, ◌⊎◌}
+use Rattle.std.proofs.Common.{inl, inr}
 use Rattle.std.proofs.lemmas.List.{append-nil}
 use Rattle.std.specs.Prelude.{nat_lt, if◌then◌else◌}
 use Rattle.vf_base.specs.Base.{SourcePlace}
 use Rattle.four_value.specs.declared.operator.CaseKind.{CaseKind}
 use Rattle.four_value.specs.declared.operator.CaseKind.TheVariants as kinds_of_case
 use Rattle.v_tree.specs.Tokens.{SourceToken}
-use Rattle.v_tree.specs.Trees.{SourceExpression, SourceExpressions, no_parts, more_parts, SourceTarget, OneSelect, JoinedSelects, SourceStatement, NullStatement, BlockStatement, IfStatement, IfElseStatement, CaseStatement, ForStatement, WhileStatement, RepeatStatement, ForeverStatement, WaitStatement, EventStatement, DelayStatement, BlockingStatement, NonblockingStatement, IgnoredTask, FinishTask, SourceStatements, no_source_statements, more_source_statements, SourceCaseItems, no_source_items, labelled, otherwise, place_of_target, parts_of}
+use Rattle.v_tree.specs.Trees.{SourceExpression, SourceExpressions, no_parts, more_parts, SourceTarget, OneSelect, JoinedSelects, SourceStatement, NullStatement, BlockStatement, IfStatement}
+use Rattle.v_tree.specs.Trees.{IfElseStatement, CaseStatement, ForStatement, WhileStatement, RepeatStatement, ForeverStatement, WaitStatement, EventStatement, DelayStatement, BlockingStatement}
+use Rattle.v_tree.specs.Trees.{NonblockingStatement, IgnoredTask, FinishTask, SourceStatements, no_source_statements, more_source_statements, SourceCaseItems, no_source_items, labelled, otherwise}
+use Rattle.v_tree.specs.Trees.{place_of_target, parts_of}
 use Rattle.v_readers.specs.declared.class.Class.{Class}
 use Rattle.v_readers.specs.declared.class.Class.TheVariants as classes
 use Rattle.v_readers.specs.Classes.{class_of, token_of}
@@ -22,7 +26,9 @@ use Rattle.v_expr.specs.ExpressionReads.{EndsBefore}
 use Rattle.v_expr.specs.PartLaws.{inner_expression-reads, inner_target-reads, inner_delay-reads}
 use Rattle.v_stmt.specs.Spelling.{SpellsColon, SpellsTask, SpellsInnerDelay, case_word, defaults_in, items_in, is_unfinished, SpellsStatement, SpellsBody, SpellsItems}
 use Rattle.v_stmt.specs.Heights.{delay_height, statement_height, body_height, items_height}
-use Rattle.v_stmt.specs.Statements.{task, assigned, assignment_by, assignment, another, begins_statement, begins, body_by, body_turn, statements_list, block_body, block, condition, second_branch, else_by, conditional, Looping, looped, forever, head_assignment, for_loop, event, delayed, CasePart, items_list, default_item, labelled_item, item_by, item, items_by, items_turn, items, case, statement_by, below_of, statement}
+use Rattle.v_stmt.specs.Statements.{task, assigned, assignment_by, assignment, another, begins_statement, begins, body_by, body_turn, statements_list, block_body, block, condition, second_branch}
+use Rattle.v_stmt.specs.Statements.{else_by, conditional, Looping, looped, forever, head_assignment, for_loop, event, delayed, CasePart, items_list, default_item, labelled_item, item_by, item}
+use Rattle.v_stmt.specs.Statements.{items_by, items_turn, items, case, statement_by, below_of, statement}
 use Rattle.v_stmt.specs.StatementExact.{some-tokens, defaults-append}
 use Rattle.v_stmt.specs.PartReads.{leads, expression-first, leads-not, label-reads, colon-reads, waits-reads, assigned_delay-reads, condition-reads, head-reads, arguments-reads}
 
@@ -83,7 +89,8 @@ first-not tokens f other g e =
 -- Words are led by their tokens
 
 module _ (k : ℕ) (below : Reader SourceStatement) where
-  led : (class : Class) (place : SourcePlace) (rest : List SourceToken) → by_class (statement_by k below) (token_of class place ∷ rest) ≡ statement_by k below (Some class) (token_of class place ∷ rest)
+  led : (class : Class) (place : SourcePlace) (rest : List SourceToken) → by_class (statement_by k below) (token_of class place ∷ rest) ≡ statement_by k below (Some class)
+      (token_of class place ∷ rest)
   led class place rest = ap (λ c. statement_by k below c (token_of class place ∷ rest)) (next-class class place rest)
 
   body-begins : (body : List SourceStatement) (class : Option Class) (tokens : List SourceToken) → begins class ≡ true → body_by k below body class tokens ≡ another k below body tokens
@@ -152,7 +159,8 @@ task-reads : (class : Class) (place : SourcePlace) (ts rest : List SourceToken) 
 unfolding task
 task-reads class place ts rest h =
     ap (λ f. task class (f ++ rest)) h.6
-    ∙ rw (append_assoc h.4 (token_of classes.Semicolon h.3 ∷ []) rest, pass-reads class h.0 (h.4 ++ token_of classes.Semicolon h.3 ∷ rest) h.1, arguments-reads h.4 h.3 rest h.5) (ap (λ p. Ok (p, rest)) h.2)
+    ∙ rw (append_assoc h.4 (token_of classes.Semicolon h.3 ∷ []) rest, pass-reads class h.0 (h.4 ++ token_of classes.Semicolon h.3 ∷ rest) h.1, arguments-reads h.4 h.3 rest h.5)
+    (ap (λ p. Ok (p, rest)) h.2)
 
 module _ (k : ℕ) where
   assigned-reads : (delay : Option SourceExpression) (value : SourceExpression) (end_place : SourcePlace) (between after rest : List SourceToken)
@@ -207,7 +215,8 @@ body-not (more_source_statements s all) ts end_place rest h other b not_end e =
 items-not : (all : SourceCaseItems) (ts : List SourceToken) (end_place : SourcePlace) (rest : List SourceToken) → SpellsItems all ts
     → next_class (ts ++ token_of classes.EndCase end_place ∷ rest) ≡ Some classes.Else → ⊥
 items-not no_source_items ts end_place rest h e =
-    let p : ◌≡◌ {A = Option Class} (Some classes.EndCase) (Some classes.Else) = sym (ap (λ f. next_class (f ++ token_of classes.EndCase end_place ∷ rest)) h ∙ next-class classes.EndCase end_place rest) ∙ e in cc
+    let p : ◌≡◌ {A = Option Class} (Some classes.EndCase) (Some classes.Else) = sym (ap (λ f. next_class (f ++ token_of classes.EndCase end_place ∷ rest)) h
+    ∙ next-class classes.EndCase end_place rest) ∙ e in cc
 items-not (labelled labels s all) ts end_place rest h e =
     let end = token_of classes.EndCase end_place ∷ rest in
     leads-not (next_class (ts ++ token_of classes.EndCase end_place ∷ rest))
@@ -309,7 +318,11 @@ module _ (k : ℕ) (below : BelowReads k) where
       ap (λ f. repeat (items_turn k (below_of k)) done (f ++ token_of classes.EndCase end_place ∷ rest)) h.7
       ∙ ap (repeat (items_turn k (below_of k)) done) (regrouped-labelled h.1 h.2 h.3 (token_of classes.Colon h.0) (token_of classes.EndCase end_place ∷ rest))
       ∙ turn-is (items_turn k (below_of k)) done (done ++ (Some (list_of_labels labels), s) ∷ []) tokens (h.3 ++ token_of classes.EndCase end_place ∷ rest) turn
-      (omega (arith, length-append h.1 (token_of classes.Colon h.0 ∷ (h.2 ++ (h.3 ++ token_of classes.EndCase end_place ∷ rest))), length-append h.2 (h.3 ++ token_of classes.EndCase end_place ∷ rest)))
+      (omega (
+        arith,
+        length-append h.1 (token_of classes.Colon h.0 ∷ (h.2 ++ (h.3 ++ token_of classes.EndCase end_place ∷ rest))),
+        length-append h.2 (h.3 ++ token_of classes.EndCase end_place ∷ rest),
+      ))
       ∙ items-reads all (done ++ (Some (list_of_labels labels), s) ∷ []) h.3 end_place rest h.6 (omega arith) (omega (arith, defaults-append done (Some (list_of_labels labels)) s, few))
       ∙ ap (λ w. Ok (w, token_of classes.EndCase end_place ∷ rest)) (append_assoc done ((Some (list_of_labels labels), s) ∷ []) (list_of_items all))
   items-reads (otherwise s all) done ts end_place rest h low few =
@@ -317,7 +330,8 @@ module _ (k : ℕ) (below : BelowReads k) where
       let tokens = token_of classes.Default h.0 ∷ (h.1 ++ (h.2 ++ (h.3 ++ token_of classes.EndCase end_place ∷ rest))) in
       let read = default-reads done s h.0 h.1 h.2 (h.3 ++ token_of classes.EndCase end_place ∷ rest) h.4 h.5 (omega arith) (items-not all h.3 end_place rest h.6) (omega (arith, few)) in
       let turn : items_turn k (below_of k) done tokens ≡ Ok (Some (done ++ (None, s) ∷ []), h.3 ++ token_of classes.EndCase end_place ∷ rest) =
-      ap (λ c. items_by k (below_of k) done c tokens) (next-class classes.Default h.0 (h.1 ++ (h.2 ++ (h.3 ++ token_of classes.EndCase end_place ∷ rest)))) ∙ ap (λ r. followed r (λ more. give (Some more))) read in
+      ap (λ c. items_by k (below_of k) done c tokens) (next-class classes.Default h.0 (h.1 ++ (h.2 ++ (h.3 ++ token_of classes.EndCase end_place ∷ rest))))
+      ∙ ap (λ r. followed r (λ more. give (Some more))) read in
       ap (λ f. repeat (items_turn k (below_of k)) done (f ++ token_of classes.EndCase end_place ∷ rest)) h.7
       ∙ ap (λ f. repeat (items_turn k (below_of k)) done (token_of classes.Default h.0 ∷ f)) (regrouped-default h.1 h.2 h.3 (token_of classes.EndCase end_place ∷ rest))
       ∙ turn-is (items_turn k (below_of k)) done (done ++ (None, s) ∷ []) tokens (h.3 ++ token_of classes.EndCase end_place ∷ rest) turn
@@ -336,7 +350,8 @@ module _ (k : ℕ) (below : BelowReads k) where
 
   loop-reads : (word : Class) (made : Looping) (place open_place close_place : SourcePlace) (test : SourceExpression) (body : SourceStatement) (inside after rest : List SourceToken)
       → SpellsExpression test inside → SpellsStatement body after → height_of test < k → statement_height body < k → EndsStatement body (next_class rest)
-      → looped k (below_of k) made (token_of word place ∷ token_of classes.LeftParen open_place ∷ ((inside ++ token_of classes.RightParen close_place ∷ after) ++ rest)) ≡ Ok (made place test body, rest)
+      → looped k (below_of k) made (token_of word place ∷ token_of classes.LeftParen open_place ∷ ((inside ++ token_of classes.RightParen close_place ∷ after) ++ rest)) ≡ Ok
+      (made place test body, rest)
   unfolding looped
   loop-reads word made place open_place close_place test body inside after rest h g test_low low ends =
       let some : nat_lt 0 k ≡ true = lt-ltb 0 k (omega arith) in
@@ -358,7 +373,8 @@ module _ (k : ℕ) (below : BelowReads k) where
 
   case-reads : (kind : CaseKind) (place : SourcePlace) (value : SourceExpression) (items : SourceCaseItems) (open_place close_place end_place : SourcePlace) (inside between rest : List SourceToken)
       → 1 ≤ items_in items → defaults_in items ≤ 1 → SpellsExpression value inside → SpellsItems items between → height_of value < k → items_height items < k
-      → case k (below_of k) kind (token_of (case_word kind) place ∷ token_of classes.LeftParen open_place ∷ ((inside ++ token_of classes.RightParen close_place ∷ (between ++ token_of classes.EndCase end_place ∷ [])) ++ rest))
+      → case k (below_of k) kind (token_of (case_word kind) place ∷ token_of classes.LeftParen open_place ∷
+      ((inside ++ token_of classes.RightParen close_place ∷ (between ++ token_of classes.EndCase end_place ∷ [])) ++ rest))
       ≡ Ok (CaseStatement place kind value items, rest)
   unfolding case items
   case-reads kind place value no_source_items open_place close_place end_place inside between rest some few h g low items_low = absurd (let p : 1 ≤ 0 = some in omega arith)
@@ -369,7 +385,14 @@ module _ (k : ℕ) (below : BelowReads k) where
       let all_tokens : (between ++ token_of classes.EndCase end_place ∷ []) ++ rest ≡ g.1 ++ token_of classes.Colon g.0 ∷ (g.2 ++ (g.3 ++ token_of classes.EndCase end_place ∷ rest)) =
       append_assoc between (token_of classes.EndCase end_place ∷ []) rest ∙ ap (λ f. f ++ token_of classes.EndCase end_place ∷ rest) g.7
       ∙ regrouped-labelled g.1 g.2 g.3 (token_of classes.Colon g.0) (token_of classes.EndCase end_place ∷ rest) in
-      rw (deeper, conditioned value open_place close_place inside (between ++ token_of classes.EndCase end_place ∷ []) rest h low, all_tokens, first, others, expect-reads classes.EndCase end_place rest)
+      rw (
+        deeper,
+        conditioned value open_place close_place inside (between ++ token_of classes.EndCase end_place ∷ []) rest h low,
+        all_tokens,
+        first,
+        others,
+        expect-reads classes.EndCase end_place rest,
+      )
       (ap (λ l. Ok (CaseStatement place kind value l, rest)) (items_list-list (labelled labels s all)))
   case-reads kind place value (otherwise s all) open_place close_place end_place inside between rest some few h g low items_low =
       let deeper : nat_lt 0 k ≡ true = lt-ltb 0 k (omega arith) in
@@ -378,7 +401,14 @@ module _ (k : ℕ) (below : BelowReads k) where
       let all_tokens : (between ++ token_of classes.EndCase end_place ∷ []) ++ rest ≡ token_of classes.Default g.0 ∷ (g.1 ++ (g.2 ++ (g.3 ++ token_of classes.EndCase end_place ∷ rest))) =
       append_assoc between (token_of classes.EndCase end_place ∷ []) rest ∙ ap (λ f. f ++ token_of classes.EndCase end_place ∷ rest) g.7
       ∙ ap (λ f. token_of classes.Default g.0 ∷ f) (regrouped-default g.1 g.2 g.3 (token_of classes.EndCase end_place ∷ rest)) in
-      rw (deeper, conditioned value open_place close_place inside (between ++ token_of classes.EndCase end_place ∷ []) rest h low, all_tokens, first, others, expect-reads classes.EndCase end_place rest)
+      rw (
+        deeper,
+        conditioned value open_place close_place inside (between ++ token_of classes.EndCase end_place ∷ []) rest h low,
+        all_tokens,
+        first,
+        others,
+        expect-reads classes.EndCase end_place rest,
+      )
       (ap (λ l. Ok (CaseStatement place kind value l, rest)) (items_list-list (otherwise s all)))
 
   statement_by-case : (kind : CaseKind) (tokens : List SourceToken) → statement_by k (below_of k) (Some (case_word kind)) tokens ≡ case k (below_of k) kind tokens
@@ -429,7 +459,8 @@ module _ (k : ℕ) (below : BelowReads k) where
       let first_read = head-read first_target first h.1 h.6 h.7 (token_of classes.Semicolon h.2)
       (h.8 ++ token_of classes.Semicolon h.3 ∷ (h.9 ++ token_of classes.Assign h.4 ∷ (h.10 ++ token_of classes.RightParen h.5 ∷ h.11))) rest h.12 h.13 (omega arith) (omega arith) (omega arith) in
       let test_tokens = append_assoc h.8 (token_of classes.Semicolon h.3 ∷ (h.9 ++ token_of classes.Assign h.4 ∷ (h.10 ++ token_of classes.RightParen h.5 ∷ h.11))) rest in
-      let test_read = inner_expression-reads k test h.8 (token_of classes.Semicolon h.3 ∷ ((h.9 ++ token_of classes.Assign h.4 ∷ (h.10 ++ token_of classes.RightParen h.5 ∷ h.11)) ++ rest)) h.14 (omega arith) (omega arith) in
+      let test_read = inner_expression-reads k test h.8 (token_of classes.Semicolon h.3 ∷ ((h.9 ++ token_of classes.Assign h.4 ∷ (h.10 ++ token_of classes.RightParen h.5 ∷ h.11)) ++ rest)) h.14
+      (omega arith) (omega arith) in
       let next_read = head-read next_target next h.4 h.9 h.10 (token_of classes.RightParen h.5) h.11 rest h.15 h.16 (omega arith) (omega arith) (omega arith) in
       let inside = below body h.11 rest h.17 (omega arith) ends in
       ap (λ f. by_class (statement_by k (below_of k)) (f ++ rest)) h.18
@@ -478,9 +509,11 @@ module _ (k : ℕ) (below : BelowReads k) where
       ∙ ap (λ r. followed r (λ x. give (NonblockingStatement (place_of_target t) t x.0 x.1))) (assigned-reads k delay value h.2 h.4 h.5 rest h.7 h.8 (omega arith) (omega arith))
       ∙ ap (λ p. Ok (NonblockingStatement p t delay value, rest)) h.0
   statement_by-reads (IgnoredTask place) ts rest h low ends =
-      ap (λ c. statement_by k (below_of k) c (ts ++ rest)) (ap (λ f. next_class (f ++ rest)) h.6 ∙ ap (λ (c : Class). Some c) h.1) ∙ ap (λ r. followed r (λ place. give (IgnoredTask place))) (task-reads classes.IgnoredTask place ts rest h)
+      ap (λ c. statement_by k (below_of k) c (ts ++ rest)) (ap (λ f. next_class (f ++ rest)) h.6 ∙ ap (λ (c : Class). Some c) h.1)
+      ∙ ap (λ r. followed r (λ place. give (IgnoredTask place))) (task-reads classes.IgnoredTask place ts rest h)
   statement_by-reads (FinishTask place) ts rest h low ends =
-      ap (λ c. statement_by k (below_of k) c (ts ++ rest)) (ap (λ f. next_class (f ++ rest)) h.6 ∙ ap (λ (c : Class). Some c) h.1) ∙ ap (λ r. followed r (λ place. give (FinishTask place))) (task-reads classes.FinishTask place ts rest h)
+      ap (λ c. statement_by k (below_of k) c (ts ++ rest)) (ap (λ f. next_class (f ++ rest)) h.6 ∙ ap (λ (c : Class). Some c) h.1)
+      ∙ ap (λ r. followed r (λ place. give (FinishTask place))) (task-reads classes.FinishTask place ts rest h)
 
 pub below-reads : (k : ℕ) → BelowReads k
 unfolding below_of
@@ -488,6 +521,7 @@ below-reads zero s ts rest h low ends = absurd (let p : statement_height s < 0 =
 below-reads (suc k) s ts rest h low ends = statement_by-reads k (below-reads k) s ts rest h (omega (arith, low)) ends
 
 -- each spelled statement within the levels is read
-pub statement-reads : (k : ℕ) (s : SourceStatement) (ts rest : List SourceToken) → SpellsStatement s ts → statement_height s ≤ k → EndsStatement s (next_class rest) → statement k (ts ++ rest) ≡ Ok (s, rest)
+pub statement-reads : (k : ℕ) (s : SourceStatement) (ts rest : List SourceToken) → SpellsStatement s ts → statement_height s ≤ k → EndsStatement s (next_class rest) →
+    statement k (ts ++ rest) ≡ Ok (s, rest)
 unfolding statement
 statement-reads k s ts rest h low ends = statement_by-reads k (below-reads k) s ts rest h low ends

@@ -6,4 +6,5 @@ use Rattle.v_copy.proofs.copy_item.copy_connections.Goals as goal
 pub connections-preserved : goal.connections-preserved
 connections-preserved c =
     ap (map connection_of) c.in_ok-push.ensures.items
-    ∙ one-more connection_of c.args.connections.now c.connections.copies.items c.connections.connection-index c.connection-item.result c.in_ok-copy.copy c.connections-test.true c.connection-item.is c.in_ok-copy.ensures c.connections.invariant
+    ∙ one-more connection_of c.args.connections.now c.connections.copies.items c.connections.connection-index c.connection-item.result c.in_ok-copy.copy c.connections-test.true c.connection-item.is
+    c.in_ok-copy.ensures c.connections.invariant

@@ -23,7 +23,8 @@ operands-returns-in_err-left-2-clause-reads t c =
     ap (λ w. joining c.args.greatest w (operator_of (next_class c.operands.rest.now))) (sym c.rank_of.ensures)
     ∙ ap (λ w. joining c.args.greatest c.rank_of.result (operator_of w)) (sym c.next_class.ensures) ∙ sym c.joining.ensures ∙ c.in-Some.is in
     rw (p.1, p.2, c.operands.invariant.same)
-    (operands-fail c.args.levels (inner_of c.args.levels) c.args.greatest (expression_of c.operands.left.expr) c.operands.rest.now c.in-Some.operator c.in_err-left-2.field-0.0 is c.in_err-left-2.ensures.reads)
+    (operands-fail c.args.levels (inner_of c.args.levels) c.args.greatest (expression_of c.operands.left.expr) c.operands.rest.now c.in-Some.operator c.in_err-left-2.field-0.0 is
+    c.in_err-left-2.ensures.reads)
 
 pub operands-operands-preserved : goal.operands-operands-preserved
 operands-operands-preserved t c =
@@ -31,7 +32,8 @@ operands-operands-preserved t c =
     ap (λ w. joining c.args.greatest w (operator_of (next_class c.operands.rest.now))) (sym c.rank_of.ensures)
     ∙ ap (λ w. joining c.args.greatest c.rank_of.result (operator_of w)) (sym c.next_class.ensures) ∙ sym c.joining.ensures ∙ c.in-Some.is in
     record {
-      same = c.operands.invariant.same ∙ operands-next c.args.levels (inner_of c.args.levels) c.args.greatest (expression_of c.operands.left.expr) c.operands.rest.now c.in-Some.operator _ _ is c.in_ok-left-2.ensures.reads c.in_ok-left-2.ensures.shorter;
+      same = c.operands.invariant.same ∙ operands-next c.args.levels (inner_of c.args.levels) c.args.greatest
+          (expression_of c.operands.left.expr) c.operands.rest.now c.in-Some.operator _ _ is c.in_ok-left-2.ensures.reads c.in_ok-left-2.ensures.shorter;
       height = c.in_ok-left-2.ensures.height.0;
       within = c.in_ok-left-2.ensures.height.1;
       shorter = omega (arith, c.in_ok-left-2.ensures.shorter, c.operands.invariant.shorter);
@@ -49,7 +51,8 @@ more-returns-in_err-part-clause-reads t c =
     let p = err_from_is_err_and c.from_residual-in_err-part.result c.from_residual-in_err-part.ensures.1 in
     let comma : is_class classes.Comma (next_class c.parts.rest.now) ≡ true = sym c.is_next.ensures ∙ c.parts-test.true in
     rw (p.1, p.2, c.parts.invariant.same)
-    (element-fail classes.Comma (inner_of c.args.levels 11) (map expression_of c.parts.parts.items) c.parts.rest.now _ c.in_ok-after.after.now c.in_err-part.field-0.0 comma c.in_ok-after.ensures.reads c.in_err-part.ensures.reads)
+    (element-fail classes.Comma (inner_of c.args.levels 11) (map expression_of c.parts.parts.items) c.parts.rest.now _ c.in_ok-after.after.now c.in_err-part.field-0.0 comma
+    c.in_ok-after.ensures.reads c.in_err-part.ensures.reads)
 
 pub more-parts-preserved : goal.more-parts-preserved
 more-parts-preserved t c =
@@ -58,7 +61,8 @@ more-parts-preserved t c =
     let part = c.in_ok-part.ensures.height in
     rw pushed (record {
       same = c.parts.invariant.same
-          ∙ element-next classes.Comma (inner_of c.args.levels 11) (map expression_of c.parts.parts.items) c.parts.rest.now _ c.in_ok-after.after.now c.in_ok-part.after.now (expression_of c.in_ok-part.part.expr) comma
+          ∙ element-next classes.Comma (inner_of c.args.levels 11) (map expression_of c.parts.parts.items) c.parts.rest.now _ c.in_ok-after.after.now c.in_ok-part.after.now
+          (expression_of c.in_ok-part.part.expr) comma
           c.in_ok-after.ensures.reads c.in_ok-part.ensures.reads (omega (arith, c.in_ok-after.ensures.shorter, c.in_ok-part.ensures.shorter));
       height = omega (arith, heights-append-max (map expression_of c.parts.parts.items) (expression_of c.in_ok-part.part.expr), part.0, c.max-height.ensures, c.parts.invariant.height);
       within = omega (arith, part.1, c.max-height.ensures, c.parts.invariant.within);
@@ -86,8 +90,10 @@ replication-returns-clause-height t c =
     let parts = c.in_ok-row.row.parts in
     let seen : heights_of (expressions_of_row (hidden-the_row-Expr-0 parts)) ≡ heights_of (parts_of (map expression_of parts.items)) = ap heights_of (row-seen parts) in
     let count : height_of (expression_of c.in_ok-count.count.expr.value) ≡ height_of (expression_of c.args.first.expr) = ap height_of c.in_ok-count.ensures.made in
-    let row = c.in_ok-row.ensures.height in
-    (omega (arith, seen, count, c.in_ok-count.ensures.height, c.max-height.ensures, c.requires.height, row.0), omega (arith, c.in_ok-count.ensures.height, c.max-height.ensures, c.requires.within, row.1))
+    let row = c.in_ok-row.ensures.height in (
+      omega (arith, seen, count, c.in_ok-count.ensures.height, c.max-height.ensures, c.requires.height, row.0),
+      omega (arith, c.in_ok-count.ensures.height, c.max-height.ensures, c.requires.within, row.1),
+    )
 
 pub concatenation-returns-clause-reads : goal.concatenation-returns-clause-reads
 unfolding concatenation

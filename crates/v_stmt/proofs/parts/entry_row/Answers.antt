@@ -12,7 +12,8 @@ returns-in_err-next-clause-reads c =
     let p = err_from_is_err_and c.from_residual-in_err-next.result c.from_residual-in_err-next.ensures.1 in
     let more : separates (next_class c.entries.rest.now) ≡ true = sym c.separates.ensures ∙ c.entries-test.true in
     rw (p.1, p.2, c.entries.invariant.same)
-    (entries-fail c.args.levels (map entry_of c.entries.entries.items) c.entries.rest.now _ c.in_ok-after.after.now c.in_err-next.field-0.0 more c.in_ok-after.ensures.reads c.in_err-next.ensures.reads)
+    (entries-fail c.args.levels (map entry_of c.entries.entries.items) c.entries.rest.now _ c.in_ok-after.after.now c.in_err-next.field-0.0 more c.in_ok-after.ensures.reads
+    c.in_err-next.ensures.reads)
 
 pub entries-preserved : goal.entries-preserved
 entries-preserved c =
@@ -20,7 +21,8 @@ entries-preserved c =
     let pushed : map entry_of c.push-in-entries.new.self.items ≡ map entry_of c.entries.entries.items ++ entry_of c.in_ok-next.next ∷ [] =
     ap (map entry_of) c.in_ok-push-2.ensures.items ∙ map_push entry_of c.entries.entries.items c.in_ok-next.next in
     rw pushed (record {
-      same = c.entries.invariant.same ∙ entries-next c.args.levels (map entry_of c.entries.entries.items) c.entries.rest.now _ c.in_ok-after.after.now c.in_ok-next.after.now (entry_of c.in_ok-next.next) more c.in_ok-after.ensures.reads c.in_ok-next.ensures.reads
+      same = c.entries.invariant.same ∙ entries-next c.args.levels (map entry_of c.entries.entries.items) c.entries.rest.now _ c.in_ok-after.after.now c.in_ok-next.after.now
+          (entry_of c.in_ok-next.next) more c.in_ok-after.ensures.reads c.in_ok-next.ensures.reads
           (omega (arith, c.in_ok-after.ensures.shorter, c.in_ok-next.ensures.shorter));
       shorter = omega (arith, c.in_ok-after.ensures.shorter, c.in_ok-next.ensures.shorter, c.entries.invariant.shorter);
     })

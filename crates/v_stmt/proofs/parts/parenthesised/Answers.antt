@@ -12,5 +12,12 @@ tokens-preserved c = record {
   same = c.tokens.invariant.same ∙ ap (λ d. skipped_at d c.tokens.rest.now) c.in-Some.is
       ∙ skipped_step c.in-Some.open c.tokens.rest.now c.in-Some-next_class.class _ c.in_ok-after.after.now (sym c.next_class.ensures ∙ c.in-Some-next_class.is) c.in_ok-after.ensures.reads
       ∙ ap (λ d. skipped_at d c.in_ok-after.after.now) (sym c.depth_behind-depth.ensures);
-  shorter = omega (arith, ap opened c.depth_behind-depth.ensures, opened-behind c.in-Some.open c.in-Some-next_class.class, ap opened c.in-Some.is, c.tokens.invariant.shorter, c.in_ok-after.ensures.shorter);
+  shorter = omega (
+    arith,
+    ap opened c.depth_behind-depth.ensures,
+    opened-behind c.in-Some.open c.in-Some-next_class.class,
+    ap opened c.in-Some.is,
+    c.tokens.invariant.shorter,
+    c.in_ok-after.ensures.shorter,
+  );
 }

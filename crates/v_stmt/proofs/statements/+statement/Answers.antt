@@ -30,7 +30,8 @@ block_body-body-preserved t c =
     ap (map statement_of) c.in_ok-push.ensures.items ∙ map_push statement_of c.body.statements.items c.in_ok-next.next.stmt in
     rw pushed (record {
       same = c.body.invariant.same
-          ∙ body-next c.args.levels (map statement_of c.body.statements.items) c.body.rest.now (statement_of c.in_ok-next.next.stmt) c.in_ok-next.after.now c.in_ok-ready.ensures.low more c.in_ok-next.ensures.reads c.in_ok-next.ensures.shorter;
+          ∙ body-next c.args.levels (map statement_of c.body.statements.items) c.body.rest.now
+          (statement_of c.in_ok-next.next.stmt) c.in_ok-next.after.now c.in_ok-ready.ensures.low more c.in_ok-next.ensures.reads c.in_ok-next.ensures.shorter;
       shorter = omega (arith, c.in_ok-next.ensures.shorter, c.body.invariant.shorter);
     })
 
@@ -51,7 +52,8 @@ items-items-preserved t c =
     let no : c.is_next.result ≡ false = search (rules, c.items-test.true) in
     let other : is_class classes.EndCase (next_class c.items.rest.now) ≡ false = sym c.is_next.ensures ∙ no in
     record {
-      same = c.items.invariant.same ∙ items-next c.args.levels (below_of c.args.levels) (map case_part_of c.items.items.items) c.items.rest.now _ _ other c.in_ok-rest-2.ensures.reads c.in_ok-rest-2.ensures.shorter;
+      same = c.items.invariant.same ∙ items-next c.args.levels (below_of c.args.levels) (map case_part_of c.items.items.items) c.items.rest.now _ _ other c.in_ok-rest-2.ensures.reads
+          c.in_ok-rest-2.ensures.shorter;
       shorter = omega (arith, c.in_ok-rest-2.ensures.shorter, c.items.invariant.shorter);
     }
 
