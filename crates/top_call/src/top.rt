@@ -91,7 +91,7 @@ pub fn vfault<R: Threads + Sync, S: Shelf, K: Sink, G: Gate + Sync, L: Ledger + 
         ⊎ ((text : List ℕ) × IfTold (files_for form (S.held shelf.old)) (λ files. IsOutput form files text)
         × PutsInFew (K.contents sink.old) text (K.contents sink.new) (K.puts sink.old) (K.puts sink.new))) }
 
-    // Each file of the form is read at most once; `soak` reads none, and where the words are of no form nothing is read.
+    // The shelf is read at most as often as the form names files: `soak` reads none, and where the words are of no form nothing is read.
     ensures few_reads { (S.reads shelf.old ≤ S.reads shelf.new) × (S.reads shelf.new ≤ S.reads shelf.old + files_named (form_of (bytes_of words.now))) }
 {
     let Some(form) = read_words(words) else {
