@@ -1,7 +1,7 @@
 -- What the calls of a table need of its parts (nothing of the language).
 use Rattle.std.proofs.Common.{◌≡◌, ℕ, zero, suc, ◌+◌, ◌<◌, ◌≤◌, Bool, true, false, List, [], ◌∷◌, ◌++◌, length, map, get_or, Option, Some, None, refl, sym, ap, ◌∙◌, subst, arith}
 use Rattle.std.specs.Prelude.{slice_get}
-use Rattle.std.proofs.lemmas.List.{length-map}
+use Rattle.std.proofs.lemmas.List.{length-map, get_or_past}
 use Rattle.four_value.specs.Values.{IsWidth}
 use Rattle.vf_base.specs.Lists.{AllHold, change_at, has, first_place}
 use Rattle.v_design.specs.Trees.{Entry, Null}
@@ -83,6 +83,12 @@ ready-free (does.Asleep time tasks) e = absurd (cc)
 ready-free (does.Postponed tasks) e = absurd (cc)
 ready-free does.Done e = absurd (cc)
 
+-- Members of a set
+member-at : {A : Type 0} (test : A → Bool) (default : A) (xs : List A) (p : ℕ) → test default ≡ false → get_or (map test xs) p false ≡ test (found_or default (slice_get xs p))
+member-at test default [] p none = get_or_past [] p false (omega arith) ∙ sym none
+member-at test default (x ∷ xs) zero none = refl
+member-at test default (x ∷ xs) (suc p) none = member-at test default xs p none
+
 module _ (design : FlatDesign) (time : ℕ) (rows : List Row) (waiters : List (List ℕ)) (ready lanes : List Bool) (queue : List HeldProcess)
     (table : IsTable design time rows waiters ready lanes queue) where
   pub long : length queue ≡ length (row_states rows)
@@ -118,6 +124,15 @@ module _ (design : FlatDesign) (time : ℕ) (rows : List Row) (waiters : List (L
   -- what a process of the table does is what its row does
   pub process-row : (p : ℕ) → found_or idle_process (slice_get (processes_of (row_states rows) queue) p) ≡ with_held (state_at (row_states rows) p) (held_at queue p)
   process-row p = at-process (row_states rows) queue p long
+
+  -- and it is ready, or its lane has an update, as the sets say
+  pub ready-member : (p : ℕ) → get_or ready p false ≡ is_ready (found_or idle_process (slice_get (processes_of (row_states rows) queue) p)).activity
+  ready-member p =
+      ap (λ bs. get_or bs p false) table.ready ∙ member-at row_ready no_row (row_states rows) p refl ∙ ap (λ (q : ProcessState). is_ready q.activity) (sym (process-row p))
+
+  pub lane-member : (p : ℕ) → get_or lanes p false ≡ is_any (found_or idle_process (slice_get (processes_of (row_states rows) queue) p)).lane
+  lane-member p =
+      ap (λ bs. get_or bs p false) table.lanes ∙ member-at row_busy no_row (row_states rows) p refl ∙ ap (λ (q : ProcessState). is_any q.lane) (sym (process-row p))
 
   -- the widths of the entries for which a process waits
   pub widths-at : (p : ℕ) → AllHold (λ (entry : Entry). IsWidth entry.width) (waiting_entries (state_at (row_states rows) p).activity)

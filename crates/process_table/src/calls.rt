@@ -83,6 +83,22 @@ impl<'d> ProcessTable<'d> {
         self.lanes.first()
     }
 
+    /// Whether a process is there and ready.
+    pub fn is_ready(&self, process: ProcId) -> bool
+        requires kept { IsKept self.now }
+        ensures { result ≡ is_ready (process_in (table_of self.now) (process_number process)).activity }
+    {
+        self.ready.contains(process)
+    }
+
+    /// Whether a process is there and its lane has an update.
+    pub fn has_lane(&self, process: ProcId) -> bool
+        requires kept { IsKept self.now }
+        ensures { result ≡ is_any (process_in (table_of self.now) (process_number process)).lane }
+    {
+        self.lanes.contains(process)
+    }
+
     /// One step of a ready process, over the values of all objects. It reads or writes one object at most; what it writes, the caller writes.
     ///
     /// # Errors

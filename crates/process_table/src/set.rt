@@ -81,6 +81,17 @@ impl ProcessSet {
         }
     }
 
+    /// Whether a process is a member.
+    pub fn contains(&self, process: ProcId) -> bool
+        ensures { result ≡ get_or self.now (process_number process) false }
+    {
+        let number = process.0 as usize;
+        if number >= self.members.len() {
+            return false;
+        }
+        self.members[number]
+    }
+
     /// Puts a process into the set.
     pub fn insert(&mut self, process: ProcId)
         requires { process_number process < length self.old }
