@@ -17,10 +17,12 @@ apart-step d later true h k = (h, k)
 apart-step d later false h k = k
 
 -- a name that is among the earlier ones isn't declared once more
-none-later : (name : Identifier) (all earlier rest : List Declaration) → ((other : Identifier) → same_name name other ≡ true → is_empty (of_name other earlier) ≡ false) → NoneNamed name (first_declarations all earlier rest)
+none-later : (name : Identifier) (all earlier rest : List Declaration) → ((other : Identifier) → same_name name other ≡ true → is_empty (of_name other earlier) ≡ false) →
+    NoneNamed name (first_declarations all earlier rest)
 none-later name all earlier [] h = tt
 none-later name all earlier (d ∷ rest) h =
-    none-step name (joined_declaration all d) (first_declarations all (d ∷ earlier) rest) (is_empty (of_name d.name earlier)) (no (same_name name d.name) refl) (none-later name all (d ∷ earlier) rest more)
+    none-step name (joined_declaration all d) (first_declarations all (d ∷ earlier) rest) (is_empty (of_name d.name earlier)) (no (same_name name d.name) refl)
+    (none-later name all (d ∷ earlier) rest more)
   where
     more : (other : Identifier) → same_name name other ≡ true → is_empty (of_name other (d ∷ earlier)) ≡ false
     more other s = step (same_name d.name other) refl
@@ -36,7 +38,8 @@ none-later name all earlier (d ∷ rest) h =
 pub first-apart : (all earlier rest : List Declaration) → AreApart (first_declarations all earlier rest)
 first-apart all earlier [] = tt
 first-apart all earlier (d ∷ rest) =
-    apart-step (joined_declaration all d) (first_declarations all (d ∷ earlier) rest) (is_empty (of_name d.name earlier)) (none-later d.name all (d ∷ earlier) rest here) (first-apart all (d ∷ earlier) rest)
+    apart-step (joined_declaration all d) (first_declarations all (d ∷ earlier) rest) (is_empty (of_name d.name earlier)) (none-later d.name all (d ∷ earlier) rest here)
+    (first-apart all (d ∷ earlier) rest)
   where
     here : (other : Identifier) → same_name d.name other ≡ true → is_empty (of_name other (d ∷ earlier)) ≡ false
     here other s = rw s refl
@@ -53,7 +56,8 @@ found-at (x ∷ xs) zero d h below at =
     ap (λ b. cond b (Some x) (found xs d.name)) (ap (λ (y : Declaration). same_name x.name y.name) at ∙ equal-same x.name x.name refl) ∙ ap (λ (y : Declaration). Some y) (sym at)
 found-at (x ∷ xs) (suc i) d h below at = ap (λ b. cond b (Some x) (found xs d.name)) (none-at x.name xs i d h.0 (omega arith) at) ∙ found-at xs i d h.1 (omega arith) at
 
-not-among : (f : Declaration → ScopeEntry) (name : Identifier) (ds : List Declaration) (i : ℕ) (d : Declaration) → AreApart ds → i < length ds → d ≡ get_or ds i d → looked_up (named_by f (take i ds)) d.name ≡ None
+not-among : (f : Declaration → ScopeEntry) (name : Identifier) (ds : List Declaration) (i : ℕ) (d : Declaration) → AreApart ds → i < length ds → d ≡ get_or ds i d →
+    looked_up (named_by f (take i ds)) d.name ≡ None
 not-among f name [] i d h below at = absurd (omega arith)
 not-among f name (x ∷ xs) zero d h below at = refl
 not-among f name (x ∷ xs) (suc i) d h below at =

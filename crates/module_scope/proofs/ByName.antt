@@ -1,5 +1,6 @@
 -- Each declared name with its one declaration.
-use Rattle.std.proofs.Common.{◌≡◌, ℕ, suc, ◌+◌, ◌<◌, ◌≤◌, Bool, true, false, cond, List, [], ◌∷◌, ◌++◌, map, filter, drop, get_or, length, Option, Some, None, option_map, refl, sym, ap, subst, ◌∙◌, arith, append-nil}
+use Rattle.std.proofs.Common.{◌≡◌, ℕ, suc, ◌+◌, ◌<◌, ◌≤◌, Bool, true, false, cond, List, [], ◌∷◌, ◌++◌, map, filter, drop, get_or, length, Option, Some, None, option_map, refl, sym, ap, subst, ◌∙◌}
+use Rattle.std.proofs.Common.{arith, append-nil}
 use Rattle.v_tree.specs.Trees.{Identifier, same_name}
 use Rattle.v_names.specs.Names.{Declaration, of_name}
 use Rattle.name_checks.specs.Rows.{drop-step, drop-past}
@@ -32,7 +33,8 @@ one-of name (d ∷ ds) h = by (same_name d.name name) refl (one-of name ds h.1)
 pub record AreFound (known : Identifier → Option Declaration) (rest all : List Declaration) : Type 0 where
   pub found_are : (name : Identifier) → listed (known name) ++ of_name name rest ≡ of_name name all
 
-pub found-turn : (known new : Identifier → Option Declaration) (d : Declaration) (rest all : List Declaration) → AreApart all → ((other : Identifier) → new other ≡ cond (same_name d.name other) (Some d) (known other))
+pub found-turn : (known new : Identifier → Option Declaration) (d : Declaration) (rest all : List Declaration) → AreApart all →
+    ((other : Identifier) → new other ≡ cond (same_name d.name other) (Some d) (known other))
     → AreFound known (d ∷ rest) all → AreFound new rest all
 found-turn known new d rest all apart put before = record { found_are = found }
   where
@@ -69,7 +71,8 @@ found-step {A} view xs i x known new apart below at put before =
     seen false old = refl
 
 -- all names are found at the end
-pub found-end : {A : Type 0} (view : A → Declaration) (xs : List A) (i : ℕ) (known : Identifier → Option A) (name : Identifier) → length xs ≤ i → AreFound (λ name. option_map view (known name)) (map view (drop i xs)) (map view xs)
+pub found-end : {A : Type 0} (view : A → Declaration) (xs : List A) (i : ℕ) (known : Identifier → Option A) (name : Identifier) → length xs ≤ i →
+    AreFound (λ name. option_map view (known name)) (map view (drop i xs)) (map view xs)
     → of_name name (map view xs) ≡ listed (option_map view (known name))
 found-end {A} view xs i known name past before =
     let last = subst (λ (ys : List A). AreFound (λ name. option_map view (known name)) (map view ys) (map view xs)) (drop-past xs i past) before in

@@ -37,7 +37,8 @@ plain-there old d x e name = by (same_name d.name name) refl
     by true s = some (old name) (plain_of_name name (d ∷ [])) (ap old (sym (same-equal d.name name s)) ∙ e)
     by false s = nothing-more (old name) ∙ ap (or_first (old name)) (sym (plain-by d name false (is_plain d.declared) s refl))
 
-pub plain-put : (old new : Identifier → Option Declaration) (d : Declaration) → old d.name ≡ None → is_plain d.declared ≡ true → ((other : Identifier) → new other ≡ cond (same_name d.name other) (Some d) (old other))
+pub plain-put : (old new : Identifier → Option Declaration) (d : Declaration) → old d.name ≡ None → is_plain d.declared ≡ true →
+    ((other : Identifier) → new other ≡ cond (same_name d.name other) (Some d) (old other))
     → (name : Identifier) → new name ≡ or_first (old name) (plain_of_name name (d ∷ []))
 plain-put old new d none plain puts name = by (same_name d.name name) refl
   where
@@ -49,7 +50,8 @@ seen-by : {A : Type 0} (view : A → Declaration) (b : Bool) (x : A) (rest : Opt
 seen-by view true x rest = refl
 seen-by view false x rest = refl
 
-pub plain-put-seen : {A : Type 0} (view : A → Declaration) (old new : Identifier → Option A) (x : A) → old (view x).name ≡ None → is_plain (view x).declared ≡ true → ((other : Identifier) → new other ≡ cond (same_name (view x).name other) (Some x) (old other))
+pub plain-put-seen : {A : Type 0} (view : A → Declaration) (old new : Identifier → Option A) (x : A) → old (view x).name ≡ None → is_plain (view x).declared ≡ true →
+    ((other : Identifier) → new other ≡ cond (same_name (view x).name other) (Some x) (old other))
     → (name : Identifier) → option_map view (new name) ≡ or_first (option_map view (old name)) (plain_of_name name (view x ∷ []))
 plain-put-seen view old new x none plain puts name =
     plain-put (λ (n : Identifier). option_map view (old n)) (λ (n : Identifier). option_map view (new n)) (view x) (ap (option_map view) none) plain
@@ -63,7 +65,8 @@ seen-there old n e name = by (same_name n name) refl
     by true s = rw s (ap (λ m. is_some (old m)) (sym (same-equal n name s)) ∙ e)
     by false s = rw s refl
 
-pub seen-put : {V : Type 0} (old new : Identifier → Option V) (n : Identifier) (v : V) → ((other : Identifier) → new other ≡ cond (same_name n other) (Some v) (old other)) → (name : Identifier) → is_some (new name) ≡ (same_name n name || is_some (old name))
+pub seen-put : {V : Type 0} (old new : Identifier → Option V) (n : Identifier) (v : V) → ((other : Identifier) → new other ≡ cond (same_name n other) (Some v) (old other)) → (name : Identifier) →
+    is_some (new name) ≡ (same_name n name || is_some (old name))
 seen-put old new n v puts name = ap is_some (puts name) ∙ by (same_name n name)
   where
     by : (b : Bool) → is_some (cond b (Some v) (old name)) ≡ (b || is_some (old name))
@@ -76,18 +79,21 @@ first-nothing : (old : Option SignedValue) (g : GivenParameter) (name : Identifi
 first-nothing None g name s = sym (ap (λ b. given_if b g.given None) s)
 first-nothing (Some v) g name s = refl
 
-pub given-there : (pairs : List (List ℕ × Constant)) (g : GivenParameter) (v : Constant) → kept pairs g.name ≡ Some v → (name : Identifier) → given_of (given_seen pairs) name ≡ given_first (given_of (given_seen pairs) name) g name
+pub given-there : (pairs : List (List ℕ × Constant)) (g : GivenParameter) (v : Constant) → kept pairs g.name ≡ Some v → (name : Identifier) →
+    given_of (given_seen pairs) name ≡ given_first (given_of (given_seen pairs) name) g name
 given-there pairs g v e name = by (same_name g.name name) refl
   where
     some : (o : Option SignedValue) (x : SignedValue) → o ≡ Some x → o ≡ given_first o g name
     some o x s = s ∙ sym (ap (λ p. given_first p g name) s)
 
     by : (b : Bool) → same_name g.name name ≡ b → given_of (given_seen pairs) name ≡ given_first (given_of (given_seen pairs) name) g name
-    by true s = some (given_of (given_seen pairs) name) (signed_value v) (sym (given-kept pairs name) ∙ ap (λ n. option_map signed_value (kept pairs n)) (sym (same-equal g.name name s)) ∙ ap (option_map signed_value) e)
+    by true s = some (given_of (given_seen pairs) name) (signed_value v) (sym (given-kept pairs name) ∙ ap (λ n. option_map signed_value (kept pairs n)) (sym (same-equal g.name name s))
+        ∙ ap (option_map signed_value) e)
     by false s = first-nothing (given_of (given_seen pairs) name) g name s
 
 pub given-put : (old new : List (List ℕ × Constant)) (g : GivenParameter) (value : Constant) → kept old g.name ≡ None → signed_value value ≡ g.given
-    → ((other : Identifier) → kept new other ≡ cond (same_name g.name other) (Some value) (kept old other)) → (name : Identifier) → given_of (given_seen new) name ≡ given_first (given_of (given_seen old) name) g name
+    → ((other : Identifier) → kept new other ≡ cond (same_name g.name other) (Some value) (kept old other)) → (name : Identifier) →
+    given_of (given_seen new) name ≡ given_first (given_of (given_seen old) name) g name
 given-put old new g value none is puts name = sym (given-kept new name) ∙ by (same_name g.name name) refl
   where
     by : (b : Bool) → same_name g.name name ≡ b → option_map signed_value (kept new name) ≡ given_first (given_of (given_seen old) name) g name

@@ -1,5 +1,6 @@
 -- Earlier declarations of a name, one more at a time.
-use Rattle.std.proofs.Common.{◌≡◌, ℕ, Bool, true, false, not, ◌||◌, cond, List, [], ◌∷◌, ◌++◌, map, filter, drop, get_or, length, ◌+◌, ◌<◌, ◌≤◌, Option, Some, None, is_some, refl, sym, ap, ap₂, subst, ◌∙◌}
+use Rattle.std.proofs.Common.{◌≡◌, ℕ, Bool, true, false, not, ◌||◌, cond, List, [], ◌∷◌, ◌++◌, map, filter, drop, get_or, length, ◌+◌, ◌<◌, ◌≤◌, Option, Some, None, is_some, refl, sym, ap, ap₂}
+use Rattle.std.proofs.Common.{subst, ◌∙◌}
 use Rattle.v_tree.specs.Trees.{Identifier, NamedPlace, same_name}
 use Rattle.v_names.specs.Faults.{Fault, DeclaredTwice, fault_if}
 use Rattle.v_names.specs.Scopes.{Scope, looked_up}
@@ -39,7 +40,8 @@ ones-by : (d : Declaration) (earlier : List Declaration) (name : Identifier) (sa
 ones-by d earlier name true e s = ones-same d earlier name e (ap (λ n. of_name n earlier) (s refl))
 ones-by d earlier name false e s = ones-other d earlier name e
 
-pub twice-turn : (known new : Identifier → Option EarlierOnes) (scope : Scope) (first more whole : Option Fault) (d : Declaration) (rest : List Declaration) → AreNoted known scope first whole (d ∷ rest)
+pub twice-turn : (known new : Identifier → Option EarlierOnes) (scope : Scope) (first more whole : Option Fault) (d : Declaration) (rest : List Declaration) →
+    AreNoted known scope first whole (d ∷ rest)
     → ((name : Identifier) → same_name d.name name ≡ true → d.name ≡ name)
     → more ≡ noted first (twice_fault_of scope (known d.name) d)
     → ((name : Identifier) → new name ≡ cond (same_name d.name name) (Some (earlier_with (known d.name) d)) (known name)) → AreNoted new scope more whole rest
@@ -65,11 +67,13 @@ pub record HeadsNoted {V : Type 0} (seen : Identifier → Option V) (scope : Sco
   pub are_seen : (name : Identifier) → is_some (seen name) ≡ not (is_empty (of_head name earlier))
   pub are_noted : noted first (head_faults scope earlier rest) ≡ whole
 
-head-by : (head : NamedPlace) (earlier : List NamedPlace) (name : Identifier) (same : Bool) → same_name head.name name ≡ same → (same || not (is_empty (of_head name earlier))) ≡ not (is_empty (of_head name (head ∷ earlier)))
+head-by : (head : NamedPlace) (earlier : List NamedPlace) (name : Identifier) (same : Bool) → same_name head.name name ≡ same →
+    (same || not (is_empty (of_head name earlier))) ≡ not (is_empty (of_head name (head ∷ earlier)))
 head-by head earlier name true e = rw e refl
 head-by head earlier name false e = rw e refl
 
-pub head-turn : {V : Type 0} (seen new : Identifier → Option V) (scope : Scope) (first more whole : Option Fault) (head : NamedPlace) (rest : List NamedPlace) → HeadsNoted seen scope first whole (head ∷ rest)
+pub head-turn : {V : Type 0} (seen new : Identifier → Option V) (scope : Scope) (first more whole : Option Fault) (head : NamedPlace) (rest : List NamedPlace) →
+    HeadsNoted seen scope first whole (head ∷ rest)
     → more ≡ noted first (head_fault_of scope (is_some (seen head.name)) head)
     → ((name : Identifier) → is_some (new name) ≡ (same_name head.name name || is_some (seen name))) → HeadsNoted new scope more whole rest
 head-turn seen new scope first more whole head rest before notes news = record {
@@ -81,26 +85,31 @@ head-turn seen new scope first more whole head rest before notes news = record {
       ∙ before.are_noted;
 }
 
-pub twice-step : {A : Type 0} (view : A → Declaration) (xs : List A) (i : ℕ) (x : A) (known new : Identifier → Option EarlierOnes) (scope : Scope) (first more whole : Option Fault) → i < length xs → x ≡ get_or xs i x
+pub twice-step : {A : Type 0} (view : A → Declaration) (xs : List A) (i : ℕ) (x : A) (known new : Identifier → Option EarlierOnes) (scope : Scope) (first more whole : Option Fault) → i < length xs →
+    x ≡ get_or xs i x
     → AreNoted known scope first whole (map view (drop i xs)) → more ≡ noted first (twice_fault_of scope (known (view x).name) (view x))
-    → ((name : Identifier) → new name ≡ cond (same_name (view x).name name) (Some (earlier_with (known (view x).name) (view x))) (known name)) → AreNoted new scope more whole (map view (drop (i + 1) xs))
+    → ((name : Identifier) → new name ≡ cond (same_name (view x).name name) (Some (earlier_with (known (view x).name) (view x))) (known name)) →
+    AreNoted new scope more whole (map view (drop (i + 1) xs))
 twice-step {A} view xs i x known new scope first more whole below at before notes news =
     let P : List A → Type 0 = λ ys. AreNoted known scope first whole (map view ys) in
     twice-turn known new scope first more whole (view x) (map view (drop (i + 1) xs)) (subst P (drop-step xs i x below at) before) (same-equal (view x).name) notes news
 
-pub twice-end : {A : Type 0} (view : A → Declaration) (xs : List A) (i : ℕ) (known : Identifier → Option EarlierOnes) (scope : Scope) (first whole : Option Fault) → length xs ≤ i → AreNoted known scope first whole (map view (drop i xs)) → first ≡ whole
+pub twice-end : {A : Type 0} (view : A → Declaration) (xs : List A) (i : ℕ) (known : Identifier → Option EarlierOnes) (scope : Scope) (first whole : Option Fault) → length xs ≤ i →
+    AreNoted known scope first whole (map view (drop i xs)) → first ≡ whole
 twice-end {A} view xs i known scope first whole past before =
     let P : List A → Type 0 = λ ys. AreNoted known scope first whole (map view ys) in
     (subst P (drop-past xs i past) before).are_noted
 
-pub head-step : {A V : Type 0} (view : A → NamedPlace) (xs : List A) (i : ℕ) (x : A) (seen new : Identifier → Option V) (scope : Scope) (first more whole : Option Fault) → i < length xs → x ≡ get_or xs i x
+pub head-step : {A V : Type 0} (view : A → NamedPlace) (xs : List A) (i : ℕ) (x : A) (seen new : Identifier → Option V) (scope : Scope) (first more whole : Option Fault) → i < length xs →
+    x ≡ get_or xs i x
     → HeadsNoted seen scope first whole (map view (drop i xs)) → more ≡ noted first (head_fault_of scope (is_some (seen (view x).name)) (view x))
     → ((name : Identifier) → is_some (new name) ≡ (same_name (view x).name name || is_some (seen name))) → HeadsNoted new scope more whole (map view (drop (i + 1) xs))
 head-step {A} view xs i x seen new scope first more whole below at before notes news =
     let P : List A → Type 0 = λ ys. HeadsNoted seen scope first whole (map view ys) in
     head-turn seen new scope first more whole (view x) (map view (drop (i + 1) xs)) (subst P (drop-step xs i x below at) before) notes news
 
-pub head-end : {A V : Type 0} (view : A → NamedPlace) (xs : List A) (i : ℕ) (seen : Identifier → Option V) (scope : Scope) (first whole : Option Fault) → length xs ≤ i → HeadsNoted seen scope first whole (map view (drop i xs)) → first ≡ whole
+pub head-end : {A V : Type 0} (view : A → NamedPlace) (xs : List A) (i : ℕ) (seen : Identifier → Option V) (scope : Scope) (first whole : Option Fault) → length xs ≤ i →
+    HeadsNoted seen scope first whole (map view (drop i xs)) → first ≡ whole
 head-end {A} view xs i seen scope first whole past before =
     let P : List A → Type 0 = λ ys. HeadsNoted seen scope first whole (map view ys) in
     (subst P (drop-past xs i past) before).are_noted

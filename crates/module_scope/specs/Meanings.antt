@@ -2,7 +2,8 @@
 use Rattle.std.proofs.Common.{◌≡◌, true, false, List, Option, refl}
 use Rattle.v_tree.specs.Trees.{Identifier}
 use Rattle.v_names.specs.Scopes.{SignedValue, ScopeEntry, GateEntry, InstanceEntry, Scope}
-use Rattle.v_names.specs.Names.{Declared, DeclaredParameter, DeclaredPort, DeclaredNet, DeclaredReg, DeclaredMemory, DeclaredGate, DeclaredInstance, GivenParameter, given_of, parameter_of, range_of, bound_number, vector_entry, memory_entry, meaning_of}
+use Rattle.v_names.specs.Names.{Declared, DeclaredParameter, DeclaredPort, DeclaredNet, DeclaredReg, DeclaredMemory, DeclaredGate, DeclaredInstance, GivenParameter, given_of, parameter_of, range_of}
+use Rattle.v_names.specs.Names.{bound_number, vector_entry, memory_entry, meaning_of}
 
 abbrev pub meaning_with : Scope → Option SignedValue → Declared → ScopeEntry
 meaning_with scope given (DeclaredParameter is_local signed bounds value) = parameter_of scope signed bounds value given

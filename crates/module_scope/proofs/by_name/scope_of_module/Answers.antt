@@ -14,6 +14,7 @@ scope_of-requires c = subst AreApart (sym (ap declarations_seen c.deref.ensures.
 
 pub returns : goal.returns
 returns c =
-    scope-is (module_of c.args.«module».now) (map given_parameter c.args.given.now) (given_seen c.in_ok-values.values) (declarations_seen c.in_ok-declared.declared.items) (plain.declarations_of (module_of c.args.«module».now)) c.in_ok-scope.scope refl
+    scope-is (module_of c.args.«module».now) (map given_parameter c.args.given.now) (given_seen c.in_ok-values.values) (declarations_seen c.in_ok-declared.declared.items)
+    (plain.declarations_of (module_of c.args.«module».now)) c.in_ok-scope.scope refl
     c.in_ok-declared.ensures.declared c.in_ok-values.ensures
     (c.in_ok-scope.ensures ∙ ap (λ (ds : List Declaration). scope_after (parameter_count (declarations_seen ds) + 1) (given_seen c.in_ok-values.values) (declarations_seen ds)) c.deref.ensures.value)

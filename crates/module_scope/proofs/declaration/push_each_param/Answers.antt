@@ -8,5 +8,7 @@ use Rattle.module_scope.proofs.declaration.push_each_param.Goals as goal
 
 pub params-preserved : goal.params-preserved
 params-preserved c =
-    list-more (λ (x : Param). param_declared c.args.group.now.is_local c.args.group.now.signed (bounds_seen c.args.bounds) (parameter_of x) ∷ []) (λ (xs : List Param). map (param_declared c.args.group.now.is_local c.args.group.now.signed (bounds_seen c.args.bounds)) (map parameter_of xs)) c.args.params.now c.params.param-index c.param-item.result
+    list-more (λ (x : Param). param_declared c.args.group.now.is_local c.args.group.now.signed (bounds_seen c.args.bounds) (parameter_of x) ∷ [])
+    (λ (xs : List Param). map (param_declared c.args.group.now.is_local c.args.group.now.signed (bounds_seen c.args.bounds)) (map parameter_of xs)) c.args.params.now c.params.param-index
+    c.param-item.result
     (declarations_seen c.params.list.items) (declarations_seen c.push.new.list.items) _ (λ y ys. refl) c.params-test.true c.param-item.is c.in_ok-push.ensures c.params.invariant

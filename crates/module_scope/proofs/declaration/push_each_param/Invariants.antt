@@ -5,4 +5,5 @@ use Rattle.v_tree.specs.Views.{parameter_of}
 use Rattle.module_scope.proofs.declaration.push_each_param.Given as goal
 
 abbrev pub invariant-params : goal.invariant-params
-invariant-params l = declarations_seen l.list.items ++ map (param_declared l.group.is_local l.group.signed (bounds_seen l.bounds)) (map parameter_of (drop l.param-index l.params)) ≡ declarations_seen l.initial.list.items ++ map (param_declared l.group.is_local l.group.signed (bounds_seen l.bounds)) (map parameter_of l.params)
+invariant-params l = declarations_seen l.list.items ++ map (param_declared l.group.is_local l.group.signed (bounds_seen l.bounds))
+    (map parameter_of (drop l.param-index l.params)) ≡ declarations_seen l.initial.list.items ++ map (param_declared l.group.is_local l.group.signed (bounds_seen l.bounds)) (map parameter_of l.params)

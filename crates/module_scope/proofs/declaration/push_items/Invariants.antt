@@ -5,4 +5,5 @@ use Rattle.v_tree.specs.Views.{item_of}
 use Rattle.module_scope.proofs.declaration.push_items.Given as goal
 
 abbrev pub invariant-items : goal.invariant-items
-invariant-items l = declarations_seen l.list.items ++ flat_map item_declarations (map item_of (drop l.item-index l.items)) ≡ declarations_seen l.initial.list.items ++ flat_map item_declarations (map item_of l.items)
+invariant-items l = declarations_seen l.list.items ++ flat_map item_declarations (map item_of (drop l.item-index l.items)) ≡ declarations_seen l.initial.list.items
+    ++ flat_map item_declarations (map item_of l.items)

@@ -7,5 +7,6 @@ use Rattle.module_scope.proofs.declaration.push_names.Goals as goal
 
 pub names-preserved : goal.names-preserved
 names-preserved c =
-    list-more (λ (x : Name). name_declared (declared_seen c.args.declared) (name_of x) ∷ []) (λ (xs : List Name). map (name_declared (declared_seen c.args.declared)) (map name_of xs)) c.args.names.now c.names.name-index c.name-item.result
+    list-more (λ (x : Name). name_declared (declared_seen c.args.declared) (name_of x) ∷ [])
+    (λ (xs : List Name). map (name_declared (declared_seen c.args.declared)) (map name_of xs)) c.args.names.now c.names.name-index c.name-item.result
     (declarations_seen c.names.list.items) (declarations_seen c.push.new.list.items) _ (λ y ys. refl) c.names-test.true c.name-item.is c.in_ok-push.ensures c.names.invariant

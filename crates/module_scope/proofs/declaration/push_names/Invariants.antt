@@ -4,4 +4,5 @@ use Rattle.v_tree.specs.Views.{name_of}
 use Rattle.module_scope.proofs.declaration.push_names.Given as goal
 
 abbrev pub invariant-names : goal.invariant-names
-invariant-names l = declarations_seen l.list.items ++ map (name_declared (declared_seen l.declared)) (map name_of (drop l.name-index l.names)) ≡ declarations_seen l.initial.list.items ++ map (name_declared (declared_seen l.declared)) (map name_of l.names)
+invariant-names l = declarations_seen l.list.items ++ map (name_declared (declared_seen l.declared)) (map name_of (drop l.name-index l.names)) ≡ declarations_seen l.initial.list.items
+    ++ map (name_declared (declared_seen l.declared)) (map name_of l.names)

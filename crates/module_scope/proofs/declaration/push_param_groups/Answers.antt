@@ -8,5 +8,6 @@ use Rattle.module_scope.proofs.declaration.push_param_groups.Goals as goal
 
 pub groups-preserved : goal.groups-preserved
 groups-preserved c =
-    list-more (λ (x : Params). parameter_declarations (parameters_of x)) (λ (xs : List Params). flat_map parameter_declarations (map parameters_of xs)) c.args.groups.now c.groups.group-index c.group-item.result
+    list-more (λ (x : Params). parameter_declarations (parameters_of x)) (λ (xs : List Params). flat_map parameter_declarations (map parameters_of xs)) c.args.groups.now c.groups.group-index
+    c.group-item.result
     (declarations_seen c.groups.list.items) (declarations_seen c.push_params.new.list.items) _ (λ y ys. refl) c.groups-test.true c.group-item.is c.in_ok-push_params.ensures c.groups.invariant

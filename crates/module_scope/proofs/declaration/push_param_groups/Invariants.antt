@@ -5,4 +5,5 @@ use Rattle.v_tree.specs.Views.{parameters_of}
 use Rattle.module_scope.proofs.declaration.push_param_groups.Given as goal
 
 abbrev pub invariant-groups : goal.invariant-groups
-invariant-groups l = declarations_seen l.list.items ++ flat_map parameter_declarations (map parameters_of (drop l.group-index l.groups)) ≡ declarations_seen l.initial.list.items ++ flat_map parameter_declarations (map parameters_of l.groups)
+invariant-groups l = declarations_seen l.list.items ++ flat_map parameter_declarations (map parameters_of (drop l.group-index l.groups)) ≡ declarations_seen l.initial.list.items
+    ++ flat_map parameter_declarations (map parameters_of l.groups)

@@ -6,4 +6,5 @@ use Rattle.v_tree.specs.Views.{reg_of}
 use Rattle.module_scope.proofs.declaration.push_regs.Given as goal
 
 abbrev pub invariant-regs : goal.invariant-regs
-invariant-regs l = declarations_seen l.list.items ++ reg_declarations l.signed (bounds_seen l.bounds) (map reg_of (drop l.reg-index l.regs)) ≡ declarations_seen l.initial.list.items ++ reg_declarations l.signed (bounds_seen l.bounds) (map reg_of l.regs)
+invariant-regs l = declarations_seen l.list.items ++ reg_declarations l.signed (bounds_seen l.bounds) (map reg_of (drop l.reg-index l.regs)) ≡ declarations_seen l.initial.list.items
+    ++ reg_declarations l.signed (bounds_seen l.bounds) (map reg_of l.regs)

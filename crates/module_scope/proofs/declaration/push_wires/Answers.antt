@@ -8,5 +8,6 @@ use Rattle.module_scope.proofs.declaration.push_wires.Goals as goal
 
 pub wires-preserved : goal.wires-preserved
 wires-preserved c =
-    list-more (λ (x : Wire). wire_declarations c.args.signed (bounds_seen c.args.bounds) (wire_of x ∷ [])) (λ (xs : List Wire). wire_declarations c.args.signed (bounds_seen c.args.bounds) (map wire_of xs)) c.args.wires.now c.wires.wire-index c.wire-item.result
+    list-more (λ (x : Wire). wire_declarations c.args.signed (bounds_seen c.args.bounds) (wire_of x ∷ []))
+    (λ (xs : List Wire). wire_declarations c.args.signed (bounds_seen c.args.bounds) (map wire_of xs)) c.args.wires.now c.wires.wire-index c.wire-item.result
     (declarations_seen c.wires.list.items) (declarations_seen c.push.new.list.items) _ (λ y ys. refl) c.wires-test.true c.wire-item.is c.in_ok-push.ensures c.wires.invariant

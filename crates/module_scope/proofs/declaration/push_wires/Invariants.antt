@@ -5,4 +5,5 @@ use Rattle.v_tree.specs.Views.{wire_of}
 use Rattle.module_scope.proofs.declaration.push_wires.Given as goal
 
 abbrev pub invariant-wires : goal.invariant-wires
-invariant-wires l = declarations_seen l.list.items ++ wire_declarations l.signed (bounds_seen l.bounds) (map wire_of (drop l.wire-index l.wires)) ≡ declarations_seen l.initial.list.items ++ wire_declarations l.signed (bounds_seen l.bounds) (map wire_of l.wires)
+invariant-wires l = declarations_seen l.list.items ++ wire_declarations l.signed (bounds_seen l.bounds) (map wire_of (drop l.wire-index l.wires)) ≡ declarations_seen l.initial.list.items
+    ++ wire_declarations l.signed (bounds_seen l.bounds) (map wire_of l.wires)

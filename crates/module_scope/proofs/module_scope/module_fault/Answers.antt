@@ -15,4 +15,5 @@ returns c =
     (heads_faults c.args.scope.now (heads_of c.args.«module».now.ports)) (flat_map (item_name_faults c.args.scope.now) (map item_of c.as_slice-2.result.now))
     c.new-first.ensures c.in_ok-note_all_twice.ensures c.in_ok-note_parameter_groups.ensures c.in_ok-note_ports.ensures c.in_ok-note_items.ensures
     ∙ ap₂ (λ (ps : List Params) (is : List Item). first_fault (twice_faults c.args.scope.now [] (declarations_seen c.args.declarations.now)
-    ++ (flat_map (parameters_faults c.args.scope.now) (map parameters_of ps) ++ (heads_faults c.args.scope.now (heads_of c.args.«module».now.ports) ++ flat_map (item_name_faults c.args.scope.now) (map item_of is))))) c.as_slice.ensures c.as_slice-2.ensures
+    ++ (flat_map (parameters_faults c.args.scope.now) (map parameters_of ps) ++ (heads_faults c.args.scope.now (heads_of c.args.«module».now.ports)
+    ++ flat_map (item_name_faults c.args.scope.now) (map item_of is))))) c.as_slice.ensures c.as_slice-2.ensures

@@ -18,18 +18,22 @@ scope_of-requires c =
 
 pub returns-in-None : goal.returns-in-None
 returns-in-None c =
-    names-are (module_of c.args.«module».now) (map given_parameter c.args.given.now) (given_seen c.in_ok-values.values) (declarations_seen c.in_ok-declared.declared.items) (declarations_seen c.in_ok-declarations.declarations.items) c.in_ok-scope.scope None
+    names-are (module_of c.args.«module».now) (map given_parameter c.args.given.now) (given_seen c.in_ok-values.values) (declarations_seen c.in_ok-declared.declared.items)
+    (declarations_seen c.in_ok-declarations.declarations.items) c.in_ok-scope.scope None
     c.in_ok-declarations.ensures
     (c.in_ok-declared.ensures ∙ ap (λ (ds : List Declaration). first_declarations (declarations_seen ds) [] (declarations_seen ds)) c.deref.ensures.value)
     c.in_ok-values.ensures
     (c.in_ok-scope.ensures ∙ ap (λ (ds : List Declaration). scope_after (parameter_count (declarations_seen ds) + 1) (given_seen c.in_ok-values.values) (declarations_seen ds)) c.deref-2.ensures.value)
-    (sym (ap (option_map fault_of) c.in-None.is) ∙ c.in_ok-found.ensures ∙ ap (λ (ds : List Declaration). first_fault (faults_by c.in_ok-scope.scope (module_of c.args.«module».now) (declarations_seen ds))) c.deref-3.ensures.value)
+    (sym (ap (option_map fault_of) c.in-None.is) ∙ c.in_ok-found.ensures ∙ ap (λ (ds : List Declaration).
+    first_fault (faults_by c.in_ok-scope.scope (module_of c.args.«module».now) (declarations_seen ds))) c.deref-3.ensures.value)
 
 pub returns : goal.returns
 returns c =
-    names-are (module_of c.args.«module».now) (map given_parameter c.args.given.now) (given_seen c.in_ok-values.values) (declarations_seen c.in_ok-declared.declared.items) (declarations_seen c.in_ok-declarations.declarations.items) c.in_ok-scope.scope (Some (fault_of c.in-Some.found))
+    names-are (module_of c.args.«module».now) (map given_parameter c.args.given.now) (given_seen c.in_ok-values.values) (declarations_seen c.in_ok-declared.declared.items)
+    (declarations_seen c.in_ok-declarations.declarations.items) c.in_ok-scope.scope (Some (fault_of c.in-Some.found))
     c.in_ok-declarations.ensures
     (c.in_ok-declared.ensures ∙ ap (λ (ds : List Declaration). first_declarations (declarations_seen ds) [] (declarations_seen ds)) c.deref.ensures.value)
     c.in_ok-values.ensures
     (c.in_ok-scope.ensures ∙ ap (λ (ds : List Declaration). scope_after (parameter_count (declarations_seen ds) + 1) (given_seen c.in_ok-values.values) (declarations_seen ds)) c.deref-2.ensures.value)
-    (sym (ap (option_map fault_of) c.in-Some.is) ∙ c.in_ok-found.ensures ∙ ap (λ (ds : List Declaration). first_fault (faults_by c.in_ok-scope.scope (module_of c.args.«module».now) (declarations_seen ds))) c.deref-3.ensures.value)
+    (sym (ap (option_map fault_of) c.in-Some.is) ∙ c.in_ok-found.ensures ∙ ap (λ (ds : List Declaration).
+    first_fault (faults_by c.in_ok-scope.scope (module_of c.args.«module».now) (declarations_seen ds))) c.deref-3.ensures.value)

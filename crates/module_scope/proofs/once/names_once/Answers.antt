@@ -6,6 +6,7 @@ use Rattle.module_scope.proofs.once.names_once.Goals as goal
 
 pub all-preserved : goal.all-preserved
 all-preserved c =
-    pushed-step declaration_seen c.args.all.now c.all.declaration-index c.declaration-item.result (kept c.all.seen) (kept c.push_once.new.seen) (declarations_seen c.all.list.items) (declarations_seen c.push_once.new.list.items)
+    pushed-step declaration_seen c.args.all.now c.all.declaration-index c.declaration-item.result (kept c.all.seen) (kept c.push_once.new.seen) (declarations_seen c.all.list.items)
+    (declarations_seen c.push_once.new.list.items)
     (declarations_seen c.args.all.now) (option_map declaration_seen (kept c.in_ok-plains.plains c.declaration-item.result.name.now)) c.all-test.true c.declaration-item.is c.all.invariant
     c.in_ok-push_once.ensures.seen (c.in_ok-plains.ensures c.declaration-item.result.name.now) c.in_ok-push_once.ensures.pushed

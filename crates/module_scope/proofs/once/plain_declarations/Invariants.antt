@@ -6,4 +6,5 @@ use Rattle.module_scope.proofs.once.plain_declarations.Given as goal
 
 abbrev pub invariant-all : goal.invariant-all
 invariant-all l =
-    (name : List ℕ) → or_first (option_map declaration_seen (kept l.plains name)) (plain_of_name name (declarations_seen (drop l.declaration-index l.all))) ≡ first_in (plain_of_name name (declarations_seen l.all))
+    (name : List ℕ) → or_first (option_map declaration_seen (kept l.plains name)) (plain_of_name name (declarations_seen (drop l.declaration-index l.all))) ≡ first_in
+    (plain_of_name name (declarations_seen l.all))

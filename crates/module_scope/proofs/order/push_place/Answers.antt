@@ -11,4 +11,5 @@ more-below count old new x h low pushed = record {
 
 pub returns-in_ok-push-in-Some : goal.returns-in_ok-push-in-Some
 returns-in_ok-push-in-Some c =
-    more-below c.args.count c.args.needs.now.items c.push.new.self.items c.in-Some.place c.requires.needs (c.requires.places.below c.as_bytes.result.now c.in-Some.place (sym c.in-Some.ensures)) c.in_ok-push-in-Some.ensures.items
+    more-below c.args.count c.args.needs.now.items c.push.new.self.items c.in-Some.place c.requires.needs
+    (c.requires.places.below c.as_bytes.result.now c.in-Some.place (sym c.in-Some.ensures)) c.in_ok-push-in-Some.ensures.items

@@ -13,13 +13,15 @@ use Rattle.module_scope.proofs.settle.meanings.Goals as goal
 pub declare-requires : goal.declare-requires
 declare-requires c =
     ap (looked_up c.declared.scope) c.as_bytes-in-declared.ensures
-    ∙ not-there-yet (λ (d : Declaration). meaning_of c.args.settled.now (given_seen c.args.given.now) d.name d.declared) declaration_seen c.args.declared.now c.declared.declaration-index c.declaration-item.result c.declared.scope c.requires
+    ∙ not-there-yet (λ (d : Declaration). meaning_of c.args.settled.now (given_seen c.args.given.now) d.name d.declared) declaration_seen c.args.declared.now c.declared.declaration-index
+    c.declaration-item.result c.declared.scope c.requires
     c.declared-test.true c.declaration-item.is c.declared.invariant
 
 pub declared-preserved : goal.declared-preserved
 declared-preserved c =
     let given = given_seen c.args.given.now in
-    named-step (λ (d : Declaration). meaning_of c.args.settled.now (given_seen c.args.given.now) d.name d.declared) declaration_seen c.args.declared.now c.declared.declaration-index c.declaration-item.result
+    named-step (λ (d : Declaration). meaning_of c.args.settled.now (given_seen c.args.given.now) d.name d.declared) declaration_seen c.args.declared.now c.declared.declaration-index
+    c.declaration-item.result
     (entry_of c.in_ok-entry.entry) c.declared.scope c.declare.new.self c.declared-test.true c.declaration-item.is
     (c.in_ok-entry.ensures
     ∙ ap (λ (g : Option SignedValue). meaning_with c.args.settled.now g (declared_seen c.declaration-item.result.declared))

@@ -14,9 +14,11 @@ declared-init c = way-start (given_seen c.args.given.now) (declarations_seen c.a
 pub declared-preserved : goal.declared-preserved
 declared-preserved c =
     let P : Option SignedValue → Type 0 = λ g. IsTurn g (declaration_seen c.declaration-item.result) c.declared.scope c.settle.new.scope c.in_ok-now.now in
-    way-step declaration_seen c.args.declared.now c.declared.declaration-index c.declaration-item.result c.args.given.now c.args.scope.now c.declared.scope c.settle.new.scope c.declared.changed c.in_ok-now.now c.either-changed.result
+    way-step declaration_seen c.args.declared.now c.declared.declaration-index c.declaration-item.result c.args.given.now c.args.scope.now c.declared.scope c.settle.new.scope c.declared.changed
+    c.in_ok-now.now c.either-changed.result
     c.requires.apart c.declared-test.true c.declaration-item.is c.declared.invariant
     (subst P (ap (option_map signed_value) (c.get.ensures ∙ ap (kept c.args.given.now) c.as_bytes.ensures)) c.in_ok-now.ensures) c.either-changed.ensures
 
 pub returns : goal.returns
-returns c = way-last declaration_seen c.args.declared.now c.declared.declaration-index (given_seen c.args.given.now) c.args.scope.now c.declared.scope c.declared.changed c.declared-test.false c.declared.invariant
+returns c = way-last declaration_seen c.args.declared.now c.declared.declaration-index (given_seen c.args.given.now) c.args.scope.now c.declared.scope c.declared.changed c.declared-test.false
+    c.declared.invariant

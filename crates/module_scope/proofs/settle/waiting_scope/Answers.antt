@@ -9,10 +9,12 @@ use Rattle.module_scope.proofs.settle.waiting_scope.Goals as goal
 pub declare-requires : goal.declare-requires
 declare-requires c =
     ap (looked_up c.declared.scope) c.as_bytes.ensures
-    ∙ not-there-yet (λ (d : Declaration). waiting_entry d.declared) declaration_seen c.args.declared.now c.declared.declaration-index c.declaration-item.result c.declared.scope c.requires c.declared-test.true c.declaration-item.is c.declared.invariant
+    ∙ not-there-yet (λ (d : Declaration). waiting_entry d.declared) declaration_seen c.args.declared.now c.declared.declaration-index c.declaration-item.result c.declared.scope c.requires
+    c.declared-test.true c.declaration-item.is c.declared.invariant
 
 pub declared-preserved : goal.declared-preserved
 declared-preserved c =
-    named-step (λ (d : Declaration). waiting_entry d.declared) declaration_seen c.args.declared.now c.declared.declaration-index c.declaration-item.result (entry_of c.waiting_entry.result) c.declared.scope c.declare.new.self
+    named-step (λ (d : Declaration). waiting_entry d.declared) declaration_seen c.args.declared.now c.declared.declaration-index c.declaration-item.result
+    (entry_of c.waiting_entry.result) c.declared.scope c.declare.new.self
     c.declared-test.true c.declaration-item.is c.waiting_entry.ensures c.declared.invariant
     (c.in_ok-declare.ensures ∙ ap (λ (n : List ℕ). let m : ScopeName = record { name = n; entry = entry_of c.waiting_entry.result } in c.declared.scope ++ m ∷ []) c.as_bytes.ensures)

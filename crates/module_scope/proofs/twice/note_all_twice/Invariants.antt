@@ -9,4 +9,5 @@ use Rattle.module_scope.proofs.twice.note_all_twice.Given as goal
 
 abbrev pub invariant-all : goal.invariant-all
 invariant-all l =
-    AreNoted (λ name. option_map earlier_seen (kept l.earlier name)) l.scope l.first (noted l.initial.first (twice_faults l.scope [] (declarations_seen l.all))) (declarations_seen (drop l.declaration-index l.all))
+    AreNoted (λ name. option_map earlier_seen (kept l.earlier name)) l.scope l.first (noted l.initial.first (twice_faults l.scope [] (declarations_seen l.all)))
+    (declarations_seen (drop l.declaration-index l.all))
