@@ -88,7 +88,7 @@ module _ (design : FlatDesign) (words : List (Bor (List ℕ))) (d : Bor (List �
 
 -- The line
 
-claims-none : (fault : Option StuckAt) → claims_by fault None ≡ None
+pub claims-none : (fault : Option StuckAt) → claims_by fault None ≡ None
 claims-none None = refl
 claims-none (Some fault) = refl
 

@@ -1,5 +1,5 @@
 -- What is written as a certificate is read as a valid one (the format is this program's own).
-use Rattle.std.specs.Prelude.{◌≡◌, ◌<◌, length, Some}
+use Rattle.std.specs.Prelude.{◌≡◌, ℕ, ◌<◌, length, Some}
 use Rattle.std.specs.List.{Contains}
 use Rattle.vf_base.specs.Base.{ReportedAccess}
 use Rattle.vf_base.specs.Lists.{AllHold}
@@ -10,7 +10,7 @@ use Rattle.v_design.specs.WellFormed.{KeepsRules, IsPlan}
 use Rattle.text_lines.specs.Text.{lines_of}
 use Rattle.fault_list.specs.RoundTrip.{HasNumber}
 use Rattle.cert_laws.specs.Claims.{Claim}
-use Rattle.cert_laws.specs.Valid.{Shows, outcome}
+use Rattle.cert_laws.specs.Valid.{Fails, Shows, outcome}
 use Rattle.cert_laws.specs.Written.{claim_as, lines_by, certificate}
 use Rattle.cert_text.specs.Fits.{GradeFits, LineFits}
 
@@ -31,3 +31,8 @@ CertificatesAreRead =
     (design : FlatDesign) (plan : TestPlan) (fault : StuckAt) (line : FaultGrade) (claim : Claim) → KeepsRules design → IsPlan plan →
     Contains (sites_of design) fault.site → HasNumber fault.site → grade design plan fault ≡ Some line → claim_as design line ≡ Some claim → IsGradeOf design line → GradeFits line →
     AllHold LineFits (lines_by design plan fault (Some claim)) → outcome design plan (lines_of (certificate design plan fault line)) ≡ Shows fault claim
+
+-- that of a fault whose faulty machine loops fails at its second line
+abbrev pub LoopsFail : Type 0
+LoopsFail =
+    (design : FlatDesign) (plan : TestPlan) (fault : StuckAt) (time : ℕ) → KeepsRules design → outcome design plan (lines_of (certificate design plan fault (Looped time))) ≡ Fails 2
