@@ -1,5 +1,5 @@
 -- What an expression is, from what is read of its parts.
-use Rattle.std.proofs.Common.{◌≡◌, ℕ, ◌+◌, ◌<◌, Bool, List, ◌++◌, length, drop, get_or, Option, refl, sym, ap, ap₂, subst, ◌∙◌, Global}
+use Rattle.std.proofs.Common.{◌≡◌, ℕ, ◌+◌, ◌<◌, Bool, List, ◌++◌, length, drop, get_or, Option, sym, ap, ap₂, subst, ◌∙◌, Global}
 use Rattle.std.specs.declared.vec.Vec.{Vec}
 use Rattle.std.specs.declared.boxed.Box.{Box}
 use Rattle.vf_base.specs.Base.{SourcePlace, source_place}
@@ -8,9 +8,9 @@ use Rattle.v_tree.specs.declared.expression.Expr.{Expr}
 use Rattle.v_tree.specs.declared.expression.Expr.TheVariants as code
 use Rattle.v_tree.specs.Views.{expression_of, expressions_of}
 use Rattle.v_tree.specs.ViewLaws.{expressions-hidden}
-use Rattle.v_tree.specs.Trees.{Identifier, SourceExpression, Selected, Replicated, NoIndex, IndexAt, IndexRange, SourceExpressions, place_of_expression}
+use Rattle.v_tree.specs.Trees.{Identifier, SourceExpression, Replicated, NoIndex, IndexAt, IndexRange, SourceExpressions, place_of_expression}
 use Rattle.v_names.specs.Scopes.{ScopeEntry, Scope, looked_up}
-use Rattle.v_names.specs.Readings.{Reading, PartsReading, alone_faults, name_reading, indexed_reading, ranged_reading, is_unsized_number, part_before, replication_reading, reading_of, select_reading, parts_reading, number_of_constant}
+use Rattle.v_names.specs.Readings.{PartsReading, alone_faults, name_reading, indexed_reading, ranged_reading, is_unsized_number, part_before, replication_reading, reading_of, select_reading, parts_reading, number_of_constant}
 use Rattle.expr_sizes.specs.declared.parts.ReadParts.{ReadParts}
 use Rattle.expr_sizes.specs.declared.reading.ExprReading.{ExprReading}
 use Rattle.expr_sizes.specs.ExprReadings.{IsReading}

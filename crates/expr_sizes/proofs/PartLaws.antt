@@ -4,22 +4,21 @@ use Rattle.std.proofs.lemmas.List.{drop_more, drop_all, append-nil}
 use Rattle.vf_base.specs.Base.{SourcePlace}
 use Rattle.v_tree.specs.declared.expression.Expr.{Expr}
 use Rattle.v_tree.specs.Views.{expression_of, expressions_of}
-use Rattle.v_tree.specs.Trees.{SourceExpressions, more_parts, place_of_expression}
+use Rattle.v_tree.specs.Trees.{place_of_expression}
 use Rattle.v_names.specs.declared.size.Size.{Size as CodeSize}
 use Rattle.v_names.specs.Faults.{Fault}
 use Rattle.v_names.specs.Scopes.{Scope}
 use Rattle.v_names.specs.OwnSizes.{size_within}
-use Rattle.v_names.specs.Readings.{Size, Reading, PartsReading, alone_faults, tree_alone, width_with, is_unsized_number, part_before, reading_of, parts_reading, concatenation_reading, replication_reading, sized_reading, refused_reading}
-use Rattle.v_names.specs.SizedTrees.{SizedExpression, SizedExpressions, SizedConcatenation, SizedReplication, more_sized}
+use Rattle.v_names.specs.Readings.{Size, Reading, PartsReading, tree_alone, width_with, is_unsized_number, part_before, reading_of, parts_reading, concatenation_reading, replication_reading, sized_reading, refused_reading}
+use Rattle.v_names.specs.SizedTrees.{SizedConcatenation, SizedReplication, more_sized}
 use Rattle.v_names.specs.SizeViews.{size_of}
 use Rattle.v_width.specs.Summaries.{AreFaults}
 use Rattle.v_width.specs.declared.expression.SizedExpr.{SizedExpr}
-use Rattle.v_width.specs.Resized.{with_size}
 use Rattle.v_width.specs.SizedViews.{sized_of, all_sized_of}
 use Rattle.v_width.specs.ViewLaws.{sized_append, sized-one-more, sized-end}
 use Rattle.expr_sizes.specs.declared.parts.ReadParts.{ReadParts}
 use Rattle.expr_sizes.specs.declared.reading.ExprReading.{ExprReading}
-use Rattle.expr_sizes.specs.ExprReadings.{IsTree, IsReading}
+use Rattle.expr_sizes.specs.ExprReadings.{IsReading}
 use Rattle.expr_sizes.specs.WidthLaws.{total-start, total-step, total-end, no-width, some-width, capped-within, times-within}
 use Rattle.expr_sizes.specs.PartReadings.{capped, total_with, total_before, size_of_part, faults_of_part, AreReadSo, ArePartsRead}
 

@@ -1,11 +1,11 @@
 -- What is kept of a reading, from what is kept of those of its parts.
-use Rattle.std.proofs.Common.{◌≡◌, ℕ, max, cond, Bool, true, false, ◌&&◌, List, [], ◌∷◌, ◌++◌, Option, Some, None, option_map, refl, sym, ap, ap₂, subst, ◌∙◌}
+use Rattle.std.proofs.Common.{◌≡◌, ℕ, max, cond, Bool, true, false, ◌&&◌, List, [], ◌∷◌, ◌++◌, Option, Some, None, option_map, sym, ap, ap₂, subst, ◌∙◌}
 use Rattle.std.proofs.lemmas.List.{append-nil}
 use Rattle.vf_base.specs.Base.{SourcePlace}
 use Rattle.four_value.specs.declared.operator.UnaryOperator.{UnaryOperator}
 use Rattle.four_value.specs.declared.operator.BinaryOperator.{BinaryOperator}
 use Rattle.v_tree.specs.Trees.{Identifier}
-use Rattle.v_design.specs.Sized.{span, UnarySizing, OperandWithWhole, OperandAlone, unary_sizing, BinarySizing, BothWithWhole, LeftWithWhole, BothTogether, EachAlone, binary_sizing}
+use Rattle.v_design.specs.Sized.{span, UnarySizing, OperandWithWhole, OperandAlone, unary_sizing, BinarySizing, binary_sizing}
 use Rattle.v_names.specs.declared.size.Size.{Size as CodeSize}
 use Rattle.v_names.specs.Faults.{BadWidth, Fault, fault_at}
 use Rattle.v_names.specs.Scopes.{DeclaredRange, ScopeEntry, NetEntry, RegEntry}

@@ -1,5 +1,5 @@
 -- What is kept of a target, from what is kept of its selects.
-use Rattle.std.proofs.Common.{◌≡◌, ℕ, ◌+◌, ◌<◌, ◌≤◌, Bool, true, false, List, [], ◌∷◌, ◌++◌, map, length, drop, get_or, Option, Some, None, option_map, nat_le, refl, sym, ap, ap₂, subst, ◌∙◌, arith, append_assoc}
+use Rattle.std.proofs.Common.{◌≡◌, ℕ, ◌+◌, ◌<◌, ◌≤◌, Bool, true, false, List, [], ◌∷◌, ◌++◌, map, length, drop, get_or, Option, Some, None, option_map, nat_le, refl, sym, ap, subst, ◌∙◌, arith, append_assoc}
 use Rattle.std.proofs.lemmas.List.{drop_more, drop_all, append-nil}
 use Rattle.std.proofs.lemmas.Bool.{lt-leb, le-leb}
 use Rattle.vf_base.specs.Base.{SourcePlace}
@@ -7,7 +7,7 @@ use Rattle.v_design.specs.Sized.{most_bits}
 use Rattle.v_tree.specs.declared.expression.Select.{Select}
 use Rattle.v_tree.specs.Trees.{SourceSelect}
 use Rattle.v_tree.specs.Views.{select_of}
-use Rattle.v_names.specs.Faults.{BadWidth, WrongKind, Fault, fault_at}
+use Rattle.v_names.specs.Faults.{BadWidth, Fault, fault_at}
 use Rattle.v_names.specs.Scopes.{Scope, looked_up}
 use Rattle.v_names.specs.Readings.{Size, Reading, wrong_reading, width_with, select_reading}
 use Rattle.v_names.specs.SizeViews.{size_of}
@@ -18,7 +18,7 @@ use Rattle.v_width.specs.Targets.{Writer, may_write, written_reading, target_sel
 use Rattle.expr_sizes.specs.declared.answer.OwnReading.{OwnReading}
 use Rattle.expr_sizes.specs.Answers.{IsOwnReading}
 use Rattle.expr_sizes.specs.PartReadings.{capped, total_with, total_before}
-use Rattle.expr_sizes.specs.WidthLaws.{total-start, total-step, total-end, same-capped, some-width, no-width}
+use Rattle.expr_sizes.specs.WidthLaws.{total-start, total-step, total-end, some-width, no-width}
 use Rattle.expr_sizes.specs.declared.target.TargetReading.{TargetReading}
 use Rattle.expr_sizes.specs.TargetReadings.{IsTargetReading, IsOneSelect, AreSelectsSo, AreSelectsRead}
 

@@ -1,5 +1,5 @@
 -- What the code keeps of a target that it has read (IEEE 1364-2001, clause 6.1 for nets, clause 9.2 for variables).
-use Rattle.std.specs.Prelude.{◌≡◌, ℕ, List, ◌++◌, Option, None, Some, option_map}
+use Rattle.std.specs.Prelude.{◌≡◌, List, ◌++◌, option_map}
 use Rattle.v_names.specs.Faults.{Fault}
 use Rattle.v_names.specs.SizeViews.{size_of}
 use Rattle.v_width.specs.Summaries.{AreFaults}

@@ -11,7 +11,7 @@ ghost use Rattle.v_width.specs.Summaries.{AreFaults};
 ghost use Rattle.expr_sizes.specs.ExprReadings.{IsReading};
 ghost use Rattle.expr_sizes.specs.Bounds.{bounds_of};
 
-use crate::reading::{ExprReading, misused, refused, sized, unvalued};
+use crate::reading::{ExprReading, alone_faults, misused, refused, sized, unvalued};
 use four_value::Vec4;
 use std::alloc::Global;
 use v_names::{Entry, is_signed_number, one_bit, runs_alike, size_within, span, width_between};
@@ -117,14 +117,14 @@ fn bit_reading(
 ) -> Result<ExprReading, NoMemory>
     ensures { IfOk result (λ read. (at : Reading) → IsReading at index → IsReading (bit_reading ranged (source_place place) name.now at) read) }
 {
-    let inside = apart(index.faults);
     if !ranged {
-        return Ok(misused(place, inside));
+        return Ok(misused(place, alone_faults(index)));
     }
+    let inside = apart(index.faults);
     let alone = index.tree_alone();
     let bit = Some(one_bit());
-    let name = Text::from_bytes(alloc, name.as_bytes())?;
     let index = Box::new(alloc, alone)?;
+    let name = Text::from_bytes(alloc, name.as_bytes())?;
     Ok(ExprReading {
         size: bit,
         faults: inside,
@@ -152,8 +152,8 @@ fn word_reading(
     let size = size_within(span(high, low), signed);
     let inside = apart(index.faults);
     let alone = index.tree_alone();
-    let name = Text::from_bytes(alloc, name.as_bytes())?;
     let index = Box::new(alloc, alone)?;
+    let name = Text::from_bytes(alloc, name.as_bytes())?;
     let tree = SizedExpr::WordSelect {
         size: one_bit(),
         name,
@@ -173,7 +173,7 @@ pub(crate) fn indexed_reading(
     ensures { IfOk result (λ read. (at : Reading) → IsReading at index → IsReading (indexed_reading (option_map entry_of entry.now) (source_place place) name.now at) read) }
 {
     match entry {
-        None => Ok(refused(apart(index.faults))),
+        None => Ok(refused(alone_faults(index))),
         Some(Entry::Net { ranged, .. }) => {
             let read = bit_reading(alloc, *ranged, place, name, index)?;
             Ok(read)
@@ -193,11 +193,11 @@ pub(crate) fn indexed_reading(
             let read = word_reading(alloc, place, name, *high, *low, *signed, index)?;
             Ok(read)
         }
-        Some(Entry::Param(_, _)) => Ok(misused(place, apart(index.faults))),
-        Some(Entry::RefusedParam) => Ok(misused(place, apart(index.faults))),
-        Some(Entry::WaitingParam) => Ok(misused(place, apart(index.faults))),
-        Some(Entry::Gate) => Ok(misused(place, apart(index.faults))),
-        Some(Entry::Instance) => Ok(misused(place, apart(index.faults))),
+        Some(Entry::Param(_, _)) => Ok(misused(place, alone_faults(index))),
+        Some(Entry::RefusedParam) => Ok(misused(place, alone_faults(index))),
+        Some(Entry::WaitingParam) => Ok(misused(place, alone_faults(index))),
+        Some(Entry::Gate) => Ok(misused(place, alone_faults(index))),
+        Some(Entry::Instance) => Ok(misused(place, alone_faults(index))),
     }
 }
 

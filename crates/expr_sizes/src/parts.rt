@@ -94,18 +94,17 @@ pub(crate) fn concatenation_reading(place: Place, parts: ReadParts) -> ExprReadi
     }
 }
 
-/// So many times the parts; none is no number of times.
+/// So many times the parts; none is no number of times, which has these faults where it is sized alone.
 pub(crate) fn replication_reading(
     place: Place,
     count: Option<u128>,
     times: Faults,
     parts: ReadParts,
 ) -> ExprReading
-    ensures { (read : PartsReading) (counted : Reading) → ArePartsRead read parts → AreFaults counted.here counted.inside times →
+    ensures { (read : PartsReading) (counted : Reading) → ArePartsRead read parts → AreFaults [] (alone_faults counted) times →
         IsReading (replication_reading (source_place place) count read.width read.complete (read.inside ++ alone_faults counted) read.trees) result }
 {
-    let inner = apart(times);
-    let faults = together(parts.faults, inner);
+    let faults = together(parts.faults, times);
     match count {
         None => refused(faults),
         Some(count) => match parts.total {

@@ -9,11 +9,12 @@ ghost use Rattle.expr_sizes.specs.PartReadings.{ArePartsRead};
 use crate::name::{indexed_reading, name_reading, number_reading, ranged_reading};
 use crate::operator::{binary_reading, choice_reading, unary_reading};
 use crate::parts::{ReadParts, add_part, concatenation_reading, replication_reading};
-use crate::reading::ExprReading;
+use crate::reading::{ExprReading, alone_faults};
 use std::alloc::Global;
+use v_copy::both;
 use v_names::{Scope, is_unsized_number, number_of_constant, place_of_expr};
 use v_tree::Expr;
-use v_width::{apart, no_faults, together};
+use v_width::{no_faults, together};
 use vf_base::NoMemory;
 
 /// What an expression is in a scope. Each part is read once; the bounds of parts and the counts of replications are valued besides.
@@ -39,11 +40,11 @@ pub fn read_expr(alloc: Global, expr: &Expr, scope: &Scope) -> Result<ExprReadin
             to,
         } => {
             let first = read_expr(alloc, from, scope)?;
+            let first_faults = alone_faults(first);
             let second = read_expr(alloc, to, scope)?;
+            let second_faults = alone_faults(second);
             let from = number_of_constant(alloc, from, scope)?;
             let to = number_of_constant(alloc, to, scope)?;
-            let first_faults = apart(first.faults);
-            let second_faults = apart(second.faults);
             let inside = together(first_faults, second_faults);
             let entry = scope.lookup(name);
             let read = ranged_reading(alloc, &entry, *place, name, inside, from, to)?;
@@ -68,9 +69,10 @@ pub fn read_expr(alloc: Global, expr: &Expr, scope: &Scope) -> Result<ExprReadin
             right,
             ..
         } => {
-            let left = read_expr(alloc, left, scope)?;
-            let right = read_expr(alloc, right, scope)?;
-            let read = binary_reading(alloc, *operator, left, right)?;
+            let left_read = read_expr(alloc, left, scope);
+            let right_read = read_expr(alloc, right, scope);
+            let operands = both(left_read, right_read)?;
+            let read = binary_reading(alloc, *operator, operands.0, operands.1)?;
             Ok(read)
         }
         Expr::Conditional {
@@ -79,10 +81,12 @@ pub fn read_expr(alloc: Global, expr: &Expr, scope: &Scope) -> Result<ExprReadin
             second,
             ..
         } => {
-            let condition = read_expr(alloc, condition, scope)?;
-            let first = read_expr(alloc, first, scope)?;
-            let second = read_expr(alloc, second, scope)?;
-            let read = choice_reading(alloc, condition, first, second)?;
+            let test_read = read_expr(alloc, condition, scope);
+            let first_read = read_expr(alloc, first, scope);
+            let second_read = read_expr(alloc, second, scope);
+            let branches = both(first_read, second_read);
+            let choice = both(test_read, branches)?;
+            let read = choice_reading(alloc, choice.0, choice.1.0, choice.1.1)?;
             Ok(read)
         }
         Expr::Concat { place, parts } => {
@@ -95,9 +99,10 @@ pub fn read_expr(alloc: Global, expr: &Expr, scope: &Scope) -> Result<ExprReadin
             parts,
         } => {
             let times = read_expr(alloc, count, scope)?;
+            let times_faults = alone_faults(times);
             let count = number_of_constant(alloc, count, scope)?;
             let parts = read_parts(alloc, parts, scope)?;
-            Ok(replication_reading(*place, count, times.faults, parts))
+            Ok(replication_reading(*place, count, times_faults, parts))
         }
     }
 }

@@ -17,7 +17,7 @@ ghost use Rattle.expr_sizes.specs.ExprReadings.{IsTree, IsReading};
 use four_value::{Bit, Vec4};
 use v_names::{Found, Size, larger, one_bit};
 use v_width::{
-    Faults, SizedExpr, bad_width, first_fault, no_faults, set_size, together, wrong_kind,
+    Faults, SizedExpr, apart, bad_width, first_fault, no_faults, set_size, together, wrong_kind,
 };
 use vf_base::Place;
 
@@ -114,6 +114,13 @@ impl ExprReading {
         let signed = both(own.signed, signed);
         at_size(self.tree, Size { width, signed })
     }
+}
+
+/// What is wrong with an expression that is sized alone and of which nothing else is wanted.
+pub(crate) fn alone_faults(read: ExprReading) -> Faults
+    ensures { (reading : Reading) → IsReading reading read → AreFaults [] (alone_faults reading) result }
+{
+    apart(read.faults)
 }
 
 /// A bit 0.

@@ -10,11 +10,11 @@ ghost use Rattle.expr_sizes.specs.Answers.{IsOwnReading};
 use crate::answer::OwnReading;
 use crate::name::{indexed_reading, name_reading, ranged_reading};
 use crate::read::read_expr;
-use crate::reading::ExprReading;
+use crate::reading::{ExprReading, alone_faults};
 use std::alloc::Global;
 use v_names::{Scope, number_of_constant};
 use v_tree::{Index, Select};
-use v_width::{apart, together};
+use v_width::together;
 use vf_base::NoMemory;
 
 /// What a select is in a scope.
@@ -35,11 +35,11 @@ pub fn read_select(alloc: Global, select: &Select, scope: &Scope) -> Result<Expr
         }
         Index::Part(from, to) => {
             let first = read_expr(alloc, from, scope)?;
+            let first_faults = alone_faults(first);
             let second = read_expr(alloc, to, scope)?;
+            let second_faults = alone_faults(second);
             let from = number_of_constant(alloc, from, scope)?;
             let to = number_of_constant(alloc, to, scope)?;
-            let first_faults = apart(first.faults);
-            let second_faults = apart(second.faults);
             let inside = together(first_faults, second_faults);
             let read = ranged_reading(alloc, &entry, select.place, name, inside, from, to)?;
             Ok(read)

@@ -9,7 +9,7 @@ use Rattle.expr_sizes.proofs.name.bit_reading.Goals as goal
 pub returns-then-not-ranged : goal.returns-then-not-ranged
 returns-then-not-ranged c at h =
     let e : c.args.ranged ≡ false = search rules in
-    bit-scalar c.args.ranged (source_place c.args.place) c.args.name.now at _ e (c.misused.ensures (alone_faults at) (c.apart-inside.ensures at.here at.inside h.faults_are))
+    bit-scalar c.args.ranged (source_place c.args.place) c.args.name.now at _ e (c.misused.ensures (alone_faults at) (c.alone_faults.ensures at h))
 
 pub returns : goal.returns
 returns c at h =

@@ -9,4 +9,4 @@ use Rattle.expr_sizes.proofs.name.indexed_reading.Goals as goal
 pub returns-in-None : goal.returns-in-None
 returns-in-None c at h =
     let P : Option Entry → Type 0 = λ x. IsReading (indexed_reading (option_map entry_of x) (source_place c.args.place) c.args.name.now at) c.refused.result in
-    subst P (sym c.in-None.is) (c.refused.ensures [] (alone_faults at) (c.apart.ensures at.here at.inside h.faults_are))
+    subst P (sym c.in-None.is) (c.refused.ensures [] (alone_faults at) (c.alone_faults.ensures at h))

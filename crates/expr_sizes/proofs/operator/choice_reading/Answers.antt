@@ -1,6 +1,6 @@
 use Rattle.std.proofs.Common.{◌≡◌, [], ap₂, rules, ◌++◌, ◌∙◌, ap}
 use Rattle.v_names.specs.Readings.{larger_size, alone_faults}
-use Rattle.v_names.specs.SizedTrees.{SizedExpression, SizedChoice}
+use Rattle.v_names.specs.SizedTrees.{SizedChoice}
 use Rattle.v_width.specs.SizedViews.{sized_of}
 use Rattle.expr_sizes.proofs.ReadingLaws.{choice-read}
 use Rattle.expr_sizes.proofs.operator.choice_reading.Goals as goal

@@ -11,14 +11,14 @@ use Rattle.expr_sizes.proofs.parts.replication_reading.Goals as goal
 pub returns-in-None : goal.returns-in-None
 returns-in-None c read counted h k =
     let inside = read.inside ++ alone_faults counted in
-    let f = c.together-faults.ensures [] read.inside [] (alone_faults counted) h.faults_are (c.apart-inner.ensures counted.here counted.inside k) in
+    let f = c.together-faults.ensures [] read.inside [] (alone_faults counted) h.faults_are k in
     let P : Option ℕ → Type 0 = λ n. IsReading (replication_reading (source_place c.args.place) n read.width read.complete inside read.trees) c.refused.result in
     subst P (sym c.in-None.is) (c.refused.ensures [] inside f)
 
 pub returns-in-None-total : goal.returns-in-None-total
 returns-in-None-total c read counted h k =
     let inside = read.inside ++ alone_faults counted in
-    let f = c.together-faults.ensures [] read.inside [] (alone_faults counted) h.faults_are (c.apart-inner.ensures counted.here counted.inside k) in
+    let f = c.together-faults.ensures [] read.inside [] (alone_faults counted) h.faults_are k in
     let r = c.refused-in-None-total.result in
     let P : Option ℕ → Type 0 = λ n. IsReading (replication_reading (source_place c.args.place) n read.width read.complete inside read.trees) r in
     subst P (sym c.in-Some.is) (replication-none (source_place c.args.place) c.in-Some.count read inside r c.args.parts.total h.total_is c.in-None-total.is (c.refused-in-None-total.ensures [] inside f))
@@ -26,7 +26,7 @@ returns-in-None-total c read counted h k =
 pub returns-in-Some-total : goal.returns-in-Some-total
 returns-in-Some-total c read counted h k =
     let inside = read.inside ++ alone_faults counted in
-    let f = c.together-faults.ensures [] read.inside [] (alone_faults counted) h.faults_are (c.apart-inner.ensures counted.here counted.inside k) in
+    let f = c.together-faults.ensures [] read.inside [] (alone_faults counted) h.faults_are k in
     let n = c.in-Some.count in
     let seen = sized-replication c.one_bit.result n c.args.parts.trees in
     let P : Option ℕ → Type 0 = λ x. IsReading (replication_reading (source_place c.args.place) x read.width read.complete inside read.trees) c.sized.result in

@@ -1,4 +1,5 @@
-use Rattle.std.proofs.Common.{[], refl, ap, sym, subst, ◌∙◌}
+use Rattle.std.proofs.Common.{◌≡◌, [], Ok, refl, ap, sym, subst, ◌∙◌}
+use Rattle.std.proofs.lemmas.Result.{IfOk-at_ok}
 use Rattle.vf_base.specs.Base.{source_place}
 use Rattle.v_tree.specs.declared.expression.Expr.{Expr}
 use Rattle.v_tree.specs.Trees.{SourceExpression}
@@ -6,6 +7,7 @@ use Rattle.v_tree.specs.Views.{expression_of, expressions_of}
 use Rattle.v_tree.specs.ViewLaws.{expression_of-Concat}
 use Rattle.v_names.specs.Readings.{alone_faults, number_of_constant, reading_of, parts_reading}
 use Rattle.expr_sizes.specs.ExprReadings.{IsReading}
+use Rattle.expr_sizes.specs.declared.reading.ExprReading.{ExprReading}
 use Rattle.expr_sizes.proofs.PartLaws.{read-start, read-end}
 use Rattle.expr_sizes.proofs.ExprLaws.{read-of, parts-of, name-read, bit-read, part-read, view-Repeat, repeat-read, turn-before}
 use Rattle.expr_sizes.proofs.read.+read_expr.Goals as goal
@@ -35,7 +37,7 @@ read_expr-returns-in_ok-read-in-PartSelect t c =
     (c.in_ok-to-in-PartSelect.ensures ∙ ap (λ (e : Expr). number_of_constant scope (expression_of e)) c.deref-in-PartSelect-4.ensures)
     (c.in_ok-read-in-PartSelect.ensures _
     (c.together-inside.ensures [] (alone_faults (reading_of scope from)) [] (alone_faults (reading_of scope to))
-    (c.apart-first_faults.ensures (reading_of scope from).here (reading_of scope from).inside f.faults_are) (c.apart-second_faults.ensures (reading_of scope to).here (reading_of scope to).inside s.faults_are))))
+    (c.alone_faults-first_faults.ensures (reading_of scope from) f) (c.alone_faults-second_faults.ensures (reading_of scope to) s))))
 
 pub read_expr-returns-in_ok-read-in-Unary : goal.read_expr-returns-in_ok-read-in-Unary
 read_expr-returns-in_ok-read-in-Unary t c =
@@ -47,20 +49,29 @@ read_expr-returns-in_ok-read-in-Unary t c =
 pub read_expr-returns-in_ok-read-in-Binary : goal.read_expr-returns-in_ok-read-in-Binary
 read_expr-returns-in_ok-read-in-Binary t c =
     let scope = c.args.scope.now in
-    subst (λ (e : Expr). IsReading (reading_of scope (expression_of e)) c.in_ok-read-in-Binary.read) (sym c.in-Binary.is)
+    let reads : Expr → ExprReading → Type 0 = λ e. IsReading (reading_of scope (expression_of e)) in
+    let both = c.in_ok-operands-in-Binary.ensures in
+    subst (λ (e : Expr). reads e c.in_ok-read-in-Binary.read) (sym c.in-Binary.is)
     (c.in_ok-read-in-Binary.ensures (reading_of scope (expression_of c.in-Binary.left.value)) (reading_of scope (expression_of c.in-Binary.right.value))
-    (read-of scope c.deref-in-Binary.result.now c.in-Binary.left.value c.in_ok-left-in-Binary.left c.deref-in-Binary.ensures c.in_ok-left-in-Binary.ensures)
-    (read-of scope c.deref-in-Binary-2.result.now c.in-Binary.right.value c.in_ok-right-in-Binary.right c.deref-in-Binary-2.ensures c.in_ok-right-in-Binary.ensures))
+    (read-of scope c.deref-in-Binary.result.now c.in-Binary.left.value _ c.deref-in-Binary.ensures (IfOk-at_ok (reads c.deref-in-Binary.result.now) both.one c.read_expr-left_read.ensures))
+    (read-of scope c.deref-in-Binary-2.result.now c.in-Binary.right.value _ c.deref-in-Binary-2.ensures (IfOk-at_ok (reads c.deref-in-Binary-2.result.now) both.other c.read_expr-right_read.ensures)))
 
 pub read_expr-returns-in_ok-read-in-Conditional : goal.read_expr-returns-in_ok-read-in-Conditional
 read_expr-returns-in_ok-read-in-Conditional t c =
     let scope = c.args.scope.now in
-    subst (λ (e : Expr). IsReading (reading_of scope (expression_of e)) c.in_ok-read-in-Conditional.read) (sym c.in-Conditional.is)
+    let reads : Expr → ExprReading → Type 0 = λ e. IsReading (reading_of scope (expression_of e)) in
+    let all = c.in_ok-choice-in-Conditional.ensures in
+    let branches = IfOk-at_ok (λ (p : ExprReading × ExprReading). c.read_expr-first_read.result ≡ Ok p.0) all.other c.both-branches.ensures.one in
+    let other = IfOk-at_ok (λ (p : ExprReading × ExprReading). c.read_expr-second_read.result ≡ Ok p.1) all.other c.both-branches.ensures.other in
+    subst (λ (e : Expr). reads e c.in_ok-read-in-Conditional.read) (sym c.in-Conditional.is)
     (c.in_ok-read-in-Conditional.ensures (reading_of scope (expression_of c.in-Conditional.condition.value)) (reading_of scope (expression_of c.in-Conditional.first.value))
     (reading_of scope (expression_of c.in-Conditional.second.value))
-    (read-of scope c.deref-in-Conditional.result.now c.in-Conditional.condition.value c.in_ok-condition-in-Conditional.condition c.deref-in-Conditional.ensures c.in_ok-condition-in-Conditional.ensures)
-    (read-of scope c.deref-in-Conditional-2.result.now c.in-Conditional.first.value c.in_ok-first-in-Conditional.first c.deref-in-Conditional-2.ensures c.in_ok-first-in-Conditional.ensures)
-    (read-of scope c.deref-in-Conditional-3.result.now c.in-Conditional.second.value c.in_ok-second-in-Conditional.second c.deref-in-Conditional-3.ensures c.in_ok-second-in-Conditional.ensures))
+    (read-of scope c.deref-in-Conditional.result.now c.in-Conditional.condition.value _ c.deref-in-Conditional.ensures
+    (IfOk-at_ok (reads c.deref-in-Conditional.result.now) all.one c.read_expr-test_read.ensures))
+    (read-of scope c.deref-in-Conditional-2.result.now c.in-Conditional.first.value _ c.deref-in-Conditional-2.ensures
+    (IfOk-at_ok (reads c.deref-in-Conditional-2.result.now) branches c.read_expr-first_read.ensures))
+    (read-of scope c.deref-in-Conditional-3.result.now c.in-Conditional.second.value _ c.deref-in-Conditional-3.ensures
+    (IfOk-at_ok (reads c.deref-in-Conditional-3.result.now) other c.read_expr-second_read.ensures)))
 
 pub read_expr-returns-in_ok-parts-in-Concat : goal.read_expr-returns-in_ok-parts-in-Concat
 read_expr-returns-in_ok-parts-in-Concat t c =
@@ -80,7 +91,7 @@ read_expr-returns-in_ok-parts-in-Repeat t c =
     (repeat-read scope (source_place c.in-Repeat.place) count parts c.in_ok-count-in-Repeat.count c.replication_reading.result
     (c.in_ok-count-in-Repeat.ensures ∙ ap (λ (e : Expr). number_of_constant scope (expression_of e)) c.deref-in-Repeat-2.ensures)
     (c.replication_reading.ensures (parts_reading scope parts) (reading_of scope count)
-    (parts-of scope c.deref-in-Repeat-3.result.now c.in-Repeat.parts.items c.in_ok-parts-in-Repeat.parts c.deref-in-Repeat-3.ensures.value c.in_ok-parts-in-Repeat.ensures) times.faults_are))
+    (parts-of scope c.deref-in-Repeat-3.result.now c.in-Repeat.parts.items c.in_ok-parts-in-Repeat.parts c.deref-in-Repeat-3.ensures.value c.in_ok-parts-in-Repeat.ensures) (c.alone_faults-times_faults.ensures (reading_of scope count) times)))
 
 pub read_parts-parts-init : goal.read_parts-parts-init
 read_parts-parts-init t c = read-start (parts_reading c.args.scope.now (expressions_of c.args.parts.now)) _ c.no_faults.ensures refl c.new.ensures.items

@@ -34,4 +34,4 @@ returns-in_ok-read-in-Part c =
     (part-read scope place c.args.select.now.name from to _ c.in_ok-from-in-Part.from c.in_ok-to-in-Part.to c.in_ok-read-in-Part.read c.lookup-entry.ensures c.in_ok-from-in-Part.ensures c.in_ok-to-in-Part.ensures
     (c.in_ok-read-in-Part.ensures _
     (c.together-inside.ensures [] (alone_faults (reading_of scope from)) [] (alone_faults (reading_of scope to))
-    (c.apart-first_faults.ensures (reading_of scope from).here (reading_of scope from).inside f.faults_are) (c.apart-second_faults.ensures (reading_of scope to).here (reading_of scope to).inside s.faults_are))))
+    (c.alone_faults-first_faults.ensures (reading_of scope from) f) (c.alone_faults-second_faults.ensures (reading_of scope to) s))))

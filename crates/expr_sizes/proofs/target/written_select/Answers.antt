@@ -1,6 +1,5 @@
 use Rattle.std.proofs.Common.{ap, ◌∙◌}
 use Rattle.v_tree.specs.Views.{select_of}
-use Rattle.v_names.specs.Readings.{select_reading}
 use Rattle.v_width.specs.Targets.{may_write}
 use Rattle.expr_sizes.specs.TargetReadings.{writer_of}
 use Rattle.expr_sizes.proofs.TargetLaws.{written-select}
