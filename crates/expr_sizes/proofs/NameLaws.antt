@@ -20,7 +20,8 @@ no-first-bound true range place name faults None to read e f h = h
 no-first-bound true range place name faults (Some n) to read e f h = absurd (let x : ⊥ = cc in x)
 no-first-bound false range place name faults from to read e f h = absurd (let x : ⊥ = cc in x)
 
-pub no-second-bound : (ranged : Bool) (range : DeclaredRange) (place : SourcePlace) (name : Identifier) (faults : List Fault) (from to : Option ℕ) (n : ℕ) (read : ExprReading) → ranged ≡ true → from ≡ Some n
+pub no-second-bound : (ranged : Bool) (range : DeclaredRange) (place : SourcePlace) (name : Identifier) (faults : List Fault) (from to : Option ℕ) (n : ℕ) (read : ExprReading) → ranged ≡ true →
+    from ≡ Some n
     → to ≡ None → IsReading (refused_reading [] faults) read → IsReading (part_reading ranged range place name faults from to) read
 no-second-bound true range place name faults None to n read e f g h = absurd (let x : ⊥ = cc in x)
 no-second-bound true range place name faults (Some m) None n read e f g h = h

@@ -9,7 +9,8 @@ use Rattle.v_names.specs.declared.size.Size.{Size as CodeSize}
 use Rattle.v_names.specs.Faults.{Fault}
 use Rattle.v_names.specs.Scopes.{Scope}
 use Rattle.v_names.specs.OwnSizes.{size_within}
-use Rattle.v_names.specs.Readings.{Size, Reading, PartsReading, tree_alone, width_with, is_unsized_number, part_before, reading_of, parts_reading, concatenation_reading, replication_reading, sized_reading, refused_reading}
+use Rattle.v_names.specs.Readings.{Size, Reading, PartsReading, tree_alone, width_with, is_unsized_number, part_before, reading_of, parts_reading, concatenation_reading, replication_reading}
+use Rattle.v_names.specs.Readings.{sized_reading, refused_reading}
 use Rattle.v_names.specs.SizedTrees.{SizedConcatenation, SizedReplication, more_sized}
 use Rattle.v_names.specs.SizeViews.{size_of}
 use Rattle.v_width.specs.Summaries.{AreFaults}
@@ -69,7 +70,8 @@ read-start whole read f t q = record {
 -- the parts from an index on, where one stands at it
 pub parts-from : (scope : Scope) (parts : List Expr) (i : ℕ) (part : Expr) → i < length parts → part ≡ get_or parts i part
     → parts_reading scope (expressions_of (drop i parts))
-    ≡ part_before (is_unsized_number (expression_of part)) (place_of_expression (expression_of part)) (reading_of scope (expression_of part)) (parts_reading scope (expressions_of (drop (i + 1) parts)))
+    ≡ part_before (is_unsized_number (expression_of part)) (place_of_expression (expression_of part)) (reading_of scope (expression_of part))
+    (parts_reading scope (expressions_of (drop (i + 1) parts)))
 parts-from scope parts i part below at = ap (λ l. parts_reading scope (expressions_of l)) (drop-step parts i part below at)
 
 pub read-end : (scope : Scope) (parts : List Expr) (i : ℕ) (read : ReadParts) → length parts ≤ i
@@ -94,7 +96,8 @@ concatenation-none place parts read total e t h =
     let P : Option ℕ → Type 0 = λ w. IsReading (concatenation_reading place w parts.complete parts.inside parts.trees) read in
     subst P (sym (no-width parts.width (e ∙ ap (option_map capped) t))) h
 
-pub concatenation-some : (place : SourcePlace) (parts : PartsReading) (read : ExprReading) (all : Option ℕ) (total : ℕ) (size : Option CodeSize) → option_map capped parts.width ≡ option_map capped all → all ≡ Some total
+pub concatenation-some : (place : SourcePlace) (parts : PartsReading) (read : ExprReading) (all : Option ℕ) (total : ℕ) (size : Option CodeSize) →
+    option_map capped parts.width ≡ option_map capped all → all ≡ Some total
     → option_map size_of size ≡ size_within total false
     → ((width : ℕ) → option_map size_of size ≡ size_within width false → IsReading (sized_reading place width false parts.complete parts.inside (λ w s. SizedConcatenation w s parts.trees)) read)
     → IsReading (concatenation_reading place parts.width parts.complete parts.inside parts.trees) read
@@ -103,7 +106,8 @@ concatenation-some place parts read all total size e t z h =
     let P : Option ℕ → Type 0 = λ x. IsReading (concatenation_reading place x parts.complete parts.inside parts.trees) read in
     subst P (sym w.1.0) (h w.0 (z ∙ sym (capped-within w.0 total false w.1.1)))
 
-pub replication-none : (place : SourcePlace) (count : ℕ) (parts : PartsReading) (inside : List Fault) (read : ExprReading) (total : Option ℕ) → option_map capped parts.width ≡ option_map capped total → total ≡ None
+pub replication-none : (place : SourcePlace) (count : ℕ) (parts : PartsReading) (inside : List Fault) (read : ExprReading) (total : Option ℕ) →
+    option_map capped parts.width ≡ option_map capped total → total ≡ None
     → IsReading (refused_reading [] inside) read → IsReading (replication_reading place (Some count) parts.width parts.complete inside parts.trees) read
 replication-none place count parts inside read total e t h =
     let P : Option ℕ → Type 0 = λ w. IsReading (replication_reading place (Some count) w parts.complete inside parts.trees) read in
@@ -111,7 +115,8 @@ replication-none place count parts inside read total e t h =
 
 pub replication-some : (place : SourcePlace) (count : ℕ) (parts : PartsReading) (inside : List Fault) (read : ExprReading) (all : Option ℕ) (total : ℕ) (size : Option CodeSize)
     → option_map capped parts.width ≡ option_map capped all → all ≡ Some total → option_map size_of size ≡ size_within (count * total) false
-    → ((width : ℕ) → option_map size_of size ≡ size_within (count * width) false → IsReading (sized_reading place (count * width) false parts.complete inside (λ w s. SizedReplication w s count parts.trees)) read)
+    → ((width : ℕ) → option_map size_of size ≡ size_within (count * width) false → IsReading
+    (sized_reading place (count * width) false parts.complete inside (λ w s. SizedReplication w s count parts.trees)) read)
     → IsReading (replication_reading place (Some count) parts.width parts.complete inside parts.trees) read
 replication-some place count parts inside read all total size e t z h =
     let w = some-width parts.width total (e ∙ ap (option_map capped) t) in

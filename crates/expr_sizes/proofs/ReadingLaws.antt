@@ -9,7 +9,8 @@ use Rattle.v_design.specs.Sized.{span, UnarySizing, OperandWithWhole, OperandAlo
 use Rattle.v_names.specs.declared.size.Size.{Size as CodeSize}
 use Rattle.v_names.specs.Faults.{BadWidth, Fault, fault_at}
 use Rattle.v_names.specs.Scopes.{DeclaredRange, ScopeEntry, NetEntry, RegEntry}
-use Rattle.v_names.specs.Readings.{Size, Reading, wrong_reading, name_reading, bit_reading, part_if, one_bit, size_or_bit, alone_faults, tree_at, tree_alone, tree_in, sized_if, sized_reading, refused_reading, unary_reading, binary_reading, choice_reading}
+use Rattle.v_names.specs.Readings.{Size, Reading, wrong_reading, name_reading, bit_reading, part_if, one_bit, size_or_bit, alone_faults, tree_at, tree_alone, tree_in, sized_if, sized_reading}
+use Rattle.v_names.specs.Readings.{refused_reading, unary_reading, binary_reading, choice_reading}
 use Rattle.v_names.specs.SizedTrees.{SizedExpression, SizedName, SizedBit, SizedPart, SizedUnary, SizedBinary, SizedChoice}
 use Rattle.v_names.specs.SizeViews.{size_of}
 use Rattle.v_width.specs.declared.faults.Faults.{Faults}
@@ -116,7 +117,8 @@ pub choice-read : (c a b : Reading) (condition : SizedExpression) (first second 
 choice-read c a b condition first second read w0 s0 z f k t u q = record {
   size_is = z;
   faults_are = f;
-  tree_is = λ w s. ap (λ x. with_size x w s) q ∙ ap (λ x. SizedChoice w s x (with_size (sized_of first) w s) (with_size (sized_of second) w s)) k ∙ ap₂ (SizedChoice w s (tree_alone c)) (t w s) (u w s);
+  tree_is = λ w s. ap (λ x. with_size x w s) q ∙ ap (λ x. SizedChoice w s x (with_size (sized_of first) w s) (with_size (sized_of second) w s)) k
+      ∙ ap₂ (SizedChoice w s (tree_alone c)) (t w s) (u w s);
 }
 
 -- Facts about equal values
@@ -130,7 +132,8 @@ same-width place width other signed complete faults at read e h = let P : ℕ �
 
 -- Names
 
-pub bit-ranged : (ranged : Bool) (place : SourcePlace) (name : Identifier) (at : Reading) (read : ExprReading) → ranged ≡ true → option_map size_of read.size ≡ one_bit → AreFaults [] (alone_faults at) read.faults
+pub bit-ranged : (ranged : Bool) (place : SourcePlace) (name : Identifier) (at : Reading) (read : ExprReading) → ranged ≡ true → option_map size_of read.size ≡ one_bit →
+    AreFaults [] (alone_faults at) read.faults
     → ((w : ℕ) (s : Bool) → with_size (sized_of read.tree) w s ≡ SizedBit w s name (tree_alone at)) → IsReading (bit_reading ranged place name at) read
 bit-ranged true place name at read e z f t = record { size_is = z; faults_are = f; tree_is = t }
 bit-ranged false place name at read e z f t = absurd (let x : ⊥ = cc in x)

@@ -53,7 +53,8 @@ one-more selects select (Some rest) = ap (λ l. Some l) (sym (append_assoc selec
 
 -- one select more
 pub selects-more : (parts : List Expr) (i : ℕ) (selects longer : List Select) (part : Expr) (select : Select) → i < length parts → part ≡ get_or parts i part
-    → selects_of_parts (expressions_of parts) ≡ selects_before (map select_of selects) (selects_of_parts (expressions_of (drop i parts))) → Some (select_of select) ≡ select_spelled (expression_of part)
+    → selects_of_parts (expressions_of parts) ≡ selects_before (map select_of selects) (selects_of_parts (expressions_of (drop i parts))) →
+    Some (select_of select) ≡ select_spelled (expression_of part)
     → longer ≡ selects ++ select ∷ [] → selects_of_parts (expressions_of parts) ≡ selects_before (map select_of longer) (selects_of_parts (expressions_of (drop (i + 1) parts)))
 unfolding select_before
 selects-more parts i selects longer part select below at h e q =
@@ -62,6 +63,7 @@ selects-more parts i selects longer part select below at h e q =
     ∙ ap (λ l. selects_before l rest) (sym (ap (map select_of) q ∙ map-append select_of selects (select ∷ [])))
 
 pub selects-end : (parts : List Expr) (i : ℕ) (selects : List Select) → length parts ≤ i
-    → selects_of_parts (expressions_of parts) ≡ selects_before (map select_of selects) (selects_of_parts (expressions_of (drop i parts))) → Some (map select_of selects) ≡ selects_of_parts (expressions_of parts)
+    → selects_of_parts (expressions_of parts) ≡ selects_before (map select_of selects) (selects_of_parts (expressions_of (drop i parts))) →
+    Some (map select_of selects) ≡ selects_of_parts (expressions_of parts)
 selects-end parts i selects past h =
     sym (h ∙ ap (λ l. selects_before (map select_of selects) (selects_of_parts (expressions_of l))) (drop_all i parts past) ∙ ap (λ l. Some l) (append-nil (map select_of selects)))

@@ -1,5 +1,6 @@
 -- What is kept of a target, from what is kept of its selects.
-use Rattle.std.proofs.Common.{◌≡◌, ℕ, ◌+◌, ◌<◌, ◌≤◌, Bool, true, false, List, [], ◌∷◌, ◌++◌, map, length, drop, get_or, Option, Some, None, option_map, nat_le, refl, sym, ap, subst, ◌∙◌, arith, append_assoc}
+use Rattle.std.proofs.Common.{◌≡◌, ℕ, ◌+◌, ◌<◌, ◌≤◌, Bool, true, false, List, [], ◌∷◌, ◌++◌, map, length, drop, get_or, Option, Some, None, option_map, nat_le, refl, sym, ap, subst, ◌∙◌, arith}
+use Rattle.std.proofs.Common.{append_assoc}
 use Rattle.std.proofs.lemmas.List.{drop_more, drop_all, append-nil}
 use Rattle.std.proofs.lemmas.Bool.{lt-leb, le-leb}
 use Rattle.vf_base.specs.Base.{SourcePlace}
@@ -31,7 +32,8 @@ pub written-may : (may : Bool) (place : SourcePlace) (reading : Reading) (own : 
 written-may true place reading own e h = h
 written-may false place reading own e h = absurd (let x : ⊥ = cc in x)
 
-pub written-not : (may : Bool) (place : SourcePlace) (reading : Reading) (own : OwnReading) → may ≡ false → IsOwnReading (wrong_reading place reading.inside) own → IsOwnReading (written_reading may place reading) own
+pub written-not : (may : Bool) (place : SourcePlace) (reading : Reading) (own : OwnReading) → may ≡ false → IsOwnReading (wrong_reading place reading.inside) own →
+    IsOwnReading (written_reading may place reading) own
 written-not true place reading own e h = absurd (let x : ⊥ = cc in x)
 written-not false place reading own e h = h
 
@@ -76,9 +78,11 @@ selects-start whole read f t = record {
   total_is = total-start whole.width ∙ ap (λ x. total_before x whole.width) (sym t);
 }
 
-pub selects-more : (writer : Writer) (scope : Scope) (selects : List Select) (i : ℕ) (select : Select) (own : OwnReading) (read after : TargetReading) → i < length selects → select ≡ get_or selects i select
+pub selects-more : (writer : Writer) (scope : Scope) (selects : List Select) (i : ℕ) (select : Select) (own : OwnReading) (read after : TargetReading) → i < length selects →
+    select ≡ get_or selects i select
     → IsOwnReading (target_select_reading writer scope (select_of select)) own → after.width ≡ total_with read.width (option_map size_of own.size)
-    → ((here inside more_here more_inside : List Fault) → AreFaults here inside read.faults → AreFaults more_here more_inside own.faults → AreFaults (here ++ more_here) (inside ++ more_inside) after.faults)
+    → ((here inside more_here more_inside : List Fault) → AreFaults here inside read.faults → AreFaults more_here more_inside own.faults →
+    AreFaults (here ++ more_here) (inside ++ more_inside) after.faults)
     → AreSelectsSo (selects_reading writer scope (map select_of selects)) (selects_reading writer scope (map select_of (drop i selects))) read
     → AreSelectsSo (selects_reading writer scope (map select_of selects)) (selects_reading writer scope (map select_of (drop (i + 1) selects))) after
 selects-more writer scope selects i select own read after below at o t f h =
@@ -126,7 +130,8 @@ pub joined-none : (place : SourcePlace) (reading : plain.TargetReading) (read : 
 joined-none place reading read h e =
     recast place reading None read (no-width reading.width (h.total_is ∙ ap (option_map capped) e)) (record { width_is = e; faults_are = h.faults_are })
 
-fits : (place : SourcePlace) (width : ℕ) (here inside : List Fault) (read : TargetReading) (fit : Bool) → nat_le width most_bits ≡ fit → fit ≡ true → read.width ≡ Some width → AreFaults here inside read.faults
+fits : (place : SourcePlace) (width : ℕ) (here inside : List Fault) (read : TargetReading) (fit : Bool) → nat_le width most_bits ≡ fit → fit ≡ true → read.width ≡ Some width →
+    AreFaults here inside read.faults
     → IsWithin place (record { width = Some width; here = here; inside = inside }) read
 fits place width here inside read fit t e w f = let k : nat_le width most_bits ≡ true = t ∙ e in rw k (record { width_is = w; faults_are = f })
 
@@ -139,7 +144,8 @@ joined-fits place reading read width h e below =
     recast place reading (Some w.0) read w.1.0
     (fits place w.0 reading.here reading.inside read true (le-leb w.0 most_bits (omega arith)) refl (e ∙ ap (λ n. Some n) (sym same)) h.faults_are)
 
-pub joined-wide : (place : SourcePlace) (reading : plain.TargetReading) (selects read : TargetReading) (width : ℕ) → AreSelectsRead reading selects → selects.width ≡ Some width → 128 < width → read.width ≡ None
+pub joined-wide : (place : SourcePlace) (reading : plain.TargetReading) (selects read : TargetReading) (width : ℕ) → AreSelectsRead reading selects → selects.width ≡ Some width → 128 < width →
+    read.width ≡ None
     → AreFaults (fault_at place BadWidth ∷ reading.here) reading.inside read.faults → IsTargetReading (within_most place reading) read
 joined-wide place reading selects read width h e above n f =
     let w = some-width reading.width width (h.total_is ∙ ap (option_map capped) e) in

@@ -9,4 +9,5 @@ returns-in-Some c reading h = ap (λ (f : Option Fault). or_fault (tree_in_conte
 
 pub returns-in-None : goal.returns-in-None
 returns-in-None c reading h =
-    ap (λ (f : Option Fault). or_fault (tree_in_context reading c.args.width c.args.signed) f) (sym (c.in-None.ensures reading h)) ∙ ap (λ (t : SizedExpression). Ok t) (sym (c.tree_in_context.ensures reading h))
+    ap (λ (f : Option Fault). or_fault (tree_in_context reading c.args.width c.args.signed) f) (sym (c.in-None.ensures reading h))
+    ∙ ap (λ (t : SizedExpression). Ok t) (sym (c.tree_in_context.ensures reading h))

@@ -15,4 +15,5 @@ returns c faults h =
     let e : c.runs_alike.result ≡ true = search rules in
     let n : c.in_ok-name.name ≡ c.args.name.now = c.in_ok-name.ensures ∙ c.as_bytes.ensures in
     part-alike _ (source_place c.args.place) c.args.name.now faults c.args.from c.args.to _ (sym c.runs_alike.ensures ∙ e)
-    (c.sized.ensures (span c.args.from c.args.to) false true faults (λ w s. SizedPart w s c.args.name.now c.args.from c.args.to) c.width_between.ensures h (λ w s. ap (λ m. SizedPart w s m c.args.from c.args.to) n))
+    (c.sized.ensures (span c.args.from c.args.to) false true faults (λ w s. SizedPart w s c.args.name.now c.args.from c.args.to) c.width_between.ensures h
+    (λ w s. ap (λ m. SizedPart w s m c.args.from c.args.to) n))

@@ -12,12 +12,14 @@ returns-in_ok-read-in-BothWithWhole c a b h k =
     let i = c.in_ok-read-in-BothWithWhole.ensures in
     binary-read c.args.operator BothWithWhole a b (sized_of c.args.left.tree) (sized_of c.args.right.tree) _ _ _ (sym c.in-BothWithWhole.ensures)
     (ap (option_map size_of) i.size_is ∙ c.larger_of-larger.ensures ∙ ap₂ larger_size h.size_is k.size_is)
-    (same-faults _ _ _ _ i.faults_are (c.together-faults.ensures a.here a.inside b.here b.inside h.faults_are k.faults_are)) (λ w s. ap₂ (SizedBinary w s c.args.operator) (h.tree_is w s) (k.tree_is w s)) i.tree_is
+    (same-faults _ _ _ _ i.faults_are (c.together-faults.ensures a.here a.inside b.here b.inside h.faults_are k.faults_are))
+    (λ w s. ap₂ (SizedBinary w s c.args.operator) (h.tree_is w s) (k.tree_is w s)) i.tree_is
 
 pub returns-in_ok-read-in-LeftWithWhole : goal.returns-in_ok-read-in-LeftWithWhole
 returns-in_ok-read-in-LeftWithWhole c a b h k =
     let i = c.in_ok-read-in-LeftWithWhole.ensures in
-    binary-read c.args.operator LeftWithWhole a b (sized_of c.args.left.tree) (sized_of c.tree_alone-amount.result) _ _ _ (sym c.in-LeftWithWhole.ensures) (ap (option_map size_of) i.size_is ∙ h.size_is)
+    binary-read c.args.operator LeftWithWhole a b (sized_of c.args.left.tree) (sized_of c.tree_alone-amount.result) _ _ _ (sym c.in-LeftWithWhole.ensures)
+    (ap (option_map size_of) i.size_is ∙ h.size_is)
     (same-faults _ _ _ _ i.faults_are
     (left-faults a.here _ _ (c.together-shift_faults.ensures a.here a.inside [] (alone_faults b) h.faults_are (c.apart-amount_faults.ensures b.here b.inside k.faults_are))))
     (λ w s. ap₂ (SizedBinary w s c.args.operator) (h.tree_is w s) (c.tree_alone-amount.ensures b k)) i.tree_is

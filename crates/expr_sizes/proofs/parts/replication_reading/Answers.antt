@@ -21,7 +21,8 @@ returns-in-None-total c read counted h k =
     let f = c.together-faults.ensures [] read.inside [] (alone_faults counted) h.faults_are k in
     let r = c.refused-in-None-total.result in
     let P : Option ℕ → Type 0 = λ n. IsReading (replication_reading (source_place c.args.place) n read.width read.complete inside read.trees) r in
-    subst P (sym c.in-Some.is) (replication-none (source_place c.args.place) c.in-Some.count read inside r c.args.parts.total h.total_is c.in-None-total.is (c.refused-in-None-total.ensures [] inside f))
+    subst P (sym c.in-Some.is) (replication-none (source_place c.args.place) c.in-Some.count read inside r c.args.parts.total h.total_is c.in-None-total.is
+    (c.refused-in-None-total.ensures [] inside f))
 
 pub returns-in-Some-total : goal.returns-in-Some-total
 returns-in-Some-total c read counted h k =
@@ -31,6 +32,7 @@ returns-in-Some-total c read counted h k =
     let seen = sized-replication c.one_bit.result n c.args.parts.trees in
     let P : Option ℕ → Type 0 = λ x. IsReading (replication_reading (source_place c.args.place) x read.width read.complete inside read.trees) c.sized.result in
     subst P (sym c.in-Some.is)
-    (replication-some (source_place c.args.place) n read inside c.sized.result c.args.parts.total c.in-Some-total.total c.repeated_size-size.result h.total_is c.in-Some-total.is c.repeated_size-size.ensures
+    (replication-some (source_place c.args.place) n read inside c.sized.result c.args.parts.total c.in-Some-total.total c.repeated_size-size.result h.total_is c.in-Some-total.is
+    c.repeated_size-size.ensures
     (λ width z.
     c.sized.ensures (n * width) false read.complete inside (λ w s. SizedReplication w s n read.trees) z f (λ w s. ap (λ t. with_size t w s) seen ∙ ap (SizedReplication w s n) (sym h.trees_are))))

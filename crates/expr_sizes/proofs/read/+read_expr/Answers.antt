@@ -32,7 +32,8 @@ read_expr-returns-in_ok-read-in-PartSelect t c =
     let f = read-of scope c.deref-in-PartSelect.result.now c.in-PartSelect.from.value c.in_ok-first-in-PartSelect.first c.deref-in-PartSelect.ensures c.in_ok-first-in-PartSelect.ensures in
     let s = read-of scope c.deref-in-PartSelect-2.result.now c.in-PartSelect.to.value c.in_ok-second-in-PartSelect.second c.deref-in-PartSelect-2.ensures c.in_ok-second-in-PartSelect.ensures in
     subst (λ (e : Expr). IsReading (reading_of scope (expression_of e)) c.in_ok-read-in-PartSelect.read) (sym c.in-PartSelect.is)
-    (part-read scope (source_place c.in-PartSelect.place) c.in-PartSelect.name from to _ c.in_ok-from-in-PartSelect.from c.in_ok-to-in-PartSelect.to c.in_ok-read-in-PartSelect.read c.lookup-entry.ensures
+    (part-read scope (source_place c.in-PartSelect.place) c.in-PartSelect.name from to _ c.in_ok-from-in-PartSelect.from c.in_ok-to-in-PartSelect.to c.in_ok-read-in-PartSelect.read
+    c.lookup-entry.ensures
     (c.in_ok-from-in-PartSelect.ensures ∙ ap (λ (e : Expr). number_of_constant scope (expression_of e)) c.deref-in-PartSelect-3.ensures)
     (c.in_ok-to-in-PartSelect.ensures ∙ ap (λ (e : Expr). number_of_constant scope (expression_of e)) c.deref-in-PartSelect-4.ensures)
     (c.in_ok-read-in-PartSelect.ensures _
@@ -76,7 +77,8 @@ read_expr-returns-in_ok-read-in-Conditional t c =
 pub read_expr-returns-in_ok-parts-in-Concat : goal.read_expr-returns-in_ok-parts-in-Concat
 read_expr-returns-in_ok-parts-in-Concat t c =
     let scope = c.args.scope.now in
-    subst (λ (e : SourceExpression). IsReading (reading_of scope e) c.concatenation_reading.result) (sym (ap (λ (e : Expr). expression_of e) c.in-Concat.is ∙ expression_of-Concat c.in-Concat.place c.in-Concat.parts))
+    subst (λ (e : SourceExpression). IsReading (reading_of scope e) c.concatenation_reading.result)
+    (sym (ap (λ (e : Expr). expression_of e) c.in-Concat.is ∙ expression_of-Concat c.in-Concat.place c.in-Concat.parts))
     (c.concatenation_reading.ensures (parts_reading scope (expressions_of c.in-Concat.parts.items))
     (parts-of scope c.deref-in-Concat.result.now c.in-Concat.parts.items c.in_ok-parts-in-Concat.parts c.deref-in-Concat.ensures.value c.in_ok-parts-in-Concat.ensures))
 
@@ -91,7 +93,8 @@ read_expr-returns-in_ok-parts-in-Repeat t c =
     (repeat-read scope (source_place c.in-Repeat.place) count parts c.in_ok-count-in-Repeat.count c.replication_reading.result
     (c.in_ok-count-in-Repeat.ensures ∙ ap (λ (e : Expr). number_of_constant scope (expression_of e)) c.deref-in-Repeat-2.ensures)
     (c.replication_reading.ensures (parts_reading scope parts) (reading_of scope count)
-    (parts-of scope c.deref-in-Repeat-3.result.now c.in-Repeat.parts.items c.in_ok-parts-in-Repeat.parts c.deref-in-Repeat-3.ensures.value c.in_ok-parts-in-Repeat.ensures) (c.alone_faults-times_faults.ensures (reading_of scope count) times)))
+    (parts-of scope c.deref-in-Repeat-3.result.now c.in-Repeat.parts.items c.in_ok-parts-in-Repeat.parts c.deref-in-Repeat-3.ensures.value c.in_ok-parts-in-Repeat.ensures)
+    (c.alone_faults-times_faults.ensures (reading_of scope count) times)))
 
 pub read_parts-parts-init : goal.read_parts-parts-init
 read_parts-parts-init t c = read-start (parts_reading c.args.scope.now (expressions_of c.args.parts.now)) _ c.no_faults.ensures refl c.new.ensures.items

@@ -19,7 +19,8 @@ returns-in_ok-read-in-Bit c =
     let index = expression_of c.in-Bit.index in
     let P : Index → Type 0 = λ i. IsReading (select_reading c.args.scope.now place c.args.select.now.name (index_of i)) c.in_ok-read-in-Bit.read in
     subst P (sym c.in-Bit.is)
-    (bit-read c.args.scope.now place c.args.select.now.name index _ c.in_ok-read-in-Bit.read c.lookup-entry.ensures (c.in_ok-read-in-Bit.ensures (reading_of c.args.scope.now index) c.in_ok-index-in-Bit.ensures))
+    (bit-read c.args.scope.now place c.args.select.now.name index _ c.in_ok-read-in-Bit.read c.lookup-entry.ensures
+    (c.in_ok-read-in-Bit.ensures (reading_of c.args.scope.now index) c.in_ok-index-in-Bit.ensures))
 
 pub returns-in_ok-read-in-Part : goal.returns-in_ok-read-in-Part
 returns-in_ok-read-in-Part c =
@@ -31,7 +32,8 @@ returns-in_ok-read-in-Part c =
     let s = c.in_ok-second-in-Part.ensures in
     let P : Index → Type 0 = λ i. IsReading (select_reading scope place c.args.select.now.name (index_of i)) c.in_ok-read-in-Part.read in
     subst P (sym c.in-Part.is)
-    (part-read scope place c.args.select.now.name from to _ c.in_ok-from-in-Part.from c.in_ok-to-in-Part.to c.in_ok-read-in-Part.read c.lookup-entry.ensures c.in_ok-from-in-Part.ensures c.in_ok-to-in-Part.ensures
+    (part-read scope place c.args.select.now.name from to _ c.in_ok-from-in-Part.from c.in_ok-to-in-Part.to c.in_ok-read-in-Part.read c.lookup-entry.ensures c.in_ok-from-in-Part.ensures
+    c.in_ok-to-in-Part.ensures
     (c.in_ok-read-in-Part.ensures _
     (c.together-inside.ensures [] (alone_faults (reading_of scope from)) [] (alone_faults (reading_of scope to))
     (c.alone_faults-first_faults.ensures (reading_of scope from) f) (c.alone_faults-second_faults.ensures (reading_of scope to) s))))

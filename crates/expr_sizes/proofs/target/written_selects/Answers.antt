@@ -10,7 +10,8 @@ selects-init c = selects-start (selects_reading (writer_of c.args.writer) c.args
 
 pub selects-preserved : goal.selects-preserved
 selects-preserved c =
-    selects-more (writer_of c.args.writer) c.args.scope.now c.args.selects.now c.selects.select-index c.select-item.result c.in_ok-own.own (record { width = c.selects.width; faults = c.selects.faults }) _
+    selects-more (writer_of c.args.writer) c.args.scope.now c.args.selects.now c.selects.select-index c.select-item.result c.in_ok-own.own
+    (record { width = c.selects.width; faults = c.selects.faults }) _
     c.selects-test.true c.select-item.is c.in_ok-own.ensures c.wider-width.ensures c.together-faults.ensures c.selects.invariant
 
 pub returns : goal.returns
