@@ -6,13 +6,11 @@ ghost use Rattle.v_tree.specs.Trees.{place_of_expression};
 ghost use Rattle.v_tree.specs.Views.{expression_of, expression_in, connection_of, instance_of};
 ghost use Rattle.v_readers.specs.Given.{Gives};
 ghost use Rattle.v_readers.specs.Reading.{by_class};
-ghost use Rattle.v_readers.specs.Separated.{separated};
-ghost use Rattle.v_readers.specs.declared.class.Class.TheVariants as classes;
 ghost use Rattle.v_parse.specs.Items as read;
 ghost use Rattle.v_parse.specs.Rows as rows;
 
 use std::alloc::Global;
-use v_expr::expression;
+use v_expr::{PartReader, closed, expression, separated};
 use v_readers::{Class, Lexeme, Stop, expect, is_next, name, next_class, step};
 use v_tree::{Connection, Expr, Instance};
 use vf_base::{Place, Seq};
@@ -101,7 +99,7 @@ fn connection<'t>(
     let ((name, place), rest) = name(alloc, rest)?;
     let (_, rest) = expect(rest, Class::LeftParen)?;
     let (actual, rest) = connected(alloc, rest, is_given, levels)?;
-    let (_, rest) = expect(rest, Class::RightParen)?;
+    let (actual, _, rest) = closed(actual, rest, Class::RightParen)?;
     Ok((
         Connection {
             name: Some(name),
@@ -112,28 +110,37 @@ fn connection<'t>(
     ))
 }
 
-/// Connections by name, with a comma between them.
-#[tactic(auto, unfolding(v_readers::specs::Separated::separated))]
-fn named_row<'t>(
-    alloc: Global,
-    tokens: &'t [Lexeme<'t>],
-    is_given: bool,
-    levels: u32,
-) -> Result<(Seq<Connection>, &'t [Lexeme<'t>]), Stop<'t>>
-    requires { levels < 256 }
-    ensures reads { Gives (λ x. (map connection_of x.0, x.1.now)) result (separated classes.Comma (read.connection (rows.connected levels is_given)) tokens.now) }
-    ensures shorter { IfOk result (λ x. length x.1.now < length tokens.now) }
-{
-    let (first, mut rest) = connection(alloc, tokens, is_given, levels)?;
-    let mut connections = Vec::new(alloc);
-    connections.push(first)?;
-    'connections: while is_next(rest, Class::Comma) {
-        let (_, after) = step(rest)?;
-        let (next, after) = connection(alloc, after, is_given, levels)?;
-        connections.push(next)?;
-        rest = after;
+/// Reads connections by name, where parameters are given or ports are connected.
+#[derive(Drop)]
+struct ConnectionReader {
+    pub is_given: bool,
+    pub levels: u32,
+}
+
+impl PartReader for ConnectionReader {
+    ghost use Rattle.std.specs.Prelude.{◌<◌};
+    ghost use Rattle.v_tree.specs.Trees.{SourceConnection};
+    ghost use Rattle.v_tree.specs.Views.{connection_of};
+    ghost use Rattle.v_parse.specs.Items.{connection};
+    ghost use Rattle.v_parse.specs.Rows.{connected};
+
+    type Part = Connection;
+
+    ghost Tree = { SourceConnection };
+
+    ghost tree_of = { connection_of };
+
+    ghost reader = { λ it. connection (connected it.levels it.is_given) };
+
+    ghost can_read = { λ it. it.levels < 256 };
+
+    fn read<'t>(
+        &self,
+        alloc: Global,
+        tokens: &'t [Lexeme<'t>],
+    ) -> Result<(Connection, &'t [Lexeme<'t>]), Stop<'t>> {
+        connection(alloc, tokens, self.is_given, self.levels)
     }
-    Ok((Seq::from_vec(connections), rest))
 }
 
 /// Connections by name, to the closing parenthesis.
@@ -148,8 +155,8 @@ fn named_connections<'t>(
     ensures reads { Gives (λ x. (map connection_of x.0, x.1.now)) result (read.named_connections (rows.connected levels is_given) tokens.now) }
     ensures shorter { IfOk result (λ x. length x.1.now < length tokens.now) }
 {
-    let (connections, rest) = named_row(alloc, tokens, is_given, levels)?;
-    let (_, rest) = expect(rest, Class::RightParen)?;
+    let (connections, rest) = separated(alloc, tokens, &ConnectionReader { is_given, levels })?;
+    let (connections, _, rest) = closed(connections, rest, Class::RightParen)?;
     Ok((connections, rest))
 }
 
@@ -270,27 +277,35 @@ fn given_expression<'t>(
     ))
 }
 
-/// Values that parameters are given by position, with a comma between them.
-#[tactic(auto, unfolding(v_readers::specs::Separated::separated))]
-fn given_row<'t>(
-    alloc: Global,
-    tokens: &'t [Lexeme<'t>],
-    levels: u32,
-) -> Result<(Seq<Connection>, &'t [Lexeme<'t>]), Stop<'t>>
-    requires { levels < 256 }
-    ensures reads { Gives (λ x. (map connection_of x.0, x.1.now)) result (separated classes.Comma (read.given_expression levels) tokens.now) }
-    ensures shorter { IfOk result (λ x. length x.1.now ≤ length tokens.now) }
-{
-    let (first, mut rest) = given_expression(alloc, tokens, levels)?;
-    let mut given = Vec::new(alloc);
-    given.push(first)?;
-    'given: while is_next(rest, Class::Comma) {
-        let (_, after) = step(rest)?;
-        let (next, after) = given_expression(alloc, after, levels)?;
-        given.push(next)?;
-        rest = after;
+/// Reads values that parameters are given by position.
+#[derive(Drop)]
+struct GivenReader {
+    pub levels: u32,
+}
+
+impl PartReader for GivenReader {
+    ghost use Rattle.std.specs.Prelude.{◌<◌};
+    ghost use Rattle.v_tree.specs.Trees.{SourceConnection};
+    ghost use Rattle.v_tree.specs.Views.{connection_of};
+    ghost use Rattle.v_parse.specs.Items.{given_expression};
+
+    type Part = Connection;
+
+    ghost Tree = { SourceConnection };
+
+    ghost tree_of = { connection_of };
+
+    ghost reader = { λ it. given_expression it.levels };
+
+    ghost can_read = { λ it. it.levels < 256 };
+
+    fn read<'t>(
+        &self,
+        alloc: Global,
+        tokens: &'t [Lexeme<'t>],
+    ) -> Result<(Connection, &'t [Lexeme<'t>]), Stop<'t>> {
+        given_expression(alloc, tokens, self.levels)
     }
-    Ok((Seq::from_vec(given), rest))
 }
 
 /// Values that parameters are given by position, to the closing parenthesis.
@@ -304,8 +319,8 @@ fn given_expressions<'t>(
     ensures reads { Gives (λ x. (map connection_of x.0, x.1.now)) result (read.given_expressions levels tokens.now) }
     ensures shorter { IfOk result (λ x. length x.1.now < length tokens.now) }
 {
-    let (given, rest) = given_row(alloc, tokens, levels)?;
-    let (_, rest) = expect(rest, Class::RightParen)?;
+    let (given, rest) = separated(alloc, tokens, &GivenReader { levels })?;
+    let (given, _, rest) = closed(given, rest, Class::RightParen)?;
     Ok((given, rest))
 }
 
@@ -370,25 +385,33 @@ fn instance<'t>(
     ))
 }
 
-/// Instances of one module, with a comma between them.
-#[tactic(auto, unfolding(v_readers::specs::Separated::separated))]
-pub fn instances<'t>(
-    alloc: Global,
-    tokens: &'t [Lexeme<'t>],
-    levels: u32,
-) -> Result<(Seq<Instance>, &'t [Lexeme<'t>]), Stop<'t>>
-    requires { levels < 256 }
-    ensures reads { Gives (λ x. (map instance_of x.0, x.1.now)) result (separated classes.Comma (read.inst levels) tokens.now) }
-    ensures shorter { IfOk result (λ x. length x.1.now < length tokens.now) }
-{
-    let (first, mut rest) = instance(alloc, tokens, levels)?;
-    let mut instances = Vec::new(alloc);
-    instances.push(first)?;
-    'instances: while is_next(rest, Class::Comma) {
-        let (_, after) = step(rest)?;
-        let (next, after) = instance(alloc, after, levels)?;
-        instances.push(next)?;
-        rest = after;
+/// Reads instances.
+#[derive(Drop)]
+pub struct InstanceReader {
+    pub levels: u32,
+}
+
+impl PartReader for InstanceReader {
+    ghost use Rattle.std.specs.Prelude.{◌<◌};
+    ghost use Rattle.v_tree.specs.Trees.{SourceInstance};
+    ghost use Rattle.v_tree.specs.Views.{instance_of};
+    ghost use Rattle.v_parse.specs.Items.{inst};
+
+    type Part = Instance;
+
+    ghost Tree = { SourceInstance };
+
+    ghost tree_of = { instance_of };
+
+    ghost reader = { λ it. inst it.levels };
+
+    ghost can_read = { λ it. it.levels < 256 };
+
+    fn read<'t>(
+        &self,
+        alloc: Global,
+        tokens: &'t [Lexeme<'t>],
+    ) -> Result<(Instance, &'t [Lexeme<'t>]), Stop<'t>> {
+        instance(alloc, tokens, self.levels)
     }
-    Ok((Seq::from_vec(instances), rest))
 }

@@ -4,14 +4,12 @@ ghost use Rattle.std.specs.Prelude.{◌≡◌, ◌+◌, ◌^◌, ◌≤◌, ◌<
 ghost use Rattle.vf_base.specs.Base.{source_place};
 ghost use Rattle.v_tree.specs.Views.{expression_in, name_of, range_in, parameter_of, parameters_of, ports_of, wire_of, content_of, reg_of};
 ghost use Rattle.v_readers.specs.Given.{Gives};
-ghost use Rattle.v_readers.specs.Separated.{separated};
-ghost use Rattle.v_readers.specs.declared.class.Class.TheVariants as classes;
 ghost use Rattle.v_parse.specs.Items as read;
 ghost use Rattle.v_parse.specs.Spelling.{parameter_word, direction_word};
 
 use std::alloc::Global;
-use v_expr::{expression, range};
-use v_readers::{Class, Lexeme, Stop, expect, is_next, name, next_class, step};
+use v_expr::{PartReader, SeparatedReader, expression, range, with_next};
+use v_readers::{Class, Lexeme, Stop, expect, name, next_class, step};
 use v_tree::{Content, Direction, Expr, Name, Param, Params, Ports, Range, Reg, Wire};
 use vf_base::Seq;
 
@@ -187,94 +185,125 @@ pub fn reg<'t>(
     ))
 }
 
-/// Names, with a comma between them.
-#[tactic(auto, unfolding(v_readers::specs::Separated::separated))]
-pub fn names<'t>(
-    alloc: Global,
-    tokens: &'t [Lexeme<'t>],
-) -> Result<(Seq<Name>, &'t [Lexeme<'t>]), Stop<'t>>
-    ensures reads { Gives (λ x. (map name_of x.0, x.1.now)) result (separated classes.Comma read.named tokens.now) }
-    ensures shorter { IfOk result (λ x. length x.1.now < length tokens.now) }
-{
-    let (first, mut rest) = named(alloc, tokens)?;
-    let mut names = Vec::new(alloc);
-    names.push(first)?;
-    'names: while is_next(rest, Class::Comma) {
-        let (_, after) = step(rest)?;
-        let (next, after) = named(alloc, after)?;
-        names.push(next)?;
-        rest = after;
+/// Reads names.
+#[derive(Drop)]
+pub struct NameReader;
+
+impl PartReader for NameReader {
+    ghost use Rattle.v_tree.specs.Trees.{NamedPlace};
+    ghost use Rattle.v_tree.specs.Views.{name_of};
+    ghost use Rattle.v_parse.specs.Items.{named};
+
+    type Part = Name;
+
+    ghost Tree = { NamedPlace };
+
+    ghost tree_of = { name_of };
+
+    ghost reader = { λ it. named };
+
+    ghost can_read = { λ it. Unit {0} };
+
+    fn read<'t>(
+        &self,
+        alloc: Global,
+        tokens: &'t [Lexeme<'t>],
+    ) -> Result<(Name, &'t [Lexeme<'t>]), Stop<'t>> {
+        named(alloc, tokens)
     }
-    Ok((Seq::from_vec(names), rest))
 }
 
-/// Parameters, with a comma between them.
-#[tactic(auto, unfolding(v_readers::specs::Separated::separated))]
-pub fn params<'t>(
-    alloc: Global,
-    tokens: &'t [Lexeme<'t>],
-    levels: u32,
-) -> Result<(Seq<Param>, &'t [Lexeme<'t>]), Stop<'t>>
-    requires { levels < 256 }
-    ensures reads { Gives (λ x. (map parameter_of x.0, x.1.now)) result (separated classes.Comma (read.parameter levels) tokens.now) }
-    ensures shorter { IfOk result (λ x. length x.1.now < length tokens.now) }
-{
-    let (first, mut rest) = parameter(alloc, tokens, levels)?;
-    let mut params = Vec::new(alloc);
-    params.push(first)?;
-    'params: while is_next(rest, Class::Comma) {
-        let (_, after) = step(rest)?;
-        let (next, after) = parameter(alloc, after, levels)?;
-        params.push(next)?;
-        rest = after;
-    }
-    Ok((Seq::from_vec(params), rest))
+/// Reads parameters with their values.
+#[derive(Drop)]
+pub struct ParameterReader {
+    pub levels: u32,
 }
 
-/// Nets, with a comma between them.
-#[tactic(auto, unfolding(v_readers::specs::Separated::separated))]
-pub fn wires<'t>(
-    alloc: Global,
-    tokens: &'t [Lexeme<'t>],
-    levels: u32,
-) -> Result<(Seq<Wire>, &'t [Lexeme<'t>]), Stop<'t>>
-    requires { levels < 256 }
-    ensures reads { Gives (λ x. (map wire_of x.0, x.1.now)) result (separated classes.Comma (read.wire levels) tokens.now) }
-    ensures shorter { IfOk result (λ x. length x.1.now < length tokens.now) }
-{
-    let (first, mut rest) = wire(alloc, tokens, levels)?;
-    let mut wires = Vec::new(alloc);
-    wires.push(first)?;
-    'wires: while is_next(rest, Class::Comma) {
-        let (_, after) = step(rest)?;
-        let (next, after) = wire(alloc, after, levels)?;
-        wires.push(next)?;
-        rest = after;
+impl PartReader for ParameterReader {
+    ghost use Rattle.std.specs.Prelude.{◌<◌};
+    ghost use Rattle.v_tree.specs.Trees.{SourceParameter};
+    ghost use Rattle.v_tree.specs.Views.{parameter_of};
+    ghost use Rattle.v_parse.specs.Items.{parameter};
+
+    type Part = Param;
+
+    ghost Tree = { SourceParameter };
+
+    ghost tree_of = { parameter_of };
+
+    ghost reader = { λ it. parameter it.levels };
+
+    ghost can_read = { λ it. it.levels < 256 };
+
+    fn read<'t>(
+        &self,
+        alloc: Global,
+        tokens: &'t [Lexeme<'t>],
+    ) -> Result<(Param, &'t [Lexeme<'t>]), Stop<'t>> {
+        parameter(alloc, tokens, self.levels)
     }
-    Ok((Seq::from_vec(wires), rest))
 }
 
-/// Variables, with a comma between them.
-#[tactic(auto, unfolding(v_readers::specs::Separated::separated))]
-pub fn regs<'t>(
-    alloc: Global,
-    tokens: &'t [Lexeme<'t>],
-    levels: u32,
-) -> Result<(Seq<Reg>, &'t [Lexeme<'t>]), Stop<'t>>
-    requires { levels < 256 }
-    ensures reads { Gives (λ x. (map reg_of x.0, x.1.now)) result (separated classes.Comma (read.reg levels) tokens.now) }
-    ensures shorter { IfOk result (λ x. length x.1.now < length tokens.now) }
-{
-    let (first, mut rest) = reg(alloc, tokens, levels)?;
-    let mut regs = Vec::new(alloc);
-    regs.push(first)?;
-    'regs: while is_next(rest, Class::Comma) {
-        let (_, after) = step(rest)?;
-        let (next, after) = reg(alloc, after, levels)?;
-        regs.push(next)?;
-        rest = after;
+/// Reads nets.
+#[derive(Drop)]
+pub struct WireReader {
+    pub levels: u32,
+}
+
+impl PartReader for WireReader {
+    ghost use Rattle.std.specs.Prelude.{◌<◌};
+    ghost use Rattle.v_tree.specs.Trees.{SourceWire};
+    ghost use Rattle.v_tree.specs.Views.{wire_of};
+    ghost use Rattle.v_parse.specs.Items.{wire};
+
+    type Part = Wire;
+
+    ghost Tree = { SourceWire };
+
+    ghost tree_of = { wire_of };
+
+    ghost reader = { λ it. wire it.levels };
+
+    ghost can_read = { λ it. it.levels < 256 };
+
+    fn read<'t>(
+        &self,
+        alloc: Global,
+        tokens: &'t [Lexeme<'t>],
+    ) -> Result<(Wire, &'t [Lexeme<'t>]), Stop<'t>> {
+        wire(alloc, tokens, self.levels)
     }
-    Ok((Seq::from_vec(regs), rest))
+}
+
+/// Reads variables.
+#[derive(Drop)]
+pub struct RegReader {
+    pub levels: u32,
+}
+
+impl PartReader for RegReader {
+    ghost use Rattle.std.specs.Prelude.{◌<◌};
+    ghost use Rattle.v_tree.specs.Trees.{SourceReg};
+    ghost use Rattle.v_tree.specs.Views.{reg_of};
+    ghost use Rattle.v_parse.specs.Items.{reg};
+
+    type Part = Reg;
+
+    ghost Tree = { SourceReg };
+
+    ghost tree_of = { reg_of };
+
+    ghost reader = { λ it. reg it.levels };
+
+    ghost can_read = { λ it. it.levels < 256 };
+
+    fn read<'t>(
+        &self,
+        alloc: Global,
+        tokens: &'t [Lexeme<'t>],
+    ) -> Result<(Reg, &'t [Lexeme<'t>]), Stop<'t>> {
+        reg(alloc, tokens, self.levels)
+    }
 }
 
 /// The word before parameters.
@@ -313,7 +342,10 @@ pub fn parameters<'t>(
     let (place, rest) = expect(tokens, parameter_word(is_local))?;
     let (signed, rest) = signed(rest)?;
     let (range, rest) = width(alloc, rest, levels)?;
-    let (params, rest) = params(alloc, rest, levels)?;
+    let parameters = SeparatedReader {
+        part: ParameterReader { levels },
+    };
+    let (range, params, rest) = with_next(range, alloc, rest, &parameters)?;
     Ok((
         Params {
             place,
@@ -390,6 +422,6 @@ pub fn ports<'t>(
     ensures shorter { IfOk result (λ x. length x.1.now < length tokens.now) }
 {
     let (head, rest) = ports_head(alloc, tokens, direction, levels)?;
-    let (names, rest) = names(alloc, rest)?;
+    let (head, names, rest) = with_next(head, alloc, rest, &SeparatedReader { part: NameReader })?;
     Ok((with_names(head, names), rest))
 }

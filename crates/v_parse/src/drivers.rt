@@ -1,11 +1,8 @@
 // Reading continuous assignments and gates.
 
 ghost use Rattle.std.specs.Prelude.{◌≡◌, ◌+◌, ◌≤◌, ◌<◌, List, [], ◌∷◌, map, length, IfOk};
-ghost use Rattle.v_tree.specs.Views.{expression_of, name_in, assignment_of, gate_of};
+ghost use Rattle.v_tree.specs.Views.{expression_of, name_in, target_of, assignment_of, gate_of};
 ghost use Rattle.v_readers.specs.Given.{Gives};
-ghost use Rattle.v_readers.specs.Separated.{separated};
-ghost use Rattle.v_readers.specs.declared.class.Class.TheVariants as classes;
-ghost use Rattle.v_expr.specs.Expressions as expressions;
 ghost use Rattle.v_parse.specs.Items as read;
 ghost use Rattle.v_parse.specs.Spelling.{has_one_input};
 
@@ -13,9 +10,9 @@ use crate::declarations::named;
 use crate::headers::alone;
 use four_value::GateKind;
 use std::alloc::Global;
-use v_expr::{expression, target};
-use v_readers::{Class, Lexeme, Stop, expect, is_next, next_class, step};
-use v_tree::{Assignment, Expr, Gate, Name};
+use v_expr::{ExpressionReader, PartReader, closed, expression, separated, target, with_next};
+use v_readers::{Class, Lexeme, Stop, next_class};
+use v_tree::{Assignment, Expr, Gate, Name, Target};
 use vf_base::Seq;
 
 /// A target with the value that it is assigned.
@@ -30,32 +27,40 @@ pub fn assignment<'t>(
     ensures shorter { IfOk result (λ x. length x.1.now < length tokens.now) }
 {
     let (target, rest) = target(alloc, tokens, levels)?;
-    let (_, rest) = expect(rest, Class::Assign)?;
-    let (value, rest) = expression(alloc, rest, levels)?;
+    let (target, _, rest) = closed(target, rest, Class::Assign)?;
+    let (target, value, rest) = with_next(target, alloc, rest, &ExpressionReader { levels })?;
     Ok((Assignment { target, value }, rest))
 }
 
-/// Assignments, with a comma between them.
-#[tactic(auto, unfolding(v_readers::specs::Separated::separated))]
-pub fn assignments<'t>(
-    alloc: Global,
-    tokens: &'t [Lexeme<'t>],
-    levels: u32,
-) -> Result<(Seq<Assignment>, &'t [Lexeme<'t>]), Stop<'t>>
-    requires { levels < 256 }
-    ensures reads { Gives (λ x. (map assignment_of x.0, x.1.now)) result (separated classes.Comma (read.assignment levels) tokens.now) }
-    ensures shorter { IfOk result (λ x. length x.1.now < length tokens.now) }
-{
-    let (first, mut rest) = assignment(alloc, tokens, levels)?;
-    let mut assignments = Vec::new(alloc);
-    assignments.push(first)?;
-    'assignments: while is_next(rest, Class::Comma) {
-        let (_, after) = step(rest)?;
-        let (next, after) = assignment(alloc, after, levels)?;
-        assignments.push(next)?;
-        rest = after;
+/// Reads targets with the values that they are assigned.
+#[derive(Drop)]
+pub struct AssignmentReader {
+    pub levels: u32,
+}
+
+impl PartReader for AssignmentReader {
+    ghost use Rattle.std.specs.Prelude.{◌<◌};
+    ghost use Rattle.v_tree.specs.Trees.{SourceAssignment};
+    ghost use Rattle.v_tree.specs.Views.{assignment_of};
+    ghost use Rattle.v_parse.specs.Items.{assignment};
+
+    type Part = Assignment;
+
+    ghost Tree = { SourceAssignment };
+
+    ghost tree_of = { assignment_of };
+
+    ghost reader = { λ it. assignment it.levels };
+
+    ghost can_read = { λ it. it.levels < 256 };
+
+    fn read<'t>(
+        &self,
+        alloc: Global,
+        tokens: &'t [Lexeme<'t>],
+    ) -> Result<(Assignment, &'t [Lexeme<'t>]), Stop<'t>> {
+        assignment(alloc, tokens, self.levels)
     }
-    Ok((Seq::from_vec(assignments), rest))
 }
 
 /// The name of a gate, if it has one.
@@ -87,29 +92,6 @@ fn has_one_input(kind: GateKind) -> bool
     }
 }
 
-/// Expressions, with a comma between them.
-#[tactic(auto, unfolding(v_readers::specs::Separated::separated))]
-fn expressions<'t>(
-    alloc: Global,
-    tokens: &'t [Lexeme<'t>],
-    levels: u32,
-) -> Result<(Seq<Expr>, &'t [Lexeme<'t>]), Stop<'t>>
-    requires { levels < 256 }
-    ensures reads { Gives (λ x. (map expression_of x.0, x.1.now)) result (separated classes.Comma (expressions.expression levels) tokens.now) }
-    ensures shorter { IfOk result (λ x. length x.1.now ≤ length tokens.now) }
-{
-    let (first, mut rest) = expression(alloc, tokens, levels)?;
-    let mut expressions = Vec::new(alloc);
-    expressions.push(first)?;
-    'expressions: while is_next(rest, Class::Comma) {
-        let (_, after) = step(rest)?;
-        let (next, after) = expression(alloc, after, levels)?;
-        expressions.push(next)?;
-        rest = after;
-    }
-    Ok((Seq::from_vec(expressions), rest))
-}
-
 /// The inputs of a gate.
 #[tactic(auto, unfolding(crate::specs::Items::inputs))]
 fn inputs<'t>(
@@ -127,7 +109,86 @@ fn inputs<'t>(
         let inputs = alone(alloc, input)?;
         Ok((inputs, rest))
     } else {
-        expressions(alloc, tokens, levels)
+        separated(alloc, tokens, &ExpressionReader { levels })
+    }
+}
+
+/// Reads targets within so many levels.
+#[derive(Drop)]
+struct TargetReader {
+    pub levels: u32,
+}
+
+impl PartReader for TargetReader {
+    ghost use Rattle.std.specs.Prelude.{◌<◌};
+    ghost use Rattle.v_tree.specs.Trees.{SourceTarget};
+    ghost use Rattle.v_tree.specs.Views.{target_of};
+    ghost use Rattle.v_expr.specs.Parts.{target};
+
+    type Part = Target;
+
+    ghost Tree = { SourceTarget };
+
+    ghost tree_of = { target_of };
+
+    ghost reader = { λ it. target it.levels };
+
+    ghost can_read = { λ it. it.levels < 256 };
+
+    fn read<'t>(
+        &self,
+        alloc: Global,
+        tokens: &'t [Lexeme<'t>],
+    ) -> Result<(Target, &'t [Lexeme<'t>]), Stop<'t>> {
+        target(alloc, tokens, self.levels)
+    }
+}
+
+/// Reads the inputs of a gate of this kind.
+#[derive(Drop)]
+struct InputReader {
+    pub kind: GateKind,
+    pub levels: u32,
+}
+
+impl PartReader for InputReader {
+    ghost use Rattle.std.specs.Prelude.{◌<◌, List, map};
+    ghost use Rattle.v_tree.specs.Trees.{SourceExpression};
+    ghost use Rattle.v_tree.specs.Views.{expression_of};
+    ghost use Rattle.v_parse.specs.Items.{inputs};
+
+    type Part = Seq<Expr>;
+
+    ghost Tree = { List SourceExpression };
+
+    ghost tree_of = { map expression_of };
+
+    ghost reader = { λ it. inputs it.levels it.kind };
+
+    ghost can_read = { λ it. it.levels < 256 };
+
+    fn read<'t>(
+        &self,
+        alloc: Global,
+        tokens: &'t [Lexeme<'t>],
+    ) -> Result<(Seq<Expr>, &'t [Lexeme<'t>]), Stop<'t>> {
+        inputs(alloc, tokens, self.kind, self.levels)
+    }
+}
+
+/// A gate with these inputs.
+fn with_inputs(gate: Gate, inputs: Seq<Expr>) -> Gate
+    ensures { gate_of result ≡ record { name = name_in gate.name; output = target_of gate.output; inputs = map expression_of inputs } }
+{
+    let Gate {
+        name,
+        output,
+        inputs: _,
+    } = gate;
+    Gate {
+        name,
+        output,
+        inputs,
     }
 }
 
@@ -144,41 +205,53 @@ fn gate<'t>(
     ensures shorter { IfOk result (λ x. length x.1.now < length tokens.now) }
 {
     let (name, rest) = gate_name(alloc, tokens)?;
-    let (_, rest) = expect(rest, Class::LeftParen)?;
-    let (output, rest) = target(alloc, rest, levels)?;
-    let (_, rest) = expect(rest, Class::Comma)?;
-    let (inputs, rest) = inputs(alloc, rest, kind, levels)?;
-    let (_, rest) = expect(rest, Class::RightParen)?;
-    Ok((
-        Gate {
-            name,
-            output,
-            inputs,
-        },
+    let (name, _, rest) = closed(name, rest, Class::LeftParen)?;
+    let (name, output, rest) = with_next(name, alloc, rest, &TargetReader { levels })?;
+    let terminals = Gate {
+        name,
+        output,
+        inputs: Seq::from_vec(Vec::new(alloc)),
+    };
+    let (terminals, _, rest) = closed(terminals, rest, Class::Comma)?;
+    let (terminals, inputs, rest) = with_next(
+        terminals,
+        alloc,
         rest,
-    ))
+        &InputReader { kind, levels },
+    )?;
+    let gate = with_inputs(terminals, inputs);
+    let (gate, _, rest) = closed(gate, rest, Class::RightParen)?;
+    Ok((gate, rest))
 }
 
-/// Gates of one kind, with a comma between them.
-#[tactic(auto, unfolding(v_readers::specs::Separated::separated))]
-pub fn gates<'t>(
-    alloc: Global,
-    tokens: &'t [Lexeme<'t>],
-    kind: GateKind,
-    levels: u32,
-) -> Result<(Seq<Gate>, &'t [Lexeme<'t>]), Stop<'t>>
-    requires { levels < 256 }
-    ensures reads { Gives (λ x. (map gate_of x.0, x.1.now)) result (separated classes.Comma (read.gate levels kind) tokens.now) }
-    ensures shorter { IfOk result (λ x. length x.1.now < length tokens.now) }
-{
-    let (first, mut rest) = gate(alloc, tokens, kind, levels)?;
-    let mut gates = Vec::new(alloc);
-    gates.push(first)?;
-    'gates: while is_next(rest, Class::Comma) {
-        let (_, after) = step(rest)?;
-        let (next, after) = gate(alloc, after, kind, levels)?;
-        gates.push(next)?;
-        rest = after;
+/// Reads gates of this kind.
+#[derive(Drop)]
+pub struct GateReader {
+    pub kind: GateKind,
+    pub levels: u32,
+}
+
+impl PartReader for GateReader {
+    ghost use Rattle.std.specs.Prelude.{◌<◌};
+    ghost use Rattle.v_tree.specs.Trees.{SourceGate};
+    ghost use Rattle.v_tree.specs.Views.{gate_of};
+    ghost use Rattle.v_parse.specs.Items.{gate};
+
+    type Part = Gate;
+
+    ghost Tree = { SourceGate };
+
+    ghost tree_of = { gate_of };
+
+    ghost reader = { λ it. gate it.levels it.kind };
+
+    ghost can_read = { λ it. it.levels < 256 };
+
+    fn read<'t>(
+        &self,
+        alloc: Global,
+        tokens: &'t [Lexeme<'t>],
+    ) -> Result<(Gate, &'t [Lexeme<'t>]), Stop<'t>> {
+        gate(alloc, tokens, self.kind, self.levels)
     }
-    Ok((Seq::from_vec(gates), rest))
 }

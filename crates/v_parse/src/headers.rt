@@ -7,8 +7,9 @@ ghost use Rattle.v_readers.specs.Reading.{by_class};
 ghost use Rattle.v_parse.specs.Items as read;
 ghost use Rattle.v_parse.specs.Rows as rows;
 
-use crate::declarations::{named, names, parameter, ports_head, signed, width, with_names};
+use crate::declarations::{NameReader, ParameterReader, ports_head, signed, width, with_names};
 use std::alloc::Global;
+use v_expr::{PartReader, closed, separated, with_next};
 use v_readers::{Class, Lexeme, Stop, expect, is_next, next_class, step};
 use v_tree::{Direction, Heads, Name, Param, Params, Ports};
 use vf_base::{NoMemory, Seq};
@@ -43,7 +44,7 @@ fn group<'t>(
     let (place, rest) = expect(tokens, Class::Parameter)?;
     let (signed, rest) = signed(rest)?;
     let (range, rest) = width(alloc, rest, levels)?;
-    let (parameter, rest) = parameter(alloc, rest, levels)?;
+    let (range, parameter, rest) = with_next(range, alloc, rest, &ParameterReader { levels })?;
     let params = alone(alloc, parameter)?;
     Ok((
         Params {
@@ -79,6 +80,47 @@ fn with_parameter(group: Params, parameter: Param) -> Result<Params, NoMemory>
     })
 }
 
+/// Reads the first parameter of a group, with what stands before it.
+#[derive(Drop)]
+struct GroupReader {
+    pub levels: u32,
+}
+
+impl PartReader for GroupReader {
+    ghost use Rattle.std.specs.Prelude.{◌<◌};
+    ghost use Rattle.v_tree.specs.Trees.{SourceParameters};
+    ghost use Rattle.v_tree.specs.Views.{parameters_of};
+    ghost use Rattle.v_parse.specs.Items.{group};
+
+    type Part = Params;
+
+    ghost Tree = { SourceParameters };
+
+    ghost tree_of = { parameters_of };
+
+    ghost reader = { λ it. group it.levels };
+
+    ghost can_read = { λ it. it.levels < 256 };
+
+    fn read<'t>(
+        &self,
+        alloc: Global,
+        tokens: &'t [Lexeme<'t>],
+    ) -> Result<(Params, &'t [Lexeme<'t>]), Stop<'t>> {
+        group(alloc, tokens, self.levels)
+    }
+}
+
+/// The groups with another one behind them.
+fn with_another<T: Drop>(row: Row<T>, next: T) -> Result<Row<T>, NoMemory>
+    ensures before { IfOk result (λ row_then. row_then.before.items ≡ row.before.items ++ row.last ∷ []) }
+    ensures last { IfOk result (λ row_then. row_then.last ≡ next) }
+{
+    let Row { mut before, last } = row;
+    before.push(last)?;
+    Ok(Row { before, last: next })
+}
+
 /// Behind a comma, a new group or one more parameter of the last one.
 #[tactic(auto, using(crate::proofs::Turns::added))]
 fn next_group<'t>(
@@ -90,17 +132,21 @@ fn next_group<'t>(
     requires { levels < 256 }
     ensures reads { Gives (λ x. (Some (map parameters_of x.0.before.items ++ parameters_of x.0.last ∷ []), x.1.now)) result (by_class (read.group_by levels
         (map parameters_of row.before.items ++ parameters_of row.last ∷ [])) tokens.now) }
-    ensures shorter { IfOk result (λ x. length x.1.now < length tokens.now) }
+    ensures shorter { IfOk result (λ x. length x.1.now ≤ length tokens.now) }
 {
-    let Row { mut before, last } = row;
     match next_class(tokens) {
         Some(Class::Parameter) => {
-            let (next, rest) = group(alloc, tokens, levels)?;
-            before.push(last)?;
-            Ok((Row { before, last: next }, rest))
+            let (row, next, rest) = with_next(row, alloc, tokens, &GroupReader { levels })?;
+            Ok((with_another(row, next)?, rest))
         }
         _ => {
-            let (parameter, rest) = parameter(alloc, tokens, levels)?;
+            let (row, parameter, rest) = with_next(
+                row,
+                alloc,
+                tokens,
+                &ParameterReader { levels },
+            )?;
+            let Row { before, last } = row;
             let last = with_parameter(last, parameter)?;
             Ok((Row { before, last }, rest))
         }
@@ -149,7 +195,7 @@ pub fn parameter_list<'t>(
             let (_, rest) = step(tokens)?;
             let (_, rest) = expect(rest, Class::LeftParen)?;
             let (groups, rest) = groups(alloc, rest, levels)?;
-            let (_, rest) = expect(rest, Class::RightParen)?;
+            let (groups, _, rest) = closed(groups, rest, Class::RightParen)?;
             Ok((groups, rest))
         }
         _ => Ok((Seq::from_vec(Vec::new(alloc)), tokens)),
@@ -169,7 +215,7 @@ fn port<'t>(
     ensures shorter { IfOk result (λ x. length x.1.now < length tokens.now) }
 {
     let (head, rest) = ports_head(alloc, tokens, direction, levels)?;
-    let (name, rest) = named(alloc, rest)?;
+    let (head, name, rest) = with_next(head, alloc, rest, &NameReader)?;
     let names = alone(alloc, name)?;
     Ok((with_names(head, names), rest))
 }
@@ -198,6 +244,38 @@ fn with_name(group: Ports, name: Name) -> Result<Ports, NoMemory>
     })
 }
 
+/// Reads the first port of a group in this direction, with what stands before it.
+#[derive(Drop)]
+struct PortReader {
+    pub direction: Direction,
+    pub levels: u32,
+}
+
+impl PartReader for PortReader {
+    ghost use Rattle.std.specs.Prelude.{◌<◌};
+    ghost use Rattle.v_tree.specs.Trees.{SourcePorts};
+    ghost use Rattle.v_tree.specs.Views.{ports_of};
+    ghost use Rattle.v_parse.specs.Items.{port};
+
+    type Part = Ports;
+
+    ghost Tree = { SourcePorts };
+
+    ghost tree_of = { ports_of };
+
+    ghost reader = { λ it. port it.levels it.direction };
+
+    ghost can_read = { λ it. it.levels < 256 };
+
+    fn read<'t>(
+        &self,
+        alloc: Global,
+        tokens: &'t [Lexeme<'t>],
+    ) -> Result<(Ports, &'t [Lexeme<'t>]), Stop<'t>> {
+        port(alloc, tokens, self.direction, self.levels)
+    }
+}
+
 /// A new group of ports behind the others.
 fn another_port<'t>(
     alloc: Global,
@@ -209,12 +287,10 @@ fn another_port<'t>(
     requires { levels < 256 }
     ensures reads { Gives (λ x. (Some (map ports_of x.0.before.items ++ ports_of x.0.last ∷ []), x.1.now)) result (read.another_port levels
         (map ports_of row.before.items ++ ports_of row.last ∷ []) direction tokens.now) }
-    ensures shorter { IfOk result (λ x. length x.1.now < length tokens.now) }
+    ensures shorter { IfOk result (λ x. length x.1.now ≤ length tokens.now) }
 {
-    let Row { mut before, last } = row;
-    let (next, rest) = port(alloc, tokens, direction, levels)?;
-    before.push(last)?;
-    Ok((Row { before, last: next }, rest))
+    let (row, next, rest) = with_next(row, alloc, tokens, &PortReader { direction, levels })?;
+    Ok((with_another(row, next)?, rest))
 }
 
 /// Behind a comma, a new group or one more port of the last one.
@@ -228,13 +304,13 @@ fn next_port<'t>(
     requires { levels < 256 }
     ensures reads { Gives (λ x. (Some (map ports_of x.0.before.items ++ ports_of x.0.last ∷ []), x.1.now)) result (by_class (read.port_by levels
         (map ports_of row.before.items ++ ports_of row.last ∷ [])) tokens.now) }
-    ensures shorter { IfOk result (λ x. length x.1.now < length tokens.now) }
+    ensures shorter { IfOk result (λ x. length x.1.now ≤ length tokens.now) }
 {
     match next_class(tokens) {
         Some(Class::Input) => another_port(alloc, tokens, row, Direction::Input, levels),
         Some(Class::Output) => another_port(alloc, tokens, row, Direction::Output, levels),
         _ => {
-            let (name, rest) = named(alloc, tokens)?;
+            let (row, name, rest) = with_next(row, alloc, tokens, &NameReader)?;
             let Row { before, last } = row;
             let last = with_name(last, name)?;
             Ok((Row { before, last }, rest))
@@ -282,7 +358,7 @@ fn declared_ports<'t>(
     ensures shorter { IfOk result (λ x. length x.1.now < length tokens.now) }
 {
     let (groups, rest) = port_groups(alloc, tokens, direction, levels)?;
-    let (_, rest) = expect(rest, Class::RightParen)?;
+    let (groups, _, rest) = closed(groups, rest, Class::RightParen)?;
     Ok((Heads::Declared(groups), rest))
 }
 
@@ -302,8 +378,8 @@ fn heads_inside<'t>(
             Ok((Heads::Plain(Seq::from_vec(Vec::new(alloc))), rest))
         }
         Some(Class::Name) => {
-            let (names, rest) = names(alloc, tokens)?;
-            let (_, rest) = expect(rest, Class::RightParen)?;
+            let (names, rest) = separated(alloc, tokens, &NameReader)?;
+            let (names, _, rest) = closed(names, rest, Class::RightParen)?;
             Ok((Heads::Plain(names), rest))
         }
         Some(Class::Input) => declared_ports(alloc, tokens, Direction::Input, levels),

@@ -6,11 +6,12 @@ ghost use Rattle.v_readers.specs.Given.{Gives};
 ghost use Rattle.v_parse.specs.Items as read;
 ghost use Rattle.v_parse.specs.Spelling.{gate_word};
 
-use crate::connections::{given, instances};
-use crate::declarations::{parameters, ports, regs, signed, width, wires};
-use crate::drivers::{assignments, gates};
+use crate::connections::{InstanceReader, given};
+use crate::declarations::{RegReader, WireReader, parameters, ports, signed, width};
+use crate::drivers::{AssignmentReader, GateReader};
 use four_value::GateKind;
 use std::alloc::Global;
+use v_expr::{SeparatedReader, closed, separated, with_next};
 use v_readers::{Class, Lexeme, Stop, expect, name, next_class};
 use v_stmt::statement;
 use v_tree::{Direction, Item};
@@ -28,7 +29,7 @@ fn parameter_item<'t>(
     ensures shorter { IfOk result (λ x. length x.1.now < length tokens.now) }
 {
     let (group, rest) = parameters(alloc, tokens, is_local, levels)?;
-    let (_, rest) = expect(rest, Class::Semicolon)?;
+    let (group, _, rest) = closed(group, rest, Class::Semicolon)?;
     Ok((Item::Params(group), rest))
 }
 
@@ -45,7 +46,7 @@ fn port_item<'t>(
     ensures shorter { IfOk result (λ x. length x.1.now < length tokens.now) }
 {
     let (group, rest) = ports(alloc, tokens, direction, levels)?;
-    let (_, rest) = expect(rest, Class::Semicolon)?;
+    let (group, _, rest) = closed(group, rest, Class::Semicolon)?;
     Ok((Item::Ports(group), rest))
 }
 
@@ -63,17 +64,18 @@ fn wire_item<'t>(
     let (place, rest) = expect(tokens, Class::Wire)?;
     let (signed, rest) = signed(rest)?;
     let (range, rest) = width(alloc, rest, levels)?;
-    let (wires, rest) = wires(alloc, rest, levels)?;
-    let (_, rest) = expect(rest, Class::Semicolon)?;
-    Ok((
-        Item::Wire {
-            place,
-            signed,
-            range,
-            wires,
-        },
-        rest,
-    ))
+    let row = SeparatedReader {
+        part: WireReader { levels },
+    };
+    let (range, wires, rest) = with_next(range, alloc, rest, &row)?;
+    let item = Item::Wire {
+        place,
+        signed,
+        range,
+        wires,
+    };
+    let (item, _, rest) = closed(item, rest, Class::Semicolon)?;
+    Ok((item, rest))
 }
 
 /// Variables, to the semicolon.
@@ -90,17 +92,18 @@ fn reg_item<'t>(
     let (place, rest) = expect(tokens, Class::Reg)?;
     let (signed, rest) = signed(rest)?;
     let (range, rest) = width(alloc, rest, levels)?;
-    let (regs, rest) = regs(alloc, rest, levels)?;
-    let (_, rest) = expect(rest, Class::Semicolon)?;
-    Ok((
-        Item::Reg {
-            place,
-            signed,
-            range,
-            regs,
-        },
-        rest,
-    ))
+    let row = SeparatedReader {
+        part: RegReader { levels },
+    };
+    let (range, regs, rest) = with_next(range, alloc, rest, &row)?;
+    let item = Item::Reg {
+        place,
+        signed,
+        range,
+        regs,
+    };
+    let (item, _, rest) = closed(item, rest, Class::Semicolon)?;
+    Ok((item, rest))
 }
 
 /// Variables of the type `integer`, to the semicolon.
@@ -115,8 +118,8 @@ fn integer_item<'t>(
     ensures shorter { IfOk result (λ x. length x.1.now < length tokens.now) }
 {
     let (place, rest) = expect(tokens, Class::Integer)?;
-    let (regs, rest) = regs(alloc, rest, levels)?;
-    let (_, rest) = expect(rest, Class::Semicolon)?;
+    let (regs, rest) = separated(alloc, rest, &RegReader { levels })?;
+    let (regs, _, rest) = closed(regs, rest, Class::Semicolon)?;
     Ok((Item::Integer { place, regs }, rest))
 }
 
@@ -132,8 +135,8 @@ fn assign_item<'t>(
     ensures shorter { IfOk result (λ x. length x.1.now < length tokens.now) }
 {
     let (place, rest) = expect(tokens, Class::AssignWord)?;
-    let (assignments, rest) = assignments(alloc, rest, levels)?;
-    let (_, rest) = expect(rest, Class::Semicolon)?;
+    let (assignments, rest) = separated(alloc, rest, &AssignmentReader { levels })?;
+    let (assignments, _, rest) = closed(assignments, rest, Class::Semicolon)?;
     Ok((Item::Assign { place, assignments }, rest))
 }
 
@@ -166,8 +169,8 @@ fn gate_item<'t>(
     ensures shorter { IfOk result (λ x. length x.1.now < length tokens.now) }
 {
     let (place, rest) = expect(tokens, gate_word(kind))?;
-    let (gates, rest) = gates(alloc, rest, kind, levels)?;
-    let (_, rest) = expect(rest, Class::Semicolon)?;
+    let (gates, rest) = separated(alloc, rest, &GateReader { kind, levels })?;
+    let (gates, _, rest) = closed(gates, rest, Class::Semicolon)?;
     Ok((Item::Gate { place, kind, gates }, rest))
 }
 
@@ -184,17 +187,18 @@ fn instance_item<'t>(
 {
     let ((module_name, place), rest) = name(alloc, tokens)?;
     let (parameters, rest) = given(alloc, rest, levels)?;
-    let (instances, rest) = instances(alloc, rest, levels)?;
-    let (_, rest) = expect(rest, Class::Semicolon)?;
-    Ok((
-        Item::Instance {
-            place,
-            module_name,
-            parameters,
-            instances,
-        },
-        rest,
-    ))
+    let row = SeparatedReader {
+        part: InstanceReader { levels },
+    };
+    let (parameters, instances, rest) = with_next(parameters, alloc, rest, &row)?;
+    let item = Item::Instance {
+        place,
+        module_name,
+        parameters,
+        instances,
+    };
+    let (item, _, rest) = closed(item, rest, Class::Semicolon)?;
+    Ok((item, rest))
 }
 
 /// A process that runs once.
