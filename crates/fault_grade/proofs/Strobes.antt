@@ -10,21 +10,15 @@ use Rattle.v_design.specs.WellFormed.{KeepsRules, IsPlan}
 use Rattle.order_laws.specs.FirstRuns.{FirstRunsGoOn}
 use Rattle.grade_laws.specs.Ahead.{Shows}
 use Rattle.grade_laws.specs.Grading.{IsGoodRun}
-use Rattle.grade_laws.specs.Sampling.{IsSampling, sampling-start, sampling-more, sampling-stopped, sampling-ends}
+use Rattle.grade_laws.specs.Sampling.{sampling-start, sampling-more, sampling-stopped, sampling-ends}
 use Rattle.machine.specs.Standing.{IsStanding, machine_kept, state_kept, begins_next}
 use Rattle.machine.specs.declared.parts.Machine.{Machine as Simulated}
 use Rattle.fault_grade.specs.declared.stop.Stop.{Stop}
 use Rattle.fault_grade.specs.Stops.{stop_view}
 use Rattle.fault_grade.specs.Samples.{stop_if}
 use Rattle.fault_grade.specs.Beside.{early, start-goes}
-use Rattle.fault_grade.specs.Reached.{GoesOn, IsReached, Advanced}
-
--- the good machine went on, these samples of it were kept, and these strobes are next
-pub record SamplesAt (design : FlatDesign) (plan : TestPlan) (m : Simulated) (shown : List Sample) (next : List ℕ) : Type 0 where
-  pub same_machine : machine_kept m ≡ good_machine design
-  pub now : ℕ
-  pub goes : GoesOn now m
-  pub sampling : IsSampling design plan now shown next
+use Rattle.fault_grade.specs.Reached.{IsReached, Advanced}
+use Rattle.fault_grade.specs.Gradings.{SamplesAt}
 
 pub map-more : {A B : Type 0} (f : A → B) (xs : List A) (x : A) → map f (xs ++ x ∷ []) ≡ map f xs ++ f x ∷ []
 map-more f [] x = refl

@@ -13,7 +13,7 @@ ghost use Rattle.fault_grade.specs.Reached.{IsReached};
 ghost use Rattle.kept_samples.specs.Plain.{sample_of};
 ghost use Rattle.fault_grade.specs.Samples.{samples_kept};
 ghost use Rattle.fault_grade.specs.Stops.{race_if};
-ghost use Rattle.fault_grade.specs.Gradings.{IsGradingAt, Passes, AdvancesTo, last_before};
+ghost use Rattle.fault_grade.specs.Gradings.{IsGradable, IsGradingAt, Passes, AdvancesTo, last_before};
 
 use crate::bench::Bench;
 use crate::good::GoodSamples;
@@ -121,6 +121,27 @@ fn finish<L: Ledger>(
     }
 }
 
+/// Ends a grading: its machine is run beside the samples that are next, from strobe to strobe, and to the plan's end.
+fn grade_on<L: Ledger>(
+    log: &mut SlotLog,
+    machine: &mut Machine<'_>,
+    grader: &mut Grader<'_>,
+    good: &GoodSamples,
+    end: u64,
+    steps: &mut Steps<L>,
+) -> Result<End, NoMemory>
+    requires { IsGradable good.now end machine.old grader.old }
+    ensures { IfOk result (λ ended. (of : IsGradable good.now end machine.old grader.old) → grade of.design of.plan of.fault ≡ Some (grade_of ended)) }
+{
+    'strobes: for sample in &good.samples {
+        if let Some(end) = pass_strobe(log, machine, grader, sample, steps)? {
+            return Ok(end);
+        }
+    }
+    let ended = finish(log, machine, grader, good.race, end, steps)?;
+    Ok(ended)
+}
+
 /// The grade of a fault: its faulty machine is run beside what the good machine showed, from strobe to strobe.
 ///
 /// # Errors
@@ -141,16 +162,11 @@ pub fn grade_fault<L: Ledger>(
     let mut machine = Machine::new(alloc, bench.design, bench.graph, Some(fault))?;
     let mut log = empty_log(alloc);
     let mut grader = Grader::new(bench.plan.watched.as_slice());
-    'strobes: for sample in &good.samples {
-        if let Some(end) = pass_strobe(&mut log, &mut machine, &mut grader, sample, steps)? {
-            return Ok(end);
-        }
-    }
-    let end = finish(
+    let end = grade_on(
         &mut log,
         &mut machine,
-        &grader,
-        good.race,
+        &mut grader,
+        good,
         bench.plan.end,
         steps,
     )?;

@@ -2,19 +2,23 @@
 
 ghost use Rattle.std.specs.Prelude.{◌≡◌, map, IfOk};
 ghost use Rattle.v_design.specs.Designs.{FlatDesign, TestPlan};
+ghost use Rattle.v_design.specs.PlainDesigns.{plan_of};
 ghost use Rattle.grade_laws.specs.Grading.{IsGoodRun};
 ghost use Rattle.fault_grade.specs.Benches.{IsBench, bench_design, bench_plan};
 ghost use Rattle.kept_samples.specs.Plain.{sample_of};
 ghost use Rattle.fault_grade.specs.Samples.{stop_if, IsGood};
+ghost use Rattle.fault_grade.specs.Gradings.{IsShowable};
 
 use crate::bench::Bench;
 use crate::run::{advance, empty_log};
 use crate::stop::Stop;
+use causal_monitor::SlotLog;
 use kept_samples::Sample;
 use machine::Machine;
 use std::alloc::Global;
 use std::sync::ledger::Ledger;
 use strobe_detect::watched_bits;
+use v_design::Plan;
 use vf_base::{NoMemory, Pair, Seq, Steps};
 
 /// The watched bits of the good machine at each strobe before its first race, in order, and that race, if there is one up to the plan's end.
@@ -48,6 +52,32 @@ fn shown_by(samples: Vec<Sample>, stop: Option<Stop>) -> GoodRun
     }
 }
 
+/// Runs a good machine at its start to the plan's end, or to its first race or loop.
+fn show_on<L: Ledger>(
+    alloc: Global,
+    log: &mut SlotLog,
+    machine: &mut Machine<'_>,
+    plan: &Plan,
+    steps: &mut Steps<L>,
+) -> Result<GoodRun, NoMemory>
+    requires { IsShowable (plan_of plan.now) machine.old }
+    ensures { IfOk result (λ shown. (of : IsShowable (plan_of plan.now) machine.old) → IsGood of.design (plan_of plan.now) shown) }
+{
+    let mut samples = Vec::new(alloc);
+    'strobes: for strobe in plan.strobes.as_slice() {
+        if let Some(stop) = advance(log, machine, *strobe, steps)? {
+            return Ok(shown_by(samples, Some(stop)));
+        }
+        let bits = watched_bits(alloc, plan.watched.as_slice(), machine)?;
+        samples.push(Sample {
+            time: *strobe,
+            bits: Seq::from_vec(bits),
+        })?;
+    }
+    let stop = advance(log, machine, plan.end, steps)?;
+    Ok(shown_by(samples, stop))
+}
+
 /// Runs the good machine to the plan's end, or to its first race or loop.
 ///
 /// # Errors
@@ -64,17 +94,6 @@ pub fn run_good<L: Ledger>(
     order_laws::first_run_goes_on();
     let mut machine = Machine::new(alloc, bench.design, bench.graph, None)?;
     let mut log = empty_log(alloc);
-    let mut samples = Vec::new(alloc);
-    'strobes: for strobe in bench.plan.strobes.as_slice() {
-        if let Some(stop) = advance(&mut log, &mut machine, *strobe, steps)? {
-            return Ok(shown_by(samples, Some(stop)));
-        }
-        let bits = watched_bits(alloc, bench.plan.watched.as_slice(), &machine)?;
-        samples.push(Sample {
-            time: *strobe,
-            bits: Seq::from_vec(bits),
-        })?;
-    }
-    let stop = advance(&mut log, &mut machine, bench.plan.end, steps)?;
-    Ok(shown_by(samples, stop))
+    let shown = show_on(alloc, &mut log, &mut machine, bench.plan, steps)?;
+    Ok(shown)
 }

@@ -1,5 +1,5 @@
 -- After the last strobe.
-use Rattle.std.proofs.Common.{◌≡◌, Option, Some, None, ap, sym, subst, ◌∙◌}
+use Rattle.std.proofs.Common.{Option, Some, None, ap, sym, subst, ◌∙◌}
 use Rattle.v_design.specs.Grades.{Judged}
 use Rattle.vf_base.specs.declared.finding.Pair.{Pair}
 use Rattle.grade_laws.specs.Grading.{StopsWithin}

@@ -1,11 +1,10 @@
 -- The faulty machine at a strobe.
-use Rattle.std.proofs.Common.{◌≡◌, Option, Some, None, ap, sym, subst, ◌∙◌}
-use Rattle.four_value.specs.declared.logic.Bit.{Bit}
+use Rattle.std.proofs.Common.{Some, None, ap, sym, subst, ◌∙◌}
 use Rattle.vf_base.specs.Lists.{AllHold}
 use Rattle.v_design.specs.Designs.{Machine}
 use Rattle.v_design.specs.Grades.{samples}
 use Rattle.strobe_detect.specs.Graders.{shown_at}
-use Rattle.machine.specs.Standing.{machine_kept, state_kept}
+use Rattle.machine.specs.Standing.{state_kept}
 use Rattle.fault_grade.specs.Benches.{IsObjectOf}
 use Rattle.kept_samples.specs.Plain.{sample_of}
 use Rattle.fault_grade.specs.Beside.{answered, values-watched}

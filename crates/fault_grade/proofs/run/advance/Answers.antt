@@ -1,5 +1,5 @@
 -- Slot by slot, and where the loop ends.
-use Rattle.std.proofs.Common.{◌≡◌, ◌<◌, Option, Some, None, sym, subst, ◌∙◌}
+use Rattle.std.proofs.Common.{◌≡◌, ◌<◌, Some, sym, subst, ◌∙◌}
 use Rattle.fault_grade.specs.Reached.{RunsOn, next_of}
 use Rattle.fault_grade.proofs.Slots.{time_left, left-falls, past-none, past-later, passed, stopped}
 use Rattle.fault_grade.proofs.run.advance.Goals as goal
