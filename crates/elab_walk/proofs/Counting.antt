@@ -12,9 +12,11 @@ use Rattle.elab_walk.specs.declared.counts.Counts.{Counts}
 pub parts-taken : (parts : List Part) (i : ℕ) (part : Part) → i < length parts → part ≡ get_or parts i part → parts_of (take (i + 1) parts) ≡ parts_of (take i parts) ++ part_of part ∷ []
 parts-taken parts i part below at = ap parts_of (take_more parts i part below) ∙ (map_push part_of (take i parts) (get_or parts i part) ∙ ap (λ p. parts_of (take i parts) ++ part_of p ∷ []) (sym at))
 
-pub counted-more : (before : List plain.Part) (parts : List Part) (i : ℕ) (part : Part) (counts : Counts) → i < length parts → part ≡ get_or parts i part → AreCounts ((before ++ parts_of (take i parts)) ++ part_of part ∷ []) counts → AreCounts (before ++ parts_of (take (i + 1) parts)) counts
+pub counted-more : (before : List plain.Part) (parts : List Part) (i : ℕ) (part : Part) (counts : Counts) → i < length parts → part ≡ get_or parts i part →
+    AreCounts ((before ++ parts_of (take i parts)) ++ part_of part ∷ []) counts → AreCounts (before ++ parts_of (take (i + 1) parts)) counts
 counted-more before parts i part counts below at counted =
-    subst (λ (all : List plain.Part). AreCounts all counts) (append_assoc before (parts_of (take i parts)) (part_of part ∷ []) ∙ ap (λ (ps : List plain.Part). before ++ ps) (sym (parts-taken parts i part below at))) counted
+    subst (λ (all : List plain.Part). AreCounts all counts) (append_assoc before (parts_of (take i parts)) (part_of part ∷ [])
+    ∙ ap (λ (ps : List plain.Part). before ++ ps) (sym (parts-taken parts i part below at))) counted
 
 -- the parts behind those that stand in front
 drop-parts : (parts : List Part) (n : ℕ) → drop n (parts_of parts) ≡ parts_of (drop n parts)
@@ -33,4 +35,5 @@ pub counted-behind : (before front more : List plain.Part) (parts slice : List P
     → AreCounts (before ++ parts_of (take (length slice - from) (drop from slice))) counts → AreCounts (before ++ more) counts
 counted-behind before front more parts slice from counts same pushed at counted =
     subst (λ (ps : List plain.Part). AreCounts (before ++ ps) counts)
-    (ap parts_of (rest-whole slice from) ∙ ap (λ (ps : List Part). parts_of (drop from ps)) same ∙ ap (λ (n : ℕ). parts_of (drop n parts)) at ∙ sym (drop-parts parts (length front)) ∙ ap (drop (length front)) pushed ∙ drop-append_seam front more) counted
+    (ap parts_of (rest-whole slice from) ∙ ap (λ (ps : List Part). parts_of (drop from ps)) same ∙ ap (λ (n : ℕ). parts_of (drop n parts)) at ∙ sym (drop-parts parts (length front))
+    ∙ ap (drop (length front)) pushed ∙ drop-append_seam front more) counted

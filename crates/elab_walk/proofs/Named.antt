@@ -16,11 +16,13 @@ use Rattle.module_scope.specs.Kept.{kept}
 use Rattle.elab_walk.specs.ModuleViews.{module_seen}
 
 -- one module more in front
-put-first : (b : Bool) (m : Bor Module) (old : Option (Bor Module)) (found : Option SourceModule) → option_map module_seen old ≡ found → option_map module_seen (cond b (Some m) old) ≡ module_if b (module_of m.now) found
+put-first : (b : Bool) (m : Bor Module) (old : Option (Bor Module)) (found : Option SourceModule) → option_map module_seen old ≡ found →
+    option_map module_seen (cond b (Some m) old) ≡ module_if b (module_of m.now) found
 put-first true m old found e = refl
 put-first false m old found e = e
 
-pub named-first : (modules : List Module) (i : ℕ) (name key : Identifier) (m : Bor Module) (old new : Option (Bor Module)) → new ≡ cond (same_name key name) (Some m) old → key ≡ m.now.name → i < length modules → m.now ≡ get_or modules i m.now
+pub named-first : (modules : List Module) (i : ℕ) (name key : Identifier) (m : Bor Module) (old new : Option (Bor Module)) → new ≡ cond (same_name key name) (Some m) old → key ≡ m.now.name →
+    i < length modules → m.now ≡ get_or modules i m.now
     → option_map module_seen old ≡ module_named (map module_of (drop (i + 1) modules)) name
     → option_map module_seen new ≡ module_named (map module_of (drop i modules)) name
 named-first modules i name key m old new is key-is below at found =
@@ -35,7 +37,8 @@ has_module earlier name = not (is_empty (filter (λ (other : SourceModule). same
 has-more : (m : SourceModule) (earlier : List SourceModule) (name : Identifier) → has_module (m ∷ earlier) name ≡ cond (same_name m.name name) true (has_module earlier name)
 has-more m earlier name = by (same_name m.name name)
   where
-    by : (b : Bool) → not (is_empty (cond b (m ∷ filter (λ (other : SourceModule). same_name other.name name) earlier) (filter (λ (other : SourceModule). same_name other.name name) earlier))) ≡ cond b true (has_module earlier name)
+    by : (b : Bool) → not (is_empty (cond b (m ∷ filter (λ (other : SourceModule). same_name other.name name) earlier) (filter (λ (other : SourceModule). same_name other.name name) earlier))) ≡ cond
+        b true (has_module earlier name)
     by true = refl
     by false = refl
 
@@ -53,22 +56,27 @@ pub earlier-none : (all : List SourceModule) (seen : List (List ℕ × Place)) �
 earlier-none all seen none = record { earlier = []; found = λ name. ap (λ (s : List (List ℕ × Place)). is_some (kept s name)) none; same = refl }
 
 -- a module whose name none before it has
-pub earlier-more : (modules : List Module) (i : ℕ) (m : Module) (old new : List (List ℕ × Place)) (all : List SourceModule) → i < length modules → m ≡ get_or modules i m → is_some (kept old m.name) ≡ false
-    → ((name : Identifier) → kept new name ≡ cond (same_name m.name name) (Some m.place) (kept old name)) → AreEarlier old (map module_of (drop i modules)) all → AreEarlier new (map module_of (drop (i + 1) modules)) all
+pub earlier-more : (modules : List Module) (i : ℕ) (m : Module) (old new : List (List ℕ × Place)) (all : List SourceModule) → i < length modules → m ≡ get_or modules i m →
+    is_some (kept old m.name) ≡ false
+    → ((name : Identifier) → kept new name ≡ cond (same_name m.name name) (Some m.place) (kept old name)) → AreEarlier old (map module_of (drop i modules)) all →
+    AreEarlier new (map module_of (drop (i + 1) modules)) all
 earlier-more modules i m old new all below at none put before = record {
   earlier = module_of m ∷ before.earlier;
-  found = λ name. ap is_some (put name) ∙ kept-some (same_name m.name name) m.place (kept old name) ∙ ap (λ (b : Bool). cond (same_name m.name name) true b) (before.found name) ∙ sym (has-more (module_of m) before.earlier name);
+  found = λ name. ap is_some (put name) ∙ kept-some (same_name m.name name) m.place (kept old name) ∙ ap (λ (b : Bool). cond (same_name m.name name) true b) (before.found name)
+      ∙ sym (has-more (module_of m) before.earlier name);
   same = sym (ap (λ (b : Bool). twice_if b (module_of m) (second_module (module_of m ∷ before.earlier) (map module_of (drop (i + 1) modules)))) (sym (before.found m.name) ∙ none))
       ∙ sym (ap (λ (ms : List Module). second_module before.earlier (map module_of ms)) (drop-step modules i m below at)) ∙ before.same;
 }
 
 -- a module whose name one before it has
-pub earlier-twice : (modules : List Module) (i : ℕ) (m : Module) (seen : List (List ℕ × Place)) (all : List SourceModule) → i < length modules → m ≡ get_or modules i m → is_some (kept seen m.name) ≡ true
+pub earlier-twice : (modules : List Module) (i : ℕ) (m : Module) (seen : List (List ℕ × Place)) (all : List SourceModule) → i < length modules → m ≡ get_or modules i m →
+    is_some (kept seen m.name) ≡ true
     → AreEarlier seen (map module_of (drop i modules)) all → second_module [] all ≡ Some (Faulty (fault_at (source_place m.place) DeclaredTwice))
 earlier-twice modules i m seen all below at some before =
     sym before.same ∙ ap (λ (ms : List Module). second_module before.earlier (map module_of ms)) (drop-step modules i m below at)
     ∙ ap (λ (b : Bool). twice_if b (module_of m) (second_module (module_of m ∷ before.earlier) (map module_of (drop (i + 1) modules)))) (sym (before.found m.name) ∙ some)
 
 -- no module is left
-pub earlier-end : (modules : List Module) (i : ℕ) (seen : List (List ℕ × Place)) (all : List SourceModule) → length modules ≤ i → AreEarlier seen (map module_of (drop i modules)) all → second_module [] all ≡ None
+pub earlier-end : (modules : List Module) (i : ℕ) (seen : List (List ℕ × Place)) (all : List SourceModule) → length modules ≤ i → AreEarlier seen (map module_of (drop i modules)) all →
+    second_module [] all ≡ None
 earlier-end modules i seen all past before = sym before.same ∙ ap (λ (ms : List Module). second_module before.earlier (map module_of ms)) (drop-past modules i past)

@@ -22,26 +22,33 @@ item-if h gates item over clean e =
     then-clean (item_faults h.scope item) (item_parts h gates item) (unless_refused (reads_refused h.scope (item_reads h.mode h.scope item))) clean
     ∙ ap (λ (b : Bool). unless_refused (too_many_if b Inputs most_inputs) (item_parts h gates item)) e
 
-pub item-few : (h : Here) (gates : ℕ) (item : SourceItem) → first_fault (item_faults h.scope item) ≡ None → some_reads_over h.scope (item_reads h.mode h.scope item) ≡ false → checked_item h gates item ≡ Ok (item_parts h gates item)
+pub item-few : (h : Here) (gates : ℕ) (item : SourceItem) → first_fault (item_faults h.scope item) ≡ None → some_reads_over h.scope (item_reads h.mode h.scope item) ≡ false →
+    checked_item h gates item ≡ Ok (item_parts h gates item)
 item-few h gates item clean e = item-if h gates item false clean e
 
-pub item-over : (h : Here) (gates : ℕ) (item : SourceItem) → first_fault (item_faults h.scope item) ≡ None → some_reads_over h.scope (item_reads h.mode h.scope item) ≡ true → checked_item h gates item ≡ Err (TooMany Inputs (most_inputs + 1))
+pub item-over : (h : Here) (gates : ℕ) (item : SourceItem) → first_fault (item_faults h.scope item) ≡ None → some_reads_over h.scope (item_reads h.mode h.scope item) ≡ true →
+    checked_item h gates item ≡ Err (TooMany Inputs (most_inputs + 1))
 item-over h gates item clean e = item-if h gates item true clean e
 
 -- its parts are put behind the others
-pub item-added : (h : Here) (gates : ℕ) (item : SourceItem) (before : List Part) → checked_item h gates item ≡ Ok (item_parts h gates item) → then_go (checked_item h gates item) (added before) ≡ added before (item_parts h gates item)
+pub item-added : (h : Here) (gates : ℕ) (item : SourceItem) (before : List Part) → checked_item h gates item ≡ Ok (item_parts h gates item) →
+    then_go (checked_item h gates item) (added before) ≡ added before (item_parts h gates item)
 item-added h gates item before e = ap (λ (a : Answer). then_go a (added before)) e
 
 -- an instance whose connections read few objects, and one whose connections read too many
-instance-if : (walker : Walker) (h : Here) (m : SourceModule) (given : List GivenParameter) (i : SourceInstance) (all : List Part) (over : Bool) → some_reads_over h.scope (connections_reads (child_of h m given) 0 i.connections) ≡ over
+instance-if : (walker : Walker) (h : Here) (m : SourceModule) (given : List GivenParameter) (i : SourceInstance) (all : List Part) (over : Bool) →
+    some_reads_over h.scope (connections_reads (child_of h m given) 0 i.connections) ≡ over
     → walked_instance walker h m given i all ≡ then_go (then_go (unless_refused (too_many_if over Inputs most_inputs) (instance_parts h m given i)) (added all)) (walker (entered h m given i))
-instance-if walker h m given i all over e = ap (λ (b : Bool). then_go (then_go (unless_refused (too_many_if b Inputs most_inputs) (instance_parts h m given i)) (added all)) (walker (entered h m given i))) e
+instance-if walker h m given i all over e = ap (λ (b : Bool). then_go (then_go (unless_refused (too_many_if b Inputs most_inputs) (instance_parts h m given i)) (added all))
+    (walker (entered h m given i))) e
 
-pub instance-few : (walker : Walker) (h : Here) (m : SourceModule) (given : List GivenParameter) (i : SourceInstance) (all : List Part) → some_reads_over h.scope (connections_reads (child_of h m given) 0 i.connections) ≡ false
+pub instance-few : (walker : Walker) (h : Here) (m : SourceModule) (given : List GivenParameter) (i : SourceInstance) (all : List Part) →
+    some_reads_over h.scope (connections_reads (child_of h m given) 0 i.connections) ≡ false
     → walked_instance walker h m given i all ≡ then_go (added all (instance_parts h m given i)) (walker (entered h m given i))
 instance-few walker h m given i all e = instance-if walker h m given i all false e
 
-pub instance-over : (walker : Walker) (h : Here) (m : SourceModule) (given : List GivenParameter) (i : SourceInstance) (all : List Part) → some_reads_over h.scope (connections_reads (child_of h m given) 0 i.connections) ≡ true
+pub instance-over : (walker : Walker) (h : Here) (m : SourceModule) (given : List GivenParameter) (i : SourceInstance) (all : List Part) →
+    some_reads_over h.scope (connections_reads (child_of h m given) 0 i.connections) ≡ true
     → walked_instance walker h m given i all ≡ Err (TooMany Inputs (most_inputs + 1))
 instance-over walker h m given i all e = instance-if walker h m given i all true e
 

@@ -1,5 +1,6 @@
 -- A walk goes on step by step.
-use Rattle.std.proofs.Common.{◌≡◌, ℕ, ◌+◌, ◌<◌, ◌≤◌, List, [], ◌∷◌, ◌++◌, Option, Some, None, option_map, Result, Ok, Err, MatchResult, drop, get_or, length, refl, sym, ap, subst, ◌∙◌, append_assoc, append-nil}
+use Rattle.std.proofs.Common.{◌≡◌, ℕ, ◌+◌, ◌<◌, ◌≤◌, List, [], ◌∷◌, ◌++◌, Option, Some, None, option_map, Result, Ok, Err, MatchResult, drop, get_or, length, refl, sym, ap, subst, ◌∙◌, append_assoc}
+use Rattle.std.proofs.Common.{append-nil}
 use Rattle.name_checks.specs.Rows.{drop-step, drop-past}
 use Rattle.v_names.specs.Faults.{Fault, first_fault, or_fault}
 use Rattle.v_names.specs.FaultViews.{fault_of}
@@ -65,7 +66,8 @@ goes-wrong before whole rest next step old mid fault steps wrong going =
     (fault-goes (step (before ++ going.more)) next fault (wrong (before ++ going.more) going.counted)))
 
 -- nothing is left
-pub goes-end : (before : List Part) (whole : Answer) (rest : List Part → Answer) (old new : Walked) → ((all : List Part) → rest all ≡ Ok all) → GoesOn before whole rest old new → Grows before whole old new
+pub goes-end : (before : List Part) (whole : Answer) (rest : List Part → Answer) (old new : Walked) → ((all : List Part) → rest all ≡ Ok all) → GoesOn before whole rest old new →
+    Grows before whole old new
 goes-end before whole rest old new ends going = record {
   more = going.more;
   wanted_are = sym going.rest_is ∙ ends (before ++ going.more);
@@ -91,7 +93,8 @@ pub goes-wrong-last : (before : List Part) (whole : Answer) (rest : List Part �
 goes-wrong-last before whole rest old mid fault wrong going = fault-of (rest (before ++ going.more)) whole fault going.rest_is (wrong (before ++ going.more) going.counted)
 
 -- the first of a list, and what is left
-pub turn-of : {A : Type 0} (step : A → List Part → Answer) (rest next : List A → List Part → Answer) (xs : List A) (i : ℕ) (x : A) → ((ys : List A) (all : List Part) → rest (x ∷ ys) all ≡ then_go (step x all) (next ys))
+pub turn-of : {A : Type 0} (step : A → List Part → Answer) (rest next : List A → List Part → Answer) (xs : List A) (i : ℕ) (x : A) →
+    ((ys : List A) (all : List Part) → rest (x ∷ ys) all ≡ then_go (step x all) (next ys))
     → i < length xs → x ≡ get_or xs i x → (all : List Part) → rest (drop i xs) all ≡ then_go (step x all) (next (drop (i + 1) xs))
 turn-of {A} step rest next xs i x steps below at all = ap (λ (ys : List A). rest ys all) (drop-step xs i x below at) ∙ steps (drop (i + 1) xs) all
 
@@ -123,10 +126,12 @@ grows-counted before more old mid new pushed within = record {
 }
 
 -- what is found is the first fault
-pub clean-of : {S : Type 0} (found : Option Found) (faults_in : S → List Fault) (seen scope : S) → seen ≡ scope → option_map fault_of found ≡ first_fault (faults_in seen) → found ≡ None → first_fault (faults_in scope) ≡ None
+pub clean-of : {S : Type 0} (found : Option Found) (faults_in : S → List Fault) (seen scope : S) → seen ≡ scope → option_map fault_of found ≡ first_fault (faults_in seen) → found ≡ None →
+    first_fault (faults_in scope) ≡ None
 clean-of {S} found faults_in seen scope same is none = ap (λ (s : S). first_fault (faults_in s)) (sym same) ∙ sym is ∙ ap (option_map fault_of) none
 
-pub wrong-of : {A S : Type 0} (found : Option Found) (faults_in : S → List Fault) (seen scope : S) (answer : A) (next : A → Answer) (fault : WalkFault) → seen ≡ scope → option_map fault_of found ≡ first_fault (faults_in seen)
+pub wrong-of : {A S : Type 0} (found : Option Found) (faults_in : S → List Fault) (seen scope : S) (answer : A) (next : A → Answer) (fault : WalkFault) → seen ≡ scope →
+    option_map fault_of found ≡ first_fault (faults_in seen)
     → refusal_in found ≡ Some fault → IsWalkFault (then_go (checked (faults_in scope) answer) next) fault
 wrong-of {A} {S} None faults_in seen scope answer next fault same is some = absurd cc
 wrong-of {A} {S} (Some f) faults_in seen scope answer next fault same is some =
@@ -140,7 +145,8 @@ leaves-last {A} before whole rest old mid new (Ok done) turn going = goes-last b
 leaves-last {A} before whole rest old mid new (Err fault) turn going = goes-wrong-last before whole rest old mid fault turn going
 
 -- the same answer in other words
-pub leaves-same : {A : Type 0} (before : List Part) (answer whole : Answer) (old new : Walked) (result : Result A WalkFault) → answer ≡ whole → Leaves before answer result old new → Leaves before whole result old new
+pub leaves-same : {A : Type 0} (before : List Part) (answer whole : Answer) (old new : Walked) (result : Result A WalkFault) → answer ≡ whole → Leaves before answer result old new →
+    Leaves before whole result old new
 leaves-same {A} before answer whole old new result e leaves = subst (λ (a : Answer). Leaves before a result old new) e leaves
 
 -- nothing is done
@@ -158,10 +164,12 @@ then-both (Ok all) first second both e = e all
 then-both (Err refusal) first second both e = refl
 
 -- a fault that is handed out as it came
-pub err-is : {A : Type 0} (wanted : Answer) (P : A → Type 0) (result : Result A WalkFault) (one fault : WalkFault) → result ≡ Err one → one ≡ fault → IsWalkFault wanted fault → MatchResult result P (IsWalkFault wanted)
+pub err-is : {A : Type 0} (wanted : Answer) (P : A → Type 0) (result : Result A WalkFault) (one fault : WalkFault) → result ≡ Err one → one ≡ fault → IsWalkFault wanted fault →
+    MatchResult result P (IsWalkFault wanted)
 err-is {A} wanted P result one fault e same wrong = subst (λ (r : Result A WalkFault). MatchResult r P (IsWalkFault wanted)) (sym e) (subst (IsWalkFault wanted) (sym same) wrong)
 
 -- want of memory
-pub leaves-memory : {A : Type 0} (before : List Part) (wanted : Answer) (old new : Walked) (result : Result A WalkFault) (one : WalkFault) → result ≡ Err one → one ≡ faults.NoMemory → Leaves before wanted result old new
+pub leaves-memory : {A : Type 0} (before : List Part) (wanted : Answer) (old new : Walked) (result : Result A WalkFault) (one : WalkFault) → result ≡ Err one → one ≡ faults.NoMemory →
+    Leaves before wanted result old new
 leaves-memory {A} before wanted old new result one e same =
     subst (λ (r : Result A WalkFault). Leaves before wanted r old new) (sym e) (subst (IsWalkFault wanted) (sym same) tt)

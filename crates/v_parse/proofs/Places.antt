@@ -1,5 +1,6 @@
 -- Where and why reading stops, for a front with one more token.
-use Rattle.std.proofs.Common.{◌≡◌, ℕ, suc, ◌+◌, ◌-◌, get_or, ◌<◌, Bool, true, false, List, [], ◌∷◌, ◌++◌, length, take, refl, sym, ◌∙◌, ap, subst, arith, append_assoc, length-append, ◌⊎◌, inl, inr, Ok}
+use Rattle.std.proofs.Common.{◌≡◌, ℕ, suc, ◌+◌, ◌-◌, get_or, ◌<◌, Bool, true, false, List, [], ◌∷◌, ◌++◌, length, take, refl, sym, ◌∙◌, ap, subst, arith, append_assoc, length-append, ◌⊎◌, inl, inr}
+use Rattle.std.proofs.Common.{Ok}
 use Rattle.std.proofs.Math.Seq.{take-append_seam}
 use Rattle.v_tree.specs.Tokens.{SourceToken}
 use Rattle.v_tree.specs.Trees.{SourceUnit}

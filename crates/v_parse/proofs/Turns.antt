@@ -18,7 +18,8 @@ use Rattle.v_expr.specs.Spelling.{SpellsExpression}
 use Rattle.v_expr.specs.Expressions.{expression}
 use Rattle.v_expr.specs.ExpressionExact.{Within}
 use Rattle.v_expr.specs.PartLaws.{expression-within}
-use Rattle.v_parse.specs.Items.{with_last, groups_by, group_by, groups_turn, ports_by, port_by, ports_turn, port, declared_ports, some_actual, Placed, placed, start_by, placed_start, placed_by, placed_turn, placed_connections, item, items_by, items_turn, module_reader, modules_turn, unit_reader}
+use Rattle.v_parse.specs.Items.{with_last, groups_by, group_by, groups_turn, ports_by, port_by, ports_turn, port, declared_ports, some_actual, Placed, placed, start_by, placed_start, placed_by}
+use Rattle.v_parse.specs.Items.{placed_turn, placed_connections, item, items_by, items_turn, module_reader, modules_turn, unit_reader}
 use Rattle.v_parse.specs.Rows.{port_groups, first_by, first_position, position_by, position}
 use Rattle.v_parse.specs.ConnectionExact.{expression-tokens}
 use Rattle.v_parse.specs.ConnectionReads.{bound}
@@ -42,18 +43,21 @@ module _ {S : Type 0} (turn : S → Reader (Option S)) (more : S → Reader (Opt
 
 -- Groups of parameters
 
-groups-goes : (k : ℕ) (gs : List SourceParameters) (tokens : List SourceToken) → is_class classes.Comma (next_class tokens) ≡ true → groups_turn k gs tokens ≡ followed (step tokens) (λ comma. by_class (group_by k gs))
+groups-goes : (k : ℕ) (gs : List SourceParameters) (tokens : List SourceToken) → is_class classes.Comma (next_class tokens) ≡ true →
+    groups_turn k gs tokens ≡ followed (step tokens) (λ comma. by_class (group_by k gs))
 groups-goes k gs tokens h = by (next_class tokens) h
   where
     by : (class : Option Class) → is_class classes.Comma class ≡ true → groups_by k gs class tokens ≡ followed (step tokens) (λ comma. by_class (group_by k gs))
     by None e = absurd (let p : false ≡ true = e in cc)
     by (Some class) e = ap (λ (c : Class). groups_by k gs (Some c) tokens) (sym (same_class-true classes.Comma class e))
 
-pub groups-next : (k : ℕ) (gs hs : List SourceParameters) (tokens between after : List SourceToken) (place : SourcePlace) → is_class classes.Comma (next_class tokens) ≡ true → step tokens ≡ Ok (place, between)
+pub groups-next : (k : ℕ) (gs hs : List SourceParameters) (tokens between after : List SourceToken) (place : SourcePlace) → is_class classes.Comma (next_class tokens) ≡ true →
+    step tokens ≡ Ok (place, between)
     → by_class (group_by k gs) between ≡ Ok (Some hs, after) → length after < length tokens → repeat (groups_turn k) gs tokens ≡ repeat (groups_turn k) hs after
 groups-next k = next-turn (groups_turn k) (λ gs. by_class (group_by k gs)) (groups-goes k)
 
-pub groups-fail : (k : ℕ) (gs : List SourceParameters) (tokens between : List SourceToken) (place : SourcePlace) (stop : Stop) → is_class classes.Comma (next_class tokens) ≡ true → step tokens ≡ Ok (place, between)
+pub groups-fail : (k : ℕ) (gs : List SourceParameters) (tokens between : List SourceToken) (place : SourcePlace) (stop : Stop) → is_class classes.Comma (next_class tokens) ≡ true →
+    step tokens ≡ Ok (place, between)
     → Fails stop (by_class (group_by k gs) between) → Fails stop (repeat (groups_turn k) gs tokens)
 groups-fail k = failed-turn (groups_turn k) (λ gs. by_class (group_by k gs)) (groups-goes k)
 
@@ -66,18 +70,21 @@ added add done g p = with_last-append add done g p
 
 -- Groups of ports
 
-ports-goes : (k : ℕ) (gs : List SourcePorts) (tokens : List SourceToken) → is_class classes.Comma (next_class tokens) ≡ true → ports_turn k gs tokens ≡ followed (step tokens) (λ comma. by_class (port_by k gs))
+ports-goes : (k : ℕ) (gs : List SourcePorts) (tokens : List SourceToken) → is_class classes.Comma (next_class tokens) ≡ true →
+    ports_turn k gs tokens ≡ followed (step tokens) (λ comma. by_class (port_by k gs))
 ports-goes k gs tokens h = by (next_class tokens) h
   where
     by : (class : Option Class) → is_class classes.Comma class ≡ true → ports_by k gs class tokens ≡ followed (step tokens) (λ comma. by_class (port_by k gs))
     by None e = absurd (let p : false ≡ true = e in cc)
     by (Some class) e = ap (λ (c : Class). ports_by k gs (Some c) tokens) (sym (same_class-true classes.Comma class e))
 
-pub ports-next : (k : ℕ) (gs hs : List SourcePorts) (tokens between after : List SourceToken) (place : SourcePlace) → is_class classes.Comma (next_class tokens) ≡ true → step tokens ≡ Ok (place, between)
+pub ports-next : (k : ℕ) (gs hs : List SourcePorts) (tokens between after : List SourceToken) (place : SourcePlace) → is_class classes.Comma (next_class tokens) ≡ true →
+    step tokens ≡ Ok (place, between)
     → by_class (port_by k gs) between ≡ Ok (Some hs, after) → length after < length tokens → repeat (ports_turn k) gs tokens ≡ repeat (ports_turn k) hs after
 ports-next k = next-turn (ports_turn k) (λ gs. by_class (port_by k gs)) (ports-goes k)
 
-pub ports-fail : (k : ℕ) (gs : List SourcePorts) (tokens between : List SourceToken) (place : SourcePlace) (stop : Stop) → is_class classes.Comma (next_class tokens) ≡ true → step tokens ≡ Ok (place, between)
+pub ports-fail : (k : ℕ) (gs : List SourcePorts) (tokens between : List SourceToken) (place : SourcePlace) (stop : Stop) → is_class classes.Comma (next_class tokens) ≡ true →
+    step tokens ≡ Ok (place, between)
     → Fails stop (by_class (port_by k gs) between) → Fails stop (repeat (ports_turn k) gs tokens)
 ports-fail k = failed-turn (ports_turn k) (λ gs. by_class (port_by k gs)) (ports-goes k)
 
@@ -169,7 +176,8 @@ give-rest tokens rest h =
     let q : u ≡ v = cc in
     ap (λ (z : Option SourceExpression × List SourceToken). z.1) q
 
-ended-there : (tokens rest : List SourceToken) (class : Option Class) → next_class tokens ≡ class → is_ended None class ≡ true → ◌≡◌ {A = Reading (Option SourceExpression)} (Ok (None, tokens)) (Ok (None, rest))
+ended-there : (tokens rest : List SourceToken) (class : Option Class) → next_class tokens ≡ class → is_ended None class ≡ true →
+    ◌≡◌ {A = Reading (Option SourceExpression)} (Ok (None, tokens)) (Ok (None, rest))
     → is_ended None (next_class rest) ≡ true
 ended-there tokens rest class c e h = ap (λ ts. is_ended None (next_class ts)) (sym (give-rest tokens rest h)) ∙ ap (is_ended None) c ∙ e
 
@@ -230,7 +238,8 @@ module _ (k : ℕ) (ended : List SourceConnection) (last : Option SourceExpressi
       → repeat (placed_turn k) (record { ended = ended; last = last }) tokens ≡ Ok (record { ended = ended; last = last }, tokens)
   placed-end h e = last-is (placed_turn k) (record { ended = ended; last = last }) tokens (by last (next_class tokens) h e)
     where
-      by : (a : Option SourceExpression) (class : Option Class) → is_class classes.Comma class ≡ false → is_ended a class ≡ true → placed_by k (record { ended = ended; last = a }) class tokens ≡ Ok (None, tokens)
+      by : (a : Option SourceExpression) (class : Option Class) → is_class classes.Comma class ≡ false → is_ended a class ≡ true →
+          placed_by k (record { ended = ended; last = a }) class tokens ≡ Ok (None, tokens)
       by a (Some classes.Comma) f g = absurd (let p : true ≡ false = f in cc)
       by a (Some classes.RightParen) f g = refl
       by (Some x) _ f g = refl
@@ -291,7 +300,8 @@ module _ (k : ℕ) (ms : List SourceModule) where
   modules-end (t ∷ ts) h = absurd (omega (arith, h))
 
 -- the modules and the end of the text
-pub unit-is : (k : ℕ) (tokens rest : List SourceToken) (ms : List SourceModule) → repeat (modules_turn k) [] tokens ≡ Ok (ms, rest) → length rest ≡ 0 → unit_reader k tokens ≡ Ok (record { modules = ms }, rest)
+pub unit-is : (k : ℕ) (tokens rest : List SourceToken) (ms : List SourceModule) → repeat (modules_turn k) [] tokens ≡ Ok (ms, rest) → length rest ≡ 0 →
+    unit_reader k tokens ≡ Ok (record { modules = ms }, rest)
 unfolding unit_reader
 unit-is k tokens [] ms h e = ap (λ w. followed w (λ ms. end >>= λ nothing. give (record { modules = ms }))) h
 unit-is k tokens (t ∷ ts) ms h e = absurd (omega (arith, e))

@@ -20,9 +20,11 @@ use Rattle.v_expr.specs.Expressions.{expression}
 use Rattle.v_expr.specs.ExpressionExact.{Within}
 use Rattle.v_expr.specs.PartLaws.{expression-within, target-exact}
 use Rattle.v_stmt.specs.PartReads.{expression-first}
-use Rattle.v_parse.specs.Spelling.{SpellsNamed, SpellsAssignment, has_one_input, SpellsGateName, SpellsGate, SpellsActual, SpellsNamedConnection, actual_place, SpellsPlacedConnection, SpellsPlacedConnections, SpellsConnections, SpellsInstance, IsGiven, AreGiven, SpellsGiven}
+use Rattle.v_parse.specs.Spelling.{SpellsNamed, SpellsAssignment, has_one_input, SpellsGateName, SpellsGate, SpellsActual, SpellsNamedConnection, actual_place, SpellsPlacedConnection}
+use Rattle.v_parse.specs.Spelling.{SpellsPlacedConnections, SpellsConnections, SpellsInstance, IsGiven, AreGiven, SpellsGiven}
 use Rattle.v_parse.specs.Heights.{greatest, height_if_there, assignment_height, gate_height, connection_height, instance_height}
-use Rattle.v_parse.specs.Items.{assignment, gate_name_by, gate_name, inputs, gate, actual_by, actual, some_actual, connection, named_connections, Placed, placed, start_by, placed_start, one_more, placed_by, placed_turn, placed_connections, connections_by, connections, given_expression, given_expressions, given_inside, given_by, given, inst}
+use Rattle.v_parse.specs.Items.{assignment, gate_name_by, gate_name, inputs, gate, actual_by, actual, some_actual, connection, named_connections, Placed, placed, start_by, placed_start, one_more}
+use Rattle.v_parse.specs.Items.{placed_by, placed_turn, placed_connections, connections_by, connections, given_expression, given_expressions, given_inside, given_by, given, inst}
 use Rattle.v_parse.specs.DeclarationExact.{Any, greatest-fits, greatest-append, named-exact}
 
 pub expression-tokens : (e : SourceExpression) (ts : List SourceToken) → SpellsExpression e ts → 0 < length ts
@@ -126,8 +128,18 @@ connection-exact k connected L exact =
     exact-after classes.LeftParen refl (λ opening.
     exact-bind (exact-under (λ c. c.0) exact) (λ a inside actual.
     exact-after classes.RightParen refl (λ closing.
-    exact-give (record { name = Some n.0; place = n.1; actual = a })
-    (n.0, refl, spelled.0, dot, opening, closing, inside, actual, ap (λ f. token_of classes.Dot dot ∷ (f ++ token_of classes.LeftParen opening ∷ (inside ++ token_of classes.RightParen closing ∷ []))) spelled.1)
+    exact-give (record { name = Some n.0; place = n.1; actual = a }) (
+      n.0,
+      refl,
+      spelled.0,
+      dot,
+      opening,
+      closing,
+      inside,
+      actual,
+      ap (λ f. token_of classes.Dot dot ∷
+          (f ++ token_of classes.LeftParen opening ∷ (inside ++ token_of classes.RightParen closing ∷ []))) spelled.1,
+    )
     (λ c. c.1))))))
 
 abbrev pub ConnectionsWithin : ℕ → List SourceConnection → Type 0
@@ -317,7 +329,8 @@ inst-exact k =
 
 -- What an instance gives its parameters
 
-pub given_expression-exact : {C : Type 0} (k : ℕ) → Exact C given_expression k (λ c ts. IsGiven c × ((c.name ≡ None) × ((next_place : SourcePlace) → c.place ≡ actual_place next_place c.actual) × SpellsActual c.actual ts)) (ConnectionWithin k)
+pub given_expression-exact : {C : Type 0} (k : ℕ) → Exact C given_expression k (λ c ts. IsGiven c
+    × ((c.name ≡ None) × ((next_place : SourcePlace) → c.place ≡ actual_place next_place c.actual) × SpellsActual c.actual ts)) (ConnectionWithin k)
 unfolding given_expression
 given_expression-exact k = exact-bind (expression-within k) (λ e front spelled.
     exact-give (record { name = None; place = place_of_expression e; actual = Some e })

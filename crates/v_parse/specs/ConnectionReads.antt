@@ -1,5 +1,6 @@
 -- Every spelled assignment, gate and connection is read.
-use Rattle.std.proofs.Common.{◌≡◌, ℕ, suc, ◌<◌, ◌≤◌, Bool, true, false, List, [], ◌∷◌, ◌++◌, length, Option, Some, None, Ok, Err, refl, sym, ◌∙◌, ap, subst, arith, append_assoc, length-append, inl, inr}
+use Rattle.std.proofs.Common.{◌≡◌, ℕ, suc, ◌<◌, ◌≤◌, Bool, true, false, List, [], ◌∷◌, ◌++◌, length, Option, Some, None, Ok, Err, refl, sym, ◌∙◌, ap, subst, arith, append_assoc, length-append, inl}
+use Rattle.std.proofs.Common.{inr}
 use Rattle.std.proofs.lemmas.List.{append-nil}
 use Rattle.std.specs.Prelude.{if◌then◌else◌}
 use Rattle.vf_base.specs.Base.{SourcePlace}
@@ -20,16 +21,19 @@ use Rattle.v_expr.specs.ExpressionExact.{Within}
 use Rattle.v_expr.specs.ExpressionReads.{expression-reads}
 use Rattle.v_expr.specs.PartLaws.{target-reads}
 use Rattle.v_stmt.specs.PartReads.{leads, expression-first}
-use Rattle.v_parse.specs.Spelling.{SpellsAssignment, has_one_input, SpellsGateName, SpellsGate, SpellsActual, SpellsNamedConnection, actual_place, SpellsPlacedConnection, SpellsPlacedConnections, SpellsConnections, SpellsInstance, IsGiven, AreGiven, SpellsGiven}
+use Rattle.v_parse.specs.Spelling.{SpellsAssignment, has_one_input, SpellsGateName, SpellsGate, SpellsActual, SpellsNamedConnection, actual_place, SpellsPlacedConnection, SpellsPlacedConnections}
+use Rattle.v_parse.specs.Spelling.{SpellsConnections, SpellsInstance, IsGiven, AreGiven, SpellsGiven}
 use Rattle.v_parse.specs.Heights.{greatest, height_if_there, assignment_height, gate_height, connection_height, instance_height}
-use Rattle.v_parse.specs.Items.{assignment, gate_name_by, gate_name, inputs, gate, actual_by, actual, some_actual, connection, named_connections, Placed, placed, start_by, placed_start, placed_by, placed_turn, placed_connections, connections_by, connections, given_expression, given_expressions, given_inside, given_by, given, inst}
+use Rattle.v_parse.specs.Items.{assignment, gate_name_by, gate_name, inputs, gate, actual_by, actual, some_actual, connection, named_connections, Placed, placed, start_by, placed_start, placed_by}
+use Rattle.v_parse.specs.Items.{placed_turn, placed_connections, connections_by, connections, given_expression, given_expressions, given_inside, given_by, given, inst}
 use Rattle.v_parse.specs.DeclarationExact.{Any}
 use Rattle.v_parse.specs.ConnectionExact.{SpellsInputs, ConnectionWithin, SpellsConnected}
 use Rattle.v_parse.specs.DeclarationReads.{Closes, closer-ends, each-fits, named-reads, named-first}
 
 -- Assignments
 
-pub assignment-reads : (k : ℕ) (a : SourceAssignment) (ts rest : List SourceToken) → SpellsAssignment a ts → assignment_height a ≤ k → Closes (next_class rest) → assignment k (ts ++ rest) ≡ Ok (a, rest)
+pub assignment-reads : (k : ℕ) (a : SourceAssignment) (ts rest : List SourceToken) → SpellsAssignment a ts → assignment_height a ≤ k → Closes (next_class rest) →
+    assignment k (ts ++ rest) ≡ Ok (a, rest)
 unfolding assignment
 assignment-reads k a ts rest h low c =
     let tail = token_of classes.Assign h.0 ∷ (h.2 ++ rest) in
@@ -89,7 +93,8 @@ actual-reads : (k : ℕ) (a : Option SourceExpression) (ts : List SourceToken) (
 unfolding actual
 actual-reads k None ts close rest h low = ap (λ f. actual k (f ++ token_of classes.RightParen close ∷ rest)) h
 actual-reads k (Some e) ts close rest h low =
-    actual_by-leads k (next_class (ts ++ token_of classes.RightParen close ∷ rest)) (ts ++ token_of classes.RightParen close ∷ rest) (expression-first e ts (token_of classes.RightParen close ∷ rest) h)
+    actual_by-leads k (next_class (ts ++ token_of classes.RightParen close ∷ rest)) (ts ++ token_of classes.RightParen close ∷ rest)
+    (expression-first e ts (token_of classes.RightParen close ∷ rest) h)
     ∙ ap (λ w. followed w (λ e. give (Some e))) (expression-reads k e ts (token_of classes.RightParen close ∷ rest) h low (omega arith))
 
 -- a connection by name, where its reader of what is connected reads that
@@ -165,7 +170,8 @@ expression-shorter e (t ∷ ts) tail h = omega (arith, length-append ts tail)
 placed-expression : (k : ℕ) (ended : List SourceConnection) (e : SourceExpression) (ts tail : List SourceToken) → SpellsExpression e ts → height_of e ≤ k → Closes (next_class tail)
     → repeat (placed_turn k) (record { ended = ended; last = None }) (ts ++ tail) ≡ repeat (placed_turn k) (record { ended = ended; last = Some e }) tail
 placed-expression k ended e ts tail h low c =
-    turn-is (placed_turn k) (record { ended = ended; last = None }) (record { ended = ended; last = Some e }) (ts ++ tail) tail (step-expression k ended e ts tail h low c) (expression-shorter e ts tail h)
+    turn-is (placed_turn k) (record { ended = ended; last = None }) (record { ended = ended; last = Some e }) (ts ++ tail) tail (step-expression k ended e ts tail h low c)
+    (expression-shorter e ts tail h)
 
 -- up to the token that ends a connection
 placed-actual : (k : ℕ) (ended : List SourceConnection) (a : Option SourceExpression) (ts tail : List SourceToken) → SpellsActual a ts → height_if_there height_of a ≤ k → Closes (next_class tail)
@@ -173,7 +179,8 @@ placed-actual : (k : ℕ) (ended : List SourceConnection) (a : Option SourceExpr
 placed-actual k ended None ts tail h low c = ap (λ f. repeat (placed_turn k) (record { ended = ended; last = None }) (f ++ tail)) h
 placed-actual k ended (Some e) ts tail h low c = placed-expression k ended e ts tail h low c
 
-placed-loop : (k : ℕ) (cs ended : List SourceConnection) (ts : List SourceToken) (close : SourcePlace) (rest : List SourceToken) → SpellsPlacedConnections close cs ts → greatest connection_height cs ≤ k
+placed-loop : (k : ℕ) (cs ended : List SourceConnection) (ts : List SourceToken) (close : SourcePlace) (rest : List SourceToken) → SpellsPlacedConnections close cs ts →
+    greatest connection_height cs ≤ k
     → followed (repeat (placed_turn k) (record { ended = ended; last = None }) (ts ++ token_of classes.RightParen close ∷ rest)) closing_of ≡ Ok (ended ++ cs, rest)
 placed-loop k [] ended ts close rest h low = absurd h
 placed-loop k (c ∷ []) ended ts close rest h low =
@@ -275,7 +282,8 @@ connections-reads k cs ts close rest (inr (some, inl h)) low =
     ap (λ c. connections_by k c (ts ++ token_of classes.RightParen close ∷ rest)) (named_connections-first cs ts (token_of classes.RightParen close ∷ rest) h)
     ∙ named_connections-reads k cs ts close rest h low
 connections-reads k cs ts close rest (inr (some, inr h)) low =
-    connections_by-placed k (next_class (ts ++ token_of classes.RightParen close ∷ rest)) (ts ++ token_of classes.RightParen close ∷ rest) (placed-starts close cs ts (token_of classes.RightParen close ∷ rest) h some)
+    connections_by-placed k (next_class (ts ++ token_of classes.RightParen close ∷ rest)) (ts ++ token_of classes.RightParen close ∷ rest)
+    (placed-starts close cs ts (token_of classes.RightParen close ∷ rest) h some)
     ∙ placed_connections-reads k cs ts close rest h some low
 
 pub inst-reads : (k : ℕ) (i : SourceInstance) (ts rest : List SourceToken) → SpellsInstance i ts → instance_height i ≤ k → Closes (next_class rest) → inst k (ts ++ rest) ≡ Ok (i, rest)
@@ -302,7 +310,8 @@ given-list close (c ∷ d ∷ cs) ts g h =
     let rest = given-list close (d ∷ cs) h.2 g.1 h.4 in
     (h.1, token_of classes.Comma h.0 ∷ h.2, given-one h.0 c h.1 g.0 h.3, (h.0, rest.0, rest.1, rest.2, rest.3, ap (λ f. token_of classes.Comma h.0 ∷ f) rest.4), h.5)
 
-given_expression-reads : (k : ℕ) (c : SourceConnection) (ts rest : List SourceToken) → GivenExpression c ts → connection_height c ≤ k → Closes (next_class rest) → given_expression k (ts ++ rest) ≡ Ok (c, rest)
+given_expression-reads : (k : ℕ) (c : SourceConnection) (ts rest : List SourceToken) → GivenExpression c ts → connection_height c ≤ k → Closes (next_class rest) →
+    given_expression k (ts ++ rest) ≡ Ok (c, rest)
 unfolding given_expression
 given_expression-reads k c ts rest h low ends =
     let fits : height_of h.0 ≤ k = let same : connection_height c ≡ height_of h.0 = ap connection_height (sym h.1) in omega (arith, same, low) in
@@ -364,7 +373,8 @@ given_inside-reads k cs ts close rest g (inr h) low =
     (given_list-first cs ts (token_of classes.RightParen close ∷ rest) (given-list close cs ts g h))
     ∙ given_expressions-reads k cs ts close rest (given-list close cs ts g h) low
 
-pub given-reads : (k : ℕ) (cs : List SourceConnection) (ts rest : List SourceToken) → SpellsGiven cs ts → greatest connection_height cs ≤ k → (next_class rest ≡ Some classes.Hash → ⊥) → given k (ts ++ rest) ≡ Ok (cs, rest)
+pub given-reads : (k : ℕ) (cs : List SourceConnection) (ts rest : List SourceToken) → SpellsGiven cs ts → greatest connection_height cs ≤ k → (next_class rest ≡ Some classes.Hash → ⊥) →
+    given k (ts ++ rest) ≡ Ok (cs, rest)
 unfolding given
 given-reads k [] ts rest h low other = ap (λ f. given k (f ++ rest)) h ∙ none (next_class rest) other
   where

@@ -4,7 +4,8 @@ use Rattle.vf_base.specs.Base.{SourcePlace}
 use Rattle.v_tree.specs.Tokens.{SourceToken}
 use Rattle.v_tree.specs.declared.item.Direction.{Direction}
 use Rattle.v_tree.specs.declared.item.Direction.TheVariants.{Input, Output}
-use Rattle.v_tree.specs.Trees.{SourceExpression, NamedPlace, SourceRange, SourceParameter, SourceParameters, SourcePorts, SourceWire, SourceContent, NoContent, FirstContent, MemoryBounds, SourceReg, SourceHeads, PlainHeads, DeclaredHeads}
+use Rattle.v_tree.specs.Trees.{SourceExpression, NamedPlace, SourceRange, SourceParameter, SourceParameters, SourcePorts, SourceWire, SourceContent, NoContent, FirstContent, MemoryBounds, SourceReg}
+use Rattle.v_tree.specs.Trees.{SourceHeads, PlainHeads, DeclaredHeads}
 use Rattle.v_readers.specs.declared.class.Class.{Class}
 use Rattle.v_readers.specs.declared.class.Class.TheVariants as classes
 use Rattle.v_readers.specs.Classes.{is_fixed, token_of}
@@ -17,9 +18,12 @@ use Rattle.v_expr.specs.Spelling.{SpellsExpression, SpellsRange}
 use Rattle.v_expr.specs.Heights.{height_of, range_height}
 use Rattle.v_expr.specs.PartLaws.{expression-within, range-exact}
 use Rattle.v_stmt.specs.PartExact.{a_name}
-use Rattle.v_parse.specs.Spelling.{SpellsNamed, SpellsSigned, SpellsWidth, SpellsValue, SpellsParameter, SpellsParameters, parameter_word, SpellsGroup, SpellsParameterList, direction_word, SpellsSort, SpellsPorts, SpellsHeads, SpellsWire, SpellsContent, SpellsReg}
+use Rattle.v_parse.specs.Spelling.{SpellsNamed, SpellsSigned, SpellsWidth, SpellsValue, SpellsParameter, SpellsParameters, parameter_word, SpellsGroup, SpellsParameterList, direction_word}
+use Rattle.v_parse.specs.Spelling.{SpellsSort, SpellsPorts, SpellsHeads, SpellsWire, SpellsContent, SpellsReg}
 use Rattle.v_parse.specs.Heights.{greatest, height_if_there, parameters_height, ports_height, heads_height, wire_height, content_height, reg_height}
-use Rattle.v_parse.specs.Items.{named, signed_by, signed, width_by, width, value_by, value, parameter, parameters, group, with_last, add_parameter, group_by, groups_by, groups_turn, groups, parameter_list_by, parameter_list, sort_by, sort, ports_head, with_names, ports, port, add_name, another_port, port_by, ports_by, ports_turn, declared_ports, heads_inside, heads_by, heads, wire, content_by, content, reg}
+use Rattle.v_parse.specs.Items.{named, signed_by, signed, width_by, width, value_by, value, parameter, parameters, group, with_last, add_parameter, group_by, groups_by, groups_turn, groups}
+use Rattle.v_parse.specs.Items.{parameter_list_by, parameter_list, sort_by, sort, ports_head, with_names, ports, port, add_name, another_port, port_by, ports_by, ports_turn, declared_ports}
+use Rattle.v_parse.specs.Items.{heads_inside, heads_by, heads, wire, content_by, content, reg}
 
 -- nothing is asked of what was read
 abbrev pub Any : {A : Type 0} → A → Type 0
@@ -181,7 +185,8 @@ GroupsWithin k gs = greatest parameters_height gs ≤ k
 
 one-more-fits : (k : ℕ) (p : SourceParameter) → height_of p.value ≤ k → (g : SourceParameters) → parameters_height g ≤ k → parameters_height (add_parameter g p) ≤ k
 one-more-fits k p low g h =
-    let all : greatest (λ (p : SourceParameter). height_of p.value) (g.parameters ++ p ∷ []) ≤ k = greatest-append (λ (p : SourceParameter). height_of p.value) k g.parameters p (omega (arith, h)) low in
+    let all : greatest (λ (p : SourceParameter). height_of p.value) (g.parameters ++ p ∷ []) ≤ k =
+    greatest-append (λ (p : SourceParameter). height_of p.value) k g.parameters p (omega (arith, h)) low in
     omega (arith, h)
 
 groups_turn-exact : {C : Type 0} (k : ℕ) (gs : List SourceParameters) (front : List SourceToken) → SpellsList SpellsGroup classes.Comma gs front
@@ -201,7 +206,8 @@ groups_turn-exact {C} k gs front here = exact-by_class (λ m. groups_by m gs) ((
         ((Some (with_last add_parameter gs x.0), x.1 ++ [], grown comma x.0 x.1 x.2), λ c. (Some (with_last add_parameter gs x.0), x.1 ++ [], grown comma x.0 x.1 x.2, fits x.0 x.3 c.1))
 
     behind_comma : (comma : SourcePlace) (class : Option Class)
-        → Branch (C × GroupsWithin k gs) (λ m. group_by m gs class) k (behind (token_of classes.Comma comma ∷ []) (Turn (SpellsList SpellsGroup classes.Comma) gs front)) (TurnFits (GroupsWithin k)) class
+        → Branch (C × GroupsWithin k gs) (λ m. group_by m gs class) k (behind (token_of classes.Comma comma ∷ []) (Turn (SpellsList SpellsGroup classes.Comma) gs front))
+        (TurnFits (GroupsWithin k)) class
     behind_comma comma (Some classes.Parameter) = branch (exact-bind (group-exact k) (λ g inside spelled.
         exact-give (Some (gs ++ g ∷ [])) (list-append SpellsGroup classes.Comma gs front g comma inside here spelled, omega arith)
         (λ c. greatest-append parameters_height k gs g c.0.1 c.1)))
@@ -349,13 +355,15 @@ ports_turn-exact {C} k gs front here = exact-by_class (λ m. ports_by m gs) ((No
         ((Some (with_last add_name gs x.0), x.1 ++ [], grown comma x.0 x.1 x.2), λ c. (Some (with_last add_name gs x.0), x.1 ++ [], grown comma x.0 x.1 x.2, fits x.0 c.1))
 
     another : (comma : SourcePlace) (direction : Direction) {class : Option Class}
-        → Branch (C × AllPortsWithin k gs) (λ m. another_port m gs direction) k (behind (token_of classes.Comma comma ∷ []) (Turn (SpellsList SpellsPorts classes.Comma) gs front)) (TurnFits (AllPortsWithin k)) class
+        → Branch (C × AllPortsWithin k gs) (λ m. another_port m gs direction) k (behind (token_of classes.Comma comma ∷ []) (Turn (SpellsList SpellsPorts classes.Comma) gs front))
+        (TurnFits (AllPortsWithin k)) class
     another comma direction = branch (exact-bind (port-exact k direction) (λ g inside spelled.
         exact-give (Some (gs ++ g ∷ [])) (list-append SpellsPorts classes.Comma gs front g comma inside here spelled, omega arith)
         (λ c. greatest-append ports_height k gs g c.0.1 c.1)))
 
     behind_comma : (comma : SourcePlace) (class : Option Class)
-        → Branch (C × AllPortsWithin k gs) (λ m. port_by m gs class) k (behind (token_of classes.Comma comma ∷ []) (Turn (SpellsList SpellsPorts classes.Comma) gs front)) (TurnFits (AllPortsWithin k)) class
+        → Branch (C × AllPortsWithin k gs) (λ m. port_by m gs class) k (behind (token_of classes.Comma comma ∷ []) (Turn (SpellsList SpellsPorts classes.Comma) gs front))
+        (TurnFits (AllPortsWithin k)) class
     behind_comma comma (Some classes.Input) = another comma Input
     behind_comma comma (Some classes.Output) = another comma Output
     behind_comma comma _ = branch (exact-bind named-exact (λ n inside spelled.

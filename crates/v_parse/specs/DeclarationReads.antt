@@ -5,7 +5,8 @@ use Rattle.vf_base.specs.Base.{SourcePlace}
 use Rattle.v_tree.specs.Tokens.{SourceToken}
 use Rattle.v_tree.specs.declared.item.Direction.{Direction}
 use Rattle.v_tree.specs.declared.item.Direction.TheVariants.{Input, Output}
-use Rattle.v_tree.specs.Trees.{SourceExpression, NamedPlace, SourceRange, SourceParameter, SourceParameters, SourcePorts, SourceWire, SourceContent, NoContent, FirstContent, MemoryBounds, SourceReg, SourceHeads, PlainHeads, DeclaredHeads}
+use Rattle.v_tree.specs.Trees.{SourceExpression, NamedPlace, SourceRange, SourceParameter, SourceParameters, SourcePorts, SourceWire, SourceContent, NoContent, FirstContent, MemoryBounds, SourceReg}
+use Rattle.v_tree.specs.Trees.{SourceHeads, PlainHeads, DeclaredHeads}
 use Rattle.v_readers.specs.declared.class.Class.{Class}
 use Rattle.v_readers.specs.declared.class.Class.TheVariants as classes
 use Rattle.v_readers.specs.Classes.{same_class, token_of}
@@ -19,9 +20,12 @@ use Rattle.v_readers.specs.Reads.{next-class, expect-reads, name-reads, turn-is,
 use Rattle.v_expr.specs.Heights.{height_of, range_height}
 use Rattle.v_expr.specs.ExpressionReads.{EndsBefore, expression-reads}
 use Rattle.v_expr.specs.PartLaws.{range-reads}
-use Rattle.v_parse.specs.Spelling.{SpellsNamed, SpellsSigned, SpellsWidth, SpellsValue, SpellsParameter, SpellsParameters, parameter_word, SpellsGroup, SpellsParameterList, direction_word, SpellsSort, SpellsPorts, SpellsHeads, SpellsWire, SpellsContent, SpellsReg}
+use Rattle.v_parse.specs.Spelling.{SpellsNamed, SpellsSigned, SpellsWidth, SpellsValue, SpellsParameter, SpellsParameters, parameter_word, SpellsGroup, SpellsParameterList, direction_word}
+use Rattle.v_parse.specs.Spelling.{SpellsSort, SpellsPorts, SpellsHeads, SpellsWire, SpellsContent, SpellsReg}
 use Rattle.v_parse.specs.Heights.{greatest, height_if_there, parameters_height, ports_height, heads_height, wire_height, content_height, reg_height}
-use Rattle.v_parse.specs.Items.{named, signed_by, signed, width_by, width, value_by, value, parameter, parameters, group, with_last, add_parameter, group_by, groups_by, groups_turn, groups, parameter_list_by, parameter_list, sort_by, sort, ports_head, with_names, ports, port, add_name, another_port, port_by, ports_by, ports_turn, declared_ports, heads_inside, heads_by, heads, wire, content_by, content, reg}
+use Rattle.v_parse.specs.Items.{named, signed_by, signed, width_by, width, value_by, value, parameter, parameters, group, with_last, add_parameter, group_by, groups_by, groups_turn, groups}
+use Rattle.v_parse.specs.Items.{parameter_list_by, parameter_list, sort_by, sort, ports_head, with_names, ports, port, add_name, another_port, port_by, ports_by, ports_turn, declared_ports}
+use Rattle.v_parse.specs.Items.{heads_inside, heads_by, heads, wire, content_by, content, reg}
 use Rattle.v_parse.specs.DeclarationExact.{Any, ParameterWithin}
 
 -- What stands behind an element
@@ -108,7 +112,8 @@ value_by-closer : (k : ℕ) (class : Option Class) (tokens : List SourceToken) �
 value_by-closer k (Some classes.Assign) tokens h = absurd (let p : false ≡ true = h in cc)
 value_by-closer k _ tokens h = refl
 
-pub value-reads : (k : ℕ) (v : Option SourceExpression) (ts rest : List SourceToken) → SpellsValue v ts → height_if_there height_of v ≤ k → Closes (next_class rest) → value k (ts ++ rest) ≡ Ok (v, rest)
+pub value-reads : (k : ℕ) (v : Option SourceExpression) (ts rest : List SourceToken) → SpellsValue v ts → height_if_there height_of v ≤ k → Closes (next_class rest) →
+    value k (ts ++ rest) ≡ Ok (v, rest)
 unfolding value
 value-reads k None ts rest h low ends = ap (λ f. value k (f ++ rest)) h ∙ value_by-closer k (next_class rest) rest ends
 value-reads k (Some e) ts rest h low ends =
@@ -228,7 +233,8 @@ group-reads k place s range p sign width_tokens before rest h g low spelled fits
     let signs = signs-read k s range sign width_tokens (before ++ rest) h g low (parameter-first p before rest spelled) in
     rw (expect-reads classes.Parameter place (sign ++ (width_tokens ++ (before ++ rest))), signs.0, signs.1, parameter-reads k p before rest spelled fits c) refl
 
-parameter_one : (k : ℕ) (gs : List SourceParameters) (p : SourceParameter) (place : SourcePlace) (inside rest : List SourceToken) → SpellsParameter p inside → ParameterWithin k p → Closes (next_class rest)
+parameter_one : (k : ℕ) (gs : List SourceParameters) (p : SourceParameter) (place : SourcePlace) (inside rest : List SourceToken) → SpellsParameter p inside → ParameterWithin k p →
+    Closes (next_class rest)
     → groups_turn k gs (token_of classes.Comma place ∷ (inside ++ rest)) ≡ Ok (Some (with_last add_parameter gs p), rest)
 parameter_one k gs p place inside rest s f c =
     ap (λ class. group_by k gs class (inside ++ rest)) (parameter-first p inside rest s)
@@ -453,7 +459,8 @@ declared_ports-reads k g gs ts close rest h low =
         again (Ok y) = refl
         again (Err stop) = refl
 
-pub heads-reads : (k : ℕ) (hs : SourceHeads) (ts rest : List SourceToken) → SpellsHeads hs ts → heads_height hs ≤ k → (next_class rest ≡ Some classes.LeftParen → ⊥) → heads k (ts ++ rest) ≡ Ok (hs, rest)
+pub heads-reads : (k : ℕ) (hs : SourceHeads) (ts rest : List SourceToken) → SpellsHeads hs ts → heads_height hs ≤ k → (next_class rest ≡ Some classes.LeftParen → ⊥) →
+    heads k (ts ++ rest) ≡ Ok (hs, rest)
 unfolding heads
 heads-reads k (PlainHeads []) ts rest (inl e) low other = ap (λ f. heads k (f ++ rest)) e ∙ none (next_class rest) other
   where

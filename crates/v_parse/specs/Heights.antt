@@ -1,6 +1,8 @@
 -- How many levels stand below the outermost expressions and statements of the items of a unit.
 use Rattle.std.specs.Prelude.{ℕ, max, List, [], ◌∷◌, Option, Some, None}
-use Rattle.v_tree.specs.Trees.{SourceParameter, SourceParameters, SourcePorts, SourceWire, SourceContent, NoContent, FirstContent, MemoryBounds, SourceReg, SourceAssignment, SourceGate, SourceConnection, SourceInstance, SourceItem, ParameterItem, PortItem, WireItem, RegItem, IntegerItem, AssignItem, GateItem, InstanceItem, InitialItem, AlwaysItem, SourceHeads, PlainHeads, DeclaredHeads, SourceModule, SourceUnit}
+use Rattle.v_tree.specs.Trees.{SourceParameter, SourceParameters, SourcePorts, SourceWire, SourceContent, NoContent, FirstContent, MemoryBounds, SourceReg, SourceAssignment, SourceGate}
+use Rattle.v_tree.specs.Trees.{SourceConnection, SourceInstance, SourceItem, ParameterItem, PortItem, WireItem, RegItem, IntegerItem, AssignItem, GateItem, InstanceItem, InitialItem, AlwaysItem}
+use Rattle.v_tree.specs.Trees.{SourceHeads, PlainHeads, DeclaredHeads, SourceModule, SourceUnit}
 use Rattle.v_expr.specs.Heights.{height_of, target_height, range_height}
 use Rattle.v_stmt.specs.Heights.{statement_height}
 

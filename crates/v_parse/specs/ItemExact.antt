@@ -17,10 +17,13 @@ use Rattle.v_readers.specs.Repeat.{append-nil, Turn, TurnFits, exact-repeat}
 use Rattle.v_readers.specs.SeparatedLaws.{EachFits, exact-separated}
 use Rattle.v_stmt.specs.Spelling.{SpellsStatement}
 use Rattle.v_stmt.specs.StatementExact.{statement-exact}
-use Rattle.v_parse.specs.Spelling.{SpellsEach, parameter_word, SpellsParameters, SpellsWire, SpellsReg, SpellsAssignment, gate_word, SpellsGate, SpellsInstance, SpellsDeclared, SpellsItem, SpellsModule, SpellsUnit}
+use Rattle.v_parse.specs.Spelling.{SpellsEach, parameter_word, SpellsParameters, SpellsWire, SpellsReg, SpellsAssignment, gate_word, SpellsGate, SpellsInstance, SpellsDeclared, SpellsItem}
+use Rattle.v_parse.specs.Spelling.{SpellsModule, SpellsUnit}
 use Rattle.v_parse.specs.Heights.{greatest, wire_height, reg_height, assignment_height, gate_height, instance_height, item_height, module_height, unit_height}
-use Rattle.v_parse.specs.Items.{wire, reg, assignment, gate, inst, declared, parameter_item, port_item, wire_item, reg_item, integer_item, assign_item, gate_item, instance_item, initial_item, always_item, item_by, item, items_by, items_turn, module_reader, modules_by, modules_turn, unit_reader}
-use Rattle.v_parse.specs.DeclarationExact.{greatest-fits, greatest-append, signed-exact, width-exact, parameters-exact, parameter_list-exact, ports-exact, heads-exact, WireWithin, wire-exact, RegWithin, reg-exact}
+use Rattle.v_parse.specs.Items.{wire, reg, assignment, gate, inst, declared, parameter_item, port_item, wire_item, reg_item, integer_item, assign_item, gate_item, instance_item, initial_item}
+use Rattle.v_parse.specs.Items.{always_item, item_by, item, items_by, items_turn, module_reader, modules_by, modules_turn, unit_reader}
+use Rattle.v_parse.specs.DeclarationExact.{greatest-fits, greatest-append, signed-exact, width-exact, parameters-exact, parameter_list-exact, ports-exact, heads-exact, WireWithin, wire-exact}
+use Rattle.v_parse.specs.DeclarationExact.{RegWithin, reg-exact}
 use Rattle.v_parse.specs.ConnectionExact.{AssignmentWithin, assignment-exact, GateWithin, gate-exact, given-exact, InstanceWithin, inst-exact}
 
 abbrev pub ItemWithin : ℕ → SourceItem → Type 0
@@ -247,6 +250,7 @@ UnitWithin k u = unit_height u ≤ k
 pub unit-exact : {C : Type 0} (k : ℕ) → Exact C unit_reader k SpellsUnit (UnitWithin k)
 unfolding unit_reader
 unit-exact {C} k =
-    exact-bind (exact-under (λ c. (tt, omega arith)) (exact-repeat {C = Unit {0}} modules_turn {N = SpellsEach SpellsModule} {G = ModulesWithin k} (modules_turn-exact k) [] [] refl)) (λ ms inside each.
+    exact-bind (exact-under (λ c. (tt, omega arith)) (exact-repeat {C = Unit {0}} modules_turn {N = SpellsEach SpellsModule} {G = ModulesWithin k} (modules_turn-exact k) [] [] refl))
+    (λ ms inside each.
     exact-bind exact-end (λ x nothing empty.
     exact-give (record { modules = ms }) (subst (SpellsEach SpellsModule ms) (sym (ap (λ f. inside ++ (f ++ [])) empty ∙ append-nil inside)) each) (λ c. c.0.1)))

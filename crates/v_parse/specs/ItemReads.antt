@@ -7,7 +7,8 @@ use Rattle.four_value.specs.declared.operator.GateKind.TheVariants.{And, Nand, O
 use Rattle.v_tree.specs.Tokens.{SourceToken}
 use Rattle.v_tree.specs.declared.item.Direction.{Direction}
 use Rattle.v_tree.specs.declared.item.Direction.TheVariants.{Input, Output}
-use Rattle.v_tree.specs.Trees.{SourceItem, ParameterItem, PortItem, WireItem, RegItem, IntegerItem, AssignItem, GateItem, InstanceItem, InitialItem, AlwaysItem, Identifier, SourceInstance, SourceHeads, PlainHeads, DeclaredHeads, SourceModule, SourceUnit}
+use Rattle.v_tree.specs.Trees.{SourceItem, ParameterItem, PortItem, WireItem, RegItem, IntegerItem, AssignItem, GateItem, InstanceItem, InitialItem, AlwaysItem, Identifier, SourceInstance}
+use Rattle.v_tree.specs.Trees.{SourceHeads, PlainHeads, DeclaredHeads, SourceModule, SourceUnit}
 use Rattle.v_readers.specs.declared.class.Class.{Class}
 use Rattle.v_readers.specs.declared.class.Class.TheVariants as classes
 use Rattle.v_readers.specs.Classes.{token_of, name_token, IsName}
@@ -17,13 +18,16 @@ use Rattle.v_readers.specs.Exact.{Language}
 use Rattle.v_readers.specs.SeparatedLaws.{EachFits}
 use Rattle.v_readers.specs.Reads.{next-class, expect-reads, name-reads, turn-is, last-is, separated-reads}
 use Rattle.v_stmt.specs.StatementReads.{statement-reads}
-use Rattle.v_parse.specs.Spelling.{SpellsEach, parameter_word, direction_word, SpellsWire, SpellsReg, SpellsAssignment, gate_word, SpellsGate, SpellsInstance, SpellsItem, SpellsHeads, SpellsModule, SpellsUnit}
+use Rattle.v_parse.specs.Spelling.{SpellsEach, parameter_word, direction_word, SpellsWire, SpellsReg, SpellsAssignment, gate_word, SpellsGate, SpellsInstance, SpellsItem, SpellsHeads, SpellsModule}
+use Rattle.v_parse.specs.Spelling.{SpellsUnit}
 use Rattle.v_parse.specs.Heights.{greatest, wire_height, reg_height, assignment_height, gate_height, instance_height, item_height, module_height, unit_height}
-use Rattle.v_parse.specs.Items.{wire, reg, assignment, gate, inst, declared, parameter_item, port_item, wire_item, reg_item, integer_item, assign_item, gate_item, instance_item, initial_item, always_item, item_by, item, items_by, items_turn, module_reader, modules_by, modules_turn, unit_reader}
+use Rattle.v_parse.specs.Items.{wire, reg, assignment, gate, inst, declared, parameter_item, port_item, wire_item, reg_item, integer_item, assign_item, gate_item, instance_item, initial_item}
+use Rattle.v_parse.specs.Items.{always_item, item_by, item, items_by, items_turn, module_reader, modules_by, modules_turn, unit_reader}
 use Rattle.v_parse.specs.DeclarationExact.{WireWithin, RegWithin}
 use Rattle.v_parse.specs.ConnectionExact.{AssignmentWithin, GateWithin, InstanceWithin}
 use Rattle.v_parse.specs.ItemExact.{item-tokens, module-tokens}
-use Rattle.v_parse.specs.DeclarationReads.{Closes, not-class, each-fits, list-first, signs-read, parameters-reads, parameter_list-reads, ports-reads, heads-reads, wire-reads, wire-first, reg-reads, reg-first}
+use Rattle.v_parse.specs.DeclarationReads.{Closes, not-class, each-fits, list-first, signs-read, parameters-reads, parameter_list-reads, ports-reads, heads-reads, wire-reads, wire-first, reg-reads}
+use Rattle.v_parse.specs.DeclarationReads.{reg-first}
 use Rattle.v_parse.specs.ConnectionReads.{assignment-reads, gate-reads, given-reads, inst-reads}
 
 declared-reads : {A : Type 0} (P : Reader A) (L : Language A) (F : A → Type 0) → ((x : A) (ts rest : List SourceToken) → L x ts → F x → Closes (next_class rest) → P (ts ++ rest) ≡ Ok (x, rest))
@@ -120,7 +124,8 @@ gate_by k Buf tokens = refl
 gate_by k Not tokens = refl
 
 -- an item that a word begins is read by the reader of that word
-item-word : (k : ℕ) (word : Class) (place : SourcePlace) (ts tail rest : List SourceToken) → ts ++ rest ≡ token_of word place ∷ tail → item k (ts ++ rest) ≡ item_by k (Some word) (token_of word place ∷ tail)
+item-word : (k : ℕ) (word : Class) (place : SourcePlace) (ts tail rest : List SourceToken) → ts ++ rest ≡ token_of word place ∷ tail →
+    item k (ts ++ rest) ≡ item_by k (Some word) (token_of word place ∷ tail)
 unfolding item
 item-word k word place ts tail rest e = ap (item k) e ∙ ap (λ c. item_by k c (token_of word place ∷ tail)) (next-class word place tail)
 
@@ -195,7 +200,8 @@ item-reads k (InstanceItem place module_name cs xs) ts rest h low other =
     (not-class classes.Name classes.Hash (next_class (h.3 ++ ending)) refl (list-first SpellsInstance classes.Comma classes.Name inst-first xs h.3 ending h.5)) in
     let all = declared-reads (inst k) SpellsInstance (InstanceWithin k) (inst-reads k) xs h.3 h.1 rest h.5 (each-fits instance_height k xs (omega (arith, low))) in
     item-named k place module_name ts (h.2 ++ (h.3 ++ ending)) rest
-    (ap (λ f. f ++ rest) h.6 ∙ ap (λ f. name_token module_name place ∷ f) (append_assoc h.2 (h.3 ++ token_of classes.Semicolon h.1 ∷ []) rest ∙ ap (λ f. h.2 ++ f) (append_assoc h.3 (token_of classes.Semicolon h.1 ∷ []) rest))) h.0
+    (ap (λ f. f ++ rest) h.6 ∙ ap (λ f. name_token module_name place ∷ f) (append_assoc h.2 (h.3 ++ token_of classes.Semicolon h.1 ∷ []) rest
+    ∙ ap (λ f. h.2 ++ f) (append_assoc h.3 (token_of classes.Semicolon h.1 ∷ []) rest))) h.0
     ∙ rw (name-reads module_name place (h.2 ++ (h.3 ++ ending)) h.0, giving, all) refl
 item-reads k (InitialItem place s) ts rest h low other =
     item-word k classes.Initial place ts (h.0 ++ rest) rest (ap (λ f. f ++ rest) h.2)
@@ -246,7 +252,8 @@ items-read k (i ∷ is) done ts ending rest h low =
     ∙ items-read k is (done ++ i ∷ []) h.1 ending rest h.3 (omega (arith, low))
     ∙ ap (λ w. Ok (w, token_of classes.EndModule ending ∷ rest)) (append_assoc done (i ∷ []) is)
 
-heads-not-hash : (hs : SourceHeads) (ts : List SourceToken) (ending : SourcePlace) (rest : List SourceToken) → SpellsHeads hs ts → next_class (ts ++ token_of classes.Semicolon ending ∷ rest) ≡ Some classes.Hash → ⊥
+heads-not-hash : (hs : SourceHeads) (ts : List SourceToken) (ending : SourcePlace) (rest : List SourceToken) → SpellsHeads hs ts →
+    next_class (ts ++ token_of classes.Semicolon ending ∷ rest) ≡ Some classes.Hash → ⊥
 heads-not-hash (PlainHeads []) ts ending rest (inl h) e =
     not-class classes.Semicolon classes.Hash (next_class (ts ++ token_of classes.Semicolon ending ∷ rest)) refl (ap (λ f. next_class (f ++ token_of classes.Semicolon ending ∷ rest)) h) e
 heads-not-hash (PlainHeads []) ts ending rest (inr h) e =

@@ -94,7 +94,8 @@ pub unit-deep : (levels : ℕ) (tokens rest : List SourceToken) → unit_reader 
 unit-deep levels tokens rest e = subst (Judged levels tokens) e (unit-judged levels tokens)
 
 -- what is spelled is read, and nothing else is
-pub unit-only : (levels : ℕ) (tokens : List SourceToken) (u read : SourceUnit) (rest : List SourceToken) → SpellsUnit u tokens → unit_height u ≤ levels → unit_reader levels tokens ≡ Ok (read, rest) → read ≡ u
+pub unit-only : (levels : ℕ) (tokens : List SourceToken) (u read : SourceUnit) (rest : List SourceToken) → SpellsUnit u tokens → unit_height u ≤ levels →
+    unit_reader levels tokens ≡ Ok (read, rest) → read ≡ u
 unit-only levels tokens u read rest s h e =
     let x : SourceUnit × List SourceToken = (u, []) in
     let y : SourceUnit × List SourceToken = (read, rest) in

@@ -15,7 +15,8 @@ use Rattle.v_elab.specs.Parts.{Part, InstancePart}
 use Rattle.v_elab.specs.Connections as plain
 use Rattle.v_elab.specs.ReadCounts.{some_reads_over, connections_reads}
 use Rattle.v_elab.specs.Connections.{open_parameters, given_faults, given_parameters, instance_faults, connections_parts}
-use Rattle.v_elab.specs.Walk.{Here, Walker, walked, walked_module, walked_items, walked_instance, walked_instances, walked_instance_item, not_port_faults, head_items, module_named, child_of, paths_of, entered, added}
+use Rattle.v_elab.specs.Walk.{Here, Walker, walked, walked_module, walked_items, walked_instance, walked_instances, walked_instance_item, not_port_faults, head_items, module_named, child_of}
+use Rattle.v_elab.specs.Walk.{paths_of, entered, added}
 use Rattle.module_scope.specs.Givens.{given_parameter}
 use Rattle.module_scope.specs.declared.given.Given.{Given}
 use Rattle.instance_checks.specs.Offered.{AreFormals}
@@ -34,7 +35,8 @@ enter-returns-in_err-scope t c all e modules is before counted =
     let p = err_from_is_err_and c.from_residual.result c.from_residual.ensures.1 in
     let some : 0 < c.args.levels = omega arith in
     rw (p.1, p.2)
-    (enter-wrong all c.args.mode c.args.levels e (module_of c.args.entrance.module.now) (map given_parameter c.args.entrance.given.now) c.in_err-scope.field-0.0 before some is.inner_is is.given_are c.in_err-scope.ensures)
+    (enter-wrong all c.args.mode c.args.levels e (module_of c.args.entrance.module.now) (map given_parameter c.args.entrance.given.now) c.in_err-scope.field-0.0 before some is.inner_is is.given_are
+    c.in_err-scope.ensures)
 
 pub enter-returns : goal.enter-returns
 enter-returns t c all e modules is before counted =
@@ -56,7 +58,8 @@ walk_instance-returns-in_err-refuse_reads t c h m given is inner before counted 
     let walker : Walker = walked h.modules h.mode c.args.levels in
     let i : SourceInstance = instance_of c.args.instance.now in
     let reads : c.in_ok-connection_reads_over.field-0 ≡ some_reads_over h.scope (connections_reads (child_of h m given) 0 i.connections) =
-    c.in_ok-connection_reads_over.ensures (child_of h m given) inner.child_is ∙ ap (λ (cs : List Connection). some_reads_over h.scope (connections_reads (child_of h m given) 0 (map connection_of cs))) c.as_slice-connections.ensures in
+    c.in_ok-connection_reads_over.ensures (child_of h m given) inner.child_is ∙ ap (λ (cs : List Connection).
+    some_reads_over h.scope (connections_reads (child_of h m given) 0 (map connection_of cs))) c.as_slice-connections.ensures in
     rw (p.1, p.2)
     (reads-wrong (walked_instance walker h m given i before) c.in_ok-connection_reads_over.field-0 _ c.in_err-refuse_reads.ensures (λ e. instance-over walker h m given i before (sym reads ∙ e)))
 
@@ -67,16 +70,21 @@ walk_instance-returns t c h m given is inner before counted =
     let paths : ArePaths (paths_of h i) c.in_ok-paths.paths = c.in_ok-paths.ensures h is.here_is.path_is in
     let more : List Part = InstancePart ∷ connections_parts (child_of h m given) (paths_of h i) 0 i.connections in
     let pushed : parts_in (record c.args.walked.now { parts = c.push_connection_parts.new.parts }) ≡ parts_in c.args.walked.now ++ more =
-    pushed-instance c.args.walked.now.parts.items c.push.new.self.items (parts_in (record c.args.walked.now { parts = c.push_connection_parts.new.parts })) (connections_parts (child_of h m given) (paths_of h i) 0 i.connections) c.in_ok-push.ensures.items
+    pushed-instance c.args.walked.now.parts.items c.push.new.self.items (parts_in (record c.args.walked.now { parts = c.push_connection_parts.new.parts }))
+    (connections_parts (child_of h m given) (paths_of h i) 0 i.connections) c.in_ok-push.ensures.items
     (c.in_ok-push_connection_parts.ensures (child_of h m given) inner.child_is (paths_of h i) paths
-    ∙ ap (λ (cs : List Connection). parts_in (record c.args.walked.now { parts = c.push.new.self }) ++ connections_parts (child_of h m given) (paths_of h i) 0 (map connection_of cs)) c.as_slice-connections.ensures) in
+    ∙ ap (λ (cs : List Connection). parts_in (record c.args.walked.now { parts = c.push.new.self }) ++ connections_parts (child_of h m given) (paths_of h i) 0 (map connection_of cs))
+    c.as_slice-connections.ensures) in
     let at : c.len-start.result ≡ length (parts_in c.args.walked.now) = omega (arith, length-map c.args.walked.now.parts.items part_of) in
     let few : some_reads_over h.scope (connections_reads (child_of h m given) 0 i.connections) ≡ false =
-    ap (λ (cs : List Connection). some_reads_over h.scope (connections_reads (child_of h m given) 0 (map connection_of cs))) (sym c.as_slice-connections.ensures) ∙ sym (c.in_ok-connection_reads_over.ensures (child_of h m given) inner.child_is) ∙ c.in_ok-refuse_reads.ensures in
+    ap (λ (cs : List Connection). some_reads_over h.scope (connections_reads (child_of h m given) 0 (map connection_of cs))) (sym c.as_slice-connections.ensures)
+    ∙ sym (c.in_ok-connection_reads_over.ensures (child_of h m given) inner.child_is) ∙ c.in_ok-refuse_reads.ensures in
     leaves-last before _ (walker (entered h m given i)) c.args.walked.now c.count_from.new.self c.walk_inside-2.new.walked c.walk_inside-2.result
     (λ all k. c.walk_inside-2.ensures h m given is inner paths all k)
-    (goes-turn before _ (walked_instance walker h m given i) (walker (entered h m given i)) (λ all. added all more) c.args.walked.now c.args.walked.now c.count_from.new.self (λ all. instance-few walker h m given i all few)
-    (λ all k. grows-counted all more c.args.walked.now (record c.args.walked.now { parts = c.push_connection_parts.new.parts }) c.count_from.new.self pushed (c.in_ok-count_from.ensures all (parts_in c.args.walked.now) more k pushed at))
+    (goes-turn before _ (walked_instance walker h m given i) (walker (entered h m given i)) (λ all. added all more) c.args.walked.now c.args.walked.now c.count_from.new.self
+    (λ all. instance-few walker h m given i all few)
+    (λ all k. grows-counted all more c.args.walked.now (record c.args.walked.now { parts = c.push_connection_parts.new.parts }) c.count_from.new.self pushed
+    (c.in_ok-count_from.ensures all (parts_in c.args.walked.now) more k pushed at))
     (goes-first before (walked_instance walker h m given i) c.args.walked.now counted))
 
 pub walk_instance_item-returns-in_err-given : goal.walk_instance_item-returns-in_err-given
@@ -136,18 +144,22 @@ walk_instances-returns-in_err-walk_instance t c h m given is inner before counte
     let p = err_from_is_err_and c.from_residual.result c.from_residual.ensures.1 in
     let walker : Walker = walked h.modules h.mode c.args.levels in
     rw (p.1, p.2)
-    (goes-wrong before _ (walked_instances walker h m given (map instance_of (drop c.instances.instance-index c.args.instances.now))) (walked_instances walker h m given (map instance_of (drop (c.instances.instance-index + 1) c.args.instances.now)))
+    (goes-wrong before _ (walked_instances walker h m given (map instance_of (drop c.instances.instance-index c.args.instances.now)))
+    (walked_instances walker h m given (map instance_of (drop (c.instances.instance-index + 1) c.args.instances.now)))
     (walked_instance walker h m given (instance_of c.instance-item.result)) _ _ _
-    (turn-of (λ (i : Instance). walked_instance walker h m given (instance_of i)) (λ (is : List Instance). walked_instances walker h m given (map instance_of is)) (λ (is : List Instance). walked_instances walker h m given (map instance_of is))
+    (turn-of (λ (i : Instance). walked_instance walker h m given (instance_of i)) (λ (is : List Instance). walked_instances walker h m given (map instance_of is))
+    (λ (is : List Instance). walked_instances walker h m given (map instance_of is))
     c.args.instances.now c.instances.instance-index c.instance-item.result (λ ys all. refl) c.instances-test.true c.instance-item.is)
     (c.in_err-walk_instance.ensures h m given is inner) (c.instances.invariant h m given is inner before counted))
 
 pub walk_instances-instances-preserved : goal.walk_instances-instances-preserved
 walk_instances-instances-preserved t c h m given is inner before counted =
     let walker : Walker = walked h.modules h.mode c.args.levels in
-    goes-turn before _ (walked_instances walker h m given (map instance_of (drop c.instances.instance-index c.args.instances.now))) (walked_instances walker h m given (map instance_of (drop (c.instances.instance-index + 1) c.args.instances.now)))
+    goes-turn before _ (walked_instances walker h m given (map instance_of (drop c.instances.instance-index c.args.instances.now)))
+    (walked_instances walker h m given (map instance_of (drop (c.instances.instance-index + 1) c.args.instances.now)))
     (walked_instance walker h m given (instance_of c.instance-item.result)) _ _ _
-    (turn-of (λ (i : Instance). walked_instance walker h m given (instance_of i)) (λ (is : List Instance). walked_instances walker h m given (map instance_of is)) (λ (is : List Instance). walked_instances walker h m given (map instance_of is))
+    (turn-of (λ (i : Instance). walked_instance walker h m given (instance_of i)) (λ (is : List Instance). walked_instances walker h m given (map instance_of is))
+    (λ (is : List Instance). walked_instances walker h m given (map instance_of is))
     c.args.instances.now c.instances.instance-index c.instance-item.result (λ ys all. refl) c.instances-test.true c.instance-item.is)
     (c.in_ok-walk_instance.ensures h m given is inner) (c.instances.invariant h m given is inner before counted)
 
@@ -155,9 +167,12 @@ pub walk_item-returns-in-Some : goal.walk_item-returns-in-Some
 walk_item-returns-in-Some t c h is before counted =
     let walker : Walker = walked h.modules h.mode c.args.levels in
     leaves-same before _ _ _ _ _
-    (ap (λ (ps : List Connection). walked_instance_item walker h (Some (module_of c.in-Some.module.now)) (source_place c.in-Instance.place) (map connection_of ps) (map instance_of c.as_slice-instances.result.now) before) c.as_slice-parameters.ensures
-    ∙ ap (λ (is : List Instance). walked_instance_item walker h (Some (module_of c.in-Some.module.now)) (source_place c.in-Instance.place) (map connection_of c.in-Instance.parameters) (map instance_of is) before) c.as_slice-instances.ensures
-    ∙ item-known walker h c.args.gates c.args.item.now c.in-Instance.place c.in-Instance.module_name c.in-Instance.parameters c.in-Instance.instances before c.named.result c.in-Some.module c.in-Instance.is
+    (ap (λ (ps : List Connection). walked_instance_item walker h (Some (module_of c.in-Some.module.now)) (source_place c.in-Instance.place) (map connection_of ps)
+    (map instance_of c.as_slice-instances.result.now) before) c.as_slice-parameters.ensures
+    ∙ ap (λ (is : List Instance). walked_instance_item walker h (Some (module_of c.in-Some.module.now)) (source_place c.in-Instance.place) (map connection_of c.in-Instance.parameters)
+    (map instance_of is) before) c.as_slice-instances.ensures
+    ∙ item-known walker h c.args.gates c.args.item.now c.in-Instance.place c.in-Instance.module_name c.in-Instance.parameters c.in-Instance.instances before c.named.result c.in-Some.module
+    c.in-Instance.is
     (c.named.ensures h.modules is.modules_are ∙ ap (module_named h.modules) c.as_bytes.ensures) c.in-Some.is)
     (c.walk_instance_item.ensures h is before (source_place c.in-Instance.place) counted)
 
@@ -172,7 +187,8 @@ walk_module-returns-in_err-walk_param_groups t c h is formals before counted =
     let walker : Walker = walked h.modules h.mode c.args.levels in
     rw (p.1, p.2)
     (goes-wrong before _ (walked_module walker h m) (behind_parameters walker h m) (walked_items walker h 0 (map ParameterItem m.parameters)) c.args.walked.now c.args.walked.now _ (λ all. refl)
-    (λ all k. subst (λ (ps : List Params). IsWalkFault (walked_items walker h 0 (map ParameterItem (map parameters_of ps)) all) c.in_err-walk_param_groups.field-0.0) c.as_slice.ensures (c.in_err-walk_param_groups.ensures h walker is all k))
+    (λ all k. subst (λ (ps : List Params). IsWalkFault (walked_items walker h 0 (map ParameterItem (map parameters_of ps)) all) c.in_err-walk_param_groups.field-0.0) c.as_slice.ensures
+    (c.in_err-walk_param_groups.ensures h walker is all k))
     (goes-first before (walked_module walker h m) c.args.walked.now counted))
 
 pub walk_module-returns-in_err-walk_heads : goal.walk_module-returns-in_err-walk_heads
@@ -182,10 +198,13 @@ walk_module-returns-in_err-walk_heads t c h is formals before counted =
     let walker : Walker = walked h.modules h.mode c.args.levels in
     rw (p.1, p.2)
     (goes-wrong before _ (behind_parameters walker h m) (walked_items walker h 0 m.items) (walked_items walker h 0 (head_items m.heads)) c.args.walked.now c.walk_param_groups.new.walked _
-    (λ all. then-clean (not_port_faults m m.heads) all (walked_items walker h 0 (head_items m.heads ++ m.items)) (clean-of _ (λ (n : ℕ). not_port_faults m m.heads) 0 0 refl (c.not_port_fault.ensures m formals) c.in_ok-refuse.ensures) ∙ heads-split walker h m.heads m.items all)
+    (λ all. then-clean (not_port_faults m m.heads) all (walked_items walker h 0 (head_items m.heads ++ m.items))
+    (clean-of _ (λ (n : ℕ). not_port_faults m m.heads) 0 0 refl (c.not_port_fault.ensures m formals) c.in_ok-refuse.ensures) ∙ heads-split walker h m.heads m.items all)
     (c.in_err-walk_heads.ensures h walker is)
-    (goes-turn before _ (walked_module walker h m) (behind_parameters walker h m) (walked_items walker h 0 (map ParameterItem m.parameters)) c.args.walked.now c.args.walked.now c.walk_param_groups.new.walked (λ all. refl)
-    (λ all k. subst (λ (ps : List Params). Grows all (walked_items walker h 0 (map ParameterItem (map parameters_of ps)) all) c.args.walked.now c.walk_param_groups.new.walked) c.as_slice.ensures (c.in_ok-walk_param_groups.ensures h walker is all k))
+    (goes-turn before _ (walked_module walker h m) (behind_parameters walker h m) (walked_items walker h 0 (map ParameterItem m.parameters)) c.args.walked.now c.args.walked.now
+    c.walk_param_groups.new.walked (λ all. refl)
+    (λ all k. subst (λ (ps : List Params). Grows all (walked_items walker h 0 (map ParameterItem (map parameters_of ps)) all) c.args.walked.now c.walk_param_groups.new.walked) c.as_slice.ensures
+    (c.in_ok-walk_param_groups.ensures h walker is all k))
     (goes-first before (walked_module walker h m) c.args.walked.now counted)))
 
 pub walk_module-returns : goal.walk_module-returns
@@ -194,9 +213,13 @@ walk_module-returns t c h is formals before counted =
     let walker : Walker = walked h.modules h.mode c.args.levels in
     leaves-last before _ (walked_items walker h 0 m.items) c.args.walked.now c.walk_heads.new.walked c.walk_items.new.walked c.walk_items.result
     (λ all k. leaves-same all _ _ _ _ _ (ap (λ (is : List Item). walked_items walker h 0 (map item_of is) all) c.as_slice-2.ensures) (c.walk_items.ensures h is all k))
-    (goes-turn before _ (behind_parameters walker h m) (walked_items walker h 0 m.items) (walked_items walker h 0 (head_items m.heads)) c.args.walked.now c.walk_param_groups.new.walked c.walk_heads.new.walked
-    (λ all. then-clean (not_port_faults m m.heads) all (walked_items walker h 0 (head_items m.heads ++ m.items)) (clean-of _ (λ (n : ℕ). not_port_faults m m.heads) 0 0 refl (c.not_port_fault.ensures m formals) c.in_ok-refuse.ensures) ∙ heads-split walker h m.heads m.items all)
+    (goes-turn before _ (behind_parameters walker h m) (walked_items walker h 0 m.items) (walked_items walker h 0 (head_items m.heads)) c.args.walked.now c.walk_param_groups.new.walked
+    c.walk_heads.new.walked
+    (λ all. then-clean (not_port_faults m m.heads) all (walked_items walker h 0 (head_items m.heads ++ m.items))
+    (clean-of _ (λ (n : ℕ). not_port_faults m m.heads) 0 0 refl (c.not_port_fault.ensures m formals) c.in_ok-refuse.ensures) ∙ heads-split walker h m.heads m.items all)
     (c.in_ok-walk_heads.ensures h walker is)
-    (goes-turn before _ (walked_module walker h m) (behind_parameters walker h m) (walked_items walker h 0 (map ParameterItem m.parameters)) c.args.walked.now c.args.walked.now c.walk_param_groups.new.walked (λ all. refl)
-    (λ all k. subst (λ (ps : List Params). Grows all (walked_items walker h 0 (map ParameterItem (map parameters_of ps)) all) c.args.walked.now c.walk_param_groups.new.walked) c.as_slice.ensures (c.in_ok-walk_param_groups.ensures h walker is all k))
+    (goes-turn before _ (walked_module walker h m) (behind_parameters walker h m) (walked_items walker h 0 (map ParameterItem m.parameters)) c.args.walked.now c.args.walked.now
+    c.walk_param_groups.new.walked (λ all. refl)
+    (λ all k. subst (λ (ps : List Params). Grows all (walked_items walker h 0 (map ParameterItem (map parameters_of ps)) all) c.args.walked.now c.walk_param_groups.new.walked) c.as_slice.ensures
+    (c.in_ok-walk_param_groups.ensures h walker is all k))
     (goes-first before (walked_module walker h m) c.args.walked.now counted)))

@@ -12,12 +12,14 @@ use Rattle.elab_walk.proofs.hierarchy.+walk.Given as goal
 abbrev pub invariant-walk_instances-instances : goal.invariant-walk_instances-instances
 invariant-walk_instances-instances l =
     (h : Here) (m : SourceModule) (given : List GivenParameter) → IsSite h l.site → IsInner h m given l.inner → (before : List Part) → AreCounts before l.initial.walked.counts
-    → GoesOn before (walked_instances (walked h.modules h.mode l.levels) h m given (map instance_of l.instances) before) (walked_instances (walked h.modules h.mode l.levels) h m given (map instance_of (drop l.instance-index l.instances))) l.initial.walked l.walked
+    → GoesOn before (walked_instances (walked h.modules h.mode l.levels) h m given (map instance_of l.instances) before)
+    (walked_instances (walked h.modules h.mode l.levels) h m given (map instance_of (drop l.instance-index l.instances))) l.initial.walked l.walked
 
 abbrev pub invariant-walk_items-items : goal.invariant-walk_items-items
 invariant-walk_items-items l =
     (h : Here) → IsSite h l.site → (before : List Part) → AreCounts before l.initial.walked.counts
-    → GoesOn before (walked_items (walked h.modules h.mode l.levels) h 0 (map item_of l.items) before) (walked_items (walked h.modules h.mode l.levels) h l.gates (map item_of (drop l.item-index l.items))) l.initial.walked l.walked
+    → GoesOn before (walked_items (walked h.modules h.mode l.levels) h 0 (map item_of l.items) before)
+    (walked_items (walked h.modules h.mode l.levels) h l.gates (map item_of (drop l.item-index l.items))) l.initial.walked l.walked
 
 abbrev pub decreases-walk_inside : goal.decreases-walk_inside
 decreases-walk_inside l = 8 * l.levels + 1

@@ -17,10 +17,24 @@ returns-in_err-enter c all modules =
     let p = err_from_is_err_and c.from_residual-in_err-enter.result c.from_residual-in_err-enter.ensures.1 in
     let e : Entered = record { inner = module_of c.args.top.now; given = []; path = []; depth = 0; joins = [] } in
     err-is (walked_from all c.args.mode (module_of c.args.top.now)) _ c.from_residual-in_err-enter.result p.0 c.in_err-enter.field-0.0 p.1 p.2
-    (c.in_err-enter.ensures all e modules (record { inner_is = refl; formals_are = c.in_ok-formals.ensures; given_are = refl; path_is = c.in_ok-new.ensures.ok ∙ c.in_ok-from_bytes.ensures; depth_is = refl; joins_are = refl }) [] c.new-walked.ensures.counted)
+    (c.in_err-enter.ensures all e modules (record {
+      inner_is = refl;
+      formals_are = c.in_ok-formals.ensures;
+      given_are = refl;
+      path_is = c.in_ok-new.ensures.ok ∙ c.in_ok-from_bytes.ensures;
+      depth_is = refl;
+      joins_are = refl;
+    }) [] c.new-walked.ensures.counted)
 
 pub returns : goal.returns
 returns c all modules =
     let e : Entered = record { inner = module_of c.args.top.now; given = []; path = []; depth = 0; joins = [] } in
-    let grown = c.in_ok-enter.ensures all e modules (record { inner_is = refl; formals_are = c.in_ok-formals.ensures; given_are = refl; path_is = c.in_ok-new.ensures.ok ∙ c.in_ok-from_bytes.ensures; depth_is = refl; joins_are = refl }) [] c.new-walked.ensures.counted in
+    let grown = c.in_ok-enter.ensures all e modules (record {
+      inner_is = refl;
+      formals_are = c.in_ok-formals.ensures;
+      given_are = refl;
+      path_is = c.in_ok-new.ensures.ok ∙ c.in_ok-from_bytes.ensures;
+      depth_is = refl;
+      joins_are = refl;
+    }) [] c.new-walked.ensures.counted in
     grown.wanted_are ∙ ap (λ (ps : List Part). Ok ps) (sym (grown.pushed ∙ ap (λ (ps : List Part). ps ++ grown.more) c.new-walked.ensures.parts))

@@ -18,7 +18,8 @@ returns-in_err-refuse c h is gates =
     let p = err_from_is_err_and c.from_residual-in_err-refuse.result c.from_residual-in_err-refuse.ensures.1 in
     let item : SourceItem = item_of c.args.item.now in
     err-is (checked_item h gates item) _ c.from_residual-in_err-refuse.result p.0 c.in_err-refuse.field-0.0 p.1 p.2
-    (wrong-of _ (λ (s : Scope). item_faults s item) c.deref.result.now h.scope (item_parts h gates item) (unless_refused (reads_refused h.scope (item_reads h.mode h.scope item))) _ (c.deref.ensures ∙ is.here_is.scope_is) c.in_ok-item_fault.ensures c.in_err-refuse.ensures)
+    (wrong-of _ (λ (s : Scope). item_faults s item) c.deref.result.now h.scope (item_parts h gates item) (unless_refused (reads_refused h.scope (item_reads h.mode h.scope item))) _
+    (c.deref.ensures ∙ is.here_is.scope_is) c.in_ok-item_fault.ensures c.in_err-refuse.ensures)
 
 pub returns-in_err-refuse_reads : goal.returns-in_err-refuse_reads
 returns-in_err-refuse_reads c h is gates =
@@ -27,7 +28,8 @@ returns-in_err-refuse_reads c h is gates =
     let scope : c.deref-2.result.now ≡ h.scope = c.deref-2.ensures ∙ is.here_is.scope_is in
     let reads : c.in_ok-item_reads_over.field-0 ≡ some_reads_over h.scope (item_reads h.mode h.scope item) =
     c.in_ok-item_reads_over.ensures (subst FindsParameters (sym scope) is.here_is.parameters_are) ∙ ap₂ (λ m (s : Scope). some_reads_over s (item_reads m s item)) is.here_is.mode_is scope in
-    let clean : first_fault (item_faults h.scope item) ≡ None = clean-of _ (λ (s : Scope). item_faults s item) c.deref.result.now h.scope (c.deref.ensures ∙ is.here_is.scope_is) c.in_ok-item_fault.ensures c.in_ok-refuse.ensures in
+    let clean : first_fault (item_faults h.scope item) ≡ None = clean-of _ (λ (s : Scope). item_faults s item) c.deref.result.now h.scope
+    (c.deref.ensures ∙ is.here_is.scope_is) c.in_ok-item_fault.ensures c.in_ok-refuse.ensures in
     err-is (checked_item h gates item) _ c.from_residual-in_err-refuse_reads.result p.0 c.in_err-refuse_reads.field-0.0 p.1 p.2
     (reads-wrong (checked_item h gates item) c.in_ok-item_reads_over.field-0 _ c.in_err-refuse_reads.ensures (λ e. item-over h gates item clean (sym reads ∙ e)))
 
@@ -37,5 +39,6 @@ returns c h is gates =
     let scope : c.deref-2.result.now ≡ h.scope = c.deref-2.ensures ∙ is.here_is.scope_is in
     let reads : c.in_ok-item_reads_over.field-0 ≡ some_reads_over h.scope (item_reads h.mode h.scope item) =
     c.in_ok-item_reads_over.ensures (subst FindsParameters (sym scope) is.here_is.parameters_are) ∙ ap₂ (λ m (s : Scope). some_reads_over s (item_reads m s item)) is.here_is.mode_is scope in
-    let clean : first_fault (item_faults h.scope item) ≡ None = clean-of _ (λ (s : Scope). item_faults s item) c.deref.result.now h.scope (c.deref.ensures ∙ is.here_is.scope_is) c.in_ok-item_fault.ensures c.in_ok-refuse.ensures in
+    let clean : first_fault (item_faults h.scope item) ≡ None = clean-of _ (λ (s : Scope). item_faults s item) c.deref.result.now h.scope
+    (c.deref.ensures ∙ is.here_is.scope_is) c.in_ok-item_fault.ensures c.in_ok-refuse.ensures in
     item-few h gates item clean (sym reads ∙ c.in_ok-refuse_reads.ensures)

@@ -19,7 +19,8 @@ returns-in_err-count_from c h walker is before counted =
     let p = err_from_is_err_and c.from_residual-in_err-count_from.result c.from_residual-in_err-count_from.ensures.1 in
     let wrong : List Fault = item_faults h.scope (ParameterItem (parameters_of c.args.group.now)) in
     let more : List Part = [] in
-    let clean : first_fault wrong ≡ None = clean-of _ (λ (s : Scope). item_faults s (ParameterItem (parameters_of c.args.group.now))) c.deref.result.now h.scope (c.deref.ensures ∙ is.here_is.scope_is) c.in_ok-params_fault.ensures c.in_ok-refuse.ensures in
+    let clean : first_fault wrong ≡ None = clean-of _ (λ (s : Scope). item_faults s (ParameterItem (parameters_of c.args.group.now))) c.deref.result.now h.scope
+    (c.deref.ensures ∙ is.here_is.scope_is) c.in_ok-params_fault.ensures c.in_ok-refuse.ensures in
     let at : c.len-start.result ≡ length (parts_in c.args.walked.now) = omega (arith, length-map c.args.walked.now.parts.items part_of) in
     rw (p.1, p.2)
     (fault-of (added before more) _ _ (sym (item-added h 0 (ParameterItem (parameters_of c.args.group.now)) before (item-few h 0 (ParameterItem (parameters_of c.args.group.now)) clean refl)))
@@ -29,7 +30,10 @@ pub returns : goal.returns
 returns c h walker is before counted =
     let wrong : List Fault = item_faults h.scope (ParameterItem (parameters_of c.args.group.now)) in
     let more : List Part = [] in
-    let clean : first_fault wrong ≡ None = clean-of _ (λ (s : Scope). item_faults s (ParameterItem (parameters_of c.args.group.now))) c.deref.result.now h.scope (c.deref.ensures ∙ is.here_is.scope_is) c.in_ok-params_fault.ensures c.in_ok-refuse.ensures in
+    let clean : first_fault wrong ≡ None = clean-of _ (λ (s : Scope). item_faults s (ParameterItem (parameters_of c.args.group.now))) c.deref.result.now h.scope
+    (c.deref.ensures ∙ is.here_is.scope_is) c.in_ok-params_fault.ensures c.in_ok-refuse.ensures in
     let at : c.len-start.result ≡ length (parts_in c.args.walked.now) = omega (arith, length-map c.args.walked.now.parts.items part_of) in
-    subst (λ (a : Answer). Grows before a c.args.walked.now c.count_from.new.self) (sym (item-added h 0 (ParameterItem (parameters_of c.args.group.now)) before (item-few h 0 (ParameterItem (parameters_of c.args.group.now)) clean refl)))
-    (grows-counted before more c.args.walked.now _ c.count_from.new.self (sym (append-nil (parts_in c.args.walked.now))) (c.in_ok-count_from.ensures before (parts_in c.args.walked.now) more counted (sym (append-nil (parts_in c.args.walked.now))) at))
+    subst (λ (a : Answer). Grows before a c.args.walked.now c.count_from.new.self) (sym (item-added h 0 (ParameterItem (parameters_of c.args.group.now)) before
+    (item-few h 0 (ParameterItem (parameters_of c.args.group.now)) clean refl)))
+    (grows-counted before more c.args.walked.now _ c.count_from.new.self (sym (append-nil (parts_in c.args.walked.now)))
+    (c.in_ok-count_from.ensures before (parts_in c.args.walked.now) more counted (sym (append-nil (parts_in c.args.walked.now))) at))

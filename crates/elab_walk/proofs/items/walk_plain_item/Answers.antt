@@ -32,4 +32,5 @@ returns c h is before counted =
     let more : List Part = item_parts h c.args.gates item in
     let at : c.len-start.result ≡ length (parts_in c.args.walked.now) = omega (arith, length-map c.args.walked.now.parts.items part_of) in
     subst (λ (a : Answer). Grows before a c.args.walked.now c.count_from.new.self) (sym (item-added h c.args.gates item before (c.in_ok-refuse_item.ensures h is c.args.gates)))
-    (grows-counted before more c.args.walked.now _ c.count_from.new.self (c.in_ok-push_item_parts.ensures h is.here_is) (c.in_ok-count_from.ensures before (parts_in c.args.walked.now) more counted (c.in_ok-push_item_parts.ensures h is.here_is) at))
+    (grows-counted before more c.args.walked.now _ c.count_from.new.self (c.in_ok-push_item_parts.ensures h is.here_is)
+    (c.in_ok-count_from.ensures before (parts_in c.args.walked.now) more counted (c.in_ok-push_item_parts.ensures h is.here_is) at))

@@ -11,17 +11,21 @@ pub returns-in_err-walk_ports : goal.returns-in_err-walk_ports
 returns-in_err-walk_ports c h walker is before counted =
     let p = err_from_is_err_and c.from_residual.result c.from_residual.ensures.1 in
     rw (p.1, p.2)
-    (goes-wrong before _ (walked_items walker h 0 (map PortItem (map ports_of (drop c.groups.group-index c.args.groups.now)))) (walked_items walker h 0 (map PortItem (map ports_of (drop (c.groups.group-index + 1) c.args.groups.now))))
+    (goes-wrong before _ (walked_items walker h 0 (map PortItem (map ports_of (drop c.groups.group-index c.args.groups.now))))
+    (walked_items walker h 0 (map PortItem (map ports_of (drop (c.groups.group-index + 1) c.args.groups.now))))
     (walked_item walker h 0 (PortItem (ports_of c.group-item.result))) _ _ _
-    (turn-of (λ (g : Ports). walked_item walker h 0 (PortItem (ports_of g))) (λ (gs : List Ports). walked_items walker h 0 (map PortItem (map ports_of gs))) (λ (gs : List Ports). walked_items walker h 0 (map PortItem (map ports_of gs)))
+    (turn-of (λ (g : Ports). walked_item walker h 0 (PortItem (ports_of g))) (λ (gs : List Ports). walked_items walker h 0 (map PortItem (map ports_of gs)))
+    (λ (gs : List Ports). walked_items walker h 0 (map PortItem (map ports_of gs)))
     c.args.groups.now c.groups.group-index c.group-item.result (λ ys all. refl) c.groups-test.true c.group-item.is)
     (c.in_err-walk_ports.ensures h walker is) (c.groups.invariant h walker is before counted))
 
 pub groups-preserved : goal.groups-preserved
 groups-preserved c h walker is before counted =
-    goes-turn before _ (walked_items walker h 0 (map PortItem (map ports_of (drop c.groups.group-index c.args.groups.now)))) (walked_items walker h 0 (map PortItem (map ports_of (drop (c.groups.group-index + 1) c.args.groups.now))))
+    goes-turn before _ (walked_items walker h 0 (map PortItem (map ports_of (drop c.groups.group-index c.args.groups.now))))
+    (walked_items walker h 0 (map PortItem (map ports_of (drop (c.groups.group-index + 1) c.args.groups.now))))
     (walked_item walker h 0 (PortItem (ports_of c.group-item.result))) _ _ _
-    (turn-of (λ (g : Ports). walked_item walker h 0 (PortItem (ports_of g))) (λ (gs : List Ports). walked_items walker h 0 (map PortItem (map ports_of gs))) (λ (gs : List Ports). walked_items walker h 0 (map PortItem (map ports_of gs)))
+    (turn-of (λ (g : Ports). walked_item walker h 0 (PortItem (ports_of g))) (λ (gs : List Ports). walked_items walker h 0 (map PortItem (map ports_of gs)))
+    (λ (gs : List Ports). walked_items walker h 0 (map PortItem (map ports_of gs)))
     c.args.groups.now c.groups.group-index c.group-item.result (λ ys all. refl) c.groups-test.true c.group-item.is)
     (c.in_ok-walk_ports.ensures h walker is) (c.groups.invariant h walker is before counted)
 

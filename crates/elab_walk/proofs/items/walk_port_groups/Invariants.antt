@@ -11,4 +11,5 @@ use Rattle.elab_walk.proofs.items.walk_port_groups.Given as goal
 abbrev pub invariant-groups : goal.invariant-groups
 invariant-groups l =
     (h : Here) (walker : Walker) → IsSite h l.site → (before : List Part) → AreCounts before l.initial.walked.counts
-    → GoesOn before (walked_items walker h 0 (map PortItem (map ports_of l.groups)) before) (walked_items walker h 0 (map PortItem (map ports_of (drop l.group-index l.groups)))) l.initial.walked l.walked
+    → GoesOn before (walked_items walker h 0 (map PortItem (map ports_of l.groups)) before)
+    (walked_items walker h 0 (map PortItem (map ports_of (drop l.group-index l.groups)))) l.initial.walked l.walked

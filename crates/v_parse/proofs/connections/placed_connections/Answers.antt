@@ -20,7 +20,8 @@ returns-in_err-first-clause-reads c =
 pub positions-init : goal.positions-init
 positions-init c = record {
   same = placed-begin c.args.levels c.args.tokens.now c.in_ok-first.rest.now (expression_in c.in_ok-first.first) c.in_ok-first.ensures.reads
-      ∙ ap (λ (xs : List Connection). followed (repeat (placed_turn c.args.levels) (record { ended = map connection_of xs; last = expression_in c.in_ok-first.first }) c.in_ok-first.rest.now) to_closing)
+      ∙ ap (λ (xs : List Connection). followed (repeat (placed_turn c.args.levels) (record { ended = map connection_of xs; last = expression_in c.in_ok-first.first }) c.in_ok-first.rest.now)
+      to_closing)
       (sym c.new-ended.ensures.items);
   ended = first-ended c.args.levels c.args.tokens.now c.in_ok-first.rest.now (expression_in c.in_ok-first.first) c.in_ok-first.ensures.reads;
   shorter = c.in_ok-first.ensures.shorter;
@@ -55,7 +56,8 @@ returns-in_err-closing-clause-reads c =
     let ended = map connection_of c.positions.ended.items in
     let last = expression_in c.positions.last in
     rw (p.1, p.2, c.positions.invariant.same)
-    (subst (λ w. Fails c.in_err-closing.field-0.0 (followed w to_closing)) (sym (placed-end c.args.levels ended last c.positions.rest.now (sym c.is_next.ensures ∙ c.positions-test.false) c.positions.invariant.ended))
+    (subst (λ w. Fails c.in_err-closing.field-0.0 (followed w to_closing)) (sym (placed-end c.args.levels ended last c.positions.rest.now
+    (sym c.is_next.ensures ∙ c.positions-test.false) c.positions.invariant.ended))
     (Fails-followed c.in_err-closing.field-0.0 (expect classes.RightParen c.positions.rest.now) (λ closing. give (ended ++ placed closing last ∷ [])) c.in_err-closing.ensures.reads))
 
 pub returns-clause-reads : goal.returns-clause-reads

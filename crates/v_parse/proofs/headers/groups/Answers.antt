@@ -12,7 +12,8 @@ returns-in_err-row-clause-reads c =
     let p = err_from_is_err_and c.from_residual-in_err-row.result c.from_residual-in_err-row.ensures.1 in
     let comma : is_class classes.Comma (next_class c.groups.rest.now) ≡ true = sym c.is_next.ensures ∙ c.groups-test.true in
     rw (p.1, p.2, c.groups.invariant.same)
-    (groups-fail c.args.levels (map parameters_of c.groups.row.before.items ++ parameters_of c.groups.row.last ∷ []) c.groups.rest.now c.in_ok-after.after.now _ c.in_err-row.field-0.0 comma c.in_ok-after.ensures.reads c.in_err-row.ensures.reads)
+    (groups-fail c.args.levels (map parameters_of c.groups.row.before.items ++ parameters_of c.groups.row.last ∷ []) c.groups.rest.now c.in_ok-after.after.now _ c.in_err-row.field-0.0 comma
+    c.in_ok-after.ensures.reads c.in_err-row.ensures.reads)
 
 pub groups-preserved : goal.groups-preserved
 groups-preserved c =

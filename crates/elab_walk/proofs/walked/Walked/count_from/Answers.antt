@@ -10,13 +10,15 @@ returns-in_err-few c before front more counted pushed at =
     let within : length front ≤ length c.args.self.now.parts.items = front-within front more c.args.self.now.parts.items pushed in
     let from : c.min-start.result ≡ length front = omega arith in
     rw (p.1, p.2)
-    (c.in_err-few.ensures (before ++ more) (counted-behind before front more c.args.self.now.parts.items c.deref.result.now c.min-start.result c.add_all.new.self c.deref.ensures.value pushed from (c.add_all.ensures before counted)))
+    (c.in_err-few.ensures (before ++ more) (counted-behind before front more c.args.self.now.parts.items c.deref.result.now c.min-start.result c.add_all.new.self c.deref.ensures.value pushed from
+    (c.add_all.ensures before counted)))
 
 pub returns : goal.returns
 returns c before front more counted pushed at =
     let within : length front ≤ length c.args.self.now.parts.items = front-within front more c.args.self.now.parts.items pushed in
     let from : c.min-start.result ≡ length front = omega arith in
-    let all = counted-behind before front more c.args.self.now.parts.items c.deref.result.now c.min-start.result c.add_all.new.self c.deref.ensures.value pushed from (c.add_all.ensures before counted) in
+    let all = counted-behind before front more c.args.self.now.parts.items c.deref.result.now c.min-start.result c.add_all.new.self c.deref.ensures.value pushed from
+    (c.add_all.ensures before counted) in
     record {
       few = ap (λ (r : Option Refusal). unless_refused r (before ++ more)) (c.in_ok-few.ensures (before ++ more) all);
       kept = refl;
