@@ -1,14 +1,13 @@
 -- What the events of a window lead to.
 use Rattle.std.proofs.Common.{◌≡◌, ℕ, suc, ◌+◌, ◌-◌, ◌<◌, ◌≤◌, List, [], ◌∷◌, ◌++◌, length, get_or, below_more, refl, sym, ap, subst, ◌∙◌, arith}
-use Rattle.std.specs.Prelude.{Option, Some, None, option_map, slice_get}
-use Rattle.std.proofs.lemmas.List.{ext_get_or, get_or_read, length-map}
+use Rattle.std.specs.Prelude.{Option, Some, slice_get}
+use Rattle.std.proofs.lemmas.List.{ext_get_or, get_or_read}
 use Rattle.std.proofs.Math.ListN.{get_or-append}
-use Rattle.std.proofs.lemmas.Option.{slice_get_within, slice_get-map}
+use Rattle.std.proofs.lemmas.Option.{slice_get_within}
 use Rattle.four_value.specs.Values.{LogicValue}
 use Rattle.v_design.specs.Designs.{FlatDesign, TestPlan, good_machine}
 use Rattle.v_design.specs.Assignments.{value_at}
 use Rattle.v_design.specs.Runs.{FirstSlot}
-use Rattle.process_code.specs.declared.code.Code.{Code}
 use Rattle.causal_monitor.specs.declared.slot.SlotLog.{SlotLog}
 use Rattle.copy_laws.specs.Windows.{WindowEnd, IsWindow, good_slots}
 use Rattle.window_index.specs.Moments.{IsFirstAtOrAfter}
@@ -19,10 +18,9 @@ use Rattle.trace_window.specs.Touched.{touched_at, IsFirstFrom}
 use Rattle.trace_window.specs.TouchLaws.{listed-length, first-touch}
 use Rattle.trace_window.specs.ValueLaws.{ValuesFollow, window-follow, follow-count, values_before-end, values-are}
 use Rattle.trace_window.specs.Writes.{Written, latest, writes_from}
-use Rattle.good_trace.specs.declared.slot.PushedSlot.{PushedSlot}
 use Rattle.good_trace.specs.declared.events.Events.{Events}
-use Rattle.good_trace.specs.Slots.{IsSlotAt, first_turn}
-use Rattle.good_trace.specs.Events.{logs_of, slots_accesses, AreEvents, AreWindowEvents}
+use Rattle.good_trace.specs.Slots.{IsLogAt, first_turn}
+use Rattle.good_trace.specs.Events.{slots_accesses, AreEvents, AreWindowEvents}
 use Rattle.good_trace.specs.Traces.{AreSlotsFrom, IsTrace}
 
 -- a window ends within the good first run
@@ -34,40 +32,31 @@ ends-within design plan begins ends ending window =
     (omega arith, omega arith)
 
 -- the slots of a window have the accesses of its events
-pub window-accesses : (codes : List Code) (design : FlatDesign) (plan : TestPlan) (begins ends : ℕ) (slots : List PushedSlot) → begins + length slots ≡ ends →
-    ends ≤ length (good_slots design plan) → AreSlotsFrom codes design plan begins slots →
+pub window-accesses : (design : FlatDesign) (plan : TestPlan) (begins ends : ℕ) (slots : List SlotLog) → begins + length slots ≡ ends →
+    ends ≤ length (good_slots design plan) → AreSlotsFrom design plan begins slots →
     AreListed (good_machine design) (window_events design plan begins ends) (slots_accesses slots)
-window-accesses codes design plan begins ends slots held fits are =
-    window-listed design plan begins ends (logs_of slots) (let long : length (logs_of slots) ≡ length slots = length-map slots (λ (s : PushedSlot). s.log) in omega (arith, held, long)) fits each
+window-accesses design plan begins ends slots held fits are =
+    window-listed design plan begins ends slots held fits each
   where
-    same_some : {A : Type 0} (x y : A) → Some x ≡ Some y → x ≡ y
-    same_some x y e = cc
-
-    at : (place : ℕ) (slot : FirstSlot) (log : SlotLog) → slice_get (good_slots design plan) (begins + place) ≡ Some slot → (found : Option PushedSlot) → slice_get slots place ≡ found →
-        option_map (λ (s : PushedSlot). s.log) found ≡ Some log → IsLoggedSlot (good_machine design) slot log
-    at place slot log stands None is e = cc
-    at place slot log stands (Some pushed) is e =
-        let own : IsSlotAt codes design plan (begins + place) pushed.log pushed.runs.items = are.each place pushed is in
-        let one : own.slot ≡ slot = same_some own.slot slot (sym own.stands ∙ stands) in
-        let other : pushed.log ≡ log = same_some pushed.log log e in
-        subst (λ (l : SlotLog). IsLoggedSlot (good_machine design) slot l) other
-        (subst (λ (s : FirstSlot). IsLoggedSlot (good_machine design) s pushed.log) one (record { first = first_turn (begins + place); is = own.logged }))
-
-    each : (place : ℕ) (slot : FirstSlot) (log : SlotLog) → slice_get (good_slots design plan) (begins + place) ≡ Some slot → slice_get (logs_of slots) place ≡ Some log →
+    each : (place : ℕ) (slot : FirstSlot) (log : SlotLog) → slice_get (good_slots design plan) (begins + place) ≡ Some slot → slice_get slots place ≡ Some log →
         IsLoggedSlot (good_machine design) slot log
-    each place slot log stands here = at place slot log stands (slice_get slots place) refl (sym (slice_get-map (λ (s : PushedSlot). s.log) slots place) ∙ here)
+    each place slot log stands here =
+        let own : IsLogAt design plan (begins + place) log = are.each place log here in
+        let same : Some own.slot ≡ Some slot = sym own.stands ∙ stands in
+        let one : own.slot ≡ slot = cc in
+        subst (λ (s : FirstSlot). IsLoggedSlot (good_machine design) s log) one (record { first = first_turn (begins + place); is = own.logged })
 
 -- a trace's slots with their events
-pub AreWindowEvents-closed : (codes : List Code) (design : FlatDesign) (plan : TestPlan) (pushed closed steps : ℕ) (values : List LogicValue) (slots : List PushedSlot) (ending : WindowEnd)
+pub AreWindowEvents-closed : (design : FlatDesign) (plan : TestPlan) (pushed closed steps : ℕ) (values : List LogicValue) (slots : List SlotLog) (ending : WindowEnd)
     (objects : ℕ) (events : Events) →
-    IsTrace codes design plan pushed closed steps values slots → IsWindow design plan closed pushed ending → objects ≡ length values → AreEvents objects (slots_accesses slots) events →
+    IsTrace design plan pushed closed steps values slots → IsWindow design plan closed pushed ending → objects ≡ length values → AreEvents objects (slots_accesses slots) events →
     AreWindowEvents design plan closed pushed values events
-AreWindowEvents-closed codes design plan pushed closed steps values slots ending objects events had window is are = record {
+AreWindowEvents-closed design plan pushed closed steps values slots ending objects events had window is are = record {
   rules = had.rules;
   values_are = had.values_are;
   values_count = had.values_count;
   accesses = slots_accesses slots;
-  listed = window-accesses codes design plan closed pushed slots had.held (ends-within design plan closed pushed ending window).1 had.slots_are;
+  listed = window-accesses design plan closed pushed slots had.held (ends-within design plan closed pushed ending window).1 had.slots_are;
   events_are = subst (λ n. AreEvents n (slots_accesses slots) events) (is ∙ had.values_count) are;
 }
 

@@ -10,8 +10,7 @@ use Rattle.trace_window.specs.Gathered.{Gathers}
 use Rattle.trace_window.specs.Listed.{log_accesses}
 use Rattle.trace_window.specs.Touched.{touches_from}
 use Rattle.trace_window.specs.Writes.{written_of, writes_from}
-use Rattle.good_trace.specs.declared.slot.PushedSlot.{PushedSlot}
-use Rattle.good_trace.specs.Events.{logs_of, slots_accesses, IsGathered}
+use Rattle.good_trace.specs.Events.{slots_accesses, IsGathered}
 
 -- of no slot
 pub IsGathered-none : (list : EventList) → list.moment ≡ 0 → list.changes.items ≡ [] → list.touches.items ≡ [] → IsGathered [] list
@@ -32,11 +31,10 @@ joined-append [] ys = refl
 joined-append (x ∷ xs) ys = ap (λ l. x ++ l) (joined-append xs ys) ∙ sym (append_assoc x (joined xs) (joined ys))
 
 -- of one slot more
-pub slots_accesses-more : (slots : List PushedSlot) (i : ℕ) (slot : PushedSlot) → i < length slots → slot ≡ get_or slots i slot →
-    slots_accesses (take (i + 1) slots) ≡ slots_accesses (take i slots) ++ log_accesses slot.log
+pub slots_accesses-more : (slots : List SlotLog) (i : ℕ) (slot : SlotLog) → i < length slots → slot ≡ get_or slots i slot →
+    slots_accesses (take (i + 1) slots) ≡ slots_accesses (take i slots) ++ log_accesses slot
 slots_accesses-more slots i slot low read =
     ap slots_accesses (take_more slots i slot low ∙ ap (λ s. take i slots ++ s ∷ []) (sym read))
-    ∙ ap (λ (l : List SlotLog). joined (map log_accesses l)) (map_push (λ (s : PushedSlot). s.log) (take i slots) slot)
-    ∙ ap joined (map_push log_accesses (logs_of (take i slots)) slot.log)
-    ∙ joined-append (map log_accesses (logs_of (take i slots))) (log_accesses slot.log ∷ [])
-    ∙ ap (λ l. slots_accesses (take i slots) ++ l) (append-nil (log_accesses slot.log))
+    ∙ ap joined (map_push log_accesses (take i slots) slot)
+    ∙ joined-append (map log_accesses (take i slots)) (log_accesses slot ∷ [])
+    ∙ ap (λ l. slots_accesses (take i slots) ++ l) (append-nil (log_accesses slot))

@@ -14,11 +14,10 @@ use Rattle.process_code.specs.declared.code.Code.{Code}
 use Rattle.process_code.specs.declared.state.RunEnd.{RunEnd}
 use Rattle.causal_monitor.specs.declared.slot.SlotLog.{SlotLog}
 use Rattle.copy_laws.specs.Windows.{WindowEnd, IsWindow, good_slots, window_steps}
-use Rattle.good_trace.specs.declared.slot.PushedSlot.{PushedSlot}
 use Rattle.good_trace.specs.declared.events.Events.{Events}
 use Rattle.good_trace.specs.Counted.{steps_logged}
 use Rattle.good_trace.specs.Events.{AreWindowEvents}
-use Rattle.good_trace.specs.Slots.{IsSlotAt, is_full, first_turn}
+use Rattle.good_trace.specs.Slots.{IsSlotAt, IsLogAt, is_full, first_turn}
 use Rattle.good_trace.specs.Traces.{TraceKept, IsTrace, IsTraceWindow}
 use Rattle.good_trace.proofs.Growing.{slice_get-push}
 use Rattle.good_trace.proofs.Counting.{steps-are, few-steps}
@@ -39,11 +38,16 @@ pub steps_logged-at : (codes : List Code) (design : FlatDesign) (plan : TestPlan
 steps_logged-at codes design plan number log runs is =
     let same = steps-are (good_machine design) (first_turn number) is.slot log is.logged in let few = few-steps is.slot is.few_steps in omega (arith, same, few)
 
+-- its log
+pub log-at : (codes : List Code) (design : FlatDesign) (plan : TestPlan) (number : ℕ) (log : SlotLog) (runs : List RunEnd) → IsSlotAt codes design plan number log runs →
+    IsLogAt design plan number log
+log-at codes design plan number log runs is = record { slot = is.slot; stands = is.stands; logged = is.logged; few_steps = is.few_steps }
+
 -- a trace of no slots
-pub IsTrace-none : (codes : List Code) (design : FlatDesign) (plan : TestPlan) (number : ℕ) (values : List LogicValue) → KeepsRules design → values ≡ values_through design plan number →
+pub IsTrace-none : (design : FlatDesign) (plan : TestPlan) (number : ℕ) (values : List LogicValue) → KeepsRules design → values ≡ values_through design plan number →
     length values ≡ length design.objects →
-    length (good_slots design plan) < 2 ^ 63 → IsTrace codes design plan number number 0 values []
-IsTrace-none codes design plan number values rules are count fits = record {
+    length (good_slots design plan) < 2 ^ 63 → IsTrace design plan number number 0 values []
+IsTrace-none design plan number values rules are count fits = record {
   rules = rules;
   values_are = are;
   values_count = count;
@@ -56,11 +60,11 @@ IsTrace-none codes design plan number values rules are count fits = record {
 }
 
 -- one slot more
-pub IsTrace-more : (codes : List Code) (design : FlatDesign) (plan : TestPlan) (pushed closed steps : ℕ) (values : List LogicValue) (slots : List PushedSlot) (slot : PushedSlot) →
-    IsTrace codes design plan pushed closed steps values slots →
-    IsSlotAt codes design plan pushed slot.log slot.runs.items → is_full (pushed - closed) (window_steps design plan closed pushed) ≡ false →
-    IsTrace codes design plan (pushed + 1) closed (steps + steps_logged slot.log) values (slots ++ slot ∷ [])
-IsTrace-more codes design plan pushed closed steps values slots slot had next room = record {
+pub IsTrace-more : (codes : List Code) (design : FlatDesign) (plan : TestPlan) (pushed closed steps : ℕ) (values : List LogicValue) (slots : List SlotLog) (slot : SlotLog) (runs : List RunEnd) →
+    IsTrace design plan pushed closed steps values slots →
+    IsSlotAt codes design plan pushed slot runs → is_full (pushed - closed) (window_steps design plan closed pushed) ≡ false →
+    IsTrace design plan (pushed + 1) closed (steps + steps_logged slot) values (slots ++ slot ∷ [])
+IsTrace-more codes design plan pushed closed steps values slots slot runs had next room = record {
   rules = had.rules;
   values_are = had.values_are;
   values_count = had.values_count;
@@ -71,12 +75,12 @@ IsTrace-more codes design plan pushed closed steps values slots slot had next ro
       | inl h ↦ had.slots_are.each place other h
       | inr h ↦
           let here : pushed ≡ closed + place = omega (arith, had.held, h.0) in
-          subst (λ n. IsSlotAt codes design plan n other.log other.runs.items) here (subst (λ (s : PushedSlot). IsSlotAt codes design plan pushed s.log s.runs.items) h.1 next)
+          subst (λ n. IsLogAt design plan n other) here (subst (λ (s : SlotLog). IsLogAt design plan pushed s) h.1 (log-at codes design plan pushed slot runs next))
     ];
   };
   counted = (λ i. had.counted i + same i) ∙ sym (window_steps-more design plan closed pushed next.slot next.stands (omega (arith, had.held)));
   few_slots = omega (arith, had.held, more, room_left.0);
-  few_steps = small steps (window_steps design plan closed pushed) (steps_logged slot.log) had.counted room_left.1 few;
+  few_steps = small steps (window_steps design plan closed pushed) (steps_logged slot) had.counted room_left.1 few;
 }
   where
     more : length (slots ++ slot ∷ []) ≡ length slots + 1
@@ -85,31 +89,30 @@ IsTrace-more codes design plan pushed closed steps values slots slot had next ro
     room_left : (pushed - closed < 64) × (window_steps design plan closed pushed < 200000)
     room_left = room-left (pushed - closed) (window_steps design plan closed pushed) room
 
-    same : steps_logged slot.log ≡ counted_steps next.slot.moves
-    same = steps-are (good_machine design) (first_turn pushed) next.slot slot.log next.logged
+    same : steps_logged slot ≡ counted_steps next.slot.moves
+    same = steps-are (good_machine design) (first_turn pushed) next.slot slot next.logged
 
-    few : steps_logged slot.log ≤ 100000
-    few = steps_logged-at codes design plan pushed slot.log slot.runs.items next
+    few : steps_logged slot ≤ 100000
+    few = steps_logged-at codes design plan pushed slot runs next
 
     small : (a b c : ℕ) → a ≡ b → b < 200000 → c ≤ 100000 → a + c ≤ 300000
     small a b c e h k = omega arith
 
 -- what is pushed can be counted
-pub push-fits : (codes : List Code) (design : FlatDesign) (plan : TestPlan) (pushed closed steps : ℕ) (values : List LogicValue) (slots : List PushedSlot) (log : SlotLog) (runs : List RunEnd) →
-    IsTrace codes design plan pushed closed steps values slots →
+pub push-fits : (codes : List Code) (design : FlatDesign) (plan : TestPlan) (pushed closed steps : ℕ) (values : List LogicValue) (slots : List SlotLog) (log : SlotLog) (runs : List RunEnd) →
+    IsTrace design plan pushed closed steps values slots →
     IsSlotAt codes design plan pushed log runs → (pushed + 1 < 2 ^ 64) × (steps + steps_logged log < 2 ^ 32)
 push-fits codes design plan pushed closed steps values slots log runs had next =
     let low : pushed < length (good_slots design plan) = slice_get_within (good_slots design plan) pushed next.slot next.stands in
     let few = steps_logged-at codes design plan pushed log runs next in (omega (arith, low, had.run_fits), omega (arith, few, had.few_steps))
 
 -- the slots of a trace as a window
-pub IsTraceWindow-closed : (codes : List Code) (design : FlatDesign) (plan : TestPlan) (pushed closed steps : ℕ) (values : List LogicValue) (events : Events) (slots : List PushedSlot)
+pub IsTraceWindow-closed : (design : FlatDesign) (plan : TestPlan) (pushed closed steps : ℕ) (values : List LogicValue) (events : Events) (slots : List SlotLog)
     (ending : WindowEnd) →
-    IsTrace codes design plan pushed closed steps values slots → AreWindowEvents design plan closed pushed values events → IsWindow design plan closed pushed ending →
+    IsTrace design plan pushed closed steps values slots → AreWindowEvents design plan closed pushed values events → IsWindow design plan closed pushed ending →
     IsTraceWindow design plan closed pushed ending values events slots
-IsTraceWindow-closed codes design plan pushed closed steps values events slots ending had are window = record {
+IsTraceWindow-closed design plan pushed closed steps values events slots ending had are window = record {
   events_are = are;
-  codes = codes;
   stands = record {
     window = window;
     held = had.held;
@@ -138,20 +141,21 @@ pub window-is : (codes : List Code) (design : FlatDesign) (plan : TestPlan) (pus
 window-is codes design plan pushed closed kept ending view is = subst (λ (k : TraceKept). IsWindow design plan k.closed k.pushed ending) (sym view) is
 
 -- what a trace keeps once a slot is pushed
-pub push-keeps : (codes : List Code) (design : FlatDesign) (plan : TestPlan) (pushed closed steps : ℕ) (values : List LogicValue) (slots : List PushedSlot) (kept : TraceKept) (slot : PushedSlot)
-    (count : ℕ) (items : List PushedSlot) →
-    IsTrace codes design plan pushed closed steps values slots → record { codes = codes; pushed = pushed; closed = closed } ≡ kept →
-    IsSlotAt kept.codes design plan kept.pushed slot.log slot.runs.items →
-    is_full (kept.pushed - kept.closed) (window_steps design plan kept.closed kept.pushed) ≡ false → count ≡ steps_logged slot.log → items ≡ slots ++ slot ∷ [] →
-    IsTrace codes design plan (pushed + 1) closed (steps + count) values items
-push-keeps codes design plan pushed closed steps values slots kept slot count items had view next room is grown =
-    subst (λ l. IsTrace codes design plan (pushed + 1) closed (steps + count) values l) (sym grown)
-    (subst (λ n. IsTrace codes design plan (pushed + 1) closed (steps + n) values (slots ++ slot ∷ [])) (sym is)
-    (IsTrace-more codes design plan pushed closed steps values slots slot had (next-is codes design plan pushed closed kept slot.log slot.runs.items view next)
+pub push-keeps : (codes : List Code) (design : FlatDesign) (plan : TestPlan) (pushed closed steps : ℕ) (values : List LogicValue) (slots : List SlotLog) (kept : TraceKept) (slot : SlotLog)
+    (runs : List RunEnd)
+    (count : ℕ) (items : List SlotLog) →
+    IsTrace design plan pushed closed steps values slots → record { codes = codes; pushed = pushed; closed = closed } ≡ kept →
+    IsSlotAt kept.codes design plan kept.pushed slot runs →
+    is_full (kept.pushed - kept.closed) (window_steps design plan kept.closed kept.pushed) ≡ false → count ≡ steps_logged slot → items ≡ slots ++ slot ∷ [] →
+    IsTrace design plan (pushed + 1) closed (steps + count) values items
+push-keeps codes design plan pushed closed steps values slots kept slot runs count items had view next room is grown =
+    subst (λ l. IsTrace design plan (pushed + 1) closed (steps + count) values l) (sym grown)
+    (subst (λ n. IsTrace design plan (pushed + 1) closed (steps + n) values (slots ++ slot ∷ [])) (sym is)
+    (IsTrace-more codes design plan pushed closed steps values slots slot runs had (next-is codes design plan pushed closed kept slot runs view next)
     (room-is codes design plan pushed closed kept view room)))
 
 -- whether the window is full then
-pub full-is : (codes : List Code) (design : FlatDesign) (plan : TestPlan) (pushed closed steps : ℕ) (values : List LogicValue) (slots : List PushedSlot) (count : ℕ) →
-    IsTrace codes design plan pushed closed steps values slots → count ≡ length slots →
+pub full-is : (design : FlatDesign) (plan : TestPlan) (pushed closed steps : ℕ) (values : List LogicValue) (slots : List SlotLog) (count : ℕ) →
+    IsTrace design plan pushed closed steps values slots → count ≡ length slots →
     is_full count steps ≡ is_full (pushed - closed) (window_steps design plan closed pushed)
-full-is codes design plan pushed closed steps values slots count had is = let e : count ≡ pushed - closed = omega (arith, had.held, is) in λ i. is_full (e i) (had.counted i)
+full-is design plan pushed closed steps values slots count had is = let e : count ≡ pushed - closed = omega (arith, had.held, is) in λ i. is_full (e i) (had.counted i)

@@ -4,3 +4,6 @@ mod Steps
 mod Keeping
 mod Gathering
 mod Following
+mod RunsKeeping
+mod Standing
+mod Starting

@@ -12,15 +12,11 @@ use Rattle.trace_window.specs.Listed.{log_accesses, AreListed}
 use Rattle.trace_window.specs.Moments.{window_events, values_through}
 use Rattle.trace_window.specs.Touched.{touches_from}
 use Rattle.trace_window.specs.Writes.{written_of, writes_from}
-use Rattle.good_trace.specs.declared.slot.PushedSlot.{PushedSlot}
 use Rattle.good_trace.specs.declared.events.Events.{Events}
 
--- the logs of some slots, and by them the accesses of each event
-abbrev pub logs_of : List PushedSlot → List SlotLog
-logs_of slots = map (λ (slot : PushedSlot). slot.log) slots
-
-abbrev pub slots_accesses : List PushedSlot → List (List ObjectAccess)
-slots_accesses slots = joined (map log_accesses (logs_of slots))
+-- the accesses of each event of some slots, by their logs
+abbrev pub slots_accesses : List SlotLog → List (List ObjectAccess)
+slots_accesses slots = joined (map log_accesses slots)
 
 -- what some events write and touch is gathered
 pub record IsGathered (accesses : List (List ObjectAccess)) (list : EventList) : Type 0 where

@@ -4,3 +4,5 @@ pub mod Counted
 pub mod Events
 pub mod Closing
 pub mod Traces
+pub mod RunsKept
+pub mod Starting

@@ -5,7 +5,7 @@ ghost use Rattle.trace_window.specs.Writes.{latest};
 ghost use Rattle.good_trace.specs.Events.{slots_accesses, IsGathered, AreEvents};
 ghost use Rattle.good_trace.specs.Closing.{AreClosed};
 
-use crate::slot::PushedSlot;
+use causal_monitor::SlotLog;
 use four_value::Vec4;
 use std::alloc::Global;
 use trace_window::{Changes, EventList, index_touches};
@@ -28,18 +28,18 @@ pub struct ClosedEvents {
 }
 
 /// What the events of some slots write and touch, in order.
-fn gather(alloc: Global, slots: &[PushedSlot]) -> Result<EventList, NoMemory>
+fn gather(alloc: Global, slots: &[SlotLog]) -> Result<EventList, NoMemory>
     ensures { IfOk result (λ list. IsGathered (slots_accesses slots.now) list) }
 {
     let mut list = EventList::new(alloc);
     'slots: for slot in slots {
-        list.note_slot(&slot.log)?;
+        list.note_slot(slot)?;
     }
     Ok(list)
 }
 
 /// The same by object, of so many objects.
-fn index_events(alloc: Global, objects: u32, slots: &[PushedSlot]) -> Result<Events, NoMemory>
+fn index_events(alloc: Global, objects: u32, slots: &[SlotLog]) -> Result<Events, NoMemory>
     ensures { IfOk result (λ events. AreEvents objects (slots_accesses slots.now) events) }
 {
     let list = gather(alloc, slots)?;
@@ -81,7 +81,7 @@ fn values_behind(alloc: Global, values: &[Vec4], events: &Events) -> Result<Vec<
 pub(crate) fn close_events(
     alloc: Global,
     values: &[Vec4],
-    slots: &[PushedSlot],
+    slots: &[SlotLog],
 ) -> Result<ClosedEvents, NoMemory>
     requires { length values.now ≤ 65536 }
     ensures { IfOk result (λ closed. AreClosed values.now (slots_accesses slots.now) closed.events closed.later.items) }

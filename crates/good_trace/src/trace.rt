@@ -8,16 +8,18 @@ use crate::ending::GoodEnd;
 use crate::events::{ClosedEvents, close_events};
 use crate::first::first_values;
 use crate::setup::Setup;
-use crate::slot::{PushedSlot, count_steps};
+use crate::slot::{count_steps, phases_after, push_slot};
+use crate::states::{ClosedRuns, close_runs, first_states};
 use crate::window::TraceWindow;
 use causal_monitor::SlotLog;
 use four_value::Vec4;
-use process_code::RunEnd;
+use process_code::{ProcState, RunEnd};
 use std::alloc::Global;
 use std::marker::{Model, PhantomData};
 use std::mem;
 use v_design::World;
 use vf_base::{NoMemory, WINDOW_SLOTS, WINDOW_STEPS};
+use window_runs::number_from;
 
 /// The good first run of the world `N` as it is pushed, which contracts see as the code of each process, how many slots were pushed, and how many of these stand in
 /// windows that were closed.
@@ -25,17 +27,21 @@ use vf_base::{NoMemory, WINDOW_SLOTS, WINDOW_STEPS};
 pub struct Trace<'s, 'd, N: World> {
     alloc: Global,
     setup: &'s Setup<'d, N>,
-    /// What the objects hold after the last close.
+    /// What the objects hold after the last close, and where the processes stand.
     values: Vec<Vec4>,
-    /// The slots since then, and their process and lane steps.
-    slots: Vec<PushedSlot>,
+    states: Vec<ProcState>,
+    /// The slots since then, their process and lane steps, their phases, and the ends of the runs in these, which are numbered through.
+    slots: Vec<SlotLog>,
     steps: u32,
+    phases: u32,
+    runs: Vec<RunEnd>,
     pushed: u64,
     closed: u64,
 }
 
 impl<'s, 'd, N: World> Model for Trace<'s, 'd, N> {
-    ghost use Rattle.good_trace.specs.Traces.{TraceKept, IsTrace};
+    ghost use Rattle.good_trace.specs.Traces.{TraceKept};
+    ghost use Rattle.good_trace.specs.RunsKept.{KeepsTrace};
 
     ghost Value = { TraceKept };
 
@@ -47,7 +53,7 @@ impl<'s, 'd, N: World> Model for Trace<'s, 'd, N> {
 
     ghost view = { λ t. record { codes = t.setup.now.codes; pushed = t.pushed; closed = t.closed } };
 
-    ghost invariant = { λ t. IsTrace t.setup.now.codes N.design N.plan t.pushed t.closed t.steps t.values.items t.slots.items };
+    ghost invariant = { λ t. KeepsTrace t.setup.now.codes N.design N.plan t.pushed t.closed t.steps t.phases t.values.items t.slots.items t.states.items t.runs.items };
 }
 
 /// Whether a window that has so many slots and steps is full.
@@ -68,12 +74,16 @@ impl<'s, 'd, N: World> Trace<'s, 'd, N> {
         ensures none { IfOk result (λ trace. (trace.pushed ≡ 0) × (trace.closed ≡ 0)) }
     {
         let values = first_values(alloc, setup.design, setup.graph)?;
+        let states = first_states(alloc, setup.codes())?;
         Ok(Trace {
             alloc,
             setup,
             values,
+            states,
             slots: Vec::new(alloc),
             steps: 0,
+            phases: 0,
+            runs: Vec::new(alloc),
             pushed: 0,
             closed: 0,
         })
@@ -83,16 +93,20 @@ impl<'s, 'd, N: World> Trace<'s, 'd, N> {
     ///
     /// # Errors
     ///
-    /// Want of memory. The trace is as before then.
-    pub fn push(&mut self, slot: SlotLog, runs: Vec<RunEnd>) -> Result<bool, NoMemory>
+    /// Want of memory, or no further number of a phase. The trace is as before then.
+    pub fn push(&mut self, slot: SlotLog, mut runs: Vec<RunEnd>) -> Result<bool, NoMemory>
         requires next { IsSlotAt self.old.codes N.design N.plan self.old.pushed slot runs.items }
         requires room { is_full (self.old.pushed - self.old.closed) (window_steps N.design N.plan self.old.closed self.old.pushed) ≡ false }
         ensures pushed { OnOk result (self.new ≡ record self.old { pushed = self.old.pushed + 1 }) }
         ensures full { IfOk result (λ full. full ≡ is_full (self.new.pushed - self.new.closed) (window_steps N.design N.plan self.new.closed self.new.pushed)) }
         ensures err { OnErr result (self.new ≡ self.old) }
     {
+        window_runs::ends_go_on();
         let steps = count_steps(&slot);
-        self.slots.push(PushedSlot { log: slot, runs })?;
+        let phases = phases_after(self.phases, &slot)?;
+        number_from(&mut runs, self.phases);
+        push_slot(&mut self.slots, &mut self.runs, slot, runs)?;
+        self.phases = phases;
         self.steps += steps;
         self.pushed += 1;
         Ok(is_full(self.slots.len(), self.steps))
@@ -102,7 +116,7 @@ impl<'s, 'd, N: World> Trace<'s, 'd, N> {
     ///
     /// # Errors
     ///
-    /// Want of memory, or no further number of a moment. The trace is as before then.
+    /// Want of memory, or no further number of a moment or a run. The trace is as before then.
     pub fn close_window(&mut self, last: GoodEnd) -> Result<TraceWindow<N>, NoMemory>
         requires some { self.old.closed < self.old.pushed }
         requires last { IsWindow N.design N.plan self.old.closed self.old.pushed (end_of last) }
@@ -112,20 +126,32 @@ impl<'s, 'd, N: World> Trace<'s, 'd, N> {
         ensures closed { OnOk result (self.new ≡ record self.old { closed = self.old.pushed }) }
         ensures err { OnErr result (self.new ≡ self.old) }
     {
+        window_runs::ends_go_on();
+        between_slots::runs_lead();
+        let closed_runs = close_runs(self.alloc, &self.states, &self.runs)?;
         let closed = close_events(self.alloc, &self.values, &self.slots)?;
+        let ClosedRuns { index, stand } = closed_runs;
         let ClosedEvents { events, later } = closed;
         let slots = mem::replace(&mut self.slots, Vec::new(self.alloc));
+        let runs = mem::replace(&mut self.runs, Vec::new(self.alloc));
         let values = mem::replace(&mut self.values, later);
+        let states = mem::replace(&mut self.states, stand);
         let begins = self.closed;
         let ends = self.pushed;
+        let phases = self.phases;
         self.closed = ends;
         self.steps = 0;
+        self.phases = 0;
         Ok(TraceWindow {
             begins,
             ends,
             last,
+            phases,
             values,
             events,
+            states,
+            runs,
+            index,
             slots,
             world: PhantomData,
         })

@@ -1,20 +1,26 @@
 // A window of the good first run.
 
-ghost use Rattle.std.specs.Prelude.{◌≡◌, ◌+◌, ◌<◌, ◌≤◌, length};
-ghost use Rattle.vf_base.specs.Base.{object_number};
+ghost use Rattle.std.specs.Prelude.{◌≡◌, ℕ, ◌+◌, ◌<◌, ◌≤◌, length, slice_get};
+ghost use Rattle.std.specs.Option.{option_map};
+ghost use Rattle.vf_base.specs.Base.{object_number, process_number};
 ghost use Rattle.v_design.specs.Assignments.{value_at};
 ghost use Rattle.v_design.specs.Designs.{good_machine};
 ghost use Rattle.trace_window.specs.Moments.{window_events, window_values};
 ghost use Rattle.trace_window.specs.Touched.{touched_at, IsFirstFrom};
+ghost use Rattle.v_design.specs.Grades.{Phase};
+ghost use Rattle.between_slots.specs.Between.{activity_through, window_phases};
 ghost use Rattle.copy_laws.specs.Windows.{IsWindow, window_steps};
+ghost use Rattle.good_trace.specs.RunsKept.{Stands, TellsRun};
 
 use crate::ending::GoodEnd;
 use crate::events::Events;
-use crate::slot::PushedSlot;
+use causal_monitor::SlotLog;
 use four_value::Vec4;
+use process_code::{ProcState, RunEnd, codes_are_one};
 use std::marker::{Model, PhantomData};
 use v_design::World;
-use vf_base::ObjectId;
+use vf_base::{ObjectId, ProcId};
+use window_runs::RunIndex;
 
 /// Slots of the good first run of the world `N` in a row, which contracts see as how many slots of the run stand before the window and before its end, and how it ends.
 #[derive(Drop)]
@@ -22,22 +28,29 @@ pub struct TraceWindow<N: World> {
     pub(crate) begins: u64,
     pub(crate) ends: u64,
     pub(crate) last: GoodEnd,
-    /// What the objects hold before the window.
+    /// How many phases its slots have.
+    pub(crate) phases: u32,
+    /// What the objects hold before the window, and what its events write and touch.
     pub(crate) values: Vec<Vec4>,
     pub(crate) events: Events,
-    pub(crate) slots: Vec<PushedSlot>,
+    /// Where the processes stand before the window, and the ends of the runs in it by process.
+    pub(crate) states: Vec<ProcState>,
+    pub(crate) runs: Vec<RunEnd>,
+    pub(crate) index: RunIndex,
+    pub(crate) slots: Vec<SlotLog>,
     pub(crate) world: PhantomData<N>,
 }
 
 impl<N: World> Model for TraceWindow<N> {
     ghost use Rattle.good_trace.specs.Slots.{end_of};
-    ghost use Rattle.good_trace.specs.Traces.{WindowKept, IsTraceWindow};
+    ghost use Rattle.good_trace.specs.Traces.{WindowKept};
+    ghost use Rattle.good_trace.specs.RunsKept.{KeepsWindow};
 
     ghost Value = { WindowKept };
 
     ghost view = { λ w. record { before = w.begins; through = w.ends; ending = end_of w.last } };
 
-    ghost invariant = { λ w. IsTraceWindow N.design N.plan w.begins w.ends (end_of w.last) w.values.items w.events w.slots.items };
+    ghost invariant = { λ w. KeepsWindow N.design N.plan w.begins w.ends (end_of w.last) w.phases w.values.items w.events w.slots.items w.states.items w.runs.items w.index };
 }
 
 impl<N: World> TraceWindow<N> {
@@ -81,5 +94,32 @@ impl<N: World> TraceWindow<N> {
             (length (window_events N.design N.plan self.now.before self.now.through)) moment result }
     {
         self.events.touches.first_at_or_after(object.0, moment)
+    }
+
+    /// How many phases the window's slots have. They are numbered through from 1 on.
+    pub fn phases(&self) -> u32
+        ensures { result ≡ length (window_phases N.design N.plan self.now.before self.now.through) }
+    {
+        self.phases
+    }
+
+    /// The end of the run of a number, counted from 0, among those of a process in a phase; none where there are fewer.
+    pub fn run(&self, process: ProcId, phase: u32, number: u32) -> Option<&RunEnd>
+        requires process { process_number process < length N.design.processes }
+        requires phase { (1 ≤ phase) × (phase ≤ length (window_phases N.design N.plan self.now.before self.now.through)) }
+        ensures { (before : ℕ) (one : Phase) → phase ≡ before + 1 → slice_get (window_phases N.design N.plan self.now.before self.now.through) before ≡ Some one →
+            TellsRun N.design (process_number process) one number (option_map (λ run. run.now) result) }
+    {
+        codes_are_one();
+        self.index.run(&self.runs, process, phase, number)
+    }
+
+    /// Where a process stands before the window's first slot begins.
+    pub fn process_at_beginning(&self, process: ProcId) -> &ProcState
+        requires { process_number process < length N.design.processes }
+        ensures { Stands N.design (process_number process) (activity_through N.design N.plan self.now.before (process_number process)) result.now }
+    {
+        codes_are_one();
+        &self.states[process.0 as usize]
     }
 }

@@ -11,7 +11,7 @@ slots-init c = IsGathered-none c.new-list.result c.new-list.ensures.moment c.new
 pub slots-preserved : goal.slots-preserved
 slots-preserved c =
     subst (λ l. IsGathered l c.note_slot.new.self) (sym (slots_accesses-more c.args.slots.now c.slots.slot-index c.slot-item.result c.slots-test.true c.slot-item.is))
-    (IsGathered-more (slots_accesses (take c.slots.slot-index c.args.slots.now)) (log_accesses c.slot-item.result.log) c.slots.list c.note_slot.new.self c.slots.invariant c.in_ok-note_slot.ensures)
+    (IsGathered-more (slots_accesses (take c.slots.slot-index c.args.slots.now)) (log_accesses c.slot-item.result) c.slots.list c.note_slot.new.self c.slots.invariant c.in_ok-note_slot.ensures)
 
 pub returns : goal.returns
 returns c = subst (λ l. IsGathered (slots_accesses l) c.slots.list) (take_all c.slots.slot-index c.args.slots.now c.slots-test.false) c.slots.invariant

@@ -1,60 +1,118 @@
 use Rattle.std.proofs.Common.{◌≡◌, ℕ, List, [], length, refl, sym, ap, subst, ◌∙◌, Vec, Global}
+use Rattle.std.specs.List.Sorted.{IsNonDecreasingBy}
 use Rattle.four_value.specs.Values.{LogicValue}
 use Rattle.four_value.specs.declared.value.Vec4.{Vec4}
-use Rattle.v_design.specs.Designs.{FlatDesign, TestPlan}
+use Rattle.v_design.specs.Designs.{FlatDesign, TestPlan, good_machine}
+use Rattle.causal_monitor.specs.declared.slot.SlotLog.{SlotLog}
 use Rattle.process_code.specs.declared.code.Code.{Code}
+use Rattle.process_code.specs.declared.state.ProcState.{ProcState}
+use Rattle.process_code.specs.declared.state.RunEnd.{RunEnd}
 use Rattle.copy_laws.specs.Windows.{WindowEnd, IsWindow}
+use Rattle.between_slots.specs.Between.{window_phases, RunsLead}
+use Rattle.window_runs.specs.declared.index.RunIndex.{RunIndex}
+use Rattle.window_runs.specs.RunLaws.{EndsStand, EndsLead}
+use Rattle.window_runs.specs.RunsByProcess.{run_phase, IsRunIndexOf}
+use Rattle.window_runs.specs.Standing.{AreStatesAfter}
 use Rattle.good_trace.specs.declared.events.Events.{Events}
-use Rattle.good_trace.specs.declared.slot.PushedSlot.{PushedSlot}
 use Rattle.good_trace.specs.Slots.{end_of}
 use Rattle.good_trace.specs.Events.{slots_accesses}
 use Rattle.good_trace.specs.Closing.{AreClosed}
 use Rattle.good_trace.specs.Traces.{IsTrace, IsTraceWindow}
+use Rattle.good_trace.specs.RunsKept.{AreRunsKept, HasRuns}
 use Rattle.good_trace.proofs.Keeping.{IsTrace-none, IsTraceWindow-closed, window-is}
-use Rattle.good_trace.proofs.Following.{AreWindowEvents-closed, later-is}
+use Rattle.good_trace.proofs.Following.{AreWindowEvents-closed, ends-within, later-is}
+use Rattle.good_trace.proofs.RunsKeeping.{AreRunsKept-none, AreStatesAt-closed}
 use Rattle.good_trace.proofs.trace.Trace.close_window.Goals as goal
 
 -- the slots since the last close as a window, with what its events write and touch
-closed : (codes : List Code) (design : FlatDesign) (plan : TestPlan) (pushed before steps : ℕ) (values read given : List LogicValue) (slots taken out : List PushedSlot) (events : Events)
+closed : (design : FlatDesign) (plan : TestPlan) (pushed before steps : ℕ) (values read given : List LogicValue) (slots taken out : List SlotLog) (events : Events)
     (later : List LogicValue) (ending : WindowEnd) →
-    IsTrace codes design plan pushed before steps values slots → IsWindow design plan before pushed ending → read ≡ values → taken ≡ slots →
+    IsTrace design plan pushed before steps values slots → IsWindow design plan before pushed ending → read ≡ values → taken ≡ slots →
     AreClosed read (slots_accesses taken) events later → given ≡ values → out ≡ slots → IsTraceWindow design plan before pushed ending given events out
-closed codes design plan pushed before steps values read given slots taken out events later ending had window reads takes are gives outs =
+closed design plan pushed before steps values read given slots taken out events later ending had window reads takes are gives outs =
     let own : AreClosed values (slots_accesses slots) events later = subst (λ v. AreClosed v (slots_accesses slots) events later) reads
-    (subst (λ (s : List PushedSlot). AreClosed read (slots_accesses s) events later) takes are) in
-    let inside = AreWindowEvents-closed codes design plan pushed before steps values slots ending (length values) events had window refl own.events_are in
+    (subst (λ (s : List SlotLog). AreClosed read (slots_accesses s) events later) takes are) in
+    let inside = AreWindowEvents-closed design plan pushed before steps values slots ending (length values) events had window refl own.events_are in
     subst (λ v. IsTraceWindow design plan before pushed ending v events out) (sym gives)
-    (subst (λ (s : List PushedSlot). IsTraceWindow design plan before pushed ending values events s) (sym outs)
-    (IsTraceWindow-closed codes design plan pushed before steps values events slots ending had inside window))
+    (subst (λ (s : List SlotLog). IsTraceWindow design plan before pushed ending values events s) (sym outs)
+    (IsTraceWindow-closed design plan pushed before steps values events slots ending had inside window))
 
 -- and what the trace goes on from
-goes-on : (codes : List Code) (design : FlatDesign) (plan : TestPlan) (pushed before steps : ℕ) (values read kept : List LogicValue) (slots taken none : List PushedSlot) (events : Events)
+goes-on : (design : FlatDesign) (plan : TestPlan) (pushed before steps : ℕ) (values read kept : List LogicValue) (slots taken none : List SlotLog) (events : Events)
     (later : List LogicValue) (ending : WindowEnd) →
-    IsTrace codes design plan pushed before steps values slots → IsWindow design plan before pushed ending → read ≡ values → taken ≡ slots →
-    AreClosed read (slots_accesses taken) events later → kept ≡ later → none ≡ [] → IsTrace codes design plan pushed pushed 0 kept none
-goes-on codes design plan pushed before steps values read kept slots taken none events later ending had window reads takes are keeps empty =
+    IsTrace design plan pushed before steps values slots → IsWindow design plan before pushed ending → read ≡ values → taken ≡ slots →
+    AreClosed read (slots_accesses taken) events later → kept ≡ later → none ≡ [] → IsTrace design plan pushed pushed 0 kept none
+goes-on design plan pushed before steps values read kept slots taken none events later ending had window reads takes are keeps empty =
     let own : AreClosed values (slots_accesses slots) events later = subst (λ v. AreClosed v (slots_accesses slots) events later) reads
-    (subst (λ (s : List PushedSlot). AreClosed read (slots_accesses s) events later) takes are) in
-    let inside = AreWindowEvents-closed codes design plan pushed before steps values slots ending (length values) events had window refl own.events_are in
-    subst (λ v. IsTrace codes design plan pushed pushed 0 v none) (sym keeps)
-    (subst (λ (s : List PushedSlot). IsTrace codes design plan pushed pushed 0 later s) (sym empty)
-    (IsTrace-none codes design plan pushed later had.rules (later-is design plan before pushed values events ending later window inside own.later_count own.later_are)
+    (subst (λ (s : List SlotLog). AreClosed read (slots_accesses s) events later) takes are) in
+    let inside = AreWindowEvents-closed design plan pushed before steps values slots ending (length values) events had window refl own.events_are in
+    subst (λ v. IsTrace design plan pushed pushed 0 v none) (sym keeps)
+    (subst (λ (s : List SlotLog). IsTrace design plan pushed pushed 0 later s) (sym empty)
+    (IsTrace-none design plan pushed later had.rules (later-is design plan before pushed values events ending later window inside own.later_count own.later_are)
     (own.later_count ∙ had.values_count) had.run_fits))
+
+-- its runs and where its processes stand
+runs-closed : (codes : List Code) (design : FlatDesign) (plan : TestPlan) (pushed before phases : ℕ) (states read given : List ProcState) (runs taken out : List RunEnd) (index : RunIndex) →
+    AreRunsKept codes design plan pushed before phases states runs → read ≡ states → taken ≡ runs → IsRunIndexOf (length read) taken index → given ≡ states → out ≡ runs →
+    HasRuns design plan before pushed phases given out index
+runs-closed codes design plan pushed before phases states read given runs taken out index had reads takes is gives outs =
+    subst (λ s. HasRuns design plan before pushed phases s out index) (sym gives)
+    (subst (λ r. HasRuns design plan before pushed phases states r index) (sym outs) (record {
+      codes = codes;
+      kept = had;
+      index_is = subst (λ n. IsRunIndexOf n runs index) (ap (λ (s : List ProcState). length s) reads ∙ had.states_are.count) (subst (λ r. IsRunIndexOf (length read) r index) takes is);
+    }))
+
+-- and those that the trace goes on from
+runs-go-on : RunsLead → EndsStand → EndsLead → (codes : List Code) (design : FlatDesign) (plan : TestPlan) (pushed before steps phases : ℕ) (values : List LogicValue) (slots : List SlotLog)
+    (states read later kept : List ProcState) (runs taken none : List RunEnd) (ending : WindowEnd) → IsTrace design plan pushed before steps values slots →
+    AreRunsKept codes design plan pushed before phases states runs → IsWindow design plan before pushed ending → read ≡ states → taken ≡ runs → AreStatesAfter read taken later →
+    kept ≡ later → none ≡ [] → AreRunsKept codes design plan pushed pushed 0 kept none
+runs-go-on lead stand does codes design plan pushed before steps phases values slots states read later kept runs taken none ending had runs_had window reads takes after keeps empty =
+    let within = ends-within design plan before pushed ending window in
+    let own : AreStatesAfter states runs later = subst (λ s. AreStatesAfter s runs later) reads (subst (λ r. AreStatesAfter read r later) takes after) in
+    subst (λ s. AreRunsKept codes design plan pushed pushed 0 s none) (sym keeps)
+    (subst (λ r. AreRunsKept codes design plan pushed pushed 0 later r) (sym empty)
+    (AreRunsKept-none codes design plan pushed later runs_had.codes_are
+    (AreStatesAt-closed lead stand does codes design plan pushed before steps phases values slots states later runs had runs_had within.0 within.1 own)))
+
+pub close_runs-requires-clause-rise : goal.close_runs-requires-clause-rise
+close_runs-requires-clause-rise g c =
+    let t = c.self.inside in
+    subst (λ (l : List RunEnd). IsNonDecreasingBy run_phase l) (sym c.deref-2.ensures.value)
+    (c.ends_go_on.ensures.ascend t.setup.now.codes (good_machine g.N.World.design) (window_phases g.N.World.design g.N.World.plan t.closed t.pushed) t.runs.items c.self.invariant.runs_kept.runs_are).0
 
 pub invariant_of-result : goal.invariant_of-result
 invariant_of-result g c =
     let t = c.self.inside in
     let window = window-is t.setup.now.codes g.N.World.design g.N.World.plan t.pushed t.closed c.args.self.now (end_of c.args.last) c.self.view_is c.requires.last in
-    closed t.setup.now.codes g.N.World.design g.N.World.plan t.pushed t.closed t.steps t.values.items c.deref.result.now c.replace-values.result.items
-    t.slots.items c.deref-2.result.now c.replace-slots.result.items c.in_ok-closed.closed.events c.in_ok-closed.closed.later.items (end_of c.args.last) c.self.invariant window
-    c.deref.ensures.value c.deref-2.ensures.value c.in_ok-closed.ensures (ap (λ (v : Vec Vec4 Global). v.items) c.replace-values.ensures.value)
-    (ap (λ (v : Vec PushedSlot Global). v.items) c.replace-slots.ensures.value)
+    record {
+      window =
+          closed g.N.World.design g.N.World.plan t.pushed t.closed t.steps t.values.items c.deref-3.result.now c.replace-values.result.items
+          t.slots.items c.deref-4.result.now c.replace-slots.result.items c.in_ok-closed.closed.events c.in_ok-closed.closed.later.items (end_of c.args.last) c.self.invariant.slots_kept
+          window c.deref-3.ensures.value c.deref-4.ensures.value c.in_ok-closed.ensures (ap (λ (v : Vec Vec4 Global). v.items) c.replace-values.ensures.value)
+          (ap (λ (v : Vec SlotLog Global). v.items) c.replace-slots.ensures.value);
+      has_runs =
+          runs-closed t.setup.now.codes g.N.World.design g.N.World.plan t.pushed t.closed t.phases t.states.items c.deref.result.now c.replace-states.result.items
+          t.runs.items c.deref-2.result.now c.replace-runs.result.items c.in_ok-closed_runs.closed_runs.index c.self.invariant.runs_kept c.deref.ensures.value c.deref-2.ensures.value
+          c.in_ok-closed_runs.ensures.index (ap (λ (v : Vec ProcState Global). v.items) c.replace-states.ensures.value)
+          (ap (λ (v : Vec RunEnd Global). v.items) c.replace-runs.ensures.value);
+    }
 
 pub invariant_of-self : goal.invariant_of-self
 invariant_of-self g c =
     let t = c.self.inside in
     let window = window-is t.setup.now.codes g.N.World.design g.N.World.plan t.pushed t.closed c.args.self.now (end_of c.args.last) c.self.view_is c.requires.last in
-    goes-on t.setup.now.codes g.N.World.design g.N.World.plan t.pushed t.closed t.steps t.values.items c.deref.result.now c.replace-values.new.dest.items
-    t.slots.items c.deref-2.result.now c.replace-slots.new.dest.items c.in_ok-closed.closed.events c.in_ok-closed.closed.later.items (end_of c.args.last) c.self.invariant window
-    c.deref.ensures.value c.deref-2.ensures.value c.in_ok-closed.ensures (ap (λ (v : Vec Vec4 Global). v.items) c.replace-values.ensures.after)
-    (ap (λ (v : Vec PushedSlot Global). v.items) c.replace-slots.ensures.after ∙ c.new.ensures.items)
+    record {
+      slots_kept =
+          goes-on g.N.World.design g.N.World.plan t.pushed t.closed t.steps t.values.items c.deref-3.result.now c.replace-values.new.dest.items
+          t.slots.items c.deref-4.result.now c.replace-slots.new.dest.items c.in_ok-closed.closed.events c.in_ok-closed.closed.later.items (end_of c.args.last) c.self.invariant.slots_kept
+          window c.deref-3.ensures.value c.deref-4.ensures.value c.in_ok-closed.ensures (ap (λ (v : Vec Vec4 Global). v.items) c.replace-values.ensures.after)
+          (ap (λ (v : Vec SlotLog Global). v.items) c.replace-slots.ensures.after ∙ c.new.ensures.items);
+      runs_kept =
+          runs-go-on c.runs_lead.ensures.runs c.ends_go_on.ensures.stand c.ends_go_on.ensures.lead t.setup.now.codes g.N.World.design g.N.World.plan t.pushed t.closed t.steps t.phases
+          t.values.items t.slots.items t.states.items c.deref.result.now c.in_ok-closed_runs.closed_runs.stand.items c.replace-states.new.dest.items t.runs.items c.deref-2.result.now
+          c.replace-runs.new.dest.items (end_of c.args.last) c.self.invariant.slots_kept c.self.invariant.runs_kept window c.deref.ensures.value c.deref-2.ensures.value
+          c.in_ok-closed_runs.ensures.stand (ap (λ (v : Vec ProcState Global). v.items) c.replace-states.ensures.after)
+          (ap (λ (v : Vec RunEnd Global). v.items) c.replace-runs.ensures.after ∙ c.new-2.ensures.items);
+    }

@@ -1,0 +1,55 @@
+// Where the processes stand at the start, and after a window.
+
+ghost use Rattle.std.specs.Prelude.{◌≡◌, ◌<◌, ◌≤◌, ℕ, All, Some, length, slice_get, IfOk};
+ghost use Rattle.std.specs.List.Sorted.{IsNonDecreasingBy};
+ghost use Rattle.process_code.specs.Codes.{IsCodeOf};
+ghost use Rattle.process_code.specs.declared.code.Code.{Code};
+ghost use Rattle.window_runs.specs.RunsByProcess.{run_process, run_phase, IsRunIndexOf};
+ghost use Rattle.window_runs.specs.Standing.{AreStatesAfter};
+ghost use Rattle.good_trace.specs.Starting.{AreFirstStates};
+
+use process_code::{Code, ProcState, RunEnd};
+use std::alloc::Global;
+use vf_base::NoMemory;
+use window_runs::{RunIndex, states_after};
+
+/// The index of a window's runs, and where the processes stand after them.
+#[derive(Drop)]
+pub struct ClosedRuns {
+    pub index: RunIndex,
+    pub stand: Vec<ProcState>,
+}
+
+/// Where the process of each of some codes stands at the start, by their numbers.
+pub(crate) fn first_states(alloc: Global, codes: &[Code]) -> Result<Vec<ProcState>, NoMemory>
+    requires { (number : ℕ) (code : Code) → slice_get codes.now number ≡ Some code → IsCodeOf code.process.now code }
+    ensures { IfOk result (λ states. AreFirstStates codes.now states.items) }
+{
+    let mut states = Vec::new(alloc);
+    'codes: for code in codes {
+        let state = ProcState::new(alloc, code)?;
+        states.push(state)?;
+    }
+    Ok(states)
+}
+
+/// The index of a window's runs by process, and where the processes stand after them, if they stood so before.
+///
+/// # Errors
+///
+/// Want of memory, or no further number of a run.
+pub(crate) fn close_runs(
+    alloc: Global,
+    states: &[ProcState],
+    runs: &[RunEnd],
+) -> Result<ClosedRuns, NoMemory>
+    requires few { length states.now ≤ 65536 }
+    requires within { All (λ run. run_process run < length states.now) runs.now }
+    requires rise { IsNonDecreasingBy run_phase runs.now }
+    ensures index { IfOk result (λ closed. IsRunIndexOf (length states.now) runs.now closed.index) }
+    ensures stand { IfOk result (λ closed. AreStatesAfter states.now runs.now closed.stand.items) }
+{
+    let index = RunIndex::build(alloc, states.len() as u32, runs)?;
+    let stand = states_after(alloc, states, runs, &index)?;
+    Ok(ClosedRuns { index, stand })
+}
