@@ -1,0 +1,3 @@
+pub mod Faulty
+pub mod FaultyLaws
+pub mod Marked
