@@ -1,3 +1,5 @@
 pub mod Faulty
 pub mod FaultyLaws
 pub mod Marked
+pub mod Statuses
+pub mod StatusLaws
