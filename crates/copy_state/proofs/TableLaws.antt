@@ -1,10 +1,10 @@
 -- Laws on tables of entries.
-use Rattle.std.proofs.Common.{◌≡◌, ℕ, zero, suc, ◌+◌, ◌<◌, ◌≤◌, Bool, true, false, not, cond, List, [], ◌∷◌, ◌++◌, length, get_or, set, refl, ap, sym, ◌∙◌, arith}
+use Rattle.std.proofs.Common.{◌≡◌, ℕ, zero, suc, ◌+◌, ◌<◌, ◌≤◌, Bool, true, false, not, cond, List, [], ◌∷◌, ◌++◌, length, get_or, set, refl, ap, sym, ◌∙◌, arith, inl, inr}
 use Rattle.std.specs.Prelude.{nat_eq, replicate, Option, Some, None, is_some}
-use Rattle.std.proofs.lemmas.Bool.{eq-eqb, ne_eqb, lt-ltb, le-ltb}
+use Rattle.std.proofs.lemmas.Bool.{eq-eqb, ne_eqb, lt-ltb, le-ltb, cases_lt}
 use Rattle.vf_base.specs.Lists.{AllHold}
 use Rattle.copy_laws.specs.Differences.{own_of, Ascend}
-use Rattle.copy_state.specs.Entries.{with_entry, without_entry}
+use Rattle.copy_state.specs.Entries.{with_entry, without_entry, first_from}
 use Rattle.copy_state.specs.Tables.{entries_from}
 
 -- the numbers of a table's entries are at least that of its first place
@@ -164,3 +164,39 @@ none-taken p vs at = ap (entries_from 0) (sym (set-none p vs at)) ∙ without-ta
 
 pub none-read : {A : Type 0} (p : ℕ) (vs : List (Option A)) (found : Option A) → p < length vs → found ≡ get_or vs p found → is_some found ≡ false → get_or vs p None ≡ None
 none-read p vs found within at none = read-at p vs found within at ∙ none-there found none
+
+-- The first entry from a number on
+
+first-here : {A : Type 0} (from n : ℕ) (x : A) (es : List (ℕ × A)) → from ≤ n → first_from from ((n, x) ∷ es) ≡ Some n
+first-here from n x es low = ap (λ b. cond b (first_from from es) (Some n)) (le-ltb n from low)
+
+first-later : {A : Type 0} (from n : ℕ) (x : A) (es : List (ℕ × A)) → n < from → first_from from ((n, x) ∷ es) ≡ first_from from es
+first-later from n x es low = ap (λ b. cond b (first_from from es) (Some n)) (lt-ltb n from low)
+
+pub table-first : {A : Type 0} (from n p : ℕ) (y : A) (vs : List (Option A)) → ((k : ℕ) → from ≤ n + k → k < p → get_or vs k None ≡ None) → get_or vs p None ≡ Some y → from ≤ n + p →
+    first_from from (entries_from n vs) ≡ Some (n + p)
+table-first from n p y [] none at low = cc
+table-first from n zero y (None ∷ vs) none at low = cc
+table-first from n zero y (Some x ∷ vs) none at low = first-here from n x (entries_from (suc n) vs) (omega arith) ∙ ap (λ k. Some k) (let same : n ≡ n + zero = omega arith in same)
+table-first from n (suc p) y (None ∷ vs) none at low =
+    table-first from (suc n) p y vs (λ k high less. none (suc k) (omega arith) (omega arith)) at (omega arith) ∙ ap (λ k. Some k) (let same : suc n + p ≡ n + suc p = omega arith in same)
+table-first from n (suc p) y (Some x ∷ vs) none at low = elim (cases_lt n from) [
+  | inl less ↦
+      first-later from n x (entries_from (suc n) vs) less ∙ table-first from (suc n) p y vs (λ k high less. none (suc k) (omega arith) (omega arith)) at (omega arith)
+      ∙ ap (λ k. Some k) (let same : suc n + p ≡ n + suc p = omega arith in same)
+  | inr more ↦ let absent : Some x ≡ None = none zero (omega arith) (omega arith) in cc
+]
+
+pub table-none : {A : Type 0} (from n : ℕ) (vs : List (Option A)) → ((k : ℕ) → from ≤ n + k → k < length vs → get_or vs k None ≡ None) → first_from from (entries_from n vs) ≡ None
+table-none from n [] none = refl
+table-none from n (None ∷ vs) none = table-none from (suc n) vs (λ k high less. none (suc k) (omega arith) (omega arith))
+table-none from n (Some x ∷ vs) none = elim (cases_lt n from) [
+  | inl less ↦ first-later from n x (entries_from (suc n) vs) less ∙ table-none from (suc n) vs (λ k high less. none (suc k) (omega arith) (omega arith))
+  | inr more ↦ let absent : Some x ≡ None = none zero (omega arith) (omega arith) in cc
+]
+
+pub table-found : {A : Type 0} (from p : ℕ) (vs : List (Option A)) (found : Option A) → p < length vs → found ≡ get_or vs p found → is_some found ≡ true → from ≤ p →
+    ((k : ℕ) → from ≤ k → k < p → get_or vs k None ≡ None) → first_from from (entries_from 0 vs) ≡ Some p
+table-found from p vs None within at some low none = cc
+table-found from p vs (Some y) within at some low none =
+    table-first from 0 p y vs (λ k high less. none k (omega arith) less) (read-at p vs (Some y) within at) (omega arith) ∙ ap (λ k. Some k) (let same : 0 + p ≡ p = omega arith in same)

@@ -4,7 +4,7 @@ use Rattle.std.specs.Prelude.{nat_eq, nat_lt, Option, Some, None, option_map}
 use Rattle.std.proofs.lemmas.Bool.{eq-eqb, ne_eqb, eqb-true, eqb-false, ltb-true, ltb-false}
 use Rattle.vf_base.specs.Lists.{AllHold}
 use Rattle.copy_laws.specs.Differences.{own_of, Ascend}
-use Rattle.copy_state.specs.Entries.{with_entry, without_entry, each_by, numbers, Rise}
+use Rattle.copy_state.specs.Entries.{with_entry, without_entry, first_from, each_by, numbers, Rise}
 
 -- What is kept under a number
 
@@ -191,3 +191,8 @@ above-each f b (e ∷ es) all = (all.0, above-each f b es all.1)
 pub ascend-each : {A B : Type 0} (f : ℕ → A → B) (es : List (ℕ × A)) → Ascend es → Ascend (each_by f es)
 ascend-each f [] up = tt
 ascend-each f (e ∷ es) up = (above-each f e.0 es up.0, ascend-each f es up.1)
+
+-- the first of them from a number on
+pub first-each : {A B : Type 0} (f : ℕ → A → B) (from : ℕ) (es : List (ℕ × A)) → first_from from (each_by f es) ≡ first_from from es
+first-each f from [] = refl
+first-each f from (e ∷ es) = ap (λ (o : Option ℕ). cond (nat_lt e.0 from) o (Some e.0)) (first-each f from es)

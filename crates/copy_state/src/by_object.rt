@@ -3,7 +3,7 @@
 ghost use Rattle.std.specs.Prelude.{◌≡◌, [], length, OnOk, OnErr, IfOk};
 ghost use Rattle.v_design.specs.States.{found_or};
 ghost use Rattle.copy_laws.specs.Differences.{own_of, Ascend};
-ghost use Rattle.copy_state.specs.Entries.{with_entry, without_entry};
+ghost use Rattle.copy_state.specs.Entries.{with_entry, without_entry, first_from};
 
 use crate::few_values::FewValues;
 use crate::value_table::ValueTable;
@@ -94,6 +94,16 @@ impl ByObject {
         };
         self.held = HeldValues::Many(table);
         Ok(())
+    }
+
+    /// The first object that isn't before one and has a value.
+    pub(crate) fn next(&self, from: u32) -> Option<u32>
+        ensures { result ≡ first_from from self.now }
+    {
+        match &self.held {
+            HeldValues::Few(few) => few.next(from),
+            HeldValues::Many(table) => table.next(from),
+        }
     }
 
     /// How many objects have a value.

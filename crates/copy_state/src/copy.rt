@@ -5,7 +5,7 @@ ghost use Rattle.vf_base.specs.Base.{object_number, process_number, fault_number
 ghost use Rattle.v_design.specs.Plain.{due_of};
 ghost use Rattle.v_design.specs.States.{found_or};
 ghost use Rattle.copy_laws.specs.Differences.{own_of, Ascend};
-ghost use Rattle.copy_state.specs.Entries.{with_entry, without_entry};
+ghost use Rattle.copy_state.specs.Entries.{with_entry, without_entry, first_from};
 ghost use Rattle.copy_state.specs.Kept.{nothing_kept, with_own_value};
 
 use crate::by_object::ByObject;
@@ -80,6 +80,16 @@ impl FaultCopy {
         self.values.put(object.0, own)
     }
 
+    /// The first object that isn't before one and has an own value.
+    pub fn next_value(&self, from: ObjectId) -> Option<ObjectId>
+        ensures { option_map object_number result ≡ first_from (object_number from) self.now.values }
+    {
+        match self.values.next(from.0) {
+            None => None,
+            Some(object) => Some(ObjectId(object)),
+        }
+    }
+
     /// How many objects differ.
     pub fn size(&self) -> usize
         ensures { result ≡ length self.now.values }
@@ -92,6 +102,13 @@ impl FaultCopy {
         ensures { option_map (λ own. own.now) result ≡ own_of self.now.states (process_number process) }
     {
         self.states.get(process)
+    }
+
+    /// The first process that isn't before one and of which a state is kept.
+    pub fn next_state(&self, from: ProcId) -> Option<ProcId>
+        ensures { option_map process_number result ≡ first_from (process_number from) self.now.states }
+    {
+        self.states.next(from)
     }
 
     /// The copy keeps a state for a process.
@@ -122,6 +139,13 @@ impl FaultCopy {
             None => None,
             Some(own) => Some(own.as_slice()),
         }
+    }
+
+    /// The first process that isn't before one and of which updates are kept.
+    pub fn next_updates(&self, from: ProcId) -> Option<ProcId>
+        ensures { option_map process_number result ≡ first_from (process_number from) self.now.updates }
+    {
+        self.updates.next(from)
     }
 
     /// The copy keeps these as a process's updates, in order.

@@ -3,10 +3,10 @@
 ghost use Rattle.std.specs.Prelude.{◌≡◌, [], map, length, OnOk, OnErr, IfOk};
 ghost use Rattle.v_design.specs.States.{found_or};
 ghost use Rattle.copy_laws.specs.Differences.{own_of, Ascend};
-ghost use Rattle.copy_state.specs.Entries.{with_entry, without_entry};
+ghost use Rattle.copy_state.specs.Entries.{with_entry, without_entry, first_from};
 
 use crate::entry::Entry;
-use crate::find::find;
+use crate::find::{count_before, find};
 use crate::value_table::ValueTable;
 use four_value::Vec4;
 use smallvec::SmallVec;
@@ -83,6 +83,18 @@ impl FewValues {
         if let Ok(place) = find(self.values.as_slice(), object) {
             self.values.remove(place);
         }
+    }
+
+    /// The first object that isn't before one and has a value.
+    pub(crate) fn next(&self, from: u32) -> Option<u32>
+        ensures { result ≡ first_from from self.now }
+    {
+        let values = self.values.as_slice();
+        let place = count_before(values, from);
+        if place < values.len() {
+            return Some(values[place].number);
+        }
+        None
     }
 
     /// How many objects have a value.

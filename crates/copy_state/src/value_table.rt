@@ -1,9 +1,9 @@
 // Many own values.
 
-ghost use Rattle.std.specs.Prelude.{◌≡◌, ◌<◌, [], length, vec_len, OnOk, OnErr};
+ghost use Rattle.std.specs.Prelude.{◌≡◌, ◌<◌, ◌≤◌, ◌^◌, [], length, vec_len, OnOk, OnErr};
 ghost use Rattle.v_design.specs.States.{found_or};
 ghost use Rattle.copy_laws.specs.Differences.{own_of, Ascend};
-ghost use Rattle.copy_state.specs.Entries.{with_entry, without_entry};
+ghost use Rattle.copy_state.specs.Entries.{with_entry, without_entry, first_from};
 ghost use Rattle.copy_state.specs.Tables.{entries_from};
 
 use four_value::Vec4;
@@ -19,21 +19,22 @@ pub(crate) struct ValueTable {
 }
 
 impl Model for ValueTable {
-    ghost use Rattle.std.specs.Prelude.{◌≡◌, ℕ, List, length};
+    ghost use Rattle.std.specs.Prelude.{ℕ, List};
     ghost use Rattle.four_value.specs.Values.{LogicValue};
-    ghost use Rattle.copy_state.specs.Tables.{entries_from};
+    ghost use Rattle.copy_state.specs.Tables.{entries_from, IsTable};
 
     ghost Value = { List (ℕ × LogicValue) };
 
     ghost view = { λ table. entries_from 0 table.values.items };
 
-    ghost invariant = { λ table. table.count ≡ length (entries_from 0 table.values.items) };
+    ghost invariant = { λ table. IsTable table.values.items table.count };
 }
 
 /// Makes room in a table for an object.
 fn reach(values: &mut Vec<Option<Vec4>>, object: u32) -> Result<(), NoMemory>
     ensures same { entries_from 0 values.new.items ≡ entries_from 0 values.old.items }
     ensures there { OnOk result (object < vec_len values.new) }
+    ensures few { vec_len values.old ≤ 2 ^ 32 → vec_len values.new ≤ 2 ^ 32 }
 {
     let place = object as usize;
     if place >= values.len() {
@@ -90,6 +91,18 @@ impl ValueTable {
             self.values[place] = None;
             self.count -= 1;
         }
+    }
+
+    /// The first object that isn't before one and has a value.
+    pub(crate) fn next(&self, from: u32) -> Option<u32>
+        ensures { result ≡ first_from from self.now }
+    {
+        'places: for place in from as usize..self.values.len() {
+            if self.values[place].is_some() {
+                return Some(place as u32);
+            }
+        }
+        None
     }
 
     /// How many objects have a value.
