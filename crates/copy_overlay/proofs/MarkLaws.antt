@@ -84,7 +84,7 @@ pub set-more : (words : List ℕ) (x m word : ℕ) → x / 64 < length words →
     is_set (set words (x / 64) (bit_or word (1 * 2 ^ (x % 64) % 2 ^ 64))) m ≡ (nat_eq x m || is_set words m)
 set-more words x m word within is = set-more_by words x m word within is (cases_eq (m / 64) (x / 64))
 
-has-last : (xs : List ℕ) (x m : ℕ) → has (xs ++ x ∷ []) m ≡ (nat_eq x m || has xs m)
+pub has-last : (xs : List ℕ) (x m : ℕ) → has (xs ++ x ∷ []) m ≡ (nat_eq x m || has xs m)
 has-last [] x m = refl
 has-last (y ∷ xs) x m = ap (λ b. nat_eq y m || b) (has-last xs x m) ∙ or-swap (nat_eq y m) (nat_eq x m) (has xs m)
   where

@@ -34,17 +34,17 @@ value-faulty good own object within =
 
 -- so they are the values of which this holds
 pub faulty-are : (good faulty : List LogicValue) (own : List (ℕ × LogicValue)) → length faulty ≡ length good →
-    ((object : ℕ) → value_at faulty object ≡ found_or (value_at good object) (own_of own object)) → faulty_values good own ≡ faulty
+    ((object : ℕ) → object < length good → value_at faulty object ≡ found_or (value_at good object) (own_of own object)) → faulty_values good own ≡ faulty
 faulty-are good faulty own count each =
     let long : length (faulty_values good own) ≡ length good = length-faulty good own in
-    ext_get_or [] (faulty_values good own) faulty (long ∙ sym count) (λ object within. value-faulty good own object (omega arith) ∙ sym (each object))
+    ext_get_or [] (faulty_values good own) faulty (long ∙ sym count) (λ object within. value-faulty good own object (omega arith) ∙ sym (each object (omega arith)))
 
 -- between slots: where differences stand for a state they are its values
 pub faulty-stands : (d : Differences) (good faulty : State) → StandsFor d good faulty → faulty_values good.values d.values ≡ faulty.values
-faulty-stands d good faulty stands = faulty-are good.values faulty.values d.values stands.value_count stands.values
+faulty-stands d good faulty stands = faulty-are good.values faulty.values d.values stands.value_count (λ object within. stands.values object)
 
 -- and within a phase
 pub faulty-within : (d : Within) (good faulty : State) (own : List (ℕ × LogicValue)) → IsWithin d good faulty → ((object : ℕ) → own_of own object ≡ d.values object) →
     faulty_values good.values own ≡ faulty.values
 faulty-within d good faulty own is same =
-    faulty-are good.values faulty.values own is.value_count (λ object. is.values object ∙ ap (found_or (value_at good.values object)) (sym (same object)))
+    faulty-are good.values faulty.values own is.value_count (λ object within. is.values object ∙ ap (found_or (value_at good.values object)) (sym (same object)))

@@ -1,5 +1,6 @@
 pub mod Faulty
 pub mod FaultyLaws
+pub mod CatchUp
 pub mod Marked
 pub mod Statuses
 pub mod StatusLaws

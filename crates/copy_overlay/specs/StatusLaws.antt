@@ -1,10 +1,9 @@
 -- How a run goes on beside the good machine's (runs by IEEE 1364-2001, clause 9).
-use Rattle.std.proofs.Common.{◌≡◌, ◌≢◌, ℕ, suc, ◌+◌, List, [], ◌∷◌, ◌++◌, length, refl, ap, sym, subst, ◌∙◌, arith}
-use Rattle.std.specs.Prelude.{Option, Some, None}
+use Rattle.std.proofs.Common.{◌≡◌, ◌≢◌, ℕ, ◌+◌, List, [], ◌∷◌, ◌++◌, refl, ap, sym, subst, ◌∙◌}
+use Rattle.std.specs.Prelude.{Some, None}
 use Rattle.std.proofs.lemmas.List.{append_assoc, length-append}
-use Rattle.four_value.specs.Values.{LogicValue}
 use Rattle.v_design.specs.Designs.{FlatProcess}
-use Rattle.v_design.specs.Processes.{Activity, ProcessStep}
+use Rattle.v_design.specs.Processes.{Activity}
 use Rattle.v_design.specs.OwnSteps.{StepSeen, ProcessRun}
 use Rattle.copy_laws.specs.SharedRuns.{AreStepsFrom, IsRunFrom, RunsGoAlike, activity_after}
 use Rattle.copy_laws.specs.OwnRuns.{OwnRunsCount}
