@@ -107,8 +107,9 @@ pub fn expr_at(
         expression_of flat ≡ over_objects plain.holders (tree_at (reading_of plain.scope (source.expression_of expr.now)) (option_map size_of size))) }
 {
     let tree = read_expr(alloc, expr, meaning.scope)?.tree_at(size);
-    let flat = over_objects(alloc, meaning.names, &tree)?;
-    Ok(flat)
+    let flat = over_objects(alloc, meaning.names, &tree);
+    drop(tree);
+    Ok(flat?)
 }
 
 /// The labels of an item at the size of its `case`.

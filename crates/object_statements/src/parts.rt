@@ -18,6 +18,7 @@ use crate::meaning::{Meaning, expr_alone, expr_assigned, targets_over};
 use crate::waits::wait_entries;
 use four_value::CaseKind;
 use std::alloc::Global;
+use v_copy::both;
 use v_design::{CaseItem as FlatItem, FlatExpr, FlatStmt, FlatTarget};
 use v_names::Size;
 use v_tree::{Expr, Stmt, Target, Waits};
@@ -116,9 +117,10 @@ pub fn for_over(
         (alone_expression plain (source.expression_of head.entry.condition.now)) (targets_over plain (source.target_of head.entry.next_target.now))
         (assigned_expression plain (source.target_of head.entry.next_target.now) (source.expression_of head.entry.next.now)) (statement_of body.value)) }
 {
-    let first = assigned_over(alloc, meaning, head.first_target, head.first)?;
-    let condition = expr_alone(alloc, meaning, head.condition)?;
-    let next = assigned_over(alloc, meaning, head.next_target, head.next)?;
+    let first = assigned_over(alloc, meaning, head.first_target, head.first);
+    let condition = expr_alone(alloc, meaning, head.condition);
+    let next = assigned_over(alloc, meaning, head.next_target, head.next);
+    let (first, (condition, next)) = both(first, both(condition, next))?;
     Ok(FlatStmt::For {
         place,
         first_targets: first.targets,

@@ -69,7 +69,9 @@ fn add_expr(
         map object_number objects.new.items ≡ map object_number objects.old.items ++ expression_in_text plain (source.expression_of expr.now)) }
 {
     let flat = expr_alone(alloc, meaning, expr)?;
-    add_flat(alloc, &flat, objects)?;
+    let added = add_flat(alloc, &flat, objects);
+    drop(flat);
+    added?;
     Ok(())
 }
 

@@ -18,6 +18,7 @@ use crate::parts::{
     nonblocking_over, repeat_over, wait_over, while_over,
 };
 use std::alloc::Global;
+use v_copy::both;
 use v_design::{CaseItem as FlatItem, FlatStmt};
 use v_names::Size;
 use v_tree::{CaseItem, Stmt};
@@ -53,8 +54,9 @@ pub fn statement_over(
             first,
             second,
         } => {
-            let first = boxed_over(alloc, meaning, first)?;
-            let second = second_over(alloc, meaning, second)?;
+            let first = boxed_over(alloc, meaning, first);
+            let second = second_over(alloc, meaning, second);
+            let (first, second) = both(first, second)?;
             if_over(alloc, meaning, *place, condition, first, second)
         }
         Stmt::Case {
