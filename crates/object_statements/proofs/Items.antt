@@ -13,17 +13,21 @@ use Rattle.v_elab.specs.Statements.{Meaning, labels_in_text, read_in_text, items
 use Rattle.object_statements.specs.CaseItems.{item_read_in_text, item_over}
 
 -- what they read
-pub item-read : (meaning : Meaning) (item : CaseItem) (rest : List CaseItem) → items_read_in_text meaning (case_items_of (item ∷ rest)) ≡ item_read_in_text meaning item ++ items_read_in_text meaning (case_items_of rest)
-item-read meaning (Labelled labels statement) rest = sym (append_assoc (labels_in_text meaning (expressions_of labels)) (read_in_text meaning (statement_of statement)) (items_read_in_text meaning (case_items_of rest)))
+pub item-read : (meaning : Meaning) (item : CaseItem) (rest : List CaseItem) → items_read_in_text meaning (case_items_of (item ∷ rest)) ≡ item_read_in_text meaning item
+    ++ items_read_in_text meaning (case_items_of rest)
+item-read meaning (Labelled labels statement) rest = sym (append_assoc (labels_in_text meaning (expressions_of labels)) (read_in_text meaning (statement_of statement))
+    (items_read_in_text meaning (case_items_of rest)))
 item-read meaning (Default statement) rest = refl
 
 -- what they are over objects
-pub item-first : (meaning : Meaning) (size : Option Size) (item : CaseItem) (rest : List CaseItem) → item_over meaning size item (items_over meaning size (case_items_of rest)) ≡ items_over meaning size (case_items_of (item ∷ rest))
+pub item-first : (meaning : Meaning) (size : Option Size) (item : CaseItem) (rest : List CaseItem) →
+    item_over meaning size item (items_over meaning size (case_items_of rest)) ≡ items_over meaning size (case_items_of (item ∷ rest))
 item-first meaning size (Labelled labels statement) rest = refl
 item-first meaning size (Default statement) rest = refl
 
 -- a `case` whose parts are sized together
-pub case-over : (meaning : Meaning) (place : SourcePlace) (kind : CaseKind) (flat : Expression) (flats : CaseItems) (other : Statement) (size : Option Size) (value : SourceExpression) (items : SourceCaseItems)
+pub case-over : (meaning : Meaning) (place : SourcePlace) (kind : CaseKind) (flat : Expression) (flats : CaseItems) (other : Statement) (size : Option Size) (value : SourceExpression)
+    (items : SourceCaseItems)
     → size ≡ items_size meaning.scope items (reading_of meaning.scope value).size → flat ≡ over_objects meaning.holders (tree_at (reading_of meaning.scope value) size)
     → flats ≡ items_over meaning size items → other ≡ default_over meaning items → Case place kind flat flats other ≡ statement_over meaning (CaseStatement place kind value items)
 case-over meaning place kind flat flats other size value items s e f g =

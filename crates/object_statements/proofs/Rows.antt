@@ -14,7 +14,8 @@ abbrev pub then_expressions : Expressions → Expressions → Expressions
 then_expressions no_expressions rest = rest
 then_expressions (more_expressions e es) rest = more_expressions e (then_expressions es rest)
 
-pub expressions-push : (es : List FlatExpr) (e : FlatExpr) (rest : Expressions) → then_expressions (expressions_of (es ++ e ∷ [])) rest ≡ then_expressions (expressions_of es) (more_expressions (expression_of e) rest)
+pub expressions-push : (es : List FlatExpr) (e : FlatExpr) (rest : Expressions) → then_expressions (expressions_of (es ++ e ∷ [])) rest ≡ then_expressions (expressions_of es)
+    (more_expressions (expression_of e) rest)
 expressions-push [] e rest = refl
 expressions-push (x ∷ es) e rest = ap (more_expressions (expression_of x)) (expressions-push es e rest)
 
@@ -27,7 +28,8 @@ abbrev pub then_statements : Statements → Statements → Statements
 then_statements no_statements rest = rest
 then_statements (more_statements s ss) rest = more_statements s (then_statements ss rest)
 
-pub statements-push : (ss : List FlatStmt) (s : FlatStmt) (rest : Statements) → then_statements (statements_of (ss ++ s ∷ [])) rest ≡ then_statements (statements_of ss) (more_statements (statement_of s) rest)
+pub statements-push : (ss : List FlatStmt) (s : FlatStmt) (rest : Statements) → then_statements (statements_of (ss ++ s ∷ [])) rest ≡ then_statements (statements_of ss)
+    (more_statements (statement_of s) rest)
 statements-push [] s rest = refl
 statements-push (x ∷ ss) s rest = ap (more_statements (statement_of x)) (statements-push ss s rest)
 
@@ -35,7 +37,8 @@ pub statements-end : (ss : Statements) → then_statements ss no_statements ≡ 
 statements-end no_statements = refl
 statements-end (more_statements s ss) = ap (more_statements s) (statements-end ss)
 
-pub items-push : (items : List CaseItem) (item : CaseItem) (rest : CaseItems) → then_items (items_of (items ++ item ∷ [])) rest ≡ then_items (items_of items) (more_items (expressions_of item.labels.items) (statement_of item.statement) rest)
+pub items-push : (items : List CaseItem) (item : CaseItem) (rest : CaseItems) → then_items (items_of (items ++ item ∷ [])) rest ≡ then_items (items_of items)
+    (more_items (expressions_of item.labels.items) (statement_of item.statement) rest)
 items-push [] item rest = refl
 items-push (x ∷ items) item rest = ap (more_items (expressions_of x.labels.items) (statement_of x.statement)) (items-push items item rest)
 

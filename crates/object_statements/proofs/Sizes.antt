@@ -37,7 +37,8 @@ items-turned scope no_source_items a size = refl
 items-turned scope (labelled labels statement rest) a size = ap (labels_size scope labels) (items-turned scope rest a size) ∙ labels-turned scope labels a (items_size scope rest size)
 items-turned scope (otherwise statement rest) a size = items-turned scope rest a size
 
-items-labels : (scope : Scope) (items : SourceCaseItems) (labels : SourceExpressions) (size : Option Size) → items_size scope items (labels_size scope labels size) ≡ labels_size scope labels (items_size scope items size)
+items-labels : (scope : Scope) (items : SourceCaseItems) (labels : SourceExpressions) (size : Option Size) →
+    items_size scope items (labels_size scope labels size) ≡ labels_size scope labels (items_size scope items size)
 items-labels scope items no_parts size = refl
 items-labels scope items (more_parts label rest) size =
     items-turned scope items (reading_of scope label).size (labels_size scope rest size) ∙ ap (larger_size (reading_of scope label).size) (items-labels scope items rest size)

@@ -4,7 +4,8 @@ ghost use Rattle.std.specs.Prelude.{◌≡◌, ◌++◌, IfOk, flat_map, map};
 ghost use Rattle.vf_base.specs.Base.{object_number};
 ghost use Rattle.v_design.specs.Plain.{expression_of, target_of};
 ghost use Rattle.v_tree.specs.Views as source;
-ghost use Rattle.v_elab.specs.Statements.{Meaning as PlainMeaning, objects_in_text, index_objects_in_text, expression_in_text, assignment_in_text, labels_in_text, read_in_text, all_read_in_text, items_read_in_text};
+ghost use Rattle.v_elab.specs.Statements.{Meaning as PlainMeaning, objects_in_text, index_objects_in_text, expression_in_text};
+ghost use Rattle.v_elab.specs.Statements.{assignment_in_text, labels_in_text, read_in_text, all_read_in_text, items_read_in_text};
 ghost use Rattle.object_statements.specs.Meanings.{IsMeaning};
 ghost use Rattle.object_statements.specs.CaseItems.{item_read_in_text};
 

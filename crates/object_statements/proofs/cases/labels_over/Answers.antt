@@ -15,11 +15,13 @@ labels-preserved c plain are =
     ap (λ (es : List FlatExpr). then_expressions (expressions_of es) left) c.in_ok-push.ensures.items
     ∙ expressions-push c.labels.flats.items c.in_ok-flat.flat left
     ∙ ap (λ (e : Expression). then_expressions (expressions_of c.labels.flats.items) (more_expressions e left)) (c.in_ok-flat.ensures plain are)
-    ∙ made-step (λ (xs : List Expr). then_expressions (expressions_of c.labels.flats.items) (label_expressions plain (option_map size_of c.args.size) (source.expressions_of xs))) c.args.labels.now c.labels.label-index c.label-item.result _
+    ∙ made-step (λ (xs : List Expr). then_expressions (expressions_of c.labels.flats.items) (label_expressions plain (option_map size_of c.args.size) (source.expressions_of xs))) c.args.labels.now
+    c.labels.label-index c.label-item.result _
     c.labels-test.true c.label-item.is (c.labels.invariant plain are)
 
 pub returns : goal.returns
 returns c plain are =
     sym (expressions-end (expressions_of c.labels.flats.items))
-    ∙ made-end (λ (xs : List Expr). then_expressions (expressions_of c.labels.flats.items) (label_expressions plain (option_map size_of c.args.size) (source.expressions_of xs))) c.args.labels.now c.labels.label-index _
+    ∙ made-end (λ (xs : List Expr). then_expressions (expressions_of c.labels.flats.items) (label_expressions plain (option_map size_of c.args.size) (source.expressions_of xs))) c.args.labels.now
+    c.labels.label-index _
     c.labels-test.false (c.labels.invariant plain are)

@@ -10,4 +10,5 @@ use Rattle.object_statements.proofs.cases.labels_over.Given as goal
 abbrev pub invariant-labels : goal.invariant-labels
 invariant-labels l =
     (plain : Meaning) → IsMeaning plain l.meaning →
-    then_expressions (expressions_of l.flats.items) (label_expressions plain (option_map size_of l.size) (source.expressions_of (drop l.label-index l.labels))) ≡ label_expressions plain (option_map size_of l.size) (source.expressions_of l.labels)
+    then_expressions (expressions_of l.flats.items) (label_expressions plain (option_map size_of l.size) (source.expressions_of (drop l.label-index l.labels))) ≡ label_expressions plain
+    (option_map size_of l.size) (source.expressions_of l.labels)

@@ -12,4 +12,5 @@ items-preserved c =
     let left : List CaseItem = drop (c.items.item-index + 1) c.args.items.now in
     ap (items_size c.args.scope.now (case_items_of left)) c.in_ok-all.ensures
     ∙ item-behind c.args.scope.now c.item-item.result left (option_map size_of c.items.all)
-    ∙ made-step (λ (xs : List CaseItem). items_size c.args.scope.now (case_items_of xs) (option_map size_of c.items.all)) c.args.items.now c.items.item-index c.item-item.result _ c.items-test.true c.item-item.is c.items.invariant
+    ∙ made-step (λ (xs : List CaseItem). items_size c.args.scope.now (case_items_of xs) (option_map size_of c.items.all)) c.args.items.now c.items.item-index c.item-item.result _ c.items-test.true
+    c.item-item.is c.items.invariant

@@ -13,4 +13,5 @@ labels-preserved c =
     let left = expressions_of (drop (c.labels.label-index + 1) c.args.labels.now) in
     ap (labels_size c.args.scope.now left) c.in_ok-all.ensures
     ∙ labels-turned c.args.scope.now left (reading_of c.args.scope.now (expression_of c.label-item.result)).size (option_map size_of c.labels.all)
-    ∙ made-step (λ (xs : List Expr). labels_size c.args.scope.now (expressions_of xs) (option_map size_of c.labels.all)) c.args.labels.now c.labels.label-index c.label-item.result _ c.labels-test.true c.label-item.is c.labels.invariant
+    ∙ made-step (λ (xs : List Expr). labels_size c.args.scope.now (expressions_of xs) (option_map size_of c.labels.all)) c.args.labels.now c.labels.label-index c.label-item.result _
+    c.labels-test.true c.label-item.is c.labels.invariant

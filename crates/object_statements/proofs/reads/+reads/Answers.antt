@@ -16,18 +16,22 @@ use Rattle.object_statements.proofs.reads.+reads.Goals as goal
 
 pub add_statements-statements-preserved : goal.add_statements-statements-preserved
 add_statements-statements-preserved t c plain are =
-    list-more (λ (s : Stmt). read_in_text plain (statement_of s)) (λ (ss : List Stmt). all_read_in_text plain (statements_of ss)) c.args.statements.now c.statements.statement-index c.statement-item.result
-    (map object_number c.statements.objects.items) (map object_number c.add_statement.new.objects.items) _ (λ y ys. refl) c.statements-test.true c.statement-item.is (c.in_ok-add_statement.ensures plain are) (c.statements.invariant plain are)
+    list-more (λ (s : Stmt). read_in_text plain (statement_of s)) (λ (ss : List Stmt). all_read_in_text plain (statements_of ss)) c.args.statements.now c.statements.statement-index
+    c.statement-item.result
+    (map object_number c.statements.objects.items) (map object_number c.add_statement.new.objects.items) _ (λ y ys. refl) c.statements-test.true c.statement-item.is
+    (c.in_ok-add_statement.ensures plain are) (c.statements.invariant plain are)
 
 pub add_items-items-preserved : goal.add_items-items-preserved
 add_items-items-preserved t c plain are =
     list-more (item_read_in_text plain) (λ (items : List CaseItem). items_read_in_text plain (case_items_of items)) c.args.items.now c.items.item-index c.item-item.result
-    (map object_number c.items.objects.items) (map object_number c.add_item.new.objects.items) _ (item-read plain) c.items-test.true c.item-item.is (c.in_ok-add_item.ensures plain are) (c.items.invariant plain are)
+    (map object_number c.items.objects.items) (map object_number c.add_item.new.objects.items) _ (item-read plain) c.items-test.true c.item-item.is (c.in_ok-add_item.ensures plain are)
+    (c.items.invariant plain are)
 
 pub add_item-returns-in_ok-add_statement-in-Labelled : goal.add_item-returns-in_ok-add_statement-in-Labelled
 add_item-returns-in_ok-add_statement-in-Labelled t c plain are =
     let old : List ℕ = map object_number c.args.objects.now.items in
-    then-more _ _ _ _ _ (c.in_ok-add_labels-in-Labelled.ensures plain are ∙ ap (λ (ls : List Expr). old ++ labels_in_text plain (expressions_of ls)) c.as_slice.ensures) (c.in_ok-add_statement-in-Labelled.ensures plain are)
+    then-more _ _ _ _ _ (c.in_ok-add_labels-in-Labelled.ensures plain are ∙ ap (λ (ls : List Expr). old ++ labels_in_text plain (expressions_of ls)) c.as_slice.ensures)
+    (c.in_ok-add_statement-in-Labelled.ensures plain are)
     ∙ ap (λ (i : CaseItem). old ++ item_read_in_text plain i) (sym c.in-Labelled.is)
 
 pub add_item-returns-in_ok-add_statement-in-Default : goal.add_item-returns-in_ok-add_statement-in-Default
@@ -44,35 +48,41 @@ add_statement-returns-in_ok-add_statements-in-Block t c plain are =
 pub add_statement-returns-in-None : goal.add_statement-returns-in-None
 add_statement-returns-in-None t c plain are =
     then-same _ _ _ _ _ _ (c.in_ok-add_expr-in-If.ensures plain are) (c.in_ok-add_statement-in-If.ensures plain are) (ap (λ (s : Stmt). read_in_text plain (statement_of s)) c.deref-in-If.ensures)
-    ∙ ap (λ (s : Stmt). map object_number c.args.objects.now.items ++ read_in_text plain (statement_of s)) (sym (c.in-If.is ∙ ap (λ x. statements.If c.in-If.place c.in-If.condition c.in-If.first x) c.in-None.is))
+    ∙ ap (λ (s : Stmt). map object_number c.args.objects.now.items ++ read_in_text plain (statement_of s))
+    (sym (c.in-If.is ∙ ap (λ x. statements.If c.in-If.place c.in-If.condition c.in-If.first x) c.in-None.is))
 
 pub add_statement-returns-in_ok-add_statement-in-Some : goal.add_statement-returns-in_ok-add_statement-in-Some
 add_statement-returns-in_ok-add_statement-in-Some t c plain are =
     then-three _ _ _ _ _ _ _ _ _ (c.in_ok-add_expr-in-If.ensures plain are) (c.in_ok-add_statement-in-If.ensures plain are) (c.in_ok-add_statement-in-Some.ensures plain are)
     (ap (λ (s : Stmt). read_in_text plain (statement_of s)) c.deref-in-If.ensures) (ap (λ (s : Stmt). read_in_text plain (statement_of s)) c.deref-in-Some.ensures)
-    ∙ ap (λ (s : Stmt). map object_number c.args.objects.now.items ++ read_in_text plain (statement_of s)) (sym (c.in-If.is ∙ ap (λ x. statements.If c.in-If.place c.in-If.condition c.in-If.first x) c.in-Some.is))
+    ∙ ap (λ (s : Stmt). map object_number c.args.objects.now.items ++ read_in_text plain (statement_of s))
+    (sym (c.in-If.is ∙ ap (λ x. statements.If c.in-If.place c.in-If.condition c.in-If.first x) c.in-Some.is))
 
 pub add_statement-returns-in_ok-add_items-in-Case : goal.add_statement-returns-in_ok-add_items-in-Case
 add_statement-returns-in_ok-add_items-in-Case t c plain are =
     let old : List ℕ = map object_number c.args.objects.now.items in
-    then-same _ _ _ _ _ _ (c.in_ok-add_expr-in-Case.ensures plain are) (c.in_ok-add_items-in-Case.ensures plain are) (ap (λ (items : List CaseItem). items_read_in_text plain (case_items_of items)) c.deref-in-Case.ensures.value)
+    then-same _ _ _ _ _ _ (c.in_ok-add_expr-in-Case.ensures plain are) (c.in_ok-add_items-in-Case.ensures plain are)
+    (ap (λ (items : List CaseItem). items_read_in_text plain (case_items_of items)) c.deref-in-Case.ensures.value)
     ∙ ap (λ (s : SourceStatement). old ++ read_in_text plain s) (sym (statement_of-Case c.in-Case.place c.in-Case.kind c.in-Case.value c.in-Case.items))
     ∙ ap (λ (s : Stmt). old ++ read_in_text plain (statement_of s)) (sym c.in-Case.is)
 
 pub add_statement-returns-in_ok-add_statement-in-For : goal.add_statement-returns-in_ok-add_statement-in-For
 add_statement-returns-in_ok-add_statement-in-For t c plain are =
-    then-four _ _ _ _ _ _ _ _ _ _ (c.in_ok-add_assignment-in-For.ensures plain are) (c.in_ok-add_expr-in-For.ensures plain are) (c.in_ok-add_assignment-in-For-2.ensures plain are) (c.in_ok-add_statement-in-For.ensures plain are)
+    then-four _ _ _ _ _ _ _ _ _ _ (c.in_ok-add_assignment-in-For.ensures plain are) (c.in_ok-add_expr-in-For.ensures plain are) (c.in_ok-add_assignment-in-For-2.ensures plain are)
+    (c.in_ok-add_statement-in-For.ensures plain are)
     (ap (λ (s : Stmt). read_in_text plain (statement_of s)) c.deref-in-For.ensures)
     ∙ ap (λ (s : Stmt). map object_number c.args.objects.now.items ++ read_in_text plain (statement_of s)) (sym c.in-For.is)
 
 pub add_statement-returns-in_ok-add_statement-in-While : goal.add_statement-returns-in_ok-add_statement-in-While
 add_statement-returns-in_ok-add_statement-in-While t c plain are =
-    then-same _ _ _ _ _ _ (c.in_ok-add_expr-in-While.ensures plain are) (c.in_ok-add_statement-in-While.ensures plain are) (ap (λ (s : Stmt). read_in_text plain (statement_of s)) c.deref-in-While.ensures)
+    then-same _ _ _ _ _ _ (c.in_ok-add_expr-in-While.ensures plain are) (c.in_ok-add_statement-in-While.ensures plain are)
+    (ap (λ (s : Stmt). read_in_text plain (statement_of s)) c.deref-in-While.ensures)
     ∙ ap (λ (s : Stmt). map object_number c.args.objects.now.items ++ read_in_text plain (statement_of s)) (sym c.in-While.is)
 
 pub add_statement-returns-in_ok-add_statement-in-Repeat : goal.add_statement-returns-in_ok-add_statement-in-Repeat
 add_statement-returns-in_ok-add_statement-in-Repeat t c plain are =
-    then-same _ _ _ _ _ _ (c.in_ok-add_expr-in-Repeat.ensures plain are) (c.in_ok-add_statement-in-Repeat.ensures plain are) (ap (λ (s : Stmt). read_in_text plain (statement_of s)) c.deref-in-Repeat.ensures)
+    then-same _ _ _ _ _ _ (c.in_ok-add_expr-in-Repeat.ensures plain are) (c.in_ok-add_statement-in-Repeat.ensures plain are)
+    (ap (λ (s : Stmt). read_in_text plain (statement_of s)) c.deref-in-Repeat.ensures)
     ∙ ap (λ (s : Stmt). map object_number c.args.objects.now.items ++ read_in_text plain (statement_of s)) (sym c.in-Repeat.is)
 
 pub add_statement-returns-in_ok-add_statement-in-Forever : goal.add_statement-returns-in_ok-add_statement-in-Forever

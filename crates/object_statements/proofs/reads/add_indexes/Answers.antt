@@ -8,5 +8,6 @@ use Rattle.object_statements.proofs.reads.add_indexes.Goals as goal
 
 pub targets-preserved : goal.targets-preserved
 targets-preserved c =
-    list-more (λ (t : FlatTarget). index_objects_in_text (target_of t)) (λ (ts : List FlatTarget). flat_map index_objects_in_text (map target_of ts)) c.args.targets.now c.targets.target-index c.target-item.result
+    list-more (λ (t : FlatTarget). index_objects_in_text (target_of t)) (λ (ts : List FlatTarget). flat_map index_objects_in_text (map target_of ts)) c.args.targets.now c.targets.target-index
+    c.target-item.result
     (map object_number c.targets.objects.items) (map object_number c.add_index.new.objects.items) _ (λ y ys. refl) c.targets-test.true c.target-item.is c.in_ok-add_index.ensures c.targets.invariant

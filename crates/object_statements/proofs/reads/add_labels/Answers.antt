@@ -9,4 +9,5 @@ use Rattle.object_statements.proofs.reads.add_labels.Goals as goal
 pub labels-preserved : goal.labels-preserved
 labels-preserved c plain are =
     list-more (λ (e : Expr). expression_in_text plain (expression_of e)) (λ (es : List Expr). labels_in_text plain (expressions_of es)) c.args.labels.now c.labels.label-index c.label-item.result
-    (map object_number c.labels.objects.items) (map object_number c.add_expr.new.objects.items) _ (λ y ys. refl) c.labels-test.true c.label-item.is (c.in_ok-add_expr.ensures plain are) (c.labels.invariant plain are)
+    (map object_number c.labels.objects.items) (map object_number c.add_expr.new.objects.items) _ (λ y ys. refl) c.labels-test.true c.label-item.is (c.in_ok-add_expr.ensures plain are)
+    (c.labels.invariant plain are)

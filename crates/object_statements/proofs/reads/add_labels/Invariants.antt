@@ -8,4 +8,5 @@ use Rattle.object_statements.proofs.reads.add_labels.Given as goal
 abbrev pub invariant-labels : goal.invariant-labels
 invariant-labels l =
     (plain : Meaning) → IsMeaning plain l.meaning →
-    map object_number l.objects.items ++ labels_in_text plain (expressions_of (drop l.label-index l.labels)) ≡ map object_number l.initial.objects.items ++ labels_in_text plain (expressions_of l.labels)
+    map object_number l.objects.items ++ labels_in_text plain (expressions_of (drop l.label-index l.labels)) ≡ map object_number l.initial.objects.items
+    ++ labels_in_text plain (expressions_of l.labels)

@@ -27,8 +27,10 @@ statement_over-returns-in_ok-statements-in-Block t c plain are =
 pub statement_over-returns-in_ok-flat-in-Case : goal.statement_over-returns-in_ok-flat-in-Case
 statement_over-returns-in_ok-flat-in-Case t c plain are =
     c.in_ok-flat-in-Case.ensures plain are
-    ∙ case-over plain (source_place c.in-Case.place) c.in-Case.kind _ _ _ (option_map size_of c.in_ok-size-in-Case.size) (source.expression_of c.in-Case.value) (source.case_items_of c.in-Case.items.items)
-    (c.in_ok-size-in-Case.ensures ∙ ap₂ (λ (scope : Scope) (xs : List CaseItem). items_size scope (source.case_items_of xs) (reading_of scope (source.expression_of c.in-Case.value)).size) (sym are.scope_is) c.deref-in-Case.ensures.value)
+    ∙ case-over plain (source_place c.in-Case.place) c.in-Case.kind _ _ _ (option_map size_of c.in_ok-size-in-Case.size) (source.expression_of c.in-Case.value)
+    (source.case_items_of c.in-Case.items.items)
+    (c.in_ok-size-in-Case.ensures ∙ ap₂ (λ (scope : Scope) (xs : List CaseItem). items_size scope (source.case_items_of xs) (reading_of scope (source.expression_of c.in-Case.value)).size)
+    (sym are.scope_is) c.deref-in-Case.ensures.value)
     refl
     (c.in_ok-flats-in-Case.ensures plain are ∙ ap (λ (xs : List CaseItem). items_over plain (option_map size_of c.in_ok-size-in-Case.size) (source.case_items_of xs)) c.deref-in-Case-2.ensures.value)
     (c.in_ok-other-in-Case.ensures plain are ∙ ap (λ (xs : List CaseItem). default_over plain (source.case_items_of xs)) c.deref-in-Case-3.ensures.value)
@@ -41,7 +43,8 @@ statements_over-statements-preserved t c plain are =
     ap (λ (ss : List FlatStmt). then_statements (statements_of ss) left) c.in_ok-push.ensures.items
     ∙ statements-push c.statements.flats.items c.in_ok-flat.flat left
     ∙ ap (λ (s : plain_tree.Statement). then_statements (statements_of c.statements.flats.items) (plain_tree.more_statements s left)) (c.in_ok-flat.ensures plain are)
-    ∙ made-step (λ (xs : List Stmt). then_statements (statements_of c.statements.flats.items) (statements_over plain (source.statements_of xs))) c.args.statements.now c.statements.statement-index c.statement-item.result _
+    ∙ made-step (λ (xs : List Stmt). then_statements (statements_of c.statements.flats.items) (statements_over plain (source.statements_of xs))) c.args.statements.now c.statements.statement-index
+    c.statement-item.result _
     c.statements-test.true c.statement-item.is (c.statements.invariant plain are)
 
 pub statements_over-returns : goal.statements_over-returns
@@ -56,14 +59,16 @@ push_item-returns-in_ok-push-in-Labelled t c plain are rest =
     ap (λ xs. then_items (items_of xs) rest) c.in_ok-push-in-Labelled.ensures.items
     ∙ items-push c.args.flats.now.items (record { labels = c.in_ok-labels-in-Labelled.labels; statement = c.in_ok-statement-in-Labelled.statement }) rest
     ∙ ap₂ (λ (ls : plain_tree.Expressions) (s : plain_tree.Statement). then_items old (plain_tree.more_items ls s rest))
-    (c.in_ok-labels-in-Labelled.ensures plain are ∙ ap (λ (ls : List Expr). label_expressions plain (option_map size_of c.args.size) (source.expressions_of ls)) c.as_slice.ensures) (c.in_ok-statement-in-Labelled.ensures plain are)
+    (c.in_ok-labels-in-Labelled.ensures plain are ∙ ap (λ (ls : List Expr). label_expressions plain (option_map size_of c.args.size) (source.expressions_of ls)) c.as_slice.ensures)
+    (c.in_ok-statement-in-Labelled.ensures plain are)
     ∙ ap (λ (i : CaseItem). then_items old (item_over plain (option_map size_of c.args.size) i rest)) (sym c.in-Labelled.is)
 
 pub items_over-items-preserved : goal.items_over-items-preserved
 items_over-items-preserved t c plain are =
     c.in_ok-push_item.ensures plain are _
     ∙ ap (then_items (items_of c.items.flats.items)) (item-first plain (option_map size_of c.args.size) c.item-item.result (drop (c.items.item-index + 1) c.args.items.now))
-    ∙ made-step (λ (xs : List CaseItem). then_items (items_of c.items.flats.items) (items_over plain (option_map size_of c.args.size) (source.case_items_of xs))) c.args.items.now c.items.item-index c.item-item.result _
+    ∙ made-step (λ (xs : List CaseItem). then_items (items_of c.items.flats.items) (items_over plain (option_map size_of c.args.size) (source.case_items_of xs))) c.args.items.now c.items.item-index
+    c.item-item.result _
     c.items-test.true c.item-item.is (c.items.invariant plain are)
 
 pub items_over-returns : goal.items_over-returns

@@ -16,7 +16,8 @@ invariant-statements_over-statements l =
 abbrev pub invariant-items_over-items : goal.invariant-items_over-items
 invariant-items_over-items l =
     (plain : Meaning) → IsMeaning plain l.meaning →
-    then_items (items_of l.flats.items) (items_over plain (option_map size_of l.size) (source.case_items_of (drop l.item-index l.items))) ≡ items_over plain (option_map size_of l.size) (source.case_items_of l.items)
+    then_items (items_of l.flats.items) (items_over plain (option_map size_of l.size) (source.case_items_of (drop l.item-index l.items))) ≡ items_over plain (option_map size_of l.size)
+    (source.case_items_of l.items)
 
 abbrev pub invariant-default_over-items : goal.invariant-default_over-items
 invariant-default_over-items l =

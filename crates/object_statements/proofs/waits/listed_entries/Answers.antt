@@ -10,7 +10,8 @@ use Rattle.object_statements.proofs.waits.listed_entries.Goals as goal
 
 pub listed-preserved : goal.listed-preserved
 listed-preserved c plain are =
-    list-more (λ (e : Entry). entries_of_select plain (source.entry_of e)) (λ (es : List Entry). flat_map (entries_of_select plain) (map source.entry_of es)) c.args.listed.now c.listed.entry-index c.entry-item.result
+    list-more (λ (e : Entry). entries_of_select plain (source.entry_of e)) (λ (es : List Entry). flat_map (entries_of_select plain) (map source.entry_of es)) c.args.listed.now c.listed.entry-index
+    c.entry-item.result
     (map entry_of c.listed.entries.items) (map entry_of c.append.new.entries.items) _ (λ y ys. refl) c.listed-test.true c.entry-item.is
     (c.in_ok-append.ensures
     ∙ ap (λ (es : List WaitEntry). map entry_of c.listed.entries.items ++ map entry_of es) c.deref.ensures.value
