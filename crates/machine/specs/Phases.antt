@@ -8,6 +8,7 @@ use Rattle.v_design.specs.Designs.{Machine}
 use Rattle.v_design.specs.States.{State, turn_of}
 use Rattle.v_design.specs.Runs.{most_steps, turn_in_slot}
 use Rattle.causal_monitor.specs.declared.slot.Turn.{Turn}
+use Rattle.causal_monitor.specs.declared.slot.Turn.TheVariants.{Time}
 use Rattle.causal_monitor.specs.declared.slot.SlotLog.{SlotLog}
 use Rattle.machine_laws.specs.SlotLoop.{Moment, EndsAt, IsIdle}
 use Rattle.machine.specs.declared.end.SlotEnd.{SlotEnd}
@@ -104,5 +105,6 @@ stage_after false = Between
 pub record FinishesSlot (hyper : Bool) (end : SlotEnd) (old new : Simulated) (log_old log_new : SlotLog) : Type 0 where
   pub machine_is : machine_kept new ≡ machine_kept old
   pub notes_are : notes_runs new ≡ notes_runs old
+  pub turn_is : first_turn new.stage ≡ Time
   pub runs : (machine : Machine) (first : Turn) (begins : State) → EndsSlot machine first begins hyper old log_old → RunsSlot machine begins first end new log_new
   pub standing : (machine : Machine) (first : Turn) (begins : State) → BeginsInFirstRun machine begins → EndsSlot machine first begins hyper old log_old → IsStanding new

@@ -4,6 +4,7 @@ ghost use Rattle.std.specs.Prelude.{◌≡◌, ◌≤◌, ◌^◌, ℕ, false, S
 ghost use Rattle.std.specs.Option.{option_map};
 ghost use Rattle.v_design.specs.States.{State, start};
 ghost use Rattle.v_design.specs.Views.{machine_with};
+ghost use Rattle.causal_monitor.specs.declared.slot.Turn.TheVariants as turns;
 ghost use Rattle.machine.specs.Standing.{IsStanding, RunsSlot, EveryOrderEndsHere, machine_kept, state_kept, begins_next, notes_runs, first_turn};
 
 use crate::end::SlotEnd;
@@ -37,6 +38,7 @@ impl<'d> Machine<'d> {
         ensures begins { IfOk result (λ m. begins_next m ≡ Some (start (machine_with design.now fault))) }
         ensures standing { IfOk result (λ m. IsStanding m) }
         ensures notes { IfOk result (λ m. notes_runs m ≡ false) }
+        ensures turn { IfOk result (λ m. first_turn m.stage ≡ turns.Start) }
     {
         order_laws::nets();
         order_laws::first_run_goes_on();
@@ -86,6 +88,7 @@ impl<'d> Machine<'d> {
         ensures every_order { IfOk result (λ _. (begins : State) → begins_next self.old ≡ Some begins → EveryOrderEndsHere (machine_kept self.old) begins self.new) }
         ensures standing { IfOk result (λ _. IsStanding self.new) }
         ensures notes { IfOk result (λ _. notes_runs self.new ≡ notes_runs self.old) }
+        ensures turn { IfOk result (λ _. first_turn self.new.stage ≡ turns.Time) }
     {
         order_laws::fine_slots();
         self.begin_slot(log)?;
