@@ -6,3 +6,4 @@ pub mod Closing
 pub mod Traces
 pub mod RunsKept
 pub mod Starting
+pub mod Spares

@@ -13,6 +13,7 @@ mod events;
 mod first;
 mod setup;
 mod slot;
+mod spare;
 mod states;
 mod trace;
 mod window;

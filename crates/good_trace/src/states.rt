@@ -6,6 +6,7 @@ ghost use Rattle.process_code.specs.Codes.{IsCodeOf};
 ghost use Rattle.process_code.specs.declared.code.Code.{Code};
 ghost use Rattle.window_runs.specs.RunsByProcess.{run_process, run_phase, IsRunIndexOf};
 ghost use Rattle.window_runs.specs.Standing.{AreStatesAfter};
+ghost use Rattle.good_trace.specs.Spares.{FitsSpare};
 ghost use Rattle.good_trace.specs.Starting.{AreFirstStates};
 
 use process_code::{Code, ProcState, RunEnd};
@@ -33,23 +34,49 @@ pub(crate) fn first_states(alloc: Global, codes: &[Code]) -> Result<Vec<ProcStat
     Ok(states)
 }
 
-/// The index of a window's runs by process, and where the processes stand after them, if they stood so before.
+/// The index of some runs of so many processes, in the memory of another one, if there is one.
+fn index_runs(
+    alloc: Global,
+    spare: Option<RunIndex>,
+    processes: u32,
+    runs: &[RunEnd],
+) -> Result<RunIndex, NoMemory>
+    requires spare { FitsSpare processes spare }
+    requires within { All (λ run. run_process run < processes) runs.now }
+    requires rise { IsNonDecreasingBy run_phase runs.now }
+    ensures { IfOk result (λ index. IsRunIndexOf processes runs.now index) }
+{
+    match spare {
+        None => {
+            let index = RunIndex::build(alloc, processes, runs)?;
+            Ok(index)
+        }
+        Some(mut index) => {
+            index.refill(alloc, runs)?;
+            Ok(index)
+        }
+    }
+}
+
+/// The index of a window's runs by process, in the memory of another one, if there is one, and where the processes stand after them, if they stood so before.
 ///
 /// # Errors
 ///
 /// Want of memory, or no further number of a run.
 pub(crate) fn close_runs(
     alloc: Global,
+    spare: Option<RunIndex>,
     states: &[ProcState],
     runs: &[RunEnd],
 ) -> Result<ClosedRuns, NoMemory>
+    requires spare { FitsSpare (length states.now) spare }
     requires few { length states.now ≤ 65536 }
     requires within { All (λ run. run_process run < length states.now) runs.now }
     requires rise { IsNonDecreasingBy run_phase runs.now }
     ensures index { IfOk result (λ closed. IsRunIndexOf (length states.now) runs.now closed.index) }
     ensures stand { IfOk result (λ closed. AreStatesAfter states.now runs.now closed.stand.items) }
 {
-    let index = RunIndex::build(alloc, states.len() as u32, runs)?;
+    let index = index_runs(alloc, spare, states.len() as u32, runs)?;
     let stand = states_after(alloc, states, runs, &index)?;
     Ok(ClosedRuns { index, stand })
 }

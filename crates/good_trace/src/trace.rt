@@ -9,6 +9,7 @@ use crate::events::{ClosedEvents, close_events};
 use crate::first::first_values;
 use crate::setup::Setup;
 use crate::slot::{count_steps, phases_after, push_slot};
+use crate::spare::{Spare, spare_of};
 use crate::states::{ClosedRuns, close_runs, first_states};
 use crate::window::TraceWindow;
 use causal_monitor::SlotLog;
@@ -112,12 +113,16 @@ impl<'s, 'd, N: World> Trace<'s, 'd, N> {
         Ok(is_full(self.slots.len(), self.steps))
     }
 
-    /// The slots since the last close as a window, which ends as is told.
+    /// The slots since the last close as a window, which ends as is told. The memory of a window that is done with is used again, if one is given.
     ///
     /// # Errors
     ///
     /// Want of memory, or no further number of a moment or a run. The trace is as before then.
-    pub fn close_window(&mut self, last: GoodEnd) -> Result<TraceWindow<N>, NoMemory>
+    pub fn close_window(
+        &mut self,
+        last: GoodEnd,
+        used: Option<TraceWindow<N>>,
+    ) -> Result<TraceWindow<N>, NoMemory>
         requires some { self.old.closed < self.old.pushed }
         requires last { IsWindow N.design N.plan self.old.closed self.old.pushed (end_of last) }
         ensures window { IfOk result (λ window. window ≡ record { before = self.old.closed; through = self.old.pushed; ending = end_of last }) }
@@ -128,14 +133,20 @@ impl<'s, 'd, N: World> Trace<'s, 'd, N> {
     {
         window_runs::ends_go_on();
         between_slots::runs_lead();
-        let closed_runs = close_runs(self.alloc, &self.states, &self.runs)?;
+        let spare = spare_of(self.alloc, used);
+        let Spare {
+            slots: free_slots,
+            runs: free_runs,
+            index: free_index,
+        } = spare;
+        let closed_runs = close_runs(self.alloc, free_index, &self.states, &self.runs)?;
         let closed = close_events(self.alloc, &self.values, &self.slots)?;
         let ClosedRuns { index, stand } = closed_runs;
         let ClosedEvents { events, later } = closed;
-        let slots = mem::replace(&mut self.slots, Vec::new(self.alloc));
-        let runs = mem::replace(&mut self.runs, Vec::new(self.alloc));
+        let slots = mem::replace(&mut self.slots, free_slots);
+        let runs = mem::replace(&mut self.runs, free_runs);
         let values = mem::replace(&mut self.values, later);
-        let states = mem::replace(&mut self.states, stand);
+        let beginning = mem::replace(&mut self.states, stand);
         let begins = self.closed;
         let ends = self.pushed;
         let phases = self.phases;
@@ -149,7 +160,7 @@ impl<'s, 'd, N: World> Trace<'s, 'd, N> {
             phases,
             values,
             events,
-            states,
+            states: beginning,
             runs,
             index,
             slots,

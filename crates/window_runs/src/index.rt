@@ -1,6 +1,6 @@
 // The index of a window's runs by process.
 
-ghost use Rattle.std.specs.Prelude.{◌≡◌, ◌-◌, ◌<◌, ◌≤◌, ◌^◌, ℕ, All, [], get_or, length, map, slice_get, IfOk};
+ghost use Rattle.std.specs.Prelude.{◌≡◌, ◌-◌, ◌<◌, ◌≤◌, ◌^◌, ℕ, All, [], get_or, length, map, slice_get, IfOk, OnOk};
 ghost use Rattle.std.specs.Option.{option_map};
 ghost use Rattle.std.specs.List.Sorted.{IsNonDecreasingBy};
 ghost use Rattle.vf_base.specs.Base.{process_number};
@@ -78,6 +78,27 @@ impl RunIndex {
         let by_place = list_places(alloc, runs)?;
         let places = WindowIndex::build(alloc, processes, &by_place)?;
         Ok(RunIndex { phases, places })
+    }
+
+    /// Makes the index that of other runs of the same processes, in the memory that it has.
+    ///
+    /// # Errors
+    ///
+    /// Want of memory, or more runs than numbers for them. Nothing is said of the index then.
+    pub fn refill(&mut self, alloc: Global, runs: &[RunEnd]) -> Result<(), NoMemory>
+        requires same { length self.old.places ≡ length self.old.phases }
+        requires within { All (λ run. process_number run.process < length self.old.phases) runs.now }
+        requires rise { IsNonDecreasingBy run_phase runs.now }
+        ensures { OnOk result (IsRunIndexOf (length self.old.phases) runs.now self.new) }
+    {
+        if runs.len() >= u32::MAX as usize {
+            return Err(NoMemory);
+        }
+        let by_phase = list_phases(alloc, runs)?;
+        self.phases.refill(&by_phase)?;
+        let by_place = list_places(alloc, runs)?;
+        self.places.refill(&by_place)?;
+        Ok(())
     }
 
     /// How many runs of a process come before a phase.

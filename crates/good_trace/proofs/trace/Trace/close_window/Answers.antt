@@ -93,9 +93,9 @@ invariant_of-result g c =
           window c.deref-3.ensures.value c.deref-4.ensures.value c.in_ok-closed.ensures (ap (λ (v : Vec Vec4 Global). v.items) c.replace-values.ensures.value)
           (ap (λ (v : Vec SlotLog Global). v.items) c.replace-slots.ensures.value);
       has_runs =
-          runs-closed t.setup.now.codes g.N.World.design g.N.World.plan t.pushed t.closed t.phases t.states.items c.deref.result.now c.replace-states.result.items
+          runs-closed t.setup.now.codes g.N.World.design g.N.World.plan t.pushed t.closed t.phases t.states.items c.deref.result.now c.replace-beginning.result.items
           t.runs.items c.deref-2.result.now c.replace-runs.result.items c.in_ok-closed_runs.closed_runs.index c.self.invariant.runs_kept c.deref.ensures.value c.deref-2.ensures.value
-          c.in_ok-closed_runs.ensures.index (ap (λ (v : Vec ProcState Global). v.items) c.replace-states.ensures.value)
+          c.in_ok-closed_runs.ensures.index (ap (λ (v : Vec ProcState Global). v.items) c.replace-beginning.ensures.value)
           (ap (λ (v : Vec RunEnd Global). v.items) c.replace-runs.ensures.value);
     }
 
@@ -108,11 +108,11 @@ invariant_of-self g c =
           goes-on g.N.World.design g.N.World.plan t.pushed t.closed t.steps t.values.items c.deref-3.result.now c.replace-values.new.dest.items
           t.slots.items c.deref-4.result.now c.replace-slots.new.dest.items c.in_ok-closed.closed.events c.in_ok-closed.closed.later.items (end_of c.args.last) c.self.invariant.slots_kept
           window c.deref-3.ensures.value c.deref-4.ensures.value c.in_ok-closed.ensures (ap (λ (v : Vec Vec4 Global). v.items) c.replace-values.ensures.after)
-          (ap (λ (v : Vec SlotLog Global). v.items) c.replace-slots.ensures.after ∙ c.new.ensures.items);
+          (ap (λ (v : Vec SlotLog Global). v.items) c.replace-slots.ensures.after ∙ c.spare_of-spare.ensures.slots);
       runs_kept =
           runs-go-on c.runs_lead.ensures.runs c.ends_go_on.ensures.stand c.ends_go_on.ensures.lead t.setup.now.codes g.N.World.design g.N.World.plan t.pushed t.closed t.steps t.phases
-          t.values.items t.slots.items t.states.items c.deref.result.now c.in_ok-closed_runs.closed_runs.stand.items c.replace-states.new.dest.items t.runs.items c.deref-2.result.now
+          t.values.items t.slots.items t.states.items c.deref.result.now c.in_ok-closed_runs.closed_runs.stand.items c.replace-beginning.new.dest.items t.runs.items c.deref-2.result.now
           c.replace-runs.new.dest.items (end_of c.args.last) c.self.invariant.slots_kept c.self.invariant.runs_kept window c.deref.ensures.value c.deref-2.ensures.value
-          c.in_ok-closed_runs.ensures.stand (ap (λ (v : Vec ProcState Global). v.items) c.replace-states.ensures.after)
-          (ap (λ (v : Vec RunEnd Global). v.items) c.replace-runs.ensures.after ∙ c.new-2.ensures.items);
+          c.in_ok-closed_runs.ensures.stand (ap (λ (v : Vec ProcState Global). v.items) c.replace-beginning.ensures.after)
+          (ap (λ (v : Vec RunEnd Global). v.items) c.replace-runs.ensures.after ∙ c.spare_of-spare.ensures.runs);
     }
