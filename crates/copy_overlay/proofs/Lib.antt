@@ -1,2 +1,3 @@
 mod MarkLaws
 mod CaughtUp
+mod Stretches
