@@ -4,3 +4,5 @@ pub mod CatchUp
 pub mod Marked
 pub mod Statuses
 pub mod StatusLaws
+pub mod Phases
+pub mod PhaseLaws
