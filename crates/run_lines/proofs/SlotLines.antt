@@ -1,27 +1,14 @@
 -- The lines of a slot are those of its phases.
-use Rattle.std.proofs.Common.{◌≡◌, ℕ, zero, suc, ◌+◌, Bool, true, false, List, [], ◌∷◌, ◌++◌, map, refl, sym, ap, ◌∙◌, arith, append_assoc, append-nil}
+use Rattle.std.proofs.Common.{◌≡◌, ℕ, zero, suc, ◌+◌, Bool, true, false, List, [], ◌∷◌, ◌++◌, map, refl, sym, ap, ◌∙◌, arith, append-nil}
 use Rattle.std.specs.Prelude.{Option, None, nat_eq}
-use Rattle.vf_base.specs.Lists.{AllHold}
 use Rattle.v_design.specs.Designs.{Machine}
 use Rattle.v_design.specs.States.{State, Event, Step, LaneStep, Evaluation, NetUpdate, TurnKind, after, turn_of}
 use Rattle.v_design.specs.Runs.{Move, Happens, Turns, FirstSlot, made}
 use Rattle.v_design.specs.Grades.{Phase, cut, phases}
 use Rattle.cert_laws.specs.Replays.{RunLine, SlotAt, PhaseNumber, StepsOf, UpdatesOf}
-use Rattle.cert_laws.specs.Written.{with_step, with_update, moves_lines, slot_lines, run_line_text}
-use Rattle.cert_text.specs.Fits.{RunFits}
-use Rattle.run_lines.specs.Open.{lines_text, with_event, with_events, onto}
+use Rattle.cert_laws.specs.Written.{with_step, with_update, moves_lines, slot_lines}
+use Rattle.run_lines.specs.Open.{with_event, with_events, onto}
 use Rattle.run_lines.specs.Slots.{first_line, phase_lines, phases_lines}
-
--- Texts
-
-pub text-append : (xs ys : List RunLine) → lines_text (xs ++ ys) ≡ lines_text xs ++ lines_text ys
-text-append [] ys = refl
-text-append (x ∷ xs) ys = ap (λ l. run_line_text x ++ l) (text-append xs ys) ∙ sym (append_assoc (run_line_text x) (lines_text xs) (lines_text ys))
-
--- what holds of all of two lists
-pub all-append : (xs ys : List RunLine) → AllHold RunFits xs → AllHold RunFits ys → AllHold RunFits (xs ++ ys)
-all-append [] ys h k = k
-all-append (x ∷ xs) ys h k = (h.0, all-append xs ys h.1 k)
 
 -- the line with which a phase begins is never joined with what is behind it
 pub first-onto : (time place : ℕ) (lines : List RunLine) → onto (first_line time place) lines ≡ first_line time place ∷ lines

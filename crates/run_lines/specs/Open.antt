@@ -1,5 +1,6 @@
 -- A line that is still open, and the lines behind it (the format is this program's own; events by IEEE 1364-2001, clause 5).
 use Rattle.std.specs.Prelude.{◌≡◌, ℕ, ◌+◌, true, false, List, [], ◌∷◌, ◌++◌, map, Option, Some, None, nat_eq}
+use Rattle.std.proofs.Common.{refl, sym, ap, ◌∙◌, append_assoc}
 use Rattle.vf_base.specs.Lists.{AllHold, joined}
 use Rattle.v_design.specs.States.{Event, Step, LaneStep, Evaluation, NetUpdate}
 use Rattle.v_design.specs.Runs.{only_if}
@@ -12,6 +13,15 @@ use Rattle.cert_text.specs.declared.line.RunLine.TheVariants.{Slot, Phase, Steps
 -- the text of some lines
 abbrev pub lines_text : List RunLine → List ℕ
 lines_text lines = joined (map run_line_text lines)
+
+pub text-append : (xs ys : List RunLine) → lines_text (xs ++ ys) ≡ lines_text xs ++ lines_text ys
+text-append [] ys = refl
+text-append (x ∷ xs) ys = ap (λ l. run_line_text x ++ l) (text-append xs ys) ∙ sym (append_assoc (run_line_text x) (lines_text xs) (lines_text ys))
+
+-- the numbers of all lines fit where those of both parts do
+pub fits-append : (xs ys : List RunLine) → AllHold RunFits xs → AllHold RunFits ys → AllHold RunFits (xs ++ ys)
+fits-append [] ys h k = k
+fits-append (x ∷ xs) ys h k = (h.0, fits-append xs ys h.1 k)
 
 -- an event before some lines
 abbrev pub with_event : Event → List RunLine → List RunLine

@@ -7,9 +7,9 @@ use Rattle.causal_monitor.specs.declared.slot.Actor.{Actor}
 use Rattle.slot_record.specs.Records.{event_of}
 use Rattle.cert_text.specs.Fits.{RunFits}
 use Rattle.cert_laws.specs.Written.{slot_lines}
-use Rattle.run_lines.specs.Open.{lines_text}
+use Rattle.run_lines.specs.Open.{lines_text, text-append, fits-append}
 use Rattle.run_lines.specs.Slots.{phase_lines, phases_lines}
-use Rattle.run_lines.proofs.SlotLines.{text-append, all-append, slot-lines}
+use Rattle.run_lines.proofs.SlotLines.{slot-lines}
 use Rattle.run_lines.proofs.slot.append_slot_lines.Goals as goal
 
 -- the events of some phases
@@ -33,7 +33,7 @@ module _ (time place : ℕ) (phases : List (List Actor)) (actors item : List Act
       AllHold RunFits (phases_lines time place (events_in (drop place phases)))
   fits-more own behind =
       subst (AllHold RunFits) next-phase
-      (all-append (phase_lines time place (map event_of actors)) (phases_lines time (place + 1) (events_in (drop (place + 1) phases))) own behind)
+      (fits-append (phase_lines time place (map event_of actors)) (phases_lines time (place + 1) (events_in (drop (place + 1) phases))) own behind)
 
 pub phases-preserved : goal.phases-preserved
 phases-preserved c =
