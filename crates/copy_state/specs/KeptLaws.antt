@@ -4,6 +4,7 @@ use Rattle.std.specs.Prelude.{Some, option_map, slice_get}
 use Rattle.four_value.specs.Values.{LogicValue, same_value}
 use Rattle.four_value.specs.ValueLaws.{same_value-refl, from_same_value}
 use Rattle.v_design.specs.States.{found_or}
+use Rattle.process_code.specs.Points.{activity_of}
 use Rattle.process_code.specs.StatesOf.{IsStateOf}
 use Rattle.process_code.specs.declared.code.Code.{Code}
 use Rattle.process_code.specs.declared.state.ProcState.{ProcState}
@@ -11,7 +12,7 @@ use Rattle.copy_laws.specs.Differences.{own_of, Ascend}
 use Rattle.copy_state.specs.Entries.{with_entry, without_entry}
 use Rattle.copy_state.specs.EntryLaws.{own-with_same, own-with_other, own-without_same, own-without_other, ascend-with, ascend-without, with-each, without-each, own-each, ascend-each, all-with}
 use Rattle.copy_state.specs.EntryLaws.{all-without, all-own}
-use Rattle.copy_state.specs.Kept.{with_own_value, done_by, activities_of, AreStatesOf}
+use Rattle.copy_state.specs.Kept.{CopyKept, with_own_value, done_by, activities_of, AreStatesOf, AreOfCode, StandsIn}
 
 -- Own values
 
@@ -81,3 +82,24 @@ pub state-own : (codes : List Code) (process : ℕ) (code : Code) (state : ProcS
     own_of states process ≡ Some state → IsStateOf code state
 state-own codes process code state states all there is =
     all-own (λ (entry : ℕ × ProcState). (code : Code) → slice_get codes entry.0 ≡ Some code → IsStateOf code entry.1) process state states all is code there
+
+-- a state that does what the good one does isn't kept, and another is
+pub stands-alike : (process : ℕ) (good own : ProcState) (old : CopyKept) → ((code : Code) → AreOfCode code good own → activity_of code own ≡ activity_of code good) →
+    StandsIn process good own old (record old { states = without_entry process old.states })
+stands-alike process good own old alike = record {
+  rest = refl;
+  others = λ other differ. own-without_other process other old.states differ;
+  kept = λ state is. let none = own-without_same process old.states in cc;
+  alike = λ code of none. alike code of;
+  differs = λ code state of is same. let none = own-without_same process old.states in cc;
+}
+
+pub stands-apart : (process : ℕ) (good own : ProcState) (old : CopyKept) → ((code : Code) → AreOfCode code good own → activity_of code own ≢ activity_of code good) →
+    StandsIn process good own old (record old { states = with_entry process own old.states })
+stands-apart process good own old apart = record {
+  rest = refl;
+  others = λ other differ. own-with_other process other own old.states differ;
+  kept = λ state is. let with = own-with_same process own old.states in cc;
+  alike = λ code of none. let with = own-with_same process own old.states in cc;
+  differs = λ code state of is. apart code of;
+}

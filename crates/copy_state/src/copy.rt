@@ -6,7 +6,7 @@ ghost use Rattle.v_design.specs.Plain.{due_of};
 ghost use Rattle.v_design.specs.States.{found_or};
 ghost use Rattle.copy_laws.specs.Differences.{own_of, Ascend};
 ghost use Rattle.copy_state.specs.Entries.{with_entry, without_entry, first_from};
-ghost use Rattle.copy_state.specs.Kept.{nothing_kept, with_own_value};
+ghost use Rattle.copy_state.specs.Kept.{nothing_kept, with_own_value, StandsIn};
 
 use crate::by_object::ByObject;
 use crate::by_process::ByProcess;
@@ -129,6 +129,28 @@ impl FaultCopy {
         ensures { self.new ≡ record self.old { states = without_entry (process_number process) self.old.states } }
     {
         self.states.take_out(process);
+    }
+
+    /// A process stands in a state, which is kept where the process does otherwise in it than in the good machine's.
+    ///
+    /// # Errors
+    ///
+    /// Want of memory. The copy is unchanged then.
+    pub fn stand(
+        &mut self,
+        process: ProcId,
+        good: &ProcState,
+        own: ProcState,
+    ) -> Result<(), NoMemory>
+        ensures ok { OnOk result (StandsIn (process_number process) good.now own self.old self.new) }
+        ensures err { OnErr result (self.new ≡ self.old) }
+    {
+        if good.same(&own) {
+            self.rejoin(process);
+            return Ok(());
+        }
+        self.split(process, own)?;
+        Ok(())
     }
 
     /// The updates that the copy keeps for a process, if it keeps some.
