@@ -1,0 +1,3 @@
+mod SlotsLeft
+mod Texts
+mod Readings

@@ -1,0 +1,12 @@
+-- The certificate is read back.
+use Rattle.v_design.specs.Plain.{fault_of, grade_of}
+use Rattle.v_design.specs.RulesHold.{rules_hold, plan_rules_hold}
+use Rattle.fault_grade.specs.Benches.{bench_design, bench_plan}
+use Rattle.vf_certify.proofs.Readings.{is-read}
+use Rattle.vf_certify.proofs.cert.certify_beside.Goals as goal
+
+pub returns-clause-read : goal.returns-clause-read
+returns-clause-read g c = λ line claim site graded claimed of.
+    let bench = c.args.bench.now in
+    is-read c.certificates_are_read.ensures.read (bench_design bench) (bench_plan bench) (fault_of c.args.fault) (grade_of c.in_ok-end.end) line claim c.in_ok-text.text.items
+    (rules_hold (bench_design bench) bench.design.now.rules) (plan_rules_hold (bench_plan bench) bench.plan.now.rules) c.in_ok-end.ensures c.in_ok-text.ensures site graded claimed of
