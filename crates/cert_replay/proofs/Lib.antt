@@ -1,0 +1,4 @@
+pub mod Words
+pub mod Going
+pub mod Lines
+pub mod Turning
