@@ -49,4 +49,5 @@ pub mod Texts10
 pub mod Texts11
 pub mod Texts12
 pub mod Texts13
+pub mod Texts14
 pub mod Refusals

@@ -13,6 +13,7 @@ use Rattle.elab_examples.specs.Texts10 as texts10_texts
 use Rattle.elab_examples.specs.Texts11 as texts11_texts
 use Rattle.elab_examples.specs.Texts12 as texts12_texts
 use Rattle.elab_examples.specs.Texts13 as texts13_texts
+use Rattle.elab_examples.specs.Texts14 as texts14_texts
 
 -- each text has the answer that stands beside it
 pub record TextsAtTheEdge : Type 0 where
@@ -30,6 +31,7 @@ pub record TextsAtTheEdge : Type 0 where
   pub texts11 : texts11_texts.Holds
   pub texts12 : texts12_texts.Holds
   pub texts13 : texts13_texts.Holds
+  pub texts14 : texts14_texts.Holds
 
 pub texts_at_the_edge : TextsAtTheEdge
 texts_at_the_edge = record {
@@ -47,4 +49,5 @@ texts_at_the_edge = record {
   texts11 = texts11_texts.holds;
   texts12 = texts12_texts.holds;
   texts13 = texts13_texts.holds;
+  texts14 = texts14_texts.holds;
 }
