@@ -25,7 +25,10 @@ use Rattle.window_runs.specs.Standing.{AreStatesAfter}
 use Rattle.four_value.specs.Values.{LogicValue}
 use Rattle.good_trace.specs.Slots.{IsSlotAt, IsLogAt}
 use Rattle.good_trace.specs.Starting.{AreFirstStates}
-use Rattle.good_trace.specs.Traces.{IsTrace}
+use Rattle.good_trace.specs.Counted.{phases_logged}
+use Rattle.good_trace.specs.Traces.{AreSlotsFrom, IsTrace}
+use Rattle.std.proofs.Common.{zero, get_or, take}
+use Rattle.std.proofs.lemmas.List.Sums.{sum_by_more}
 use Rattle.good_trace.specs.RunsKept.{AreStatesAt, AreRunsKept}
 
 -- The start
@@ -142,3 +145,33 @@ AreStatesAt-closed lead stand does codes design plan pushed closed steps before 
     | inr past ↦ let within = slice_get_within later process own here in absurd (omega (arith, past.0, after.count))
   ];
 }
+
+-- The phases of the first slots
+
+-- as many as their logs tell
+pub phases-before : (design : FlatDesign) (plan : TestPlan) (before : ℕ) (slots : List SlotLog) → AreSlotsFrom design plan before slots → (count : ℕ) → count ≤ length slots →
+    phases_logged (take count slots) ≡ length (window_phases design plan before (before + count))
+phases-before design plan before slots are zero low =
+    (let e : before ≡ before + 0 = omega arith in sym (ap (λ (l : List Phase). length l) (window_phases-none design plan before)) ∙ ap (λ n. length (window_phases design plan before n)) e)
+phases-before design plan before slots are (suc count) low =
+    elim (slice_get_cases slots count).1 [
+      | inl found ↦ more found.0 found.1 found.3 (are.each count found.0 found.2) (phases-before design plan before slots are count (omega (arith, low)))
+      | inr past ↦ absurd (omega (arith, past.0, low))
+    ]
+  where
+    more : (log : SlotLog) → count < length slots → get_or slots count log ≡ log → IsLogAt design plan (before + count) log →
+        phases_logged (take count slots) ≡ length (window_phases design plan before (before + count)) →
+        phases_logged (take (suc count) slots) ≡ length (window_phases design plan before (before + suc count))
+    more log within read own had =
+        let grown = sum_by_more (λ (slot : SlotLog). length slot.phases) slots count log within in
+        let one : length (get_or slots count log).phases ≡ length log.phases = ap (λ (l : SlotLog). length l.phases) read in
+        let tells : length log.phases ≡ length (phases (good_machine design) own.slot) = ap length own.logged.phases_are
+        ∙ logged-count (good_machine design) 1 (phases (good_machine design) own.slot) in
+        let wide = window_phases-more design plan before (before + count) own.slot (omega arith) own.stands in
+        let all : length (window_phases design plan before (suc (before + count))) ≡ length (window_phases design plan before (before + count) ++ phases (good_machine design) own.slot) =
+        ap (λ (l : List Phase). length l) wide in
+        let long = length-append (window_phases design plan before (before + count)) (phases (good_machine design) own.slot) in
+        let next : length (window_phases design plan before (suc (before + count))) ≡ length (window_phases design plan before (before + suc count)) =
+        (let e : suc (before + count) ≡ before + suc count = omega arith in ap (λ n. length (window_phases design plan before n)) e) in
+        let same : phases_logged (take (suc count) slots) ≡ phases_logged (take (count + 1) slots) = (let e : suc count ≡ count + 1 = omega arith in ap (λ n. phases_logged (take n slots)) e) in
+        omega (arith, grown, one, tells, all, long, next, same, had)

@@ -5,7 +5,8 @@
 //! since the last close as a `TraceWindow`. Its main contract: a window is the slots of the good first run from one number to another, at most 64 of them with at
 //! most 300,000 process and lane steps, and it tells whether slots come after it, the run is through, or its last slot has a race. All its events are
 //! numbered through by their moments: `value_at` is what an object holds before the event of a moment, and `next_touch` the next event that reads or writes it. Its
-//! phases are numbered through too: `run` is the end of a process's run of a number in a phase, and `process_at_beginning` tells where a process stands before the window.
+//! phases are numbered through too, `phases_before` tells where those of a slot begin: `run` is the end of a process's run of a number in a phase, and
+//! `process_at_beginning` tells where a process stands before the window.
 #![tactic(auto)]
 
 mod ending;

@@ -1,7 +1,7 @@
 // The slots of the good first run as they are pushed.
 
 ghost use Rattle.std.specs.Prelude.{◌≡◌, ◌+◌, ◌^◌, ◌<◌, ◌≤◌, ◌++◌, [], ◌∷◌, count_by, length, IfOk, OnOk, OnErr};
-ghost use Rattle.good_trace.specs.Counted.{is_step, steps_logged};
+ghost use Rattle.good_trace.specs.Counted.{is_step, steps_logged, phases_logged};
 
 use causal_monitor::{Actor, SlotLog};
 use process_code::RunEnd;
@@ -38,6 +38,18 @@ pub(crate) fn count_steps(log: &SlotLog) -> u32
         steps += count_in(actors.as_slice());
     }
     steps
+}
+
+/// How many phases some slots have, by their logs.
+pub(crate) fn count_phases(slots: &[SlotLog]) -> u32
+    requires { phases_logged slots.now < 2 ^ 32 }
+    ensures { result ≡ phases_logged slots.now }
+{
+    let mut phases = 0;
+    'slots: for slot in slots {
+        phases += slot.phases.as_slice().len() as u32;
+    }
+    phases
 }
 
 /// How many phases there are with those of a slot, by its log.

@@ -14,6 +14,7 @@ ghost use Rattle.good_trace.specs.RunsKept.{Stands, TellsRun};
 
 use crate::ending::GoodEnd;
 use crate::events::Events;
+use crate::slot::count_phases;
 use causal_monitor::SlotLog;
 use four_value::Vec4;
 use process_code::{ProcState, RunEnd, codes_are_one};
@@ -101,6 +102,16 @@ impl<N: World> TraceWindow<N> {
         ensures { result ≡ length (window_phases N.design N.plan self.now.before self.now.through) }
     {
         self.phases
+    }
+
+    /// How many phases the window's slots before one have, whose number is counted from the window's beginning: so its phases are numbered from one more on.
+    pub fn phases_before(&self, slot: u32) -> u32
+        requires { self.now.before + slot ≤ self.now.through }
+        ensures { result ≡ length (window_phases N.design N.plan self.now.before (self.now.before + slot)) }
+    {
+        // There are no more than all phases, whose number fits.
+        let _all = self.phases;
+        count_phases(&self.slots[..slot as usize])
     }
 
     /// The end of the run of a number, counted from 0, among those of a process in a phase; none where there are fewer.
