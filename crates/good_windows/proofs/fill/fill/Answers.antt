@@ -1,0 +1,60 @@
+-- Each way in which the filling ends.
+use Rattle.std.proofs.Common.{◌≡◌, ℕ, true, refl, sym, ap, subst, ◌∙◌}
+use Rattle.std.specs.Prelude.{Option}
+use Rattle.v_design.specs.Designs.{FlatDesign, TestPlan}
+use Rattle.machine.specs.declared.parts.Machine.{Machine as Simulated}
+use Rattle.good_trace.specs.Traces.{TraceKept}
+use Rattle.good_windows.specs.declared.slot.Put.{Put}
+use Rattle.good_windows.specs.Stages.{next_by, stage_by}
+use Rattle.good_windows.specs.Puts.{PutsSlot, IsFilled}
+use Rattle.good_windows.proofs.Filling.{filled-looped, filled-raced, filled-full, filled-through, filling-first, filling-more, fewer-left}
+use Rattle.good_windows.proofs.fill.fill.Goals as goal
+
+-- what came of a slot that is known
+told : (design : FlatDesign) (plan : TestPlan) (time : ℕ) (old : TraceKept) (put known : Put) (m : Simulated) (new : TraceKept) → put ≡ known → PutsSlot design plan time old put m new →
+    PutsSlot design plan time old known m new
+told design plan time old put known m new is puts = subst (λ p. PutsSlot design plan time old p m new) is puts
+
+-- the next slot up to the plan's end
+by-end : (plan : TestPlan) (end : ℕ) (m : Simulated) (next : Option ℕ) → plan.end ≡ end → next ≡ next_by end m → next ≡ next_by plan.end m
+by-end plan end m next same is = is ∙ ap (λ e. next_by e m) (sym same)
+
+pub slots-init : goal.slots-init
+slots-init g c =
+    filling-first g.N.World.design g.N.World.plan c.args.trace.now.closed c.args.machine.now c.args.trace.now c.next_within-next.result c.requires.usable refl
+    (by-end g.N.World.plan c.args.end c.args.machine.now c.next_within-next.result c.requires.end c.next_within-next.ensures)
+
+pub returns-in-Looped : goal.returns-in-Looped
+returns-in-Looped g c =
+    let puts = told g.N.World.design g.N.World.plan c.in-Some.time c.slots.trace c.in_ok-put.put _ c.put_slot.new.machine c.put_slot.new.trace c.in-Looped.is c.in_ok-put.ensures in
+    filled-looped g.N.World.design g.N.World.plan c.args.trace.now.closed c.slots.machine c.slots.trace c.slots.some c.slots.next c.slots.invariant c.put_slot.new.machine c.in-Some.time puts.0 puts.1
+    c.put_slot.new.trace puts.2
+
+pub returns-in-Raced : goal.returns-in-Raced
+returns-in-Raced g c =
+    filled-raced g.N.World.design g.N.World.plan c.args.trace.now.closed c.slots.machine c.slots.trace c.slots.some c.slots.next c.slots.invariant c.put_slot.new.machine c.in-Raced.pair
+    c.put_slot.new.trace
+    (told g.N.World.design g.N.World.plan c.in-Some.time c.slots.trace c.in_ok-put.put _ c.put_slot.new.machine c.put_slot.new.trace c.in-Raced.is c.in_ok-put.ensures)
+
+pub returns-in-Full : goal.returns-in-Full
+returns-in-Full g c =
+    subst (λ stage. IsFilled g.N.World.design g.N.World.plan c.args.trace.now.closed c.put_slot.new.machine c.put_slot.new.trace (record { stage = stage; some = true }))
+    (sym (c.stage_by.ensures ∙ ap stage_by (by-end g.N.World.plan c.args.end c.put_slot.new.machine c.next_within.result c.requires.end c.next_within.ensures)))
+    (filled-full g.N.World.design g.N.World.plan c.args.trace.now.closed c.slots.machine c.slots.trace c.slots.some c.slots.next c.slots.invariant c.put_slot.new.machine c.put_slot.new.trace
+    (told g.N.World.design g.N.World.plan c.in-Some.time c.slots.trace c.in_ok-put.put _ c.put_slot.new.machine c.put_slot.new.trace c.in-Full.is c.in_ok-put.ensures))
+
+pub slots-smaller : goal.slots-smaller
+slots-smaller g c =
+    fewer-left g.N.World.design g.N.World.plan c.args.trace.now.closed c.slots.machine c.slots.trace c.slots.some c.slots.next c.slots.invariant c.put_slot.new.machine c.put_slot.new.trace _
+    (told g.N.World.design g.N.World.plan c.in-Some.time c.slots.trace c.in_ok-put.put _ c.put_slot.new.machine c.put_slot.new.trace c.in-Room.is c.in_ok-put.ensures)
+
+pub slots-preserved : goal.slots-preserved
+slots-preserved g c =
+    filling-more g.N.World.design g.N.World.plan c.args.trace.now.closed c.slots.machine c.slots.trace c.slots.some c.slots.next c.slots.invariant c.put_slot.new.machine c.put_slot.new.trace
+    c.next_within-next-in-Some.result
+    (told g.N.World.design g.N.World.plan c.in-Some.time c.slots.trace c.in_ok-put.put _ c.put_slot.new.machine c.put_slot.new.trace c.in-Room.is c.in_ok-put.ensures)
+    (by-end g.N.World.plan c.args.end c.put_slot.new.machine c.next_within-next-in-Some.result c.requires.end c.next_within-next-in-Some.ensures)
+
+pub returns : goal.returns
+returns g c =
+    filled-through g.N.World.design g.N.World.plan c.args.trace.now.closed c.slots.machine c.slots.trace c.slots.some c.slots.next c.slots.invariant c.slots.machine c.in_default.is

@@ -1,0 +1,12 @@
+-- The window has room for the slot that comes next.
+use Rattle.std.proofs.Common.{◌-◌, length}
+use Rattle.copy_laws.specs.Windows.{good_slots}
+use Rattle.good_windows.proofs.Filling.{IsFilling}
+use Rattle.good_windows.proofs.fill.fill.Given as goal
+
+abbrev pub invariant-slots : goal.invariant-slots
+invariant-slots g l = IsFilling g.N.World.design g.N.World.plan g.N.World.plan.end l.fn.trace.closed l.machine l.trace l.some l.next
+
+-- how many slots are left
+abbrev pub decreases-slots : goal.decreases-slots
+decreases-slots g l = length (good_slots g.N.World.design g.N.World.plan) - l.trace.pushed

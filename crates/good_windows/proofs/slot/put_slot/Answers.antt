@@ -1,0 +1,27 @@
+-- The next slot was run.
+use Rattle.std.proofs.Common.{refl, sym, subst, ◌∙◌}
+use Rattle.good_windows.specs.Puts.{PutsSlot}
+use Rattle.good_windows.proofs.Ahead.{known}
+use Rattle.good_windows.proofs.Putting.{is-slot, puts-looped, puts}
+use Rattle.good_windows.proofs.slot.put_slot.Goals as goal
+
+pub returns-in-Hyper : goal.returns-in-Hyper
+returns-in-Hyper g c =
+    let k = known g.N.World.plan.end c.args.machine.now c.args.time c.requires.next in
+    puts-looped g.N.World.design g.N.World.plan c.args.time c.args.trace.now c.args.machine.now c.slot.new.self c.in_ok-end.end c.slot.new.log c.requires.stands k
+    (c.in_ok-end.ensures.slot k.begins k.next_is) c.slot.new.self c.args.trace.now c.in-Hyper.is refl
+
+pub push-requires-clause-next : goal.push-requires-clause-next
+push-requires-clause-next g c κs within =
+    let k = known g.N.World.plan.end c.args.machine.now c.args.time c.requires.next in
+    is-slot g.N.World.design g.N.World.plan c.args.time c.args.trace.now c.args.machine.now c.slot.new.self c.in_ok-end.end c.slot.new.log c.requires.stands k
+    (c.in_ok-end.ensures.slot k.begins k.next_is) c.take_runs-runs.result.items c.in_default.not-Hyper c.requires.codes (c.in_ok-end.ensures.notes ∙ c.requires.stands.notes)
+    c.take_runs-runs.ensures.runs
+
+pub returns : goal.returns
+returns g c =
+    let k = known g.N.World.plan.end c.args.machine.now c.args.time c.requires.next in
+    subst (λ put. PutsSlot g.N.World.design g.N.World.plan c.args.time c.args.trace.now put c.take_runs-runs.new.self c.push.new.self) (sym c.put_by.ensures)
+    (puts g.N.World.design g.N.World.plan c.args.time c.args.trace.now c.args.machine.now c.slot.new.self c.in_ok-end.end c.slot.new.log c.requires.stands k
+    (c.in_ok-end.ensures.slot k.begins k.next_is) c.take_runs-runs.new.self c.push.new.self c.in_ok-end.ensures.machine c.take_runs-runs.ensures.notes c.in_ok-end.ensures.turn
+    c.take_runs-runs.ensures.stays c.in_ok-full.ensures.pushed c.in_ok-end.end c.in_ok-full.full refl c.in_default.not-Hyper c.in_ok-full.ensures.full)

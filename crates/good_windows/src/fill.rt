@@ -1,0 +1,97 @@
+// The slots of one more window.
+
+ghost use Rattle.std.specs.Prelude.{◌≡◌, ◌≤◌, ◌^◌, IfOk};
+ghost use Rattle.good_windows.specs.Stages.{IsUsable};
+ghost use Rattle.good_windows.specs.Puts.{IsFilled};
+
+use crate::slot::{Put, next_within, put_slot};
+use crate::stage::{Stage, stage_by};
+use good_trace::Trace;
+use machine::Machine;
+use std::alloc::Global;
+use std::sync::ledger::Ledger;
+use v_design::World;
+use vf_base::{NoMemory, Steps};
+
+/// How the run goes on, and whether slots were put into the trace since it was closed last.
+#[derive(Clone, Copy, PartialEq, Eq, Debug)]
+pub struct Filled {
+    pub stage: Stage,
+    pub some: bool,
+}
+
+/// Runs slots of the good first run, up to its plan's end, and puts them into the trace until the window is full or no further slot is one of a window.
+///
+/// # Errors
+///
+/// Want of memory.
+fn fill<'s, 'd, N: World, L: Ledger>(
+    alloc: Global,
+    end: u64,
+    machine: &mut Machine<'d>,
+    trace: &mut Trace<'s, 'd, N>,
+    steps: &mut Steps<L>,
+) -> Result<Filled, NoMemory>
+    requires end { N.plan.end ≡ end }
+    requires limit { N.plan.end ≤ 2 ^ 63 }
+    requires usable { IsUsable N.design N.plan machine.old trace.old Stage.Open }
+    ensures { IfOk result (λ filled. IsFilled N.design N.plan trace.old.closed machine.new trace.new filled) }
+{
+    let mut some = false;
+    let mut next = next_within(machine, end);
+    'slots: while let Some(time) = next {
+        let put = put_slot(alloc, machine, trace, time, steps)?;
+        match put {
+            Put::Looped => {
+                return Ok(Filled {
+                    stage: Stage::Looped(time),
+                    some,
+                });
+            }
+            Put::Raced(pair) => {
+                return Ok(Filled {
+                    stage: Stage::Raced(pair),
+                    some: true,
+                });
+            }
+            Put::Full => {
+                return Ok(Filled {
+                    stage: stage_by(next_within(machine, end)),
+                    some: true,
+                });
+            }
+            Put::Room => {}
+        }
+        some = true;
+        next = next_within(machine, end);
+    }
+    Ok(Filled {
+        stage: Stage::Through,
+        some,
+    })
+}
+
+/// The same, where the run may go on.
+///
+/// # Errors
+///
+/// Want of memory.
+pub(crate) fn go_on<'s, 'd, N: World, L: Ledger>(
+    alloc: Global,
+    end: u64,
+    stage: Stage,
+    machine: &mut Machine<'d>,
+    trace: &mut Trace<'s, 'd, N>,
+    steps: &mut Steps<L>,
+) -> Result<Filled, NoMemory>
+    requires end { N.plan.end ≡ end }
+    requires limit { N.plan.end ≤ 2 ^ 63 }
+    requires usable { IsUsable N.design N.plan machine.old trace.old stage }
+    ensures { IfOk result (λ filled. IsFilled N.design N.plan trace.old.closed machine.new trace.new filled) }
+{
+    if let Stage::Open = stage {
+        let filled = fill(alloc, end, machine, trace, steps)?;
+        return Ok(filled);
+    }
+    Ok(Filled { stage, some: false })
+}

@@ -1,0 +1,109 @@
+// The good machine's run.
+
+ghost use Rattle.std.specs.Prelude.{◌≡◌, true, IfOk, OnOk};
+ghost use Rattle.good_windows.specs.Next.{GivesNext};
+ghost use Rattle.good_windows.specs.Stages.{IsAtStart};
+
+use crate::fill::go_on;
+use crate::next::{NextWindow, give};
+use crate::stage::Stage;
+use good_trace::{Setup, Trace, TraceWindow};
+use machine::Machine;
+use std::alloc::Global;
+use std::marker::Model;
+use std::sync::ledger::Ledger;
+use v_design::World;
+use vf_base::{NoMemory, Steps};
+
+/// The good machine of the world `N` in its first run, with the slots that it ran since the last window. Contracts see it as how many slots of the good first run
+/// stand in windows so far, and whether it may be used: after a call that ran out of memory it isn't to be used again.
+#[derive(Drop)]
+pub struct GoodRun<'s, 'd, N: World> {
+    alloc: Global,
+    /// The plan's end.
+    end: u64,
+    machine: Machine<'d>,
+    trace: Trace<'s, 'd, N>,
+    stage: Stage,
+}
+
+impl<'s, 'd, N: World> Model for GoodRun<'s, 'd, N> {
+    ghost use Rattle.good_windows.specs.Next.{RunKept};
+
+    ghost Value = { RunKept };
+
+    ghost use Rattle.good_windows.specs.Stages.{IsGoodRun, is_usable};
+
+    ghost view = { λ r. record { gone = r.trace.closed; usable = is_usable r.stage } };
+
+    ghost invariant = { λ r. IsGoodRun N.design N.plan r.end r.machine r.trace r.stage };
+}
+
+/// The good machine of a setup at its start, which notes the ends of its process runs.
+fn noting_machine<'s, 'd, N: World>(
+    alloc: Global,
+    setup: &'s Setup<'d, N>,
+) -> Result<Machine<'d>, NoMemory>
+    ensures { IfOk result (λ m. IsAtStart N.design m) }
+{
+    let mut machine = Machine::new(alloc, setup.design(), setup.graph(), None)?;
+    machine.note_runs(alloc)?;
+    Ok(machine)
+}
+
+impl<'s, 'd, N: World> GoodRun<'s, 'd, N> {
+    /// The good machine of a setup at the start of its run.
+    ///
+    /// # Errors
+    ///
+    /// Want of memory.
+    pub fn new(alloc: Global, setup: &'s Setup<'d, N>) -> Result<GoodRun<'s, 'd, N>, NoMemory>
+        ensures none { IfOk result (λ run. run.gone ≡ 0) }
+        ensures usable { IfOk result (λ run. run.usable ≡ true) }
+    {
+        order_laws::first_run_goes_on();
+        let design = setup.design();
+        let plan = setup.plan();
+        let codes = setup.codes();
+        let trace = Trace::new(alloc, setup)?;
+        let machine = noting_machine(alloc, setup)?;
+        Ok(GoodRun {
+            alloc,
+            end: plan.end,
+            machine,
+            trace,
+            stage: Stage::Open,
+        })
+    }
+
+    /// Runs the machine through the slots of one more window, and gives that window; or tells that no slot is left, or that the next one is hyperactive. A window
+    /// begins where the last one ended, and is as full as it gets: it ends with the slot that fills it, or where no further slot is one of a window. The memory of
+    /// a window that is done with is used again, if one is given.
+    ///
+    /// # Errors
+    ///
+    /// Want of memory.
+    pub fn next_window<L: Ledger>(
+        &mut self,
+        used: Option<TraceWindow<N>>,
+        steps: &mut Steps<L>,
+    ) -> Result<NextWindow<N>, NoMemory>
+        requires { self.old.usable ≡ true }
+        ensures next { IfOk result (λ next. GivesNext N.design N.plan self.old.gone next self.new.gone) }
+        ensures usable { OnOk result (self.new.usable ≡ true) }
+    {
+        let stage = self.stage;
+        self.stage = Stage::Spent;
+        let filled = go_on(
+            self.alloc,
+            self.end,
+            stage,
+            &mut self.machine,
+            &mut self.trace,
+            steps,
+        )?;
+        let next = give(&mut self.trace, filled, used)?;
+        self.stage = filled.stage;
+        Ok(next)
+    }
+}
