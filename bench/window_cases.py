@@ -1,0 +1,152 @@
+#!/usr/bin/env python3
+"""Makes what the program `window_cases` of the gate has to print: bench/window_cases.py FOLDER [--check]
+
+It traces the first runs of an independent model of the language, which isn't part of this repository: FOLDER holds it as the package `model`. For each name of
+crates/window_cases/data/names it takes the design and the plan there, and writes the lines of their windows to crates/window_cases/stdout. With --check nothing
+is written: the status is 1 where the file isn't what would be written.
+"""
+import os
+import sys
+
+HERE = os.path.dirname(os.path.abspath(__file__))
+CRATE = os.path.join(HERE, '..', 'crates', 'window_cases')
+MOST_SLOTS, FULL_STEPS = 64, 200000
+TOUCHING = {'read', 'write', 'net'}
+CHANGING = {'write', 'net'}
+
+
+class Window:
+    """The slots of a window: its events by their numbers, its phases, and the process runs."""
+
+    def __init__(self, machine, begins):
+        self.begins = self.ends = begins
+        self.first = list(machine.values)
+        self.stages = [stage_of(machine, process) for process in range(len(machine.state))]
+        self.moments = self.phases = self.steps = 0
+        self.touches = [set() for _ in self.first]       # object -> moments
+        self.changes = [[] for _ in self.first]          # object -> (moment, value)
+        self.runs = [[0, 0, 0] for _ in self.stages]     # process -> runs, updates written, updates appended
+
+    def value_at(self, place, moment):
+        earlier = [value for at, value in self.changes[place] if at < moment]
+        return earlier[-1] if earlier else self.first[place]
+
+    def lines(self, design):
+        yield 'window %d %d: %d moments, %d phases' % (self.begins, self.ends, self.moments, self.phases)
+        for place, item in enumerate(design.objects):
+            values = ' '.join(self.value_at(place, moment) for moment in (0, self.moments // 2, self.moments))
+            yield 'object %d %s %s, %d touches' % (place, item.name.split('[')[0], values, len(self.touches[place]))
+        for process, stage in enumerate(self.stages):
+            yield 'process %d %s, %d runs, %d written, %d appended' % (process, stage, *self.runs[process])
+
+
+def stage_of(machine, process):
+    if machine.state[process] == 'asleep':
+        return 'asleep until %d' % machine.wakes[process]
+    return machine.state[process]
+
+
+def traced(model):
+    """The model's machine, which notes its events in a window."""
+    request = model.process
+
+    class Traced(model.machine.Machine):
+        window = None
+
+        def begin(self, begins):
+            self.window, self.running = Window(self, begins), set()
+
+        def do(self, event):
+            kind, number = event
+            step = self.request[number] if kind == 'step' else None
+            before = len(self.phase.raw)
+            super().do(event)
+            window = self.window
+            for access in self.phase.raw[before:]:
+                if access.kind in TOUCHING:
+                    window.touches[access.obj].add(window.moments)
+                if access.kind in CHANGING:
+                    window.changes[access.obj].append((window.moments, self.values[access.obj]))
+            window.moments += 1
+            if step:
+                self.note_step(number, step)
+
+        def note_step(self, process, step):
+            counts = self.window.runs[process]
+            if process not in self.running:
+                self.running.add(process)
+                counts[0] += 1
+            counts[1] += step[0] == request.WRITE
+            counts[2] += step[0] == request.LATER
+            if process not in self.ready:
+                self.running.discard(process)
+
+        def first_slot(self):
+            outcome = super().first_slot()
+            self.window.phases += self.phase.number
+            self.window.steps += self.steps
+            self.window.ends += 1
+            return outcome
+
+    return Traced
+
+
+def good_run(model, design, plan):
+    """How many slots of the good first run may stand in windows, and how it ends."""
+    machine = model.machine.Machine(design)
+    count = 0
+    while True:
+        outcome = machine.first_slot()
+        if outcome == 'hyper':
+            return count, 'loops %d' % machine.time
+        count += 1
+        later = machine.next_time()
+        if outcome != 'fine' or later is None or later > plan.end:
+            return count, 'over'
+        machine.next_slot()
+
+
+def windows(model, design, count):
+    """The windows of so many slots."""
+    machine = traced(model)(design)
+    machine.begin(0)
+    for number in range(1, count + 1):
+        machine.first_slot()
+        window = machine.window
+        if number == count or number - window.begins == MOST_SLOTS or window.steps >= FULL_STEPS:
+            yield window
+            machine.begin(number)
+        if number < count:
+            machine.next_slot()
+
+
+def case_lines(model, name):
+    texts = [open(os.path.join(CRATE, 'data', name + ending), 'rb').read() for ending in ('.v', '.plan')]
+    design = model.cli.elaborate(model.cli.parse(model.cli.scan(texts[0])), 'top', False)
+    plan = model.cli.read_plan(texts[1], model.cli.Sites(design))
+    count, last = good_run(model, design, plan)
+    yield '--- ' + name
+    for window in windows(model, design, count):
+        yield from window.lines(design)
+    yield last
+
+
+def main(words):
+    sys.path.insert(0, words[0])
+    import model.cli
+    import model.machine
+    import model.process
+    names = open(os.path.join(CRATE, 'data', 'names'), encoding='ascii').read().split()
+    text = ''.join(line + '\n' for name in names for line in case_lines(model, name))
+    path = os.path.join(CRATE, 'stdout')
+    if words[1:] == ['--check']:
+        same = os.path.isfile(path) and open(path, encoding='ascii').read() == text
+        print('window_cases: stdout is %s' % ('as the model has it' if same else 'not as the model has it'))
+        return 0 if same else 1
+    with open(path, 'w', encoding='ascii') as file:
+        file.write(text)
+    return 0
+
+
+if __name__ == '__main__':
+    sys.exit(main(sys.argv[1:]))
