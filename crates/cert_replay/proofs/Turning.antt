@@ -1,5 +1,5 @@
 -- A phase of a replay ends, and a turn begins the next one (IEEE 1364-2001, clause 5).
-use Rattle.std.proofs.Common.{◌≡◌, ℕ, suc, ◌+◌, ◌<◌, ◌≤◌, List, [], ◌∷◌, ◌++◌, length, Bool, true, false, not, ◌&&◌, ◌||◌, ◌⊎◌, inl, inr, refl, sym, ap, subst, ◌∙◌, arith}
+use Rattle.std.proofs.Common.{◌≡◌, ℕ, suc, ◌+◌, ◌-◌, ◌<◌, ◌≤◌, List, [], ◌∷◌, ◌++◌, length, get_or, Bool, true, false, not, ◌&&◌, ◌||◌, ◌⊎◌, inl, inr, refl, sym, ap, subst, ◌∙◌, arith}
 use Rattle.std.specs.Prelude.{Option, Some, None, is_some, nat_eq, nat_le, nat_lt}
 use Rattle.std.specs.Option.{option_map}
 use Rattle.std.proofs.lemmas.Bool.{eq-eqb, ne_eqb, le-leb, lt-ltb, le-ltb}
@@ -11,14 +11,14 @@ use Rattle.v_design.specs.States.{State, ProcessState, Event, TurnKind, Postpone
 use Rattle.v_design.specs.Runs.{Turns as TurnMove, work_of, only_if, turn_in_slot, turned_by, turn_within, ends_by}
 use Rattle.v_design.specs.Grades.{Phase, race_of}
 use Rattle.v_design.specs.Logs.{PhaseAccess}
-use Rattle.v_design.specs.PhaseLogs.{phase_race}
+use Rattle.v_design.specs.PhaseLogs.{phase_race, log_of}
 use Rattle.vf_base.specs.Lists.{first_place}
-use Rattle.causal_monitor.specs.Phases.{IsLogOf}
+use Rattle.causal_monitor.specs.Phases.{PhaseOfSlot, IsLogOf}
 use Rattle.causal_monitor.specs.declared.slot.Turn.{Turn}
 use Rattle.causal_monitor.specs.declared.slot.Turn.TheVariants.{Start}
 use Rattle.machine_laws.specs.SlotLoop.{RacesGoOn, or_race}
 use Rattle.slot_record.specs.Records.{object_count}
-use Rattle.slot_record.specs.SlotLogs.{turn_before}
+use Rattle.slot_record.specs.SlotLogs.{turn_before, logged_phases, logged_phase_of}
 use Rattle.slot_record.specs.SlotRecords.{BeginsPhase, RecordedSlot, IsEmptyLog}
 use Rattle.slot_record.specs.SlotRecords as slot
 use Rattle.net_state.specs.States.{nodes_in}
@@ -112,6 +112,10 @@ module _ (law : RacesGoOn) (machine : Machine) (replay : Replay) (old mid new : 
   ended clear = subst (HasEnded machine replay) (sym is) (record {
     first = k.first;
     before = all;
+    earlier = k.before;
+    turn = k.turn;
+    last = refl;
+    names = subst (IsLogOf machine.design) k.amid.recorded.present.log k.amid.recorded.present.names;
     recorded = recorded;
     both = subst (λ s. AreBothOf machine s mid.nets mid.table) (sym k.now_is) k.amid.both;
     arranged = k.amid.arranged;
@@ -391,3 +395,39 @@ through-later r later told machine replay h =
         go : ((nat_le a b ≡ true) × (a ≤ b)) ⊎ ((nat_le a b ≡ false) × (b < a)) → nat_lt b a ≡ not (nat_le a b)
         go (inl t) = le-ltb b a t.1 ∙ sym (ap not t.0)
         go (inr t) = lt-ltb b a t.1 ∙ sym (ap not t.0)
+
+-- The log of the phase that ended
+
+logged-last : (machine : Machine) (number : ℕ) (earlier : List Phase) (phase : Phase) →
+    logged_phases machine number (earlier ++ phase ∷ []) ≡ logged_phases machine number earlier ++ logged_phase_of machine (length earlier + number) phase ∷ []
+logged-last machine number [] phase = let z : number ≡ 0 + number = omega arith in ap (λ n. logged_phase_of machine n phase ∷ []) z
+logged-last machine number (one ∷ earlier) phase =
+    ap (λ l. logged_phase_of machine number one ∷ l) (logged-last machine (number + 1) earlier phase)
+    ∙ (let z : length earlier + (number + 1) ≡ length (one ∷ earlier) + number = omega arith in
+    ap (λ n. logged_phase_of machine number one ∷ (logged_phases machine (number + 1) earlier ++ logged_phase_of machine n phase ∷ [])) z)
+
+-- what is logged so far, the replay's phase as the last
+logged-so : (machine : Machine) (replay : Replay) (r : Replaying) (h : HasEnded machine replay r) →
+    r.log.phases ≡ logged_phases machine 1 h.earlier ++ logged_phase_of machine (length h.earlier + 1) (present_phase h.turn replay) ∷ []
+logged-so machine replay r h = h.recorded.logged.phases_are ∙ ap (logged_phases machine 1) h.last ∙ logged-last machine 1 h.earlier (present_phase h.turn replay)
+
+-- some phase is logged
+pub some-logged : (r : Replaying) → IsAtPhaseEnd r → 0 < length r.log.phases
+some-logged r is = subst (λ l. 0 < length l) (sym (logged-so is.machine is.replay r is.ended)) (some (logged_phases is.machine 1 is.ended.earlier) _)
+  where
+    some : (xs : List PhaseOfSlot) (x : PhaseOfSlot) → 0 < length (xs ++ x ∷ [])
+    some xs x = omega (arith, length-more xs x)
+
+-- the last one is the replay's phase
+pub last-logged : (machine : Machine) (replay : Replay) (r : Replaying) (found : PhaseOfSlot) → HasEnded machine replay r → found ≡ get_or r.log.phases (length r.log.phases - 1) found →
+    found.log ≡ log_of machine replay.begins replay.events
+last-logged machine replay r found h is =
+    let x : PhaseOfSlot = logged_phase_of machine (length h.earlier + 1) (present_phase h.turn replay) in
+    let xs = logged_phases machine 1 h.earlier in
+    ap (λ (p : PhaseOfSlot). p.log) (is ∙ ap (λ l. get_or l (length l - 1) found) (logged-so machine replay r h)
+    ∙ ap (λ n. get_or (xs ++ x ∷ []) n found) (let z : length (xs ++ x ∷ []) - 1 ≡ length xs = omega (arith, length-more xs x) in z)
+    ∙ here xs x found)
+  where
+    here : (xs : List PhaseOfSlot) (x d : PhaseOfSlot) → get_or (xs ++ x ∷ []) (length xs) d ≡ x
+    here [] x d = refl
+    here (y ∷ xs) x d = here xs x d

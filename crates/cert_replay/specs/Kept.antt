@@ -1,10 +1,12 @@
 -- What stands for a replay (runs by IEEE 1364-2001, clause 5).
-use Rattle.std.specs.Prelude.{◌≡◌, ℕ, ◌+◌, ◌≤◌, ◌^◌, Bool, true, false, List, length, Option, Some, None}
+use Rattle.std.specs.Prelude.{◌≡◌, ℕ, ◌+◌, ◌≤◌, ◌^◌, Bool, true, false, List, [], ◌∷◌, ◌++◌, length, Option, Some, None}
 use Rattle.v_design.specs.PlainDesigns.{design_of}
 use Rattle.v_design.specs.Designs.{Machine}
 use Rattle.v_design.specs.States.{Event, Step, LaneStep, TurnKind, is_quiescent}
 use Rattle.v_design.specs.Runs.{happened}
 use Rattle.v_design.specs.Grades.{Phase, first_race}
+use Rattle.v_design.specs.PhaseLogs.{log_of}
+use Rattle.causal_monitor.specs.Phases.{IsLogOf}
 use Rattle.causal_monitor.specs.declared.slot.Turn.{Turn}
 use Rattle.slot_record.specs.SlotRecords.{RecordedSlot}
 use Rattle.process_table.specs.Arranged.{IsKept}
@@ -49,10 +51,14 @@ pub record Keeps (machine : Machine) (replay : Replay) (r : Replaying) : Type 0 
   -- unless a race is claimed, no phase of the slot that ended has a conflict
   pub clear : r.race ≡ false → first_race machine 1 before ≡ None
 
--- the same where the replay's phase is at its end and is logged
+-- the same where the replay's phase is at its end and is logged, as the last so far
 pub record HasEnded (machine : Machine) (replay : Replay) (r : Replaying) : Type 0 where
   pub first : Turn
   pub before : List Phase
+  pub earlier : List Phase
+  pub turn : Option TurnKind
+  pub last : before ≡ earlier ++ present_phase turn replay ∷ []
+  pub names : IsLogOf machine.design (log_of machine replay.begins replay.events)
   pub recorded : RecordedSlot machine first before r.record r.log
   pub both : AreBothOf machine replay.now r.nets r.table
   pub arranged : IsKept r.table

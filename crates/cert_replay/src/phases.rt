@@ -4,12 +4,14 @@ ghost use Rattle.std.specs.Prelude.{◌≡◌, ◌||◌, not, is_some, IfOk};
 ghost use Rattle.v_design.specs.States.{turn_of};
 ghost use Rattle.v_design.specs.Runs.{ends_by};
 ghost use Rattle.v_design.specs.Designs.{Machine};
+ghost use Rattle.v_design.specs.PhaseLogs.{log_of};
+ghost use Rattle.causal_monitor.specs.Phases.{IsLogOf};
 ghost use Rattle.cert_laws.specs.Replays.{Replay, phase_on, slot_on};
 ghost use Rattle.cert_replay.specs.Kept.{HasEnded, IsReplaying, IsAtPhaseEnd, EndsPhase, Turns, bound_kept};
 ghost use Rattle.cert_replay.specs.Deeds.{TellsQuiet};
 
 use crate::replaying::Replaying;
-use causal_monitor::Turn;
+use causal_monitor::{PhaseLog, Turn};
 use machine_events::{begin_phase, later_time, slot_turn};
 use vf_base::{NoMemory, Pair};
 
@@ -55,6 +57,16 @@ impl<'d> Replaying<'d> {
         }
         self.record.end_phase(self.graph, &mut self.log)?;
         Ok(may_pass(self.race, self.record.race()))
+    }
+
+    /// The log of the phase that has ended, by which a claimed race is looked for.
+    pub fn phase_log(&self) -> &PhaseLog
+        requires { IsAtPhaseEnd self.now }
+        ensures log { (machine : Machine) (replay : Replay) → HasEnded machine replay self.now → result.now.log ≡ log_of machine replay.begins replay.events }
+        ensures named { (machine : Machine) (replay : Replay) → HasEnded machine replay self.now → IsLogOf machine.design result.now.log }
+    {
+        let phases = self.log.phases.as_slice();
+        &phases[phases.len() - 1]
     }
 
     /// The next phase of the slot begins, where it has this number. The answer is whether it does.
