@@ -1,0 +1,3 @@
+pub mod Stops
+pub mod LineGrades
+pub mod FullGrades
