@@ -1,0 +1,8 @@
+pub mod Lists
+pub mod Writers
+pub mod Turned
+pub mod Named
+pub mod States
+pub mod Logs
+pub mod Runs
+pub mod Races
