@@ -12,7 +12,6 @@ use Rattle.cert_laws.specs.Claims.{Claim}
 use Rattle.cert_laws.specs.Valid.{Shows, outcome}
 use Rattle.cert_laws.specs.Written.{claim_as, lines_by, certificate}
 use Rattle.cert_text.specs.Fits.{GradeFits, LineFits}
-use Rattle.cert_text.specs.Readable.{IsGradeOf}
 use Rattle.vf_certify.specs.declared.cert.Certified.{Certified}
 use Rattle.vf_certify.specs.declared.cert.Certified.TheVariants.{Cert, GoodLoop}
 
@@ -22,10 +21,10 @@ IsCertified design plan fault (Cert text) = (line : FaultGrade) × (grade design
 IsCertified design plan fault (GoodLoop time) =
     first_stop (good_machine design) (first_run (good_machine design) plan.end) ≡ Some (record { time = time; outcome = Hyper })
 
--- the certificate of a fault of the design, whose grade claims something of accesses of the design, is read as a valid one of that fault and that claim
+-- the certificate of a fault of the design, whose grade claims something, is read as a valid one of that fault and that claim
 abbrev pub IsRead : FlatDesign → TestPlan → StuckAt → Certified → Type 0
 IsRead design plan fault (Cert text) =
-    (line : FaultGrade) (claim : Claim) → Contains (sites_of design) fault.site → grade design plan fault ≡ Some line → claim_as design line ≡ Some claim → IsGradeOf design line →
+    (line : FaultGrade) (claim : Claim) → Contains (sites_of design) fault.site → grade design plan fault ≡ Some line → claim_as design line ≡ Some claim →
     outcome design plan (lines_of text.items) ≡ Shows fault claim
 IsRead design plan fault (GoodLoop time) = Unit {0}
 

@@ -58,6 +58,7 @@ fn certify_beside<L: Ledger>(
     ensures read { IfOk result (IsRead (bench_design bench.now) (bench_plan bench.now) (fault_of fault)) }
 {
     cert_text::certificates_are_read();
+    race_laws::races_name_parts();
     let end = grade_fault(alloc, bench, good, fault, steps)?;
     let text = certificate(alloc, bench, fault, end, steps)?;
     Ok(Certified::Cert(text))
@@ -77,7 +78,7 @@ pub fn certify<L: Ledger>(
 ) -> Result<Certified, NoMemory>
     requires { IsPlanOf (design_of design.now) (plan_of plan.now) }
     ensures certified { IfOk result (IsCertified (design_of design.now) (plan_of plan.now) (fault_of fault)) }
-    // The text is read back as a valid certificate of this fault and its claim, where the accesses of a race are of the design.
+    // The text is read back as a valid certificate of this fault and its claim.
     ensures read { IfOk result (IsRead (design_of design.now) (plan_of plan.now) (fault_of fault)) }
 {
     let graph = Graph::new(alloc, design)?;

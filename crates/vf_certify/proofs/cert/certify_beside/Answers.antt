@@ -6,7 +6,8 @@ use Rattle.vf_certify.proofs.Readings.{is-read}
 use Rattle.vf_certify.proofs.cert.certify_beside.Goals as goal
 
 pub returns-clause-read : goal.returns-clause-read
-returns-clause-read g c = λ line claim site graded claimed of.
+returns-clause-read g c = λ line claim site graded claimed.
     let bench = c.args.bench.now in
-    is-read c.certificates_are_read.ensures.read (bench_design bench) (bench_plan bench) (fault_of c.args.fault) (grade_of c.in_ok-end.end) line claim c.in_ok-text.text.items
-    (rules_hold (bench_design bench) bench.design.now.rules) (plan_rules_hold (bench_plan bench) bench.plan.now.rules) c.in_ok-end.ensures c.in_ok-text.ensures site graded claimed of
+    is-read c.certificates_are_read.ensures.read c.races_name_parts.ensures (bench_design bench) (bench_plan bench) (fault_of c.args.fault) (grade_of c.in_ok-end.end) line claim
+    c.in_ok-text.text.items (rules_hold (bench_design bench) bench.design.now.rules) (plan_rules_hold (bench_plan bench) bench.plan.now.rules)
+    c.in_ok-end.ensures c.in_ok-text.ensures site graded claimed
