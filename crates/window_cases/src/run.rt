@@ -1,6 +1,6 @@
 // The windows of the good first run.
 
-ghost use Rattle.std.specs.Prelude.{◌≡◌};
+ghost use Rattle.std.specs.Prelude.{◌≡◌, true, OnOk};
 ghost use Rattle.v_design.specs.PlainDesigns.{design_of, plan_of};
 ghost use Rattle.v_design.specs.WellFormed.{IsPlanOf};
 
@@ -18,7 +18,68 @@ use vf_base::{NoMemory, Steps};
 /// The most windows of which a text tells.
 const MOST_WINDOWS: u32 = 1_000;
 
-/// Adds the lines of each window of a run, and then how the run ends. The memory of a window is used again for the next one.
+/// Adds what comes next of a run: the lines of a window, or how the run ends.
+fn append_next<N: World>(
+    design: &Design,
+    next: &NextWindow<N>,
+    out: &mut String,
+) -> Result<(), NoMemory>
+    requires { N.design ≡ design_of design.now }
+{
+    match next {
+        NextWindow::Window(window) => append_window(design, window, out),
+        NextWindow::Over => Ok(writeln!(out, "over")?),
+        NextWindow::Loops(time) => Ok(writeln!(out, "loops {time}")?),
+    }
+}
+
+/// The window that came, if one did.
+fn window_of<N: World>(next: NextWindow<N>) -> Option<TraceWindow<N>> {
+    match next {
+        NextWindow::Window(window) => Some(window),
+        _ => None,
+    }
+}
+
+/// Adds the lines of one more window of a run, or how the run ends. The answer is the window, if one came; the memory of another one is used for it.
+fn next_lines<N: World, L: Ledger>(
+    design: &Design,
+    run: &mut GoodRun<'_, '_, N>,
+    used: Option<TraceWindow<N>>,
+    steps: &mut Steps<L>,
+    out: &mut String,
+) -> Result<Option<TraceWindow<N>>, NoMemory>
+    requires design { N.design ≡ design_of design.now }
+    requires usable { run.old.usable ≡ true }
+    ensures { OnOk result (run.new.usable ≡ true) }
+{
+    let next = run.next_window(used, steps)?;
+    append_next(design, &next, out)?;
+    Ok(window_of(next))
+}
+
+/// Adds the lines of each window of a run that has begun, and then how the run ends.
+fn append_run<N: World, L: Ledger>(
+    design: &Design,
+    run: &mut GoodRun<'_, '_, N>,
+    steps: &mut Steps<L>,
+    out: &mut String,
+) -> Result<(), NoMemory>
+    requires design { N.design ≡ design_of design.now }
+    requires usable { run.old.usable ≡ true }
+{
+    let mut used = None;
+    'windows: for _ in 0..MOST_WINDOWS {
+        let window = next_lines(design, run, used, steps, out)?;
+        if window.is_none() {
+            return Ok(());
+        }
+        used = window;
+    }
+    Ok(())
+}
+
+/// The same from the beginning.
 fn append_windows<N: World, L: Ledger>(
     alloc: Global,
     setup: &Setup<'_, N>,
@@ -26,17 +87,7 @@ fn append_windows<N: World, L: Ledger>(
     out: &mut String,
 ) -> Result<(), NoMemory> {
     let mut run = GoodRun::new(alloc, setup)?;
-    let mut used: Option<TraceWindow<N>> = None;
-    'windows: for _ in 0..MOST_WINDOWS {
-        match run.next_window(used.take(), steps)? {
-            NextWindow::Window(window) => {
-                append_window(setup.design(), &window, out)?;
-                used = Some(window);
-            }
-            NextWindow::Over => return Ok(writeln!(out, "over")?),
-            NextWindow::Loops(time) => return Ok(writeln!(out, "loops {time}")?),
-        }
-    }
+    append_run(setup.design(), &mut run, steps, out)?;
     Ok(())
 }
 
