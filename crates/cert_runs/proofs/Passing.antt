@@ -153,7 +153,8 @@ passing-ends xs at old new low p = record {
       let q = p.passed machine run k in
       let z : at + 0 ≡ at = omega arith in (
         q.now,
-        q.rest_is ∙ ap (λ (ls : List CertLine). behind at (along_of old machine ls q.now)) (drop-all (lines_said (plain_texts xs)) at (omega (arith, low, count xs))) ∙ ap (λ m. ComesTo m q.now) z,
+        q.rest_is ∙ ap (λ (ls : List CertLine). behind at (along_of old machine ls q.now)) (drop-all (lines_said (plain_texts xs)) at (omega (arith, low, count xs)))
+            ∙ ap (λ m. ComesTo m q.now) z,
         q.keeps,
       );
 }
