@@ -1,0 +1,4 @@
+pub mod Differing
+pub mod Given
+pub mod GivenLaws
+pub mod OneState
