@@ -75,8 +75,8 @@ own-state good own kept point states differ = record {
   state_of = λ code state of is. subst (IsStateOf code) (same_Some kept state is) (states code of);
 }
 
-pub state-at : (goods owns : List ProcState) (number : ℕ) (good own : ProcState) (old new : List (ℕ × ProcState)) → slice_get goods number ≡ Some good → slice_get owns number ≡ Some own →
-    IsKeptAt (IsOwnState good own) number old new → IsKeptAt (IsOwnStateAt goods owns number) number old new
+pub state-at : (goods owns : List ProcState) (number : ℕ) (good own : ProcState) (old new : List (ℕ × ProcState)) → slice_get goods number ≡ Some good →
+    slice_get owns number ≡ Some own → IsKeptAt (IsOwnState good own) number old new → IsKeptAt (IsOwnStateAt goods owns number) number old new
 state-at goods owns number good own old new here there at = record {
   here = λ one other is also.
       subst (λ g. IsOwnState g other (own_of new number)) (same_Some good one (sym here ∙ is))
@@ -87,6 +87,7 @@ state-at goods owns number good own old new here there at = record {
 -- Lists
 
 -- lists that are equal are equal at each place
-pub element-same : {A B : Type 0} (f : A → B) (xs ys : List A) (i : ℕ) (x y : A) → i < length xs → length xs ≡ length ys → x ≡ get_or xs i x → y ≡ get_or ys i y → map f xs ≡ map f ys → f x ≡ f y
+pub element-same : {A B : Type 0} (f : A → B) (xs ys : List A) (i : ℕ) (x y : A) → i < length xs → length xs ≡ length ys → x ≡ get_or xs i x → y ≡ get_or ys i y →
+    map f xs ≡ map f ys → f x ≡ f y
 element-same f xs ys i x y low lengths here there same =
     ap f here ∙ sym (get_or-map f xs i x (f x) low) ∙ ap (λ l. get_or l i (f x)) same ∙ get_or-map f ys i y (f x) (omega (arith, low, lengths)) ∙ ap f (sym there)

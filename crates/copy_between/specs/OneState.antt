@@ -20,11 +20,13 @@ pub one-activity : (d : Differences) (good one other : State) → StandsFor d go
     (process_at one process).activity ≡ (process_at other process).activity
 one-activity d good one other first second process = first.activities process ∙ sym (second.activities process)
 
-pub one-later : (d : Differences) (good one other : State) → StandsFor d good one → StandsFor d good other → (process : ℕ) → (process_at one process).later ≡ (process_at other process).later
+pub one-later : (d : Differences) (good one other : State) → StandsFor d good one → StandsFor d good other → (process : ℕ) →
+    (process_at one process).later ≡ (process_at other process).later
 one-later d good one other first second process = first.updates process ∙ sym (second.updates process)
 
 -- so states of one time whose lanes are the good one's are one state
-pub one-processes : (d : Differences) (good one other : State) → StandsFor d good one → StandsFor d good other → SameLanes good one → SameLanes good other → one.processes ≡ other.processes
+pub one-processes : (d : Differences) (good one other : State) → StandsFor d good one → StandsFor d good other → SameLanes good one → SameLanes good other →
+    one.processes ≡ other.processes
 one-processes d good one other first second lanes also =
     let count : length one.processes ≡ length other.processes = first.process_count ∙ sym second.process_count in
     ext_get_or idle_process one.processes other.processes count
@@ -37,7 +39,8 @@ one-processes d good one other first second lanes also =
     })
     ∙ at-process other process (omega arith))
 
-pub one-state : (d : Differences) (good one other : State) → StandsFor d good one → StandsFor d good other → SameLanes good one → SameLanes good other → one.time ≡ other.time → one ≡ other
+pub one-state : (d : Differences) (good one other : State) → StandsFor d good one → StandsFor d good other → SameLanes good one → SameLanes good other → one.time ≡ other.time →
+    one ≡ other
 one-state d good one other first second lanes also time =
     λ i. record {
       time = time i;
@@ -45,3 +48,24 @@ one-state d good one other first second lanes also time =
       nodes = (first.nodes ∙ sym second.nodes) i;
       processes = one-processes d good one other first second lanes also i;
     }
+
+-- The laws
+
+-- two states of one time, whose lanes are the good one's, for which one copy stands beside the good state are one state
+abbrev pub DifferencesTellOneState : Type 0
+DifferencesTellOneState =
+    (d : Differences) (good one other : State) → StandsFor d good one → StandsFor d good other → SameLanes good one → SameLanes good other → one.time ≡ other.time → one ≡ other
+
+-- and whatever their times and lanes are, their values, what their processes do and what updates these have pending are the same
+abbrev pub DifferencesTellAll : Type 0
+DifferencesTellAll =
+    (d : Differences) (good one other : State) → StandsFor d good one → StandsFor d good other →
+    (one.values ≡ other.values) × (one.nodes ≡ other.nodes)
+    × ((process : ℕ) → ((process_at one process).activity ≡ (process_at other process).activity) × ((process_at one process).later ≡ (process_at other process).later))
+
+pub tell-all : DifferencesTellAll
+tell-all d good one other first second = (
+  one-values d good one other first second,
+  first.nodes ∙ sym second.nodes,
+  λ process. (one-activity d good one other first second process, one-later d good one other first second process),
+)
