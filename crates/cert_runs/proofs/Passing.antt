@@ -1,13 +1,16 @@
 -- The lines of a run, one after the other.
 use Rattle.std.proofs.Common.{◌≡◌, ℕ, zero, suc, ◌+◌, ◌<◌, ◌≤◌, List, [], ◌∷◌, length, get_or, drop, Bool, true, false, Bor, refl, sym, ap, subst, ◌∙◌, arith}
-use Rattle.std.specs.Prelude.{Option, Some, None}
+use Rattle.std.specs.Prelude.{Option, Some, None, is_some}
 use Rattle.std.proofs.lemmas.List.{drop_more}
 use Rattle.v_design.specs.Designs.{Machine}
 use Rattle.text_lines.specs.Plain.{plain_texts}
 use Rattle.cert_laws.specs.Replays.{RunLine, Replay, run_line}
-use Rattle.cert_laws.specs.Valid.{CertLine, Formless, line_of, lines_said}
+use Rattle.cert_laws.specs.Valid.{CertLine, Formless, line_of, line_in, lines_said}
 use Rattle.cert_runs.specs.declared.follow.CertRun.{CertRun}
 use Rattle.cert_runs.specs.declared.lines.Followed.TheVariants as followed
+use Rattle.cert_runs.specs.declared.section.Section.{Section}
+use Rattle.cert_runs.specs.declared.section.Section.TheVariants as section
+use Rattle.cert_runs.specs.Sections.{SectionBy, begins_run}
 use Rattle.cert_runs.specs.declared.lines.Taken.{Taken}
 use Rattle.cert_runs.specs.declared.lines.Taken.TheVariants as taken
 use Rattle.cert_runs.specs.Runs.{IsRun, KeepsRun, FollowsLine, race_of, bound_of}
@@ -66,6 +69,14 @@ line-at : (xs : List (Bor (List ℕ))) (i : ℕ) (d : Bor (List ℕ)) → i < le
 line-at xs i d low =
     drop_more (lines_said (plain_texts xs)) i Formless (omega (arith, low, count xs)) ∙ ap (λ (l : CertLine). l ∷ drop (i + 1) (lines_said (plain_texts xs))) (got xs i d low)
 
+-- the lines of a run without a bound, by what its first line says
+abbrev none_line : Bool → Machine → List CertLine → Option RunLine → Along
+none_line race machine lines found =
+    elim found [
+      | None ↦ ComesTo 0 None
+      | Some line ↦ elim (line_in race machine None line None) [ None ↦ BreaksOff 0 | Some next ↦ behind 1 (along race machine None lines (Some next)) ]
+    ]
+
 -- so many lines were followed
 pub record Passed (machine : Machine) (lines : List CertLine) (at : ℕ) (run : Option Replay) (old new : CertRun) : Type 0 where
   pub now : Option Replay
@@ -90,12 +101,9 @@ passing-none lines r = record {
   passed = λ machine run k. record { now = run; rest_is = behind-none (along_of r machine lines run); keeps = k };
 }
 
-abbrev along_in : Bool → Machine → List CertLine → Option Replay → ℕ → Along
-along_in race machine lines run bound = along race machine bound lines run
-
 -- the claim of the run now is that of the run before
 along-same : (machine : Machine) (lines : List CertLine) (run : Option Replay) (old mid : CertRun) → SameClaim old mid → along_of old machine lines run ≡ along_of mid machine lines run
-along-same machine lines run old mid same = (λ i. along (sym same.race i) machine (sym same.bound i) lines run)
+along-same machine lines run old mid same = (λ i. along (sym same.race i) machine (Some (sym same.bound i)) lines run)
 
 module _ (xs : List (Bor (List ℕ))) (at : ℕ) (d : Bor (List ℕ)) (old mid new : CertRun) (low : at < length xs) (p : Passing (lines_said (plain_texts xs)) at old mid) where
   rest-at : (machine : Machine) (now : Option Replay) →
@@ -166,3 +174,28 @@ still-run lines at old new is p = let q = p.passed is.machine is.run is.keeps in
 -- what becomes of a line is known
 pub takes-as : (said : CertLine) (one other : Taken) (old new : CertRun) → one ≡ other → TakesLine said one old new → TakesLine said other old new
 takes-as said one other old new is t = subst (λ x. TakesLine said x old new) is t
+
+-- The section of a run
+
+-- a run without a bound has no lines
+pub section-none : (race : Bool) (machine : Machine) (lines : List CertLine) → begins_run lines ≡ false → SectionBy race machine None lines None (section.Stops 0 true)
+section-none race machine [] none = (None, refl, refl)
+section-none race machine (said ∷ lines) none = by (run_in said) refl
+  where
+    by : (found : Option RunLine) → run_in said ≡ found → SectionBy race machine None (said ∷ lines) None (section.Stops 0 true)
+    by None is = (None, ap (none_line race machine lines) is, refl)
+    by (Some line) is = let z : true ≡ false = sym (ap is_some is) ∙ none in cc
+
+pub section-breaks : (race : Bool) (machine : Machine) (lines : List CertLine) → begins_run lines ≡ true → SectionBy race machine None lines None (section.Breaks 0)
+section-breaks race machine [] some = cc
+section-breaks race machine (said ∷ lines) some = by (run_in said) refl
+  where
+    by : (found : Option RunLine) → run_in said ≡ found → SectionBy race machine None (said ∷ lines) None (section.Breaks 0)
+    by None is = let z : false ≡ true = sym (ap is_some is) ∙ some in cc
+    by (Some line) is = ap (none_line race machine lines) is
+
+-- the section of a run, by the claim and the bound with which it began
+pub section-as : (lines : List CertLine) (machine : Machine) (run : CertRun) (race : Bool) (limit : ℕ) (bound : Option ℕ) (s : Section) → race_of run ≡ race → bound_of run ≡ limit →
+    bound ≡ Some limit → SectionBy (race_of run) machine (Some (bound_of run)) lines None s → SectionBy race machine bound lines None s
+section-as lines machine run race limit bound s same at is given =
+    subst (λ r. SectionBy r machine bound lines None s) same (subst (λ b. SectionBy (race_of run) machine b lines None s) (ap Some at ∙ sym is) given)

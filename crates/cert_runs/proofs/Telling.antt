@@ -4,7 +4,7 @@ use Rattle.std.specs.Prelude.{Option, Some, None}
 use Rattle.vf_base.specs.declared.finding.Side.TheVariants.{Good, Faulty}
 use Rattle.v_design.specs.Designs.{FlatDesign, StuckAt, TestPlan, good_machine, faulty_machine}
 use Rattle.cert_laws.specs.Claims.{Claim}
-use Rattle.cert_laws.specs.Replays.{RunLine, Replay, run_line}
+use Rattle.cert_laws.specs.Replays.{RunLine, Replay}
 use Rattle.cert_laws.specs.Valid.{is_race, bound_of, CertLine, GoodBegins, FaultyBegins, Runs, Closes, Formless, InGood, InFaulty, line_in, good_goes, faulty_goes, failing_from}
 use Rattle.cert_runs.specs.Along.{Along, BreaksOff, ComesTo, behind, along}
 use Rattle.cert_runs.specs.Failing.{good_fails, faulty_fails, GoodRunsTell, FaultyRunsTell}
@@ -18,12 +18,12 @@ drop-one count line lines = let z : suc count ≡ 1 + count = omega arith in ap 
 
 -- The good run
 
-module _ (design : FlatDesign) (plan : TestPlan) (fault : StuckAt) (claim : Claim) (bound : ℕ) where
+module _ (design : FlatDesign) (plan : TestPlan) (fault : StuckAt) (claim : Claim) where
   abbrev good_from : ℕ → Option Replay → List CertLine → Option ℕ
   good_from number run lines = failing_from design plan fault claim number (InGood run) lines
 
   abbrev good_along : List CertLine → Option Replay → Along
-  good_along lines run = along (is_race claim) (good_machine design) bound lines run
+  good_along lines run = along (is_race claim) (good_machine design) (bound_of plan claim Good) lines run
 
   abbrev good_by : ℕ → List CertLine → Along → Option ℕ
   good_by number lines a = good_fails design plan fault claim number lines a
@@ -47,29 +47,24 @@ module _ (design : FlatDesign) (plan : TestPlan) (fault : StuckAt) (claim : Clai
   good-step number line lines None rest = let z : number ≡ number + 0 = omega arith in ap Some z
   good-step number line lines (Some next) rest = rest next ∙ good-on number (Runs line) lines (good_along lines (Some next))
 
-  good-line : (is : bound_of plan claim Good ≡ Some bound) (number : ℕ) (run : Option Replay) (line : RunLine) (lines : List CertLine) →
-      good_from number run (Runs line ∷ lines) ≡ good_found number lines (run_line (is_race claim) (good_machine design) bound line run)
-  good-line is number run line lines = ap (λ b. good_found number lines (line_in (is_race claim) (good_machine design) b line run)) is
-
-  good-tells : (is : bound_of plan claim Good ≡ Some bound) (number : ℕ) (run : Option Replay) (lines : List CertLine) →
+  good-tells : (number : ℕ) (run : Option Replay) (lines : List CertLine) →
       good_from number run lines ≡ good_by number lines (good_along lines run)
-  good-tells is number run [] = good-none number run []
-  good-tells is number run (GoodBegins ∷ lines) = good-none number run (GoodBegins ∷ lines)
-  good-tells is number run (FaultyBegins ∷ lines) = good-none number run (FaultyBegins ∷ lines)
-  good-tells is number run (Closes ∷ lines) = good-none number run (Closes ∷ lines)
-  good-tells is number run (Formless ∷ lines) = good-none number run (Formless ∷ lines)
-  good-tells is number run (Runs line ∷ lines) =
-      good-line is number run line lines
-      ∙ good-step number line lines (run_line (is_race claim) (good_machine design) bound line run) (λ next. good-tells is (number + 1) (Some next) lines)
+  good-tells number run [] = good-none number run []
+  good-tells number run (GoodBegins ∷ lines) = good-none number run (GoodBegins ∷ lines)
+  good-tells number run (FaultyBegins ∷ lines) = good-none number run (FaultyBegins ∷ lines)
+  good-tells number run (Closes ∷ lines) = good-none number run (Closes ∷ lines)
+  good-tells number run (Formless ∷ lines) = good-none number run (Formless ∷ lines)
+  good-tells number run (Runs line ∷ lines) =
+      good-step number line lines (line_in (is_race claim) (good_machine design) (bound_of plan claim Good) line run) (λ next. good-tells (number + 1) (Some next) lines)
 
 -- The faulty run
 
-module _ (design : FlatDesign) (plan : TestPlan) (fault : StuckAt) (claim : Claim) (bound : ℕ) (good : Option Replay) where
+module _ (design : FlatDesign) (plan : TestPlan) (fault : StuckAt) (claim : Claim) (good : Option Replay) where
   abbrev faulty_from : ℕ → Option Replay → List CertLine → Option ℕ
   faulty_from number run lines = failing_from design plan fault claim number (InFaulty good run) lines
 
   abbrev faulty_along : List CertLine → Option Replay → Along
-  faulty_along lines run = along (is_race claim) (faulty_machine design fault) bound lines run
+  faulty_along lines run = along (is_race claim) (faulty_machine design fault) (bound_of plan claim Faulty) lines run
 
   abbrev faulty_by : ℕ → List CertLine → Along → Option ℕ
   faulty_by number lines a = faulty_fails design plan fault claim good number lines a
@@ -93,25 +88,20 @@ module _ (design : FlatDesign) (plan : TestPlan) (fault : StuckAt) (claim : Clai
   faulty-step number line lines None rest = let z : number ≡ number + 0 = omega arith in ap Some z
   faulty-step number line lines (Some next) rest = rest next ∙ faulty-on number (Runs line) lines (faulty_along lines (Some next))
 
-  faulty-line : (is : bound_of plan claim Faulty ≡ Some bound) (number : ℕ) (run : Option Replay) (line : RunLine) (lines : List CertLine) →
-      faulty_from number run (Runs line ∷ lines) ≡ faulty_found number lines (run_line (is_race claim) (faulty_machine design fault) bound line run)
-  faulty-line is number run line lines = ap (λ b. faulty_found number lines (line_in (is_race claim) (faulty_machine design fault) b line run)) is
-
-  faulty-tells : (is : bound_of plan claim Faulty ≡ Some bound) (number : ℕ) (run : Option Replay) (lines : List CertLine) →
+  faulty-tells : (number : ℕ) (run : Option Replay) (lines : List CertLine) →
       faulty_from number run lines ≡ faulty_by number lines (faulty_along lines run)
-  faulty-tells is number run [] = faulty-none number run []
-  faulty-tells is number run (GoodBegins ∷ lines) = faulty-none number run (GoodBegins ∷ lines)
-  faulty-tells is number run (FaultyBegins ∷ lines) = faulty-none number run (FaultyBegins ∷ lines)
-  faulty-tells is number run (Closes ∷ lines) = faulty-none number run (Closes ∷ lines)
-  faulty-tells is number run (Formless ∷ lines) = faulty-none number run (Formless ∷ lines)
-  faulty-tells is number run (Runs line ∷ lines) =
-      faulty-line is number run line lines
-      ∙ faulty-step number line lines (run_line (is_race claim) (faulty_machine design fault) bound line run) (λ next. faulty-tells is (number + 1) (Some next) lines)
+  faulty-tells number run [] = faulty-none number run []
+  faulty-tells number run (GoodBegins ∷ lines) = faulty-none number run (GoodBegins ∷ lines)
+  faulty-tells number run (FaultyBegins ∷ lines) = faulty-none number run (FaultyBegins ∷ lines)
+  faulty-tells number run (Closes ∷ lines) = faulty-none number run (Closes ∷ lines)
+  faulty-tells number run (Formless ∷ lines) = faulty-none number run (Formless ∷ lines)
+  faulty-tells number run (Runs line ∷ lines) =
+      faulty-step number line lines (line_in (is_race claim) (faulty_machine design fault) (bound_of plan claim Faulty) line run) (λ next. faulty-tells (number + 1) (Some next) lines)
 
 -- The laws
 
 pub good-runs-tell : GoodRunsTell
-good-runs-tell design plan fault claim bound number run lines is = good-tells design plan fault claim bound is number run lines
+good-runs-tell design plan fault claim number run lines = good-tells design plan fault claim number run lines
 
 pub faulty-runs-tell : FaultyRunsTell
-faulty-runs-tell design plan fault claim bound number good run lines is = faulty-tells design plan fault claim bound good is number run lines
+faulty-runs-tell design plan fault claim number good run lines = faulty-tells design plan fault claim good number run lines

@@ -18,17 +18,16 @@ module _ (design : FlatDesign) (plan : TestPlan) (fault : StuckAt) (claim : Clai
   faulty_fails good number lines (BreaksOff count) = Some (number + count)
   faulty_fails good number lines (ComesTo count run) = failing_from design plan fault claim (number + count) (InFaulty good run) (drop count lines)
 
--- which line fails first is told by how far the lines of the good run go, where it has a bound
+-- which line fails first is told by how far the lines of the good run go
 abbrev pub GoodRunsTell : Type 0
 GoodRunsTell =
-    (design : FlatDesign) (plan : TestPlan) (fault : StuckAt) (claim : Claim) (bound number : ℕ) (run : Option Replay) (lines : List CertLine) → bound_of plan claim Good ≡ Some bound →
+    (design : FlatDesign) (plan : TestPlan) (fault : StuckAt) (claim : Claim) (number : ℕ) (run : Option Replay) (lines : List CertLine) →
     failing_from design plan fault claim number (InGood run) lines
-    ≡ good_fails design plan fault claim number lines (along (is_race claim) (good_machine design) bound lines run)
+    ≡ good_fails design plan fault claim number lines (along (is_race claim) (good_machine design) (bound_of plan claim Good) lines run)
 
 -- the same of the faulty run
 abbrev pub FaultyRunsTell : Type 0
 FaultyRunsTell =
-    (design : FlatDesign) (plan : TestPlan) (fault : StuckAt) (claim : Claim) (bound number : ℕ) (good run : Option Replay) (lines : List CertLine) →
-    bound_of plan claim Faulty ≡ Some bound →
+    (design : FlatDesign) (plan : TestPlan) (fault : StuckAt) (claim : Claim) (number : ℕ) (good run : Option Replay) (lines : List CertLine) →
     failing_from design plan fault claim number (InFaulty good run) lines
-    ≡ faulty_fails design plan fault claim good number lines (along (is_race claim) (faulty_machine design fault) bound lines run)
+    ≡ faulty_fails design plan fault claim good number lines (along (is_race claim) (faulty_machine design fault) (bound_of plan claim Faulty) lines run)

@@ -13,7 +13,7 @@ use Rattle.cert_runs.specs.Along.{Along, BreaksOff, ComesTo, behind, along}
 
 -- the lines that a run goes along
 abbrev pub along_of : CertRun → Machine → List CertLine → Option Replay → Along
-along_of old machine lines run = along (race_of old) machine (bound_of old) lines run
+along_of old machine lines run = along (race_of old) machine (Some (bound_of old)) lines run
 
 -- the claim and the bound of a run stay
 pub record SameClaim (old new : CertRun) : Type 0 where

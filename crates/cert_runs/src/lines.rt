@@ -34,7 +34,7 @@ pub(crate) enum Taken {
 }
 
 /// The line of a run that a line of a certificate says, if it says one.
-fn run_line_of(line: &[u8]) -> Option<RunLine>
+pub(crate) fn run_line_of(line: &[u8]) -> Option<RunLine>
     ensures { option_map run_line_said result ≡ run_in (line_of line.now) }
 {
     match read_cert_line(line) {
