@@ -32,12 +32,21 @@ class Window:
         return earlier[-1] if earlier else self.first[place]
 
     def lines(self, design):
-        yield 'window %d %d: %d moments, %d phases' % (self.begins, self.ends, self.moments, self.phases)
+        yield 'window %d %d %s: %d moments, %d phases' % (self.begins, self.ends, self.ending, self.moments, self.phases)
         for place, item in enumerate(design.objects):
             values = ' '.join(self.value_at(place, moment) for moment in (0, self.moments // 2, self.moments))
             yield 'object %d %s %s, %d touches' % (place, item.name.split('[')[0], values, len(self.touches[place]))
         for process, stage in enumerate(self.stages):
             yield 'process %d %s, %d runs, %d written, %d appended' % (process, stage, *self.runs[process])
+
+
+def ending_of(design, outcome, going):
+    """How a window ends behind a slot of an outcome: another slot comes or none, or that slot has a race, as a report writes it."""
+    if outcome != 'fine':
+        pair = outcome[1]
+        words = ['%s %s p%d l%d' % (one.kind, design.objects[one.obj].name.split('[')[0], one.process, one.line) for one in (pair.first, pair.second)]
+        return 'raced %d.%d %s' % (pair.time, pair.phase, ' '.join(words))
+    return 'open' if going else 'through'
 
 
 def stage_of(machine, process):
@@ -106,13 +115,15 @@ def good_run(model, design, plan):
         machine.next_slot()
 
 
-def windows(model, design, count):
+def windows(model, design, end, count):
     """The windows of so many slots."""
     machine = traced(model)(design)
     machine.begin(0)
     for number in range(1, count + 1):
-        machine.first_slot()
+        outcome = machine.first_slot()
+        later = machine.next_time()
         window = machine.window
+        window.ending = ending_of(design, outcome, later is not None and later <= end)
         if number == count or number - window.begins == MOST_SLOTS or window.steps >= FULL_STEPS:
             yield window
             machine.begin(number)
@@ -126,7 +137,7 @@ def case_lines(model, name):
     plan = model.cli.read_plan(texts[1], model.cli.Sites(design))
     count, last = good_run(model, design, plan)
     yield '--- ' + name
-    for window in windows(model, design, count):
+    for window in windows(model, design, plan.end, count):
         yield from window.lines(design)
     yield last
 

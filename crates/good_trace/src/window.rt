@@ -55,6 +55,8 @@ impl<N: World> Model for TraceWindow<N> {
 }
 
 impl<N: World> TraceWindow<N> {
+    ghost use Rattle.good_trace.specs.Slots.{end_of};
+
     /// The number of slots of the good first run before the window.
     pub fn begins(&self) -> u64
         ensures number { result ≡ self.now.before }
@@ -70,6 +72,13 @@ impl<N: World> TraceWindow<N> {
         ensures steps { window_steps N.design N.plan self.now.before self.now.through ≤ 300000 }
     {
         self.ends
+    }
+
+    /// How the window ends.
+    pub fn ending(&self) -> GoodEnd
+        ensures { end_of result ≡ self.now.ending }
+    {
+        self.last
     }
 
     /// How many events the window has. They are numbered through from 0 on, and the number of an event is its moment.

@@ -5,8 +5,8 @@ ghost use Rattle.vf_base.specs.Base.{object_number, process_number};
 ghost use Rattle.v_design.specs.PlainDesigns.{design_of};
 ghost use Rattle.between_slots.specs.Between.{window_phases};
 
-use crate::words::{append_name, append_stage, append_value};
-use good_trace::TraceWindow;
+use crate::words::{append_name, append_pair, append_stage, append_value};
+use good_trace::{GoodEnd, TraceWindow};
 use process_code::RunEnd;
 use std::fmt::Write;
 use v_design::{Design, Object, World};
@@ -148,6 +148,16 @@ fn append_processes<N: World>(
     Ok(())
 }
 
+/// Adds how a window ends.
+fn append_ending(design: &Design, ending: GoodEnd, out: &mut String) -> Result<(), NoMemory> {
+    match ending {
+        GoodEnd::Open => out.push_str(" open")?,
+        GoodEnd::Through => out.push_str(" through")?,
+        GoodEnd::Raced(pair) => append_pair(design, &pair, out)?,
+    }
+    Ok(())
+}
+
 /// Adds the lines of a window.
 pub(crate) fn append_window<N: World>(
     design: &Design,
@@ -160,10 +170,9 @@ pub(crate) fn append_window<N: World>(
     let ends = window.ends();
     let moments = window.moments();
     let phases = window.phases();
-    writeln!(
-        out,
-        "window {begins} {ends}: {moments} moments, {phases} phases"
-    )?;
+    write!(out, "window {begins} {ends}")?;
+    append_ending(design, window.ending(), out)?;
+    writeln!(out, ": {moments} moments, {phases} phases")?;
     append_objects(design.objects.as_slice(), window, out)?;
     append_processes(design.processes.as_slice().len(), window, out)
 }

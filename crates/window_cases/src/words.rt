@@ -1,9 +1,10 @@
-// How names, values and places of processes are written.
+// How names, values, accesses and places of processes are written.
 
 use four_value::{Bit, Vec4};
 use process_code::Stage;
 use std::fmt::Write;
-use vf_base::{NoMemory, Text};
+use v_design::Design;
+use vf_base::{Access, AccessKind, NoMemory, Pair, Text};
 
 /// Adds a name.
 pub(crate) fn append_name(out: &mut String, name: &Text) -> Result<(), NoMemory> {
@@ -42,4 +43,38 @@ pub(crate) fn append_stage(out: &mut String, stage: Stage) -> Result<(), NoMemor
         Stage::Done => out.push_str("done")?,
     }
     Ok(())
+}
+
+/// The word of a kind of access.
+fn kind_word(kind: AccessKind) -> &'static str {
+    match kind {
+        AccessKind::Read => "read",
+        AccessKind::Write => "write",
+        AccessKind::Await => "await",
+        AccessKind::Ended => "ended",
+        AccessKind::Held => "held",
+        AccessKind::Settle => "settle",
+    }
+}
+
+/// Adds an access as a report has it.
+fn append_access(design: &Design, access: &Access, out: &mut String) -> Result<(), NoMemory> {
+    let word = kind_word(access.kind);
+    let process = access.process.0;
+    let line = access.line;
+    write!(out, " {word} ")?;
+    if let Some(object) = design.objects.as_slice().get(access.object.0 as usize) {
+        append_name(out, &object.name)?;
+    }
+    write!(out, " p{process} l{line}")?;
+    Ok(())
+}
+
+/// Adds a race's time, phase and accesses as a report has them.
+pub(crate) fn append_pair(design: &Design, pair: &Pair, out: &mut String) -> Result<(), NoMemory> {
+    let time = pair.time;
+    let phase = pair.phase;
+    write!(out, " raced {time}.{phase}")?;
+    append_access(design, &pair.first, out)?;
+    append_access(design, &pair.second, out)
 }
