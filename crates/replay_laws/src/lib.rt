@@ -1,10 +1,10 @@
 //! What holds of each replay of a run (runs by IEEE 1364-2001, clause 5): how late its times can be, and what its phases show of a race that is claimed of
 //! it. Each function here does nothing when it runs; its contract is the law.
 //!
-//! A race is claimed as a time, the number of a phase and two texts. `times_grow` says that after so many turns no time is over 2^32 times as many and
-//! one more. `races_are_looked_for` says that it is enough to look into the phase of that time and number when it ends: what is found there
-//! is what the run shows, and where no such phase ends the run shows nothing. `claims_are_shown` says that the pair that is found so names two
-//! conflicting accesses of a legal order.
+//! `times_grow`: delays are less than 2^32 steps, so after n turns no time of the state, nor one at which a process wakes or an update is due, is over
+//! (n + 1) * 2^32. A race is claimed as the time and the number of a phase and two texts. `races_are_looked_for`: what is found in that phase when a replay
+//! ends it is what its run shows, and where no such phase ends the run shows nothing. `claims_are_shown`: the pair that is found so names two conflicting
+//! accesses of a legal order.
 #![tactic(auto)]
 
 ghost use Rattle.replay_laws.specs.Claimed.{ClaimsAreShown};
