@@ -8,12 +8,14 @@
 //! and where it does the run stands where the definition stands. `runs_tell`: these counts tell which line of the certificate fails first.
 #![tactic(auto)]
 
+mod asked;
 mod follow;
 mod law;
 mod lines;
 mod section;
 mod turns;
 
+pub use asked::{Asked, Shown};
 pub use follow::CertRun;
 pub use law::runs_tell;
 pub use lines::{Followed, follow_lines};
