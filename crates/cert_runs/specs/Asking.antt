@@ -1,22 +1,21 @@
 -- What a run of a certificate has to show, and what it shows (strobes by the plan; runs and phases by IEEE 1364-2001, clause 5).
-use Rattle.std.specs.Prelude.{◌≡◌, ℕ, ◌+◌, ◌<◌, Bool, true, false, List, map, filter, Option, Some, None, slice_get, nat_le, IsTrue}
-use Rattle.vf_base.specs.Base.{WatchedBit, watched_bit, ReportedPair, reported_pair}
+use Rattle.std.specs.Prelude.{◌≡◌, ℕ, ◌<◌, Bool, true, false, List, map, filter, Option, Some, None, nat_le}
+use Rattle.vf_base.specs.Base.{WatchedBit, watched_bit, reported_pair}
 use Rattle.vf_base.specs.Lists.{AllHold}
 use Rattle.vf_base.specs.declared.finding.Pair.{Pair}
 use Rattle.v_design.specs.Designs.{FlatDesign, Machine, width_in}
 use Rattle.v_design.specs.WellFormed.{IsAscending}
 use Rattle.v_design.specs.Runs.{Move}
-use Rattle.v_design.specs.Grades.{Phase, race_of, samples_at}
-use Rattle.v_design.specs.Logs.{PhaseAccess, log_accesses, conflict}
-use Rattle.v_design.specs.PhaseLogs.{log_of}
-use Rattle.v_design.specs.Laws.{run_samples, phases_at}
+use Rattle.v_design.specs.Grades.{samples_at}
+use Rattle.v_design.specs.Laws.{run_samples, NamesConflict}
 use Rattle.kept_samples.specs.Plain.{sample_of}
 use Rattle.cert_laws.specs.Meaning.{IsPrinted}
-use Rattle.cert_laws.specs.Valid.{shows}
+use Rattle.cert_laws.specs.Replays.{Replay}
+use Rattle.cert_laws.specs.Valid.{moves_of, shows}
 use Rattle.cert_runs.specs.declared.asked.Asked.{Asked}
 use Rattle.cert_runs.specs.declared.asked.Asked.TheVariants as asks
 use Rattle.cert_runs.specs.declared.asked.Shown.{Shown}
-use Rattle.cert_runs.specs.declared.asked.Shown.TheVariants as shown
+use Rattle.cert_runs.specs.declared.asked.Shown.TheVariants as answers
 
 -- What is asked
 
@@ -40,47 +39,36 @@ IsAskedOf design asks.Nothing = Unit {0}
 
 -- What is shown
 
--- the pair names two accesses of one phase of some moves, the first of them earlier in its log, that conflict
-pub record NamesAccesses (machine : Machine) (moves : List Move) (pair : ReportedPair) : Type 0 where
-  pub number : ℕ
-  pub phase : Phase
-  pub phase_number : pair.phase ≡ number + 1
-  pub stands : slice_get (phases_at machine pair.time moves) number ≡ Some phase
-  pub earlier : ℕ
-  pub later : ℕ
-  pub in_order : earlier < later
-  pub first : PhaseAccess
-  pub second : PhaseAccess
-  pub first_stands : slice_get (log_accesses machine.design (log_of machine phase.begins phase.events)) earlier ≡ Some first
-  pub second_stands : slice_get (log_accesses machine.design (log_of machine phase.begins phase.events)) later ≡ Some second
-  pub conflicts : IsTrue (conflict (log_of machine phase.begins phase.events) first second)
-  pub named : pair ≡ race_of pair.time pair.phase (first, second)
-
 -- the samples at the strobes up to a bound are those of the run
 abbrev pub AreSamples : Machine → List WatchedBit → List ℕ → ℕ → List Move → Shown → Type 0
-AreSamples machine watched strobes bound moves (shown.Samples samples) =
+AreSamples machine watched strobes bound moves (answers.Samples samples) =
     map sample_of samples.items ≡ samples_at (run_samples machine watched moves) (filter (λ strobe. nat_le strobe bound) strobes)
-AreSamples machine watched strobes bound moves (shown.Conflict pair) = ⊥
-AreSamples machine watched strobes bound moves shown.Nothing = ⊥
+AreSamples machine watched strobes bound moves (answers.Conflict pair) = ⊥
+AreSamples machine watched strobes bound moves answers.Nothing = ⊥
 
--- a pair is of the phase of a time and a number, prints so and conflicts; where there is none the phase shows no such accesses
+-- a pair prints so and names two conflicting accesses of that phase of a legal order; where there is none the run shows no such accesses
 abbrev pub IsConflictAt : Machine → ℕ → ℕ → List ℕ → List ℕ → List Move → Option Pair → Type 0
 IsConflictAt machine time phase first second moves None = shows machine time phase first second moves ≡ false
 IsConflictAt machine time phase first second moves (Some pair) =
-    (shows machine time phase first second moves ≡ true) × IsPrinted machine.design time phase first second (reported_pair pair) × NamesAccesses machine moves (reported_pair pair)
+    (shows machine time phase first second moves ≡ true) × IsPrinted machine.design time phase first second (reported_pair pair) × NamesConflict machine (reported_pair pair)
 
 abbrev pub TellsConflict : Machine → ℕ → ℕ → List ℕ → List ℕ → List Move → Shown → Type 0
-TellsConflict machine time phase first second moves (shown.Samples samples) = ⊥
-TellsConflict machine time phase first second moves (shown.Conflict pair) = IsConflictAt machine time phase first second moves pair
-TellsConflict machine time phase first second moves shown.Nothing = ⊥
+TellsConflict machine time phase first second moves (answers.Samples samples) = ⊥
+TellsConflict machine time phase first second moves (answers.Conflict pair) = IsConflictAt machine time phase first second moves pair
+TellsConflict machine time phase first second moves answers.Nothing = ⊥
 
 abbrev pub IsNothing : Shown → Type 0
-IsNothing (shown.Samples samples) = ⊥
-IsNothing (shown.Conflict pair) = ⊥
-IsNothing shown.Nothing = Unit {0}
+IsNothing (answers.Samples samples) = ⊥
+IsNothing (answers.Conflict pair) = ⊥
+IsNothing answers.Nothing = Unit {0}
 
 -- what the moves of a run show of what is asked
 abbrev pub IsShownBy : Asked → Machine → List Move → Shown → Type 0
 IsShownBy (asks.Samples bound watched strobes) machine moves shown = AreSamples machine (map watched_bit watched.now) strobes.now bound moves shown
 IsShownBy (asks.Conflict time phase first second) machine moves shown = TellsConflict machine time phase first.now second.now moves shown
 IsShownBy asks.Nothing machine moves shown = IsNothing shown
+
+-- what is shown of a run that may be left, if it may
+abbrev pub Shows : Asked → Machine → Option Replay → Option Shown → Type 0
+Shows asked machine run None = Unit {0}
+Shows asked machine run (Some shown) = IsShownBy asked machine (moves_of run) shown
