@@ -25,6 +25,14 @@ pub record IsIndexed (log : LoggedPhase) (index : AccessIndex) : Type 0 where
   pub changes_links : AreLinks Changes (indexed_accesses index) index.changes.items
   pub looks_links : AreLinks Looks (indexed_accesses index) index.looks.items
 
+-- the accesses that the index of a phase holds, in their order
+abbrev pub accesses_in : CheckIndex → List PhaseAccess
+accesses_in index = indexed_accesses index.index
+
+-- the index of some accesses of a log
+abbrev pub IsIndexOf : LoggedPhase → CheckIndex → Type 0
+IsIndexOf log index = IsIndexed log index.index
+
 -- the index of a phase of a design: it holds the phase's accesses
 pub record IsIndexFor (design : FlatDesign) (log : LoggedPhase) (index : CheckIndex) : Type 0 where
   pub accesses : indexed_accesses index.index ≡ log_accesses design log
