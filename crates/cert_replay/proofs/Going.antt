@@ -17,7 +17,7 @@ use Rattle.cert_laws.specs.Replays.{Replay, with_events, stepped_on, step_on}
 use Rattle.cert_replay.specs.declared.replaying.Replaying.{Replaying}
 use Rattle.cert_replay.specs.declared.replaying.Stepper.{Stepper}
 use Rattle.cert_replay.specs.declared.replaying.Stepper.TheVariants.{Process, Lane}
-use Rattle.cert_replay.specs.Kept.{Keeps, IsReplaying, SameRun, Follows, event_by, present_phase}
+use Rattle.cert_replay.specs.Kept.{Keeps, IsReplaying, SameRun, Follows, event_by, present_phase, time_kept}
 use Rattle.cert_replay.specs.Deeds.{may_step, TakesStep, Settles, SettlesOne}
 use Rattle.cert_replay.proofs.Words.{time-happened, happened-append, events-none, events-two}
 
@@ -50,8 +50,6 @@ keeps-alike machine one other r begins events now number steps k = record {
   number_is = number ∙ k.number_is;
   steps_is = steps ∙ k.steps_is;
   graph_is = k.graph_is;
-  in_time = subst (λ (s : State). s.time ≤ r.bound) (sym now) k.in_time;
-  low = k.low;
   clear = k.clear;
 }
 
@@ -83,8 +81,6 @@ keeps-on machine replay events old new k amid graph steps same = record {
   number_is = k.number_is;
   steps_is = k.steps_is ∙ sym steps;
   graph_is = graph ∙ k.graph_is;
-  in_time = subst (λ n. n ≤ new.bound) (sym (time-happened machine replay.now events)) (subst (λ n. replay.now.time ≤ n) (sym same.bound) k.in_time);
-  low = subst (λ n. n ≤ 2 ^ 63) (sym same.bound) k.low;
   clear = λ none. k.clear (sym same.race ∙ none);
 }
 
@@ -98,14 +94,9 @@ may-is machine replay r Process process k =
 may-is machine replay r Lane process k =
     ap (λ (ps : List ProcessState). is_any (found_or idle_process (slice_get ps process)).lane) (k.amid.both.table_is.processes ∙ ap (λ (s : State). s.processes) (sym k.now_is))
 
--- the time is low enough for another step
-pub time-low : (r : Replaying) (is : IsReplaying r) → (table_of r.table).time ≤ 2 ^ 63
-time-low r is =
-    let k = is.keeps in
-    subst (λ n. n ≤ 2 ^ 63) (sym (k.amid.both.table_is.time ∙ ap (λ (s : State). s.time) (sym k.now_is))) (below is.replay.now.time r.bound (2 ^ 63) k.in_time k.low)
-  where
-    below : (a b c : ℕ) → a ≤ b → b ≤ c → a ≤ c
-    below a b c l m = omega (arith, l, m)
+-- the time that is kept is that of the replay
+pub time-is : (machine : Machine) (replay : Replay) (r : Replaying) → Keeps machine replay r → time_kept r ≡ replay.now.time
+time-is machine replay r k = k.amid.both.table_is.time ∙ ap (λ (s : State). s.time) (sym k.now_is)
 
 -- a step that the parts took
 pub takes-on : (event : Event) (old new : Replaying) → Leads (one_more event) old.nets new.nets old.table new.table old.record new.record → new.log ≡ old.log →
@@ -130,8 +121,6 @@ counted-on machine replay r k = record {
   number_is = k.number_is;
   steps_is = ap (λ n. n + 1) k.steps_is;
   graph_is = k.graph_is;
-  in_time = k.in_time;
-  low = k.low;
   clear = k.clear;
 }
 
@@ -152,6 +141,20 @@ steps-on stepper process old mid new few may takes settles same = record {
             (stepped_on machine event replay) new refl (sym (append_assoc replay.events (event ∷ []) (settling machine (after machine replay.now event)))) refl refl refl all,
       );
 }
+
+-- a step moves no time
+pub step-time : (event : Event) (old new : Replaying) → IsReplaying old → Follows (λ machine replay. step_on machine event replay) true old new → time_kept new ≡ time_kept old
+step-time event old new is f =
+    let o = f.goes_on is.machine is.replay is.keeps in
+    let events : List Event = event ∷ settling is.machine (after is.machine is.replay.now event) in
+    time-is is.machine o.0 new o.2
+    ∙ ap (λ (r : Replay). r.now.time) (sym (only-is (possible is.replay.now event && nat_lt is.replay.steps most_steps) (stepped_on is.machine event is.replay) o.0 o.1))
+    ∙ time-happened is.machine is.replay.now events
+    ∙ sym (time-is is.machine is.replay old is.keeps)
+  where
+    only-is : (b : Bool) (x y : Replay) → only_if b x ≡ Some y → x ≡ y
+    only-is true x y e = cc
+    only-is false x y e = cc
 
 -- no step more
 pub full-fails : (stepper : Stepper) (process : ℕ) (old : Replaying) → 100000 ≤ old.steps → Follows (λ machine replay. step_on machine (event_by stepper process) replay) false old old
@@ -231,8 +234,6 @@ stays-on old new machine values nodes is k replay keeps = subst (Keeps k replay)
   number_is = keeps.number_is;
   steps_is = keeps.steps_is;
   graph_is = keeps.graph_is;
-  in_time = keeps.in_time;
-  low = keeps.low;
   clear = keeps.clear;
 })
 

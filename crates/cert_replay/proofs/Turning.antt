@@ -123,8 +123,6 @@ module _ (law : RacesGoOn) (machine : Machine) (replay : Replay) (old mid new : 
     number_is = k.number_is ∙ sym (length-more k.before (present_phase k.turn replay));
     steps_is = k.steps_is;
     graph_is = k.graph_is;
-    in_time = k.in_time;
-    low = k.low;
     clear = λ none. sym recorded.race_is ∙ ap (option_map reported_pair) (none-of new.record.race (clear (sym claim ∙ none)));
   })
 
@@ -179,8 +177,6 @@ phase-begun machine replay old new h kind turn number found before is time turns
       number_is = is ∙ ap (λ n. n + 1) h.number_is;
       steps_is = h.steps_is;
       graph_is = h.graph_is;
-      in_time = subst (λ n. n ≤ old.bound) (sym time) h.in_time;
-      low = h.low;
       clear = h.clear;
     })
 
@@ -264,8 +260,6 @@ slot-begun old mid new turn begins empty before phase after = record {
         number_is = refl;
         steps_is = refl;
         graph_is = s.graph_is;
-        in_time = s.in_time;
-        low = s.low;
         clear = λ none. refl;
       });
 }
@@ -276,10 +270,10 @@ slot-room old mid is begins empty =
     (begins is.machine Start is.starts.earlier mid.log is.starts.causes empty).causes.objects ∙ ap (λ d. length d.objects) (sym is.starts.both.table_is.design)
 
 -- where a turn leads to a later time, a slot may begin with the state then
-pub slot-starts : (machine : Machine) (replay : Replay) (old mid : Replaying) (later : ℕ) → HasEnded machine replay old → turn_of replay.now ≡ Some (TimeTurn later) → later ≤ old.bound →
+pub slot-starts : (machine : Machine) (replay : Replay) (old mid : Replaying) (later : ℕ) → HasEnded machine replay old → turn_of replay.now ≡ Some (TimeTurn later) →
     ((machine : Machine) (state : State) → IsTableOf machine state (table_of old.table) → IsTableOf machine (turned_by (turn_of state) state) (table_of mid.table)) → IsKept mid.table →
     mid ≡ record old { table = mid.table } → Starts machine (turned (TimeTurn later) replay.now) mid
-slot-starts machine replay old mid later h found low turns kept same =
+slot-starts machine replay old mid later h found turns kept same =
     let table : IsTableOf machine (turned (TimeTurn later) replay.now) (table_of mid.table) =
     subst (λ o. IsTableOf machine (turned_by o replay.now) (table_of mid.table)) found (turns machine replay.now h.both.table_is) in
     subst (Starts machine (turned (TimeTurn later) replay.now)) (sym same) (record {
@@ -288,8 +282,6 @@ slot-starts machine replay old mid later h found low turns kept same =
       earlier = h.recorded.earlier;
       causes = h.recorded.causes;
       graph_is = h.graph_is;
-      in_time = low;
-      low = h.low;
     })
 
 -- the time of the turn that comes
@@ -305,13 +297,13 @@ later-turn r later told machine replay h = time-turn (turn_of replay.now) later 
 
 pub slot-starting : (old mid : Replaying) (later : ℕ) (is : IsAtPhaseEnd old) → ((machine : Machine) (state : State) → IsTableOf machine state (table_of old.table) →
     Some later ≡ time_in (turn_of state)) →
-    later ≤ old.bound → ((machine : Machine) (state : State) → IsTableOf machine state (table_of old.table) → IsTableOf machine (turned_by (turn_of state) state) (table_of mid.table)) →
+    ((machine : Machine) (state : State) → IsTableOf machine state (table_of old.table) → IsTableOf machine (turned_by (turn_of state) state) (table_of mid.table)) →
     IsKept mid.table →
     mid ≡ record old { table = mid.table } → IsStarting mid
-slot-starting old mid later is told low turns kept same = record {
+slot-starting old mid later is told turns kept same = record {
   machine = is.machine;
   begins = turned (TimeTurn later) is.replay.now;
-  starts = slot-starts is.machine is.replay old mid later is.ended (later-turn old later told is.machine is.replay is.ended) low turns kept same;
+  starts = slot-starts is.machine is.replay old mid later is.ended (later-turn old later told is.machine is.replay is.ended) turns kept same;
 }
 
 -- the slot that the turn begins is the one that is asked for
@@ -326,7 +318,7 @@ slot-goes old mid new later time told is low turns kept same run begins = record
         turned_on (TimeTurn later) 1 0 replay,
         ap (λ o. slot_on old.bound o time replay) found
             ∙ (λ i. only_if (eq-eqb later time is i && le-leb later old.bound low i) (turned_on (TimeTurn later) 1 0 replay)),
-        begins.begins machine (turned (TimeTurn later) replay.now) (replay.moves ++ TurnMove ∷ []) (slot-starts machine replay old mid later h found low turns kept same),
+        begins.begins machine (turned (TimeTurn later) replay.now) (replay.moves ++ TurnMove ∷ []) (slot-starts machine replay old mid later h found turns kept same),
       );
 }
 

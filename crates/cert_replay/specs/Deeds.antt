@@ -1,5 +1,5 @@
 -- What the parts of a call do to a replay (IEEE 1364-2001, clause 5).
-use Rattle.std.specs.Prelude.{◌≡◌, ℕ, ◌≤◌, ◌^◌, Bool, true, false, List, [], ◌∷◌, Some, None, slice_get}
+use Rattle.std.specs.Prelude.{◌≡◌, ℕ, Bool, true, false, List, [], ◌∷◌, Some, None, slice_get}
 use Rattle.v_design.specs.PlainDesigns.{design_of}
 use Rattle.v_design.specs.Designs.{FlatNode, Machine}
 use Rattle.v_design.specs.States.{State, Event, Evaluation, NetUpdate, is_ready, is_any, is_quiescent}
@@ -56,8 +56,6 @@ pub record Starts (machine : Machine) (begins : State) (r : Replaying) : Type 0 
   pub earlier : List NotedEvent
   pub causes : AreCausesOf machine earlier r.record.phase.causes
   pub graph_is : design_of r.graph.now.design.now ≡ machine.design
-  pub in_time : begins.time ≤ r.bound
-  pub low : r.bound ≤ 2 ^ 63
 
 pub record IsStarting (r : Replaying) : Type 0 where
   pub machine : Machine

@@ -1,5 +1,5 @@
 -- What stands for a replay (runs by IEEE 1364-2001, clause 5).
-use Rattle.std.specs.Prelude.{◌≡◌, ℕ, ◌+◌, ◌≤◌, ◌^◌, Bool, true, false, List, [], ◌∷◌, ◌++◌, length, Option, Some, None}
+use Rattle.std.specs.Prelude.{◌≡◌, ℕ, ◌+◌, Bool, true, false, List, [], ◌∷◌, ◌++◌, length, Option, Some, None}
 use Rattle.v_design.specs.PlainDesigns.{design_of}
 use Rattle.v_design.specs.Designs.{Machine}
 use Rattle.v_design.specs.States.{Event, Step, LaneStep, TurnKind, is_quiescent}
@@ -9,7 +9,7 @@ use Rattle.v_design.specs.PhaseLogs.{log_of}
 use Rattle.causal_monitor.specs.Phases.{IsLogOf}
 use Rattle.causal_monitor.specs.declared.slot.Turn.{Turn}
 use Rattle.slot_record.specs.SlotRecords.{RecordedSlot}
-use Rattle.process_table.specs.Arranged.{IsKept}
+use Rattle.process_table.specs.Arranged.{IsKept, table_of}
 use Rattle.machine_events.specs.Parts.{AreBothOf, IsAmid}
 use Rattle.cert_laws.specs.Replays.{RunLine, StepsOf, UpdatesOf, Replay, may_end}
 use Rattle.cert_replay.specs.declared.replaying.Replaying.{Replaying}
@@ -32,6 +32,10 @@ claims_race r = r.race
 abbrev pub bound_kept : Replaying → ℕ
 bound_kept r = r.bound
 
+-- the present time
+abbrev pub time_kept : Replaying → ℕ
+time_kept r = (table_of r.table).time
+
 -- the phase that goes on, after a turn
 abbrev pub present_phase : Option TurnKind → Replay → Phase
 present_phase turn replay = record { turn = turn; begins = replay.begins; events = replay.events }
@@ -46,8 +50,6 @@ pub record Keeps (machine : Machine) (replay : Replay) (r : Replaying) : Type 0 
   pub number_is : replay.number ≡ length before + 1
   pub steps_is : replay.steps ≡ r.steps
   pub graph_is : design_of r.graph.now.design.now ≡ machine.design
-  pub in_time : replay.now.time ≤ r.bound
-  pub low : r.bound ≤ 2 ^ 63
   -- unless a race is claimed, no phase of the slot that ended has a conflict
   pub clear : r.race ≡ false → first_race machine 1 before ≡ None
 
@@ -66,8 +68,6 @@ pub record HasEnded (machine : Machine) (replay : Replay) (r : Replaying) : Type
   pub number_is : replay.number ≡ length before
   pub steps_is : replay.steps ≡ r.steps
   pub graph_is : design_of r.graph.now.design.now ≡ machine.design
-  pub in_time : replay.now.time ≤ r.bound
-  pub low : r.bound ≤ 2 ^ 63
   pub clear : r.race ≡ false → first_race machine 1 before ≡ None
 
 -- what is kept stands for some replay

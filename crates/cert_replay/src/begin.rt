@@ -1,6 +1,6 @@
 // The beginning of a replay and of its slots.
 
-ghost use Rattle.std.specs.Prelude.{◌≡◌, ◌≤◌, ◌^◌, IfOk, OnOk};
+ghost use Rattle.std.specs.Prelude.{◌≡◌, IfOk, OnOk};
 ghost use Rattle.v_design.specs.Views.{machine_with};
 ghost use Rattle.cert_laws.specs.Replays.{begun};
 ghost use Rattle.cert_replay.specs.Kept.{Keeps, claims_race, bound_kept};
@@ -57,8 +57,7 @@ impl<'d> Replaying<'d> {
         race: bool,
         bound: u64,
     ) -> Result<Replaying<'d>, NoMemory>
-        requires graph { graph.now.design.now ≡ design.now }
-        requires bound { bound ≤ 2 ^ 63 }
+        requires { graph.now.design.now ≡ design.now }
         ensures begins { IfOk result (λ replaying. Keeps (machine_with design.now fault) (begun (machine_with design.now fault)) replaying) }
         ensures race { IfOk result (λ replaying. claims_race replaying ≡ race) }
         ensures bound { IfOk result (λ replaying. bound_kept replaying ≡ bound) }

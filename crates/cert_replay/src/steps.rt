@@ -1,10 +1,10 @@
 // Steps of processes and of their lanes.
 
-ghost use Rattle.std.specs.Prelude.{◌≡◌, true, IfOk, OnOk};
+ghost use Rattle.std.specs.Prelude.{◌≡◌, ◌≤◌, ◌^◌, true, IfOk, OnOk};
 ghost use Rattle.vf_base.specs.Base.{process_number};
 ghost use Rattle.process_table.specs.Arranged.{IsKept, table_of};
 ghost use Rattle.cert_laws.specs.Replays.{next_line, step_on};
-ghost use Rattle.cert_replay.specs.Kept.{Follows, IsReplaying, claims_race, bound_kept, event_by, line_by};
+ghost use Rattle.cert_replay.specs.Kept.{Follows, IsReplaying, claims_race, bound_kept, time_kept, event_by, line_by};
 ghost use Rattle.cert_replay.specs.Deeds.{TakesStep, may_step};
 
 use crate::replaying::{Replaying, Stepper};
@@ -37,6 +37,7 @@ impl<'d> Replaying<'d> {
         steps: &mut Steps<L>,
     ) -> Result<(), NoMemory>
         requires replaying { IsReplaying self.old }
+        requires low { time_kept self.old ≤ 2 ^ 63 }
         requires possible { may_step (table_of self.old.table) stepper (process_number process) ≡ true }
         ensures { OnOk result (TakesStep (event_by stepper (process_number process)) self.old self.new) }
     {
@@ -76,7 +77,8 @@ impl<'d> Replaying<'d> {
         process: ProcId,
         steps: &mut Steps<L>,
     ) -> Result<bool, NoMemory>
-        requires { IsReplaying self.old }
+        requires replaying { IsReplaying self.old }
+        requires low { time_kept self.old ≤ 2 ^ 63 }
         ensures { IfOk result (λ went. Follows (λ machine replay. step_on machine (event_by stepper (process_number process)) replay) went self.old self.new) }
     {
         if self.steps >= MAX_SLOT_STEPS {
@@ -92,7 +94,7 @@ impl<'d> Replaying<'d> {
     }
 
     /// A process or its lane takes so many steps, at least one; after each all node events are done. The answer is whether the run goes on: each step is possible, and
-    /// the slot has at most 100,000 steps.
+    /// the slot has at most 100,000 steps. The time is so low that no delay leads past 64 bits.
     ///
     /// # Errors
     ///
@@ -104,7 +106,8 @@ impl<'d> Replaying<'d> {
         count: u64,
         steps: &mut Steps<L>,
     ) -> Result<bool, NoMemory>
-        requires { IsReplaying self.old }
+        requires replaying { IsReplaying self.old }
+        requires low { time_kept self.old ≤ 2 ^ 63 }
         ensures { IfOk result (λ went. Follows (λ machine replay. next_line (claims_race self.old) machine (bound_kept self.old)
             (line_by stepper process count) replay) went self.old self.new) }
     {

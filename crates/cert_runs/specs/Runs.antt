@@ -3,7 +3,7 @@ use Rattle.std.specs.Prelude.{◌≡◌, ℕ, Bool, true, false, Option, Some, N
 use Rattle.v_design.specs.Designs.{Machine}
 use Rattle.cert_laws.specs.Replays.{RunLine, Replay, begun, next_line, run_line, is_through}
 use Rattle.cert_replay.specs.declared.replaying.Replaying.{Replaying}
-use Rattle.cert_replay.specs.Kept.{Keeps, claims_race, bound_kept}
+use Rattle.cert_replay.specs.Kept.{Keeps, claims_race, bound_kept, time_kept}
 use Rattle.cert_runs.specs.declared.follow.CertRun.{CertRun}
 
 -- Replays
@@ -24,6 +24,10 @@ race_of r = claims_race r.replaying
 
 abbrev pub bound_of : CertRun → ℕ
 bound_of r = bound_kept r.replaying
+
+-- the present time
+abbrev pub time_of : CertRun → ℕ
+time_of r = time_kept r.replaying
 
 -- what is kept stands for a run that may have begun
 abbrev pub KeepsRun : Machine → Option Replay → CertRun → Type 0

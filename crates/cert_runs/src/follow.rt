@@ -3,7 +3,7 @@
 ghost use Rattle.std.specs.Prelude.{◌≡◌, ◌≤◌, ◌^◌, IfOk, None};
 ghost use Rattle.v_design.specs.Views.{machine_with};
 ghost use Rattle.cert_text.specs.Views.{run_line_said};
-ghost use Rattle.cert_runs.specs.Runs.{IsRun, KeepsRun, FollowsLine, TellsThrough, race_of, bound_of};
+ghost use Rattle.cert_runs.specs.Runs.{IsRun, KeepsRun, FollowsLine, TellsThrough, race_of, bound_of, time_of};
 
 use crate::turns::{ends_through, go_on};
 use cert_replay::Replaying;
@@ -37,8 +37,7 @@ impl<'d> CertRun<'d> {
         race: bool,
         bound: u64,
     ) -> Result<CertRun<'d>, NoMemory>
-        requires graph { graph.now.design.now ≡ design.now }
-        requires bound { bound ≤ 2 ^ 63 }
+        requires { graph.now.design.now ≡ design.now }
         ensures before { IfOk result (KeepsRun (machine_with design.now fault) None) }
         ensures race { IfOk result (λ run. race_of run ≡ race) }
         ensures bound { IfOk result (λ run. bound_of run ≡ bound) }
@@ -50,7 +49,7 @@ impl<'d> CertRun<'d> {
         })
     }
 
-    /// Takes a line of the run. The answer is whether it is followed.
+    /// Takes a line of the run. The answer is whether it is followed. The run's time is so low that no delay leads past 64 bits.
     ///
     /// # Errors
     ///
@@ -60,7 +59,8 @@ impl<'d> CertRun<'d> {
         line: RunLine,
         steps: &mut Steps<L>,
     ) -> Result<bool, NoMemory>
-        requires { IsRun self.old }
+        requires run { IsRun self.old }
+        requires low { time_of self.old ≤ 2 ^ 63 }
         ensures { IfOk result (λ went. FollowsLine (run_line_said line) went self.old self.new) }
     {
         if self.begun {

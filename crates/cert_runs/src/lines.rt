@@ -1,21 +1,21 @@
 // The lines of a run, one after the other.
 
-ghost use Rattle.std.specs.Prelude.{◌≡◌, IfOk, option_map};
+ghost use Rattle.std.specs.Prelude.{◌≡◌, ◌≤◌, ◌^◌, length, IfOk, option_map};
 ghost use Rattle.text_lines.specs.Plain.{plain_texts};
 ghost use Rattle.cert_laws.specs.Valid.{line_of, lines_said};
 ghost use Rattle.cert_text.specs.Views.{run_line_said};
-ghost use Rattle.cert_runs.specs.Runs.{IsRun};
+ghost use Rattle.cert_runs.specs.AskedRuns.{IsAsked, IsAskedRun, asked_time};
 ghost use Rattle.cert_runs.specs.Along.{run_in};
 ghost use Rattle.cert_runs.specs.Lines.{GoesAlong, TakesLine};
 
-use crate::follow::CertRun;
+use crate::asked_run::AskedRun;
 use cert_text::{CertLine, RunLine, read_cert_line};
 use std::sync::ledger::Ledger;
 use vf_base::{NoMemory, Steps};
 
 /// How far the lines of a run go.
 #[derive(Clone, Copy, PartialEq, Eq, Debug)]
-pub enum Followed {
+pub(crate) enum Followed {
     /// So many lines are followed, and then a line of the run isn't.
     Breaks(usize),
     /// So many lines are followed, and then there is no line of a run.
@@ -50,11 +50,12 @@ pub(crate) fn run_line_of(line: &[u8]) -> Option<RunLine>
 
 /// Takes a line of a certificate.
 fn take_line<L: Ledger>(
-    run: &mut CertRun<'_>,
+    run: &mut AskedRun<'_, '_>,
     line: &[u8],
     steps: &mut Steps<L>,
 ) -> Result<Taken, NoMemory>
-    requires { IsRun run.old }
+    requires run { IsAsked run.old }
+    requires low { asked_time run.old ≤ 2 ^ 63 }
     ensures { IfOk result (λ taken. TakesLine (line_of line.now) taken run.old run.new) }
 {
     let Some(line) = run_line_of(line) else {
@@ -66,19 +67,21 @@ fn take_line<L: Ledger>(
     Ok(Taken::Goes)
 }
 
-/// Follows the lines of a run in front of some lines of a certificate.
+/// Follows the lines of a run in front of some lines of a certificate, of which there are at most 16,777,216.
 ///
 /// # Errors
 ///
 /// Want of memory.
-pub fn follow_lines<L: Ledger>(
-    run: &mut CertRun<'_>,
+pub(crate) fn follow_lines<L: Ledger>(
+    run: &mut AskedRun<'_, '_>,
     lines: &[&[u8]],
     steps: &mut Steps<L>,
 ) -> Result<Followed, NoMemory>
-    requires { IsRun run.old }
+    requires run { IsAskedRun 0 run.old }
+    requires few { length lines.now ≤ 16777216 }
     ensures { IfOk result (λ followed. GoesAlong (lines_said (plain_texts lines.now)) followed run.old run.new) }
 {
+    replay_laws::times_grow();
     let mut at = 0;
     'lines: while at < lines.len() {
         match take_line(run, lines[at], steps)? {

@@ -1,9 +1,9 @@
 // A line of a run that has begun.
 
-ghost use Rattle.std.specs.Prelude.{IfOk};
+ghost use Rattle.std.specs.Prelude.{◌≤◌, ◌^◌, IfOk};
 ghost use Rattle.cert_laws.specs.Replays.{PhaseNumber, SlotAt, is_through};
 ghost use Rattle.cert_text.specs.Views.{run_line_said};
-ghost use Rattle.cert_replay.specs.Kept.{Follows, IsReplaying, claims_race, bound_kept};
+ghost use Rattle.cert_replay.specs.Kept.{Follows, IsReplaying, claims_race, bound_kept, time_kept};
 ghost use Rattle.cert_runs.specs.Runs.{Tells, said_by};
 
 use cert_replay::{Replaying, Stepper};
@@ -41,7 +41,8 @@ pub(crate) fn go_on<L: Ledger>(
     line: RunLine,
     steps: &mut Steps<L>,
 ) -> Result<bool, NoMemory>
-    requires { IsReplaying replaying.old }
+    requires replaying { IsReplaying replaying.old }
+    requires low { time_kept replaying.old ≤ 2 ^ 63 }
     ensures { IfOk result (λ went. Follows (said_by (claims_race replaying.old) (bound_kept replaying.old) (run_line_said line)) went replaying.old replaying.new) }
 {
     match line {

@@ -1,5 +1,5 @@
 -- The replay stands at the start, with all node events done.
-use Rattle.std.proofs.Common.{◌≡◌, ◌≤◌, ◌^◌, ◌∙◌, [], length, refl, sym, ap, arith}
+use Rattle.std.proofs.Common.{◌≡◌, ◌∙◌, [], length, refl, sym, ap}
 use Rattle.std.proofs.lemmas.List.{length-map}
 use Rattle.v_design.specs.Designs.{Machine}
 use Rattle.v_design.specs.Plain.{process_of}
@@ -20,15 +20,13 @@ abbrev started : Machine → Replay
 started machine = record { begins = start machine; events = []; now = start machine; number = 1; steps = 0; moves = [] }
 
 starts : (machine : Machine) (r : Replaying) → machine_in r.nets ≡ machine → AreNetsOf r.nets (start machine) → IsTableOf machine (start machine) (table_of r.table) → IsKept r.table →
-    AreCausesOf machine [] r.record.phase.causes → design_of r.graph.now.design.now ≡ machine.design → r.bound ≤ 2 ^ 63 → Starts machine (start machine) r
-starts machine r same nets table kept causes graph low = record {
+    AreCausesOf machine [] r.record.phase.causes → design_of r.graph.now.design.now ≡ machine.design → Starts machine (start machine) r
+starts machine r same nets table kept causes graph = record {
   both = record { machine_is = same; nets_are = nets; table_is = table };
   arranged = kept;
   earlier = [];
   causes = causes;
   graph_is = graph;
-  in_time = omega arith;
-  low = low;
 }
 
 pub begin_slot-requires : goal.begin_slot-requires
@@ -40,7 +38,7 @@ begin_slot-requires c =
       starts = starts machine _ c.in_ok-nets.ensures.machine c.in_ok-nets.ensures.begins (c.in_ok-table.ensures.does machine refl) c.in_ok-table.ensures.kept
           (c.in_ok-record.ensures machine (length-map c.args.design.now.processes process_of ∙ sym (ap length c.as_slice-processes.ensures))
           (sym (c.object_count.ensures.count ∙ c.object_count.ensures.all ∙ ap (λ (k : Machine). length k.design.objects) c.in_ok-nets.ensures.machine)))
-          (ap design_of c.requires.graph) c.requires.bound;
+          (ap design_of c.requires);
     }
 
 pub settle-requires : goal.settle-requires
@@ -53,7 +51,7 @@ settle-requires c =
           (c.in_ok-table.ensures.does machine refl) c.in_ok-table.ensures.kept
           (c.in_ok-record.ensures machine (length-map c.args.design.now.processes process_of ∙ sym (ap length c.as_slice-processes.ensures))
           (sym (c.object_count.ensures.count ∙ c.object_count.ensures.all ∙ ap (λ (k : Machine). length k.design.objects) c.in_ok-nets.ensures.machine)))
-          (ap design_of c.requires.graph) c.requires.bound);
+          (ap design_of c.requires));
     }
 
 pub returns-clause-begins : goal.returns-clause-begins
@@ -63,7 +61,7 @@ returns-clause-begins c =
     (c.in_ok-begin_slot.ensures.begins machine (start machine) [] (starts machine _ c.in_ok-nets.ensures.machine c.in_ok-nets.ensures.begins
     (c.in_ok-table.ensures.does machine refl) c.in_ok-table.ensures.kept
     (c.in_ok-record.ensures machine (length-map c.args.design.now.processes process_of ∙ sym (ap length c.as_slice-processes.ensures))
-    (sym (c.object_count.ensures.count ∙ c.object_count.ensures.all ∙ ap (λ (k : Machine). length k.design.objects) c.in_ok-nets.ensures.machine))) (ap design_of c.requires.graph) c.requires.bound))
+    (sym (c.object_count.ensures.count ∙ c.object_count.ensures.all ∙ ap (λ (k : Machine). length k.design.objects) c.in_ok-nets.ensures.machine))) (ap design_of c.requires)))
 
 pub returns-clause-race : goal.returns-clause-race
 returns-clause-race c = c.in_ok-settle.ensures.same.race ∙ c.in_ok-begin_slot.ensures.same.race

@@ -1,22 +1,26 @@
 -- So many steps are taken.
-use Rattle.std.proofs.Common.{◌-◌, refl, subst, true, false, arith}
+use Rattle.std.proofs.Common.{◌-◌, ◌≤◌, ◌^◌, refl, sym, subst, true, false, arith}
 use Rattle.cert_laws.specs.Replays.{step_on}
 use Rattle.cert_replay.specs.Kept.{Follows, event_by}
-use Rattle.cert_replay.proofs.Going.{same-run, same-twice}
+use Rattle.cert_replay.proofs.Going.{same-run, same-twice, step-time}
 use Rattle.cert_replay.proofs.Lines.{Stepping, stepping-goes, line-none, line-fails, line-goes, line-far}
 use Rattle.cert_replay.proofs.replaying.Replaying.step.Goals as goal
 
 pub steps-init : goal.steps-init
 steps-init g c = record {
   same = same-run c.args.self.now;
+  low = c.requires.low;
   stepping = λ machine replay k. record { now = replay; rest_is = refl; keeps = k };
 }
 
-pub step_once-requires : goal.step_once-requires
-step_once-requires g c =
-    let is = c.requires in
+pub step_once-requires-clause-replaying : goal.step_once-requires-clause-replaying
+step_once-requires-clause-replaying g c =
+    let is = c.requires.replaying in
     let s = c.steps.invariant.stepping is.machine is.replay is.keeps in
     record { machine = is.machine; replay = s.now; keeps = s.keeps }
+
+pub step_once-requires-clause-low : goal.step_once-requires-clause-low
+step_once-requires-clause-low g c = c.steps.invariant.low
 
 pub returns-then-count-eq0 : goal.returns-then-count-eq0
 returns-then-count-eq0 g c = line-none c.args.stepper c.args.process c.args.count c.args.self.now c.if-count-eq0.true
@@ -43,8 +47,11 @@ steps-preserved g c =
     let new = c.step_once.new.self in
     let one : Follows (λ machine replay. step_on machine (event_by stepper c.in-Ok.number) replay) true mid new =
     subst (λ b. Follows (λ machine replay. step_on machine (event_by stepper c.in-Ok.number) replay) b mid new) c.if-not-branch.false c.in_ok-step_once.ensures in
+    let is = c.requires.replaying in
+    let s = c.steps.invariant.stepping is.machine is.replay is.keeps in
     record {
       same = same-twice c.args.self.now mid new c.steps.invariant.same one.same;
+      low = subst (λ n. n ≤ 2 ^ 63) (sym (step-time (event_by stepper c.in-Ok.number) mid new (record { machine = is.machine; replay = s.now; keeps = s.keeps }) one)) c.steps.invariant.low;
       stepping = λ machine replay k.
           stepping-goes machine (event_by stepper c.in-Ok.number) c.args.count c.steps.left (c.steps.left - 1) replay mid new (omega (arith, c.steps-test.true)) one
           (c.steps.invariant.stepping machine replay k);

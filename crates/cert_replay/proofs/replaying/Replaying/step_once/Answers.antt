@@ -7,7 +7,7 @@ use Rattle.cert_replay.proofs.Going.{same-run, counted-on, steps-on, full-fails,
 use Rattle.cert_replay.proofs.replaying.Replaying.step_once.Goals as goal
 
 pub may_step-requires : goal.may_step-requires
-may_step-requires g c = c.requires.keeps.amid.arranged
+may_step-requires g c = c.requires.replaying.keeps.amid.arranged
 
 pub returns-then-self-ge-MAX_SLOT_STEPS : goal.returns-then-self-ge-MAX_SLOT_STEPS
 returns-then-self-ge-MAX_SLOT_STEPS g c = full-fails c.args.stepper (process_number c.args.process) c.args.self.now (omega (arith, c.if-self-ge-MAX_SLOT_STEPS.true))
@@ -18,7 +18,7 @@ returns-then-not-may_step g c =
 
 pub settle-requires : goal.settle-requires
 settle-requires g c =
-    let is = c.requires in
+    let is = c.requires.replaying in
     let next = with_events is.machine (event_by c.args.stepper (process_number c.args.process) ∷ []) is.replay in
     record {
       machine = is.machine;

@@ -7,7 +7,7 @@ use Rattle.cert_replay.specs.declared.replaying.Stepper.{Stepper}
 use Rattle.cert_replay.specs.declared.replaying.Stepper.TheVariants.{Process, Lane}
 use Rattle.cert_replay.specs.Deeds.{may_step, TakesStep}
 use Rattle.cert_replay.specs.Kept.{event_by}
-use Rattle.cert_replay.proofs.Going.{in-slot, time-low, takes-on}
+use Rattle.cert_replay.proofs.Going.{in-slot, takes-on}
 use Rattle.cert_replay.proofs.replaying.Replaying.take_step.Goals as goal
 
 pub step_process-requires-clause-stands : goal.step_process-requires-clause-stands
@@ -18,7 +18,7 @@ step_process-requires-clause-ready g c =
     subst (λ (s : Stepper). may_step (table_of c.args.self.now.table) s (process_number c.args.process) ≡ true) c.in-Process.is c.requires.possible
 
 pub step_process-requires-clause-time : goal.step_process-requires-clause-time
-step_process-requires-clause-time g c = time-low c.args.self.now c.requires.replaying
+step_process-requires-clause-time g c = c.requires.low
 
 pub step_lane-requires-clause-stands : goal.step_lane-requires-clause-stands
 step_lane-requires-clause-stands g c = in-slot c.args.self.now c.requires.replaying

@@ -24,7 +24,7 @@ returns-then-later-time c =
 
 pub begin_slot-requires : goal.begin_slot-requires
 begin_slot-requires c =
-    slot-starting c.args.self.now _ c.in-Some.later c.requires c.in-Some.ensures c.if-self-later.false c.in_ok-turn.ensures.turned c.in_ok-turn.ensures.kept refl
+    slot-starting c.args.self.now _ c.in-Some.later c.requires c.in-Some.ensures c.in_ok-turn.ensures.turned c.in_ok-turn.ensures.kept refl
 
 pub returns : goal.returns
 returns c =
