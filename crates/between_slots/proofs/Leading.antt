@@ -47,7 +47,7 @@ next-still machine time slot = go (is_hyper slot)
 some-slot : (a b : FirstSlot) → Some a ≡ Some b → a ≡ b
 some-slot a b e = cc
 
-after-rest : (machine : Machine) (first : State) (slot : FirstSlot) (slots : List FirstSlot) (number : ℕ) → number < length slots →
+pub after-rest : (machine : Machine) (first : State) (slot : FirstSlot) (slots : List FirstSlot) (number : ℕ) → number < length slots →
     state_after machine first (slot ∷ slots) (suc number) ≡ state_after machine (slot_end machine slot) slots number
 after-rest machine first slot slots zero low = refl
 after-rest machine first slot slots (suc number) low = go (slice_get slots number) refl
@@ -74,7 +74,7 @@ follow-still machine time (Some state) before (first ∷ slots) still follow (su
 
 -- The good first run
 
-through-get : (machine : Machine) (slots : List FirstSlot) (number : ℕ) (slot : FirstSlot) → slice_get (slots_through_stop machine slots) number ≡ Some slot → slice_get slots number ≡ Some slot
+pub through-get : (machine : Machine) (slots : List FirstSlot) (number : ℕ) (slot : FirstSlot) → slice_get (slots_through_stop machine slots) number ≡ Some slot → slice_get slots number ≡ Some slot
 through-get machine [] number slot here = here
 through-get machine (first ∷ slots) zero slot here = here
 through-get machine (first ∷ slots) (suc number) slot here = go (slot_outcome machine first) here (through-get machine slots number slot)
@@ -85,11 +85,11 @@ through-get machine (first ∷ slots) (suc number) slot here = go (slot_outcome 
     go (Race pair) e rest = cc
     go Hyper e rest = cc
 
-after-is : (machine : Machine) (first : State) (slots : List FirstSlot) (number : ℕ) (slot : FirstSlot) → slice_get slots number ≡ Some slot →
+pub after-is : (machine : Machine) (first : State) (slots : List FirstSlot) (number : ℕ) (slot : FirstSlot) → slice_get slots number ≡ Some slot →
     state_after machine first slots (suc number) ≡ slot_end machine slot
 after-is machine first slots number slot here = ap (λ (o : Option FirstSlot). elim o [ None ↦ first | Some s ↦ slot_end machine s ]) here
 
-through-after : (machine : Machine) (first : State) (slots : List FirstSlot) (number : ℕ) → number ≤ length (slots_through_stop machine slots) →
+pub through-after : (machine : Machine) (first : State) (slots : List FirstSlot) (number : ℕ) → number ≤ length (slots_through_stop machine slots) →
     state_after machine first (slots_through_stop machine slots) number ≡ state_after machine first slots number
 through-after machine first slots zero low = refl
 through-after machine first slots (suc number) low =

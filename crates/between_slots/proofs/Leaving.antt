@@ -257,7 +257,7 @@ steps-push machine p state (first ∷ events) event rest =
     (seen_if (is_step_of p event)
     ((process_at (happened machine (after machine state first) events) p).activity, seen_step machine (happened machine (after machine state first) events) p) rest))
 
-happened-push : (machine : Machine) (state : State) (events : List Event) (event : Event) → happened machine state (events ++ event ∷ []) ≡ after machine (happened machine state events) event
+pub happened-push : (machine : Machine) (state : State) (events : List Event) (event : Event) → happened machine state (events ++ event ∷ []) ≡ after machine (happened machine state events) event
 happened-push machine state [] event = refl
 happened-push machine state (first ∷ events) event = happened-push machine (after machine state first) events event
 

@@ -1,3 +1,5 @@
 pub mod Leaving
 pub mod Resting
 pub mod Leading
+pub mod Ends
+pub mod Pending

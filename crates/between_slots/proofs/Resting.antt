@@ -79,15 +79,15 @@ reaches laws machine rules (suc most) zero at comes room = record { there = at; 
 reaches laws machine rules (suc most) (suc left) at comes room = move-reaches laws machine rules most left at comes room (reaches laws machine rules most) (first_event at.state) refl
 
 -- a slot that isn't hyperactive goes to its end
-few-steps : (slot : FirstSlot) → is_hyper slot ≡ false → counted_steps slot.moves ≤ most_steps
+pub few-steps : (slot : FirstSlot) → is_hyper slot ≡ false → counted_steps slot.moves ≤ most_steps
 few-steps slot h = let b : counted_steps slot.moves < suc most_steps = leb-false (suc most_steps) (counted_steps slot.moves) h in omega (arith, b)
 
-slot-rests : LoopLaws → (machine : Machine) → KeepsRules machine.design → (begins : State) → BeginsPhase machine begins → counted_steps (first_moves machine begins) ≤ most_steps →
+pub slot-rests : LoopLaws → (machine : Machine) → KeepsRules machine.design → (begins : State) → BeginsPhase machine begins → counted_steps (first_moves machine begins) ≤ most_steps →
     is_quiescent (all_made machine begins (first_moves machine begins)) ≡ true
 slot-rests laws machine rules begins asked few = (laws.ends machine begins rules asked few).0
 
 -- the slot to which a turn at its end leads begins as the laws ask
-next-asked : LoopLaws → (machine : Machine) → KeepsRules machine.design → (begins : State) → BeginsPhase machine begins → counted_steps (first_moves machine begins) ≤ most_steps → (turn : TurnKind) →
+pub next-asked : LoopLaws → (machine : Machine) → KeepsRules machine.design → (begins : State) → BeginsPhase machine begins → counted_steps (first_moves machine begins) ≤ most_steps → (turn : TurnKind) →
     BeginsPhase machine (turned turn (all_made machine begins (first_moves machine begins)))
 next-asked laws machine rules begins asked few turn =
     let zeros : 0 + (most_steps + 1) ≡ most_steps + 1 = omega arith in
@@ -100,11 +100,11 @@ next-asked laws machine rules begins asked few turn =
 -- Slots in a row
 
 -- a slot begins as the laws ask, if there is one
-abbrev Asked : Machine → Option State → Type 0
+abbrev pub Asked : Machine → Option State → Type 0
 Asked machine None = Unit {0}
 Asked machine (Some state) = BeginsPhase machine state
 
-slot-asked : LoopLaws → (machine : Machine) → KeepsRules machine.design → (time : ℕ) (begins : State) → BeginsPhase machine begins →
+pub slot-asked : LoopLaws → (machine : Machine) → KeepsRules machine.design → (time : ℕ) (begins : State) → BeginsPhase machine begins →
     Asked machine (next_slot machine time (record { begins = begins; moves = first_moves machine begins }))
 slot-asked laws machine rules time begins asked = go (is_hyper slot) refl
   where
@@ -126,7 +126,7 @@ slot-asked laws machine rules time begins asked = go (is_hyper slot) refl
     go true h = tt
     go false h = at (few-steps slot h) (turn_of (slot_end machine slot))
 
-some-slot : (a b : FirstSlot) → Some a ≡ Some b → a ≡ b
+pub some-slot : (a b : FirstSlot) → Some a ≡ Some b → a ≡ b
 some-slot a b e = cc
 
 follow-rests : LoopLaws → (machine : Machine) → KeepsRules machine.design → (time : ℕ) (begins : Option State) (slots : List FirstSlot) → Asked machine begins → Follow machine time begins slots →
@@ -146,8 +146,13 @@ pub slots_rest : LoopLaws → SlotsRest
 slots_rest laws machine time number slot rules here few =
     follow-rests laws machine rules time (Some (start machine)) (first_run machine time) (laws.phases.first machine rules) (laws.runs.follow machine time rules) number slot here few
 
--- no process is ready where no event is possible
-or-neither : (a b : Bool) → (a || b) ≡ false → (a ≡ false) × (b ≡ false)
+-- no process has an event where none is possible
+pub quiet-parts : (b c : Bool) → (not b && not c) ≡ true → b ≡ false
+quiet-parts true c e = cc
+quiet-parts false c e = refl
+
+-- nor is one ready
+pub or-neither : (a b : Bool) → (a || b) ≡ false → (a ≡ false) × (b ≡ false)
 or-neither true b e = cc
 or-neither false true e = cc
 or-neither false false e = (refl, refl)
@@ -160,8 +165,4 @@ quiet-process (x ∷ xs) (suc p) h = quiet-process xs p (or-neither (has_event x
 pub quiet-ready : (state : State) (p : ℕ) → is_quiescent state ≡ true → is_ready (process_at state p).activity ≡ false
 quiet-ready state p h =
     (or-neither (is_ready (process_at state p).activity) (is_any (process_at state p).lane)
-    (quiet-process state.processes p (not-left (some_in has_event state.processes) (some_in has_work state.nodes) h))).0
-  where
-    not-left : (b c : Bool) → (not b && not c) ≡ true → b ≡ false
-    not-left true c e = cc
-    not-left false c e = refl
+    (quiet-process state.processes p (quiet-parts (some_in has_event state.processes) (some_in has_work state.nodes) h))).0

@@ -1,6 +1,7 @@
 -- The phases of a window as it grows (slots and phases by IEEE 1364-2001, clause 5).
 use Rattle.std.proofs.Common.{◌≡◌, ℕ, zero, suc, ◌≤◌, List, [], ◌∷◌, ◌++◌, take, drop, refl, sym, ap, ◌∙◌, arith, append-nil, append_assoc}
 use Rattle.std.specs.Prelude.{Some, slice_get}
+use Rattle.std.proofs.lemmas.List.{take-append-drop, take-take}
 use Rattle.v_design.specs.Designs.{FlatDesign, Machine, TestPlan, good_machine}
 use Rattle.v_design.specs.Runs.{FirstSlot}
 use Rattle.v_design.specs.Grades.{phases}
@@ -39,3 +40,34 @@ pub window_phases-more : (design : FlatDesign) (plan : TestPlan) (begins number 
 window_phases-more design plan begins number slot low here =
     ap (slots_phases (good_machine design)) (window-push (good_slots design plan) begins number slot low here)
     ∙ phases-push (good_machine design) (window_slots design plan begins number) slot
+
+-- A window in two parts
+
+window-part : {A : Type 0} (xs : List A) (begins middle : ℕ) → begins ≤ middle → drop begins xs ≡ drop begins (take middle xs) ++ drop middle xs
+window-part [] zero zero low = refl
+window-part [] zero (suc middle) low = refl
+window-part [] (suc begins) zero low = refl
+window-part [] (suc begins) (suc middle) low = refl
+window-part (x ∷ xs) zero zero low = refl
+window-part (x ∷ xs) zero (suc middle) low = ap (λ l. x ∷ l) (sym (take-append-drop middle xs))
+window-part (x ∷ xs) (suc begins) zero low = absurd (omega (arith, low))
+window-part (x ∷ xs) (suc begins) (suc middle) low = window-part xs begins middle (omega (arith, low))
+
+-- its slots
+pub window_slots-part : (design : FlatDesign) (plan : TestPlan) (begins middle ends : ℕ) → begins ≤ middle → middle ≤ ends →
+    window_slots design plan begins ends ≡ window_slots design plan begins middle ++ window_slots design plan middle ends
+window_slots-part design plan begins middle ends low high =
+    window-part (take ends (good_slots design plan)) begins middle low
+    ∙ ap (λ l. drop begins l ++ drop middle (take ends (good_slots design plan))) (take-take middle ends (good_slots design plan) high)
+
+phases-join : (machine : Machine) (slots more : List FirstSlot) → slots_phases machine (slots ++ more) ≡ slots_phases machine slots ++ slots_phases machine more
+phases-join machine [] more = refl
+phases-join machine (slot ∷ slots) more =
+    ap (λ l. phases machine slot ++ l) (phases-join machine slots more) ∙ sym (append_assoc (phases machine slot) (slots_phases machine slots) (slots_phases machine more))
+
+-- and its phases
+pub window_phases-part : (design : FlatDesign) (plan : TestPlan) (begins middle ends : ℕ) → begins ≤ middle → middle ≤ ends →
+    window_phases design plan begins ends ≡ window_phases design plan begins middle ++ window_phases design plan middle ends
+window_phases-part design plan begins middle ends low high =
+    ap (slots_phases (good_machine design)) (window_slots-part design plan begins middle ends low high)
+    ∙ phases-join (good_machine design) (window_slots design plan begins middle) (window_slots design plan middle ends)

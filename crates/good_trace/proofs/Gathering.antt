@@ -1,6 +1,7 @@
 -- What is gathered of a window's slots.
-use Rattle.std.proofs.Common.{◌≡◌, ℕ, ◌+◌, ◌<◌, List, [], ◌∷◌, ◌++◌, map, length, get_or, take, refl, sym, ap, ◌∙◌, arith, append-nil, append_assoc, length-append}
-use Rattle.std.proofs.lemmas.List.{take_more, map_push}
+use Rattle.std.proofs.Common.{◌≡◌, ℕ, ◌+◌, ◌<◌, List, [], ◌∷◌, ◌++◌, map, length, get_or, take, refl, sym, ap, subst, ◌∙◌, inl, inr, arith, append-nil, append_assoc, length-append}
+use Rattle.std.specs.Prelude.{Some, slice_get}
+use Rattle.std.proofs.lemmas.List.{length-map, take_more, map_push}
 use Rattle.vf_base.specs.Lists.{joined}
 use Rattle.v_design.specs.Accesses.{ObjectAccess}
 use Rattle.causal_monitor.specs.declared.slot.SlotLog.{SlotLog}
@@ -9,8 +10,11 @@ use Rattle.trace_window.specs.GatherLaws.{writes_from-append, touches_from-appen
 use Rattle.trace_window.specs.Gathered.{Gathers}
 use Rattle.trace_window.specs.Listed.{log_accesses}
 use Rattle.trace_window.specs.Touched.{touches_from}
-use Rattle.trace_window.specs.Writes.{written_of, writes_from}
+use Rattle.trace_window.specs.Writes.{Written, written_of, writes_from}
+use Rattle.good_trace.specs.declared.events.SlotBeginning.{SlotBeginning}
+use Rattle.good_trace.specs.Beginnings.{IsBeginning}
 use Rattle.good_trace.specs.Events.{slots_accesses, IsGathered}
+use Rattle.good_trace.proofs.Growing.{slice_get-push}
 
 -- of no slot
 pub IsGathered-none : (list : EventList) → list.moment ≡ 0 → list.changes.items ≡ [] → list.touches.items ≡ [] → IsGathered [] list
@@ -26,7 +30,7 @@ IsGathered-more xs ys old new had more =
       touches = more.touches ∙ (λ i. had.touches i ++ touches_from (at i) ys) ∙ sym (touches_from-append 0 xs ys);
     }
 
-joined-append : {A : Type 0} (xs ys : List (List A)) → joined (xs ++ ys) ≡ joined xs ++ joined ys
+pub joined-append : {A : Type 0} (xs ys : List (List A)) → joined (xs ++ ys) ≡ joined xs ++ joined ys
 joined-append [] ys = refl
 joined-append (x ∷ xs) ys = ap (λ l. x ++ l) (joined-append xs ys) ∙ sym (append_assoc x (joined xs) (joined ys))
 
@@ -38,3 +42,26 @@ slots_accesses-more slots i slot low read =
     ∙ ap joined (map_push log_accesses (take i slots) slot)
     ∙ joined-append (map log_accesses (take i slots)) (log_accesses slot ∷ [])
     ∙ ap (λ l. slots_accesses (take i slots) ++ l) (append-nil (log_accesses slot))
+
+-- Where slots begin
+
+-- behind what is gathered
+pub IsBeginning-gathered : (accesses : List (List ObjectAccess)) (list : EventList) (beginning : SlotBeginning) → IsGathered accesses list → beginning.moment ≡ list.moment →
+    beginning.changes ≡ length list.changes.items → IsBeginning accesses beginning
+IsBeginning-gathered accesses list beginning had moment changes = record {
+  moment = moment ∙ had.moment;
+  changes = changes ∙ sym (length-map list.changes.items written_of) ∙ ap (λ (l : List Written). length l) had.changes;
+}
+
+abbrev EachBegins : List SlotLog → List SlotBeginning → Type 0
+EachBegins slots beginnings = (place : ℕ) (beginning : SlotBeginning) → slice_get beginnings place ≡ Some beginning → IsBeginning (slots_accesses (take place slots)) beginning
+
+-- one slot more
+pub begins-more : (slots : List SlotLog) (beginnings : List SlotBeginning) (place : ℕ) (beginning : SlotBeginning) → EachBegins slots beginnings → length beginnings ≡ place →
+    IsBeginning (slots_accesses (take place slots)) beginning → EachBegins slots (beginnings ++ beginning ∷ [])
+begins-more slots beginnings place beginning had count is other found here = elim (slice_get-push beginnings beginning found other here) [
+  | inl h ↦ had other found h
+  | inr h ↦
+      subst (λ n. IsBeginning (slots_accesses (take n slots)) found) (sym (h.0 ∙ count))
+      (subst (λ (b : SlotBeginning). IsBeginning (slots_accesses (take place slots)) b) h.1 is)
+]

@@ -41,7 +41,7 @@ steps_logged-at codes design plan number log runs is =
 -- its log
 pub log-at : (codes : List Code) (design : FlatDesign) (plan : TestPlan) (number : ℕ) (log : SlotLog) (runs : List RunEnd) → IsSlotAt codes design plan number log runs →
     IsLogAt design plan number log
-log-at codes design plan number log runs is = record { slot = is.slot; stands = is.stands; logged = is.logged; few_steps = is.few_steps }
+log-at codes design plan number log runs is = record { slot = is.slot; stands = is.stands; logged = is.logged; log_time = is.log_time; few_steps = is.few_steps }
 
 -- a trace of no slots
 pub IsTrace-none : (design : FlatDesign) (plan : TestPlan) (number : ℕ) (values : List LogicValue) → KeepsRules design → values ≡ values_through design plan number →

@@ -7,3 +7,4 @@ mod Following
 mod RunsKeeping
 mod Standing
 mod Starting
+mod Boundaries

@@ -6,7 +6,7 @@ use Rattle.v_design.specs.Designs.{FlatDesign, FlatProcess, Machine, TestPlan, g
 use Rattle.v_design.specs.Plain.{process_of}
 use Rattle.v_design.specs.Processes.{Ready, opened}
 use Rattle.v_design.specs.States.{ProcessState, found_or, idle_process}
-use Rattle.v_design.specs.Runs.{FirstSlot, is_hyper}
+use Rattle.v_design.specs.Runs.{is_hyper}
 use Rattle.v_design.specs.Grades.{Phase, phases}
 use Rattle.causal_monitor.specs.declared.slot.SlotLog.{SlotLog}
 use Rattle.process_code.specs.Codes.{rests_in_code}
@@ -18,6 +18,7 @@ use Rattle.slot_record.specs.SlotLogs.{logged_phases}
 use Rattle.copy_laws.specs.Windows.{good_slots}
 use Rattle.run_ends.specs.RunEnds.{AreCodesOf, AreRunEnds}
 use Rattle.between_slots.specs.Between.{activity_through, activity_after_runs, runs_in, window_phases, RunsLead}
+use Rattle.between_slots.specs.Updates.{AreFew}
 use Rattle.between_slots.specs.WindowLaws.{window_phases-none, window_phases-more}
 use Rattle.window_runs.specs.RunLaws.{EndsJoin, EndsStand, EndsLead}
 use Rattle.window_runs.specs.RunsByProcess.{run_phase, numbered_from}
@@ -107,17 +108,18 @@ AreRunsKept-more join codes design plan pushed closed before count states runs m
 
 -- A window more
 
-few-in : (design : FlatDesign) (plan : TestPlan) (pushed closed steps : ℕ) (values : List LogicValue) (slots : List SlotLog) → IsTrace design plan pushed closed steps values slots →
-    (number : ℕ) (slot : FirstSlot) → closed ≤ number → number < pushed → slice_get (good_slots design plan) number ≡ Some slot → is_hyper slot ≡ false
-few-in design plan pushed closed steps values slots had number slot low high here =
-    elim (slice_get_cases slots (number - closed)).1 [
-      | inl found ↦ at found.0 (had.slots_are.each (number - closed) found.0 found.2)
-      | inr past ↦ absurd (omega (arith, past.0, had.held))
+-- none of the slots that are held is hyperactive
+pub few-from : (design : FlatDesign) (plan : TestPlan) (before ends : ℕ) (slots : List SlotLog) → AreSlotsFrom design plan before slots → ends ≤ before + length slots →
+    AreFew design plan before ends
+few-from design plan before ends slots are fits number slot low high here =
+    elim (slice_get_cases slots (number - before)).1 [
+      | inl found ↦ at found.0 (are.each (number - before) found.0 found.2)
+      | inr past ↦ absurd (omega (arith, past.0, fits, low, high))
     ]
   where
-    at : (log : SlotLog) → IsLogAt design plan (closed + (number - closed)) log → is_hyper slot ≡ false
+    at : (log : SlotLog) → IsLogAt design plan (before + (number - before)) log → is_hyper slot ≡ false
     at log own =
-        let there : slice_get (good_slots design plan) number ≡ Some own.slot = (let e : number ≡ closed + (number - closed) = omega arith in ap (λ n. slice_get (good_slots design plan) n) e)
+        let there : slice_get (good_slots design plan) number ≡ Some own.slot = (let e : number ≡ before + (number - before) = omega (arith, low) in ap (λ n. slice_get (good_slots design plan) n) e)
         ∙ own.stands in
         let same : Some slot ≡ Some own.slot = sym here ∙ there in
         let one : slot ≡ own.slot = cc in
@@ -141,7 +143,7 @@ AreStatesAt-closed lead stand does codes design plan pushed closed steps before 
         ap (activity_at (rests_in_code code)) (after.each process found.0 own found.2 here).point
         ∙ does codes (good_machine design) (window_phases design plan closed pushed) runs process code found.0 kept.runs_are is
         ∙ ap (λ a. activity_after_runs a (runs_in (good_machine design) process (window_phases design plan closed pushed))) (kept.states_are.does process found.0 code found.2 is)
-        ∙ sym (lead design plan closed pushed process had.rules low fits (few-in design plan pushed closed steps values slots had))
+        ∙ sym (lead design plan closed pushed process had.rules low fits (few-from design plan closed pushed slots had.slots_are (omega (arith, had.held))))
     | inr past ↦ let within = slice_get_within later process own here in absurd (omega (arith, past.0, after.count))
   ];
 }

@@ -20,18 +20,18 @@ use Rattle.window_runs.specs.declared.index.RunIndex.{RunIndex}
 use Rattle.good_trace.specs.RunsKept.{Stands, TellsRun, HasRuns}
 
 -- a code of each process
-record HasCode (design : FlatDesign) (codes : List Code) (process : ℕ) : Type 0 where
-  code : Code
-  here : slice_get codes process ≡ Some code
-  is : IsCodeAt design process code
+pub record HasCode (design : FlatDesign) (codes : List Code) (process : ℕ) : Type 0 where
+  pub code : Code
+  pub here : slice_get codes process ≡ Some code
+  pub is : IsCodeAt design process code
 
-has-code : (design : FlatDesign) (codes : List Code) (process : ℕ) → AreCodesOf design codes → process < length design.processes → HasCode design codes process
+pub has-code : (design : FlatDesign) (codes : List Code) (process : ℕ) → AreCodesOf design codes → process < length design.processes → HasCode design codes process
 has-code design codes process are low = elim (slice_get_cases codes process).1 [
   | inl found ↦ record { code = found.0; here = found.2; is = are.each process found.0 found.2 }
   | inr past ↦ absurd (omega (arith, past.0, are.count))
 ]
 
-reads-alike : CodesReadAlike → (design : FlatDesign) (process : ℕ) (one other : Code) → IsCodeAt design process one → IsCodeAt design process other → ReadsAlike one other
+pub reads-alike : CodesReadAlike → (design : FlatDesign) (process : ℕ) (one other : Code) → IsCodeAt design process one → IsCodeAt design process other → ReadsAlike one other
 reads-alike alike design process one other first second =
     let same : Some (process_of one.process.now) ≡ Some (process_of other.process.now) = sym first.process_is ∙ second.process_is in
     let is : process_of one.process.now ≡ process_of other.process.now = cc in

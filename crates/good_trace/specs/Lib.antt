@@ -2,8 +2,10 @@ pub mod Setups
 pub mod Slots
 pub mod Counted
 pub mod Events
+pub mod Beginnings
 pub mod Closing
 pub mod Traces
 pub mod RunsKept
 pub mod Starting
 pub mod Spares
+pub mod SlotsTold

@@ -1,10 +1,12 @@
 -- The process runs of a trace and of its windows, and where the processes stand between them (phases by IEEE 1364-2001, clause 5; processes by clause 9).
-use Rattle.std.specs.Prelude.{◌≡◌, ℕ, List, map, length, Option, Some, slice_get}
+use Rattle.std.specs.Prelude.{◌≡◌, ℕ, ◌<◌, List, [], map, length, get_or, Option, Some, slice_get}
 use Rattle.std.specs.Option.{option_map}
 use Rattle.v_design.specs.Designs.{FlatDesign, TestPlan, good_machine}
+use Rattle.v_design.specs.Plain.{due_of}
 use Rattle.v_design.specs.Processes.{Activity}
 use Rattle.v_design.specs.Grades.{Phase}
 use Rattle.v_design.specs.OwnSteps.{process_runs}
+use Rattle.v_design.specs.declared.plan.Due.{Due}
 use Rattle.process_code.specs.Points.{activity_of}
 use Rattle.process_code.specs.RunEnds.{told_by}
 use Rattle.process_code.specs.StatesOf.{IsStateOf}
@@ -13,12 +15,14 @@ use Rattle.process_code.specs.declared.state.ProcState.{ProcState}
 use Rattle.process_code.specs.declared.state.RunEnd.{RunEnd}
 use Rattle.run_ends.specs.RunEnds.{IsCodeAt, AreCodesOf, told_of, AreRunEnds}
 use Rattle.between_slots.specs.Between.{activity_through, window_phases}
+use Rattle.between_slots.specs.Updates.{updates_through}
 use Rattle.causal_monitor.specs.declared.slot.SlotLog.{SlotLog}
 use Rattle.four_value.specs.Values.{LogicValue}
 use Rattle.copy_laws.specs.Windows.{WindowEnd}
 use Rattle.window_runs.specs.declared.index.RunIndex.{RunIndex}
 use Rattle.window_runs.specs.RunsByProcess.{IsRunIndexOf}
 use Rattle.good_trace.specs.declared.events.Events.{Events}
+use Rattle.good_trace.specs.Beginnings.{HasBeginnings}
 use Rattle.good_trace.specs.Traces.{IsTrace, IsTraceWindow}
 
 -- What contracts say
@@ -43,6 +47,11 @@ pub record AreStatesAt (codes : List Code) (design : FlatDesign) (plan : TestPla
   pub does : (process : ℕ) (state : ProcState) (code : Code) → slice_get states process ≡ Some state → slice_get codes process ≡ Some code →
       activity_of code state ≡ activity_through design plan number process
 
+-- the updates that each process has pending after so many slots of the good first run, by number
+pub record AreUpdatesAt (design : FlatDesign) (plan : TestPlan) (number : ℕ) (updates : List (List Due)) : Type 0 where
+  pub count : length updates ≡ length design.processes
+  pub each : (process : ℕ) → process < length design.processes → map due_of (get_or updates process []) ≡ updates_through design plan number process
+
 -- the runs of the slots from one number to before another, with their phases numbered through, and where the processes stand before them
 pub record AreRunsKept (codes : List Code) (design : FlatDesign) (plan : TestPlan) (through before phases : ℕ) (states : List ProcState) (runs : List RunEnd) : Type 0 where
   pub codes_are : AreCodesOf design codes
@@ -58,12 +67,15 @@ pub record HasRuns (design : FlatDesign) (plan : TestPlan) (before through phase
 
 -- all that a trace keeps
 pub record KeepsTrace (codes : List Code) (design : FlatDesign) (plan : TestPlan) (pushed closed steps phases : ℕ) (values : List LogicValue) (slots : List SlotLog)
-    (states : List ProcState) (runs : List RunEnd) : Type 0 where
+    (states : List ProcState) (updates : List (List Due)) (runs : List RunEnd) : Type 0 where
   pub slots_kept : IsTrace design plan pushed closed steps values slots
   pub runs_kept : AreRunsKept codes design plan pushed closed phases states runs
+  pub updates_kept : AreUpdatesAt design plan closed updates
 
 -- all that a window has
 pub record KeepsWindow (design : FlatDesign) (plan : TestPlan) (before through : ℕ) (ending : WindowEnd) (phases : ℕ) (values : List LogicValue) (events : Events)
-    (slots : List SlotLog) (states : List ProcState) (runs : List RunEnd) (index : RunIndex) : Type 0 where
+    (slots : List SlotLog) (states : List ProcState) (updates : List (List Due)) (runs : List RunEnd) (index : RunIndex) : Type 0 where
   pub window : IsTraceWindow design plan before through ending values events slots
+  pub has_beginnings : HasBeginnings slots events
   pub has_runs : HasRuns design plan before through phases states runs index
+  pub has_updates : AreUpdatesAt design plan before updates

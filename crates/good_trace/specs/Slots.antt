@@ -35,6 +35,7 @@ pub record IsLogAt (design : FlatDesign) (plan : TestPlan) (number : ℕ) (log :
   pub slot : FirstSlot
   pub stands : slice_get (good_slots design plan) number ≡ Some slot
   pub logged : IsSlotLog (good_machine design) (first_turn number) (phases (good_machine design) slot) log
+  pub log_time : log.time ≡ slot.begins.time
   pub few_steps : is_hyper slot ≡ false
 
 -- a window that has so many slots and steps is full

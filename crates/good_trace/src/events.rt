@@ -1,23 +1,33 @@
 // What the events of a window write and touch, by object.
 
 ghost use Rattle.std.specs.Prelude.{◌≡◌, ℕ, ◌<◌, ◌≤◌, [], IfOk, get_or, length};
+ghost use Rattle.std.specs.List.{between};
 ghost use Rattle.trace_window.specs.Writes.{latest};
 ghost use Rattle.good_trace.specs.Events.{slots_accesses, IsGathered, AreEvents};
+ghost use Rattle.good_trace.specs.Beginnings.{AreBeginnings, HasBeginnings};
 ghost use Rattle.good_trace.specs.Closing.{AreClosed};
 
 use causal_monitor::SlotLog;
 use four_value::Vec4;
 use std::alloc::Global;
-use trace_window::{Changes, EventList, index_touches};
+use trace_window::{Change, Changes, EventList, index_touches};
 use vf_base::{NoMemory, ObjectId};
 use window_index::WindowIndex;
 
-/// How many events a window has, and for each object its changes and its touches.
+/// Where the events of a slot begin: the moment of the first of them, and how many changes come before it.
+#[derive(Clone, Copy, Debug)]
+pub struct SlotBeginning {
+    pub moment: u32,
+    pub changes: usize,
+}
+
+/// How many events a window has, and for each object its changes and its touches; and where the events of each slot begin, with the end of the last one's behind.
 #[derive(Drop)]
 pub struct Events {
     pub count: u32,
     pub changes: Changes,
     pub touches: WindowIndex,
+    pub beginnings: Vec<SlotBeginning>,
 }
 
 /// The events of a window, and what the objects hold behind the last one.
@@ -27,22 +37,46 @@ pub struct ClosedEvents {
     pub later: Vec<Vec4>,
 }
 
+/// What the events of some slots write and touch, in order, and where those of each slot begin.
+#[derive(Drop)]
+struct Gathered {
+    list: EventList,
+    beginnings: Vec<SlotBeginning>,
+}
+
+/// Where the next events begin.
+fn beginning_of(list: &EventList) -> SlotBeginning
+    ensures moment { result.moment ≡ list.now.moment }
+    ensures changes { result.changes ≡ length list.now.changes.items }
+{
+    SlotBeginning {
+        moment: list.moment,
+        changes: list.changes.len(),
+    }
+}
+
 /// What the events of some slots write and touch, in order.
-fn gather(alloc: Global, slots: &[SlotLog]) -> Result<EventList, NoMemory>
-    ensures { IfOk result (λ list. IsGathered (slots_accesses slots.now) list) }
+fn gather(alloc: Global, slots: &[SlotLog]) -> Result<Gathered, NoMemory>
+    ensures list { IfOk result (λ gathered. IsGathered (slots_accesses slots.now) gathered.list) }
+    ensures beginnings { IfOk result (λ gathered. AreBeginnings slots.now gathered.beginnings.items) }
 {
     let mut list = EventList::new(alloc);
+    let mut beginnings = Vec::new(alloc);
     'slots: for slot in slots {
+        beginnings.push(beginning_of(&list))?;
         list.note_slot(slot)?;
     }
-    Ok(list)
+    beginnings.push(beginning_of(&list))?;
+    Ok(Gathered { list, beginnings })
 }
 
 /// The same by object, of so many objects.
 fn index_events(alloc: Global, objects: u32, slots: &[SlotLog]) -> Result<Events, NoMemory>
-    ensures { IfOk result (λ events. AreEvents objects (slots_accesses slots.now) events) }
+    ensures events { IfOk result (λ events. AreEvents objects (slots_accesses slots.now) events) }
+    ensures beginnings { IfOk result (λ events. AreBeginnings slots.now events.beginnings.items) }
 {
-    let list = gather(alloc, slots)?;
+    let gathered = gather(alloc, slots)?;
+    let Gathered { list, beginnings } = gathered;
     let EventList {
         moment,
         changes,
@@ -54,6 +88,7 @@ fn index_events(alloc: Global, objects: u32, slots: &[SlotLog]) -> Result<Events
         count: moment,
         changes,
         touches,
+        beginnings,
     })
 }
 
@@ -73,6 +108,15 @@ fn values_behind(alloc: Global, values: &[Vec4], events: &Events) -> Result<Vec<
     Ok(later)
 }
 
+/// The changes from a place among some to before another.
+pub(crate) fn changes_between(changes: &[Change], first: usize, end: usize) -> &[Change]
+    requires order { first ≤ end }
+    requires within { end ≤ length changes.now }
+    ensures { result.now ≡ between first end changes.now }
+{
+    &changes[first..end]
+}
+
 /// The events of some slots, of so many objects as begin with some values.
 ///
 /// # Errors
@@ -84,7 +128,8 @@ pub(crate) fn close_events(
     slots: &[SlotLog],
 ) -> Result<ClosedEvents, NoMemory>
     requires { length values.now ≤ 65536 }
-    ensures { IfOk result (λ closed. AreClosed values.now (slots_accesses slots.now) closed.events closed.later.items) }
+    ensures events { IfOk result (λ closed. AreClosed values.now (slots_accesses slots.now) closed.events closed.later.items) }
+    ensures beginnings { IfOk result (λ closed. HasBeginnings slots.now closed.events) }
 {
     let events = index_events(alloc, values.len() as u32, slots)?;
     let later = values_behind(alloc, values, &events)?;

@@ -7,6 +7,10 @@
 //! numbered through by their moments: `value_at` is what an object holds before the event of a moment, and `next_touch` the next event that reads or writes it. Its
 //! phases are numbered through too, `phases_before` tells where those of a slot begin: `run` is the end of a process's run of a number in a phase, and
 //! `process_at_beginning` tells where a process stands before the window.
+//!
+//! A window tells the good machine's whole state before each of its slots and behind the last one: `value_at` at the slot's `first_moment` is what an object holds,
+//! `state_before` where a process stands, and `updates_before` which nonblocking updates it has pending (clause 9.2.2); `rests_before` is the law that nothing else
+//! is in that state. `changes_in` has the changes of a slot, and `runs_in` the runs that end in it.
 #![tactic(auto)]
 
 mod ending;
@@ -17,6 +21,7 @@ mod slot;
 mod spare;
 mod states;
 mod trace;
+mod updates;
 mod window;
 
 pub use ending::GoodEnd;

@@ -11,6 +11,7 @@ use crate::setup::Setup;
 use crate::slot::{count_steps, phases_after, push_slot};
 use crate::spare::{Spare, spare_of};
 use crate::states::{ClosedRuns, close_runs, first_states};
+use crate::updates::{last_time, no_updates};
 use crate::window::TraceWindow;
 use causal_monitor::SlotLog;
 use four_value::Vec4;
@@ -18,8 +19,8 @@ use process_code::{ProcState, RunEnd};
 use std::alloc::Global;
 use std::marker::{Model, PhantomData};
 use std::mem;
-use v_design::World;
-use vf_base::{NoMemory, WINDOW_SLOTS, WINDOW_STEPS};
+use v_design::{Due, World};
+use vf_base::{NoMemory, Seq, WINDOW_SLOTS, WINDOW_STEPS};
 use window_runs::number_from;
 
 /// The good first run of the world `N` as it is pushed, which contracts see as the code of each process, how many slots were pushed, and how many of these stand in
@@ -28,9 +29,10 @@ use window_runs::number_from;
 pub struct Trace<'s, 'd, N: World> {
     alloc: Global,
     setup: &'s Setup<'d, N>,
-    /// What the objects hold after the last close, and where the processes stand.
+    /// What the objects hold after the last close, where the processes stand, and what updates they have pending.
     values: Vec<Vec4>,
     states: Vec<ProcState>,
+    updates: Vec<Seq<Due>>,
     /// The slots since then, their process and lane steps, their phases, and the ends of the runs in these, which are numbered through.
     slots: Vec<SlotLog>,
     steps: u32,
@@ -54,7 +56,7 @@ impl<'s, 'd, N: World> Model for Trace<'s, 'd, N> {
 
     ghost view = { λ t. record { codes = t.setup.now.codes; pushed = t.pushed; closed = t.closed } };
 
-    ghost invariant = { λ t. KeepsTrace t.setup.now.codes N.design N.plan t.pushed t.closed t.steps t.phases t.values.items t.slots.items t.states.items t.runs.items };
+    ghost invariant = { λ t. KeepsTrace t.setup.now.codes N.design N.plan t.pushed t.closed t.steps t.phases t.values.items t.slots.items t.states.items t.updates.items t.runs.items };
 }
 
 /// Whether a window that has so many slots and steps is full.
@@ -75,12 +77,15 @@ impl<'s, 'd, N: World> Trace<'s, 'd, N> {
         ensures none { IfOk result (λ trace. (trace.pushed ≡ 0) × (trace.closed ≡ 0)) }
     {
         let values = first_values(alloc, setup.design, setup.graph)?;
-        let states = first_states(alloc, setup.codes())?;
+        let codes = setup.codes();
+        let states = first_states(alloc, codes)?;
+        let updates = no_updates(alloc, codes.len())?;
         Ok(Trace {
             alloc,
             setup,
             values,
             states,
+            updates,
             slots: Vec::new(alloc),
             steps: 0,
             phases: 0,
@@ -133,20 +138,35 @@ impl<'s, 'd, N: World> Trace<'s, 'd, N> {
     {
         window_runs::ends_go_on();
         between_slots::runs_lead();
+        between_slots::updates_pend();
         let spare = spare_of(self.alloc, used);
         let Spare {
             slots: free_slots,
             runs: free_runs,
             index: free_index,
         } = spare;
-        let closed_runs = close_runs(self.alloc, free_index, &self.states, &self.runs)?;
+        let time = last_time(&self.slots);
+        let closed_runs = close_runs(
+            self.alloc,
+            free_index,
+            &self.states,
+            &self.updates,
+            &self.runs,
+            self.phases,
+            time,
+        )?;
         let closed = close_events(self.alloc, &self.values, &self.slots)?;
-        let ClosedRuns { index, stand } = closed_runs;
+        let ClosedRuns {
+            index,
+            stand,
+            pending,
+        } = closed_runs;
         let ClosedEvents { events, later } = closed;
         let slots = mem::replace(&mut self.slots, free_slots);
         let runs = mem::replace(&mut self.runs, free_runs);
         let values = mem::replace(&mut self.values, later);
         let beginning = mem::replace(&mut self.states, stand);
+        let updates = mem::replace(&mut self.updates, pending);
         let begins = self.closed;
         let ends = self.pushed;
         let phases = self.phases;
@@ -161,6 +181,7 @@ impl<'s, 'd, N: World> Trace<'s, 'd, N> {
             values,
             events,
             states: beginning,
+            updates,
             runs,
             index,
             slots,

@@ -1,27 +1,36 @@
 // A window of the good first run.
 
-ghost use Rattle.std.specs.Prelude.{◌≡◌, ℕ, ◌+◌, ◌<◌, ◌≤◌, length, slice_get};
+ghost use Rattle.std.specs.Prelude.{◌≡◌, ℕ, ◌+◌, ◌<◌, ◌≤◌, Some, IfOk, length, map, slice_get};
 ghost use Rattle.std.specs.Option.{option_map};
 ghost use Rattle.vf_base.specs.Base.{object_number, process_number};
 ghost use Rattle.v_design.specs.Assignments.{value_at};
 ghost use Rattle.v_design.specs.Designs.{good_machine};
+ghost use Rattle.v_design.specs.Plain.{due_of};
+ghost use Rattle.v_design.specs.Runs.{FirstSlot};
 ghost use Rattle.trace_window.specs.Moments.{window_events, window_values};
 ghost use Rattle.trace_window.specs.Touched.{touched_at, IsFirstFrom};
+ghost use Rattle.trace_window.specs.Writes.{written_of};
 ghost use Rattle.v_design.specs.Grades.{Phase};
-ghost use Rattle.between_slots.specs.Between.{activity_through, window_phases};
-ghost use Rattle.copy_laws.specs.Windows.{IsWindow, window_steps};
+ghost use Rattle.run_ends.specs.RunEnds.{ender_told};
+ghost use Rattle.between_slots.specs.Between.{state_through, activity_through, window_phases};
+ghost use Rattle.between_slots.specs.Updates.{updates_through, Rests, RestingStatesAreTold};
+ghost use Rattle.copy_laws.specs.Windows.{IsWindow, good_slots, window_steps};
 ghost use Rattle.good_trace.specs.RunsKept.{Stands, TellsRun};
+ghost use Rattle.good_trace.specs.SlotsTold.{AreWritesOf, slot_run_ends};
 
 use crate::ending::GoodEnd;
-use crate::events::Events;
+use crate::events::{Events, changes_between};
 use crate::slot::count_phases;
+use crate::updates::copy_updates;
 use causal_monitor::SlotLog;
 use four_value::Vec4;
 use process_code::{ProcState, RunEnd, codes_are_one};
+use std::alloc::Global;
 use std::marker::{Model, PhantomData};
-use v_design::World;
-use vf_base::{ObjectId, ProcId};
-use window_runs::RunIndex;
+use trace_window::Change;
+use v_design::{Due, World};
+use vf_base::{NoMemory, ObjectId, ProcId, Seq};
+use window_runs::{RunIndex, runs_between, standing_after};
 
 /// Slots of the good first run of the world `N` in a row, which contracts see as how many slots of the run stand before the window and before its end, and how it ends.
 #[derive(Drop)]
@@ -34,8 +43,9 @@ pub struct TraceWindow<N: World> {
     /// What the objects hold before the window, and what its events write and touch.
     pub(crate) values: Vec<Vec4>,
     pub(crate) events: Events,
-    /// Where the processes stand before the window, and the ends of the runs in it by process.
+    /// Where the processes stand before the window, what updates they have pending there, and the ends of the runs in it by process.
     pub(crate) states: Vec<ProcState>,
+    pub(crate) updates: Vec<Seq<Due>>,
     pub(crate) runs: Vec<RunEnd>,
     pub(crate) index: RunIndex,
     pub(crate) slots: Vec<SlotLog>,
@@ -51,7 +61,7 @@ impl<N: World> Model for TraceWindow<N> {
 
     ghost view = { λ w. record { before = w.begins; through = w.ends; ending = end_of w.last } };
 
-    ghost invariant = { λ w. KeepsWindow N.design N.plan w.begins w.ends (end_of w.last) w.phases w.values.items w.events w.slots.items w.states.items w.runs.items w.index };
+    ghost invariant = { λ w. KeepsWindow N.design N.plan w.begins w.ends (end_of w.last) w.phases w.values.items w.events w.slots.items w.states.items w.updates.items w.runs.items w.index };
 }
 
 impl<N: World> TraceWindow<N> {
@@ -141,5 +151,112 @@ impl<N: World> TraceWindow<N> {
     {
         codes_are_one();
         &self.states[process.0 as usize]
+    }
+
+    /// How many slots the window has. They are numbered from 0 on.
+    pub fn slots(&self) -> u32
+        ensures { self.now.before + result ≡ self.now.through }
+    {
+        self.slots.len() as u32
+    }
+
+    /// The time of the slot of a number, in steps.
+    pub fn slot_time(&self, slot: u32) -> u64
+        requires { self.now.before + slot < self.now.through }
+        ensures { (one : FirstSlot) → slice_get (good_slots N.design N.plan) (self.now.before + slot) ≡ Some one → result ≡ one.begins.time }
+    {
+        self.slots[slot as usize].time
+    }
+
+    /// How many events the window's slots before one have: so what an object holds before that slot is what it holds at this moment. Behind the last slot these are
+    /// all events.
+    pub fn first_moment(&self, slot: u32) -> u32
+        requires { self.now.before + slot ≤ self.now.through }
+        ensures moment { result ≡ length (window_events N.design N.plan self.now.before (self.now.before + slot)) }
+        ensures values { window_values N.design N.plan self.now.before self.now.through result ≡ (state_through N.design N.plan (self.now.before + slot)).values }
+    {
+        self.events.beginnings[slot as usize].moment
+    }
+
+    /// Where a process stands before a slot; behind the last slot where it stands at the window's end.
+    pub fn state_before(&self, process: ProcId, slot: u32) -> &ProcState
+        requires process { process_number process < length N.design.processes }
+        requires slot { self.now.before + slot ≤ self.now.through }
+        ensures { Stands N.design (process_number process) (activity_through N.design N.plan (self.now.before + slot) (process_number process)) result.now }
+    {
+        codes_are_one();
+        window_runs::ends_go_on();
+        between_slots::runs_lead();
+        let phases = self.phases_before(slot);
+        let first = &self.states[process.0 as usize];
+        standing_after(first, self.index.last_through(&self.runs, process, phases))
+    }
+
+    /// The nonblocking updates that a process has pending before a slot, in the order of its statements; behind the last slot those at the window's end.
+    ///
+    /// # Errors
+    ///
+    /// Want of memory.
+    pub fn updates_before(
+        &self,
+        alloc: Global,
+        process: ProcId,
+        slot: u32,
+    ) -> Result<Vec<Due>, NoMemory>
+        requires process { process_number process < length N.design.processes }
+        requires slot { self.now.before + slot ≤ self.now.through }
+        ensures { IfOk result (λ updates. map due_of updates.items ≡ updates_through N.design N.plan (self.now.before + slot) (process_number process)) }
+    {
+        window_runs::ends_go_on();
+        between_slots::updates_pend();
+        let first = self.updates[process.0 as usize].as_slice();
+        if slot == 0 {
+            let copy = copy_updates(alloc, first)?;
+            return Ok(copy);
+        }
+        let time = self.slot_time(slot - 1);
+        let phases = self.phases_before(slot);
+        let pending = self
+            .index
+            .pending_through(alloc, &self.runs, process, phases, time, first)?;
+        Ok(pending)
+    }
+
+    /// In the state before a slot, and behind the last one, nothing is left to do before time moves on: no node has work, and each lane is empty. So that state is
+    /// told by its time, its values, and what the processes do and have pending.
+    ///
+    /// It does nothing when it runs.
+    pub fn rests_before(&self, slot: u32)
+        requires { self.now.before + slot ≤ self.now.through }
+        ensures rests { Rests N.design (state_through N.design N.plan (self.now.before + slot)) }
+        ensures told { RestingStatesAreTold }
+    {
+        between_slots::updates_pend();
+        // What the window keeps says so.
+        let _last = self.last;
+    }
+
+    /// The changes of objects in the events of a slot, in order: each write of a variable, also where that keeps its value, and each change of a net piece.
+    pub fn changes_in(&self, slot: u32) -> &[Change]
+        requires { self.now.before + slot < self.now.through }
+        ensures { AreWritesOf (good_machine N.design) (window_events N.design N.plan (self.now.before + slot) (self.now.before + slot + 1))
+            (length (window_events N.design N.plan self.now.before (self.now.before + slot))) (map written_of result.now) }
+    {
+        let first = self.events.beginnings[slot as usize].changes;
+        let end = self.events.beginnings[slot as usize + 1].changes;
+        changes_between(self.events.changes.all(), first, end)
+    }
+
+    /// The runs that end in a slot, in the order in which they end: so a process steps in the slot just where it has one.
+    pub fn runs_in(&self, slot: u32) -> &[RunEnd]
+        requires { self.now.before + slot < self.now.through }
+        ensures { map ender_told result.now ≡ slot_run_ends N.design N.plan self.now.before (self.now.before + slot) }
+    {
+        window_runs::ends_go_on();
+        // The window has more slots than stand before this one, and their number fits.
+        let _all = self.slots();
+        let after = self.phases_before(slot);
+        let through = self.phases_before(slot + 1);
+        runs_between(&self.runs, after, through)
     }
 }

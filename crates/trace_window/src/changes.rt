@@ -117,6 +117,13 @@ impl Changes {
         })
     }
 
+    /// All changes, in order.
+    pub fn all(&self) -> &[Change]
+        ensures { map written_of result.now ≡ self.now.writes }
+    {
+        &self.changes
+    }
+
     /// What an object holds before the event of a moment, where it holds a value at the window's beginning.
     pub fn value_at(&self, first: Vec4, object: ObjectId, moment: u32) -> Vec4
         requires { object_number object < self.now.count }

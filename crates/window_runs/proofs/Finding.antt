@@ -116,12 +116,12 @@ filter-both {A} p q (x ∷ xs) = go (q x) (p x) refl (filter-both p q xs)
     go false true e rest = (λ i. cond (e i && false) (x ∷ rest i) (rest i))
     go false false e rest = (λ i. cond (e i && false) (x ∷ rest i) (rest i))
 
-keys-rise : {A : Type 0} (key : A → ℕ) (xs : List A) → IsNonDecreasingBy key xs → (i j : ℕ) → i ≤ j → j < length xs → get_or (map key xs) i 0 ≤ get_or (map key xs) j 0
+pub keys-rise : {A : Type 0} (key : A → ℕ) (xs : List A) → IsNonDecreasingBy key xs → (i j : ℕ) → i ≤ j → j < length xs → get_or (map key xs) i 0 ≤ get_or (map key xs) j 0
 keys-rise {A} key xs up i j order low =
     let long : length (map key xs) ≡ length xs = length-map xs key in
     map-rises key (λ n. n) xs up i j 0 order (omega arith)
 
-phases-are : (runs : List RunEnd) (index : RunIndex) (count process : ℕ) → IsRunIndexOf count runs index → process < count →
+pub phases-are : (runs : List RunEnd) (index : RunIndex) (count process : ℕ) → IsRunIndexOf count runs index → process < count →
     get_or index.phases process [] ≡ map run_phase (runs_of_process process runs)
 phases-are runs index count process had low = had.phases_are.moments process low ∙ own-moments run_process run_phase process runs
 

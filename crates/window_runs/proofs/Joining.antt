@@ -21,7 +21,7 @@ use Rattle.window_runs.proofs.Parting.{AreParted, parted, part-none}
 
 -- Ascending phases
 
-numbered : (n : ℕ) (processes : List ℕ) → AllHold (λ (e : Ender). e.phase ≡ n) (map (λ (p : ℕ). record { phase = n; process = p }) processes)
+pub numbered : (n : ℕ) (processes : List ℕ) → AllHold (λ (e : Ender). e.phase ≡ n) (map (λ (p : ℕ). record { phase = n; process = p }) processes)
 numbered n [] = tt
 numbered n (p ∷ processes) = (refl, numbered n processes)
 
@@ -44,12 +44,12 @@ ends_ascend codes machine phases runs r =
 
 -- The order of those that are numbered on
 
-numbered-append : {A B : Type 0} (f : ℕ → A → B) (n : ℕ) (xs ys : List A) → map_numbered f n (xs ++ ys) ≡ map_numbered f n xs ++ map_numbered f (n + length xs) ys
+pub numbered-append : {A B : Type 0} (f : ℕ → A → B) (n : ℕ) (xs ys : List A) → map_numbered f n (xs ++ ys) ≡ map_numbered f n xs ++ map_numbered f (n + length xs) ys
 numbered-append f n [] ys = let e : n ≡ n + 0 = omega arith in ap (λ k. map_numbered f k ys) e
 numbered-append f n (x ∷ xs) ys =
     ap (λ l. f n x ∷ l) (numbered-append f (n + 1) xs ys ∙ (let e : n + 1 + length xs ≡ n + suc (length xs) = omega arith in ap (λ k. map_numbered f (n + 1) xs ++ map_numbered f k ys) e))
 
-joined-append : {A : Type 0} (xs ys : List (List A)) → joined (xs ++ ys) ≡ joined xs ++ joined ys
+pub joined-append : {A : Type 0} (xs ys : List (List A)) → joined (xs ++ ys) ≡ joined xs ++ joined ys
 joined-append [] ys = refl
 joined-append (x ∷ xs) ys = ap (λ l. x ++ l) (joined-append xs ys) ∙ sym (append_assoc x (joined xs) (joined ys))
 

@@ -3,3 +3,5 @@ pub mod Parting
 pub mod Finding
 pub mod Joining
 pub mod Standing
+pub mod Through
+pub mod Fronts

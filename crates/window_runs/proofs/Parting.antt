@@ -32,7 +32,7 @@ pub all-weaken : {A : Type 0} (P Q : A → Type 0) (xs : List A) → ((x : A) �
 all-weaken P Q [] from h = tt
 all-weaken P Q (x ∷ xs) from h = (from x h.0, all-weaken P Q xs from h.1)
 
-all-append : {A : Type 0} (P : A → Type 0) (xs ys : List A) → AllHold P xs → AllHold P ys → AllHold P (xs ++ ys)
+pub all-append : {A : Type 0} (P : A → Type 0) (xs ys : List A) → AllHold P xs → AllHold P ys → AllHold P (xs ++ ys)
 all-append P [] ys h k = k
 all-append P (x ∷ xs) ys h k = (h.0, all-append P xs ys h.1 k)
 

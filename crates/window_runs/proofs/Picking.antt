@@ -1,7 +1,7 @@
 -- The n-th element of an owner at a moment, by an index (nothing of the language).
-use Rattle.std.proofs.Common.{◌≡◌, ℕ, zero, suc, ◌+◌, ◌-◌, ◌<◌, ◌≤◌, Bool, true, false, cond, List, [], ◌∷◌, map, length, get_or, refl, sym, ap, ◌∙◌, arith}
-use Rattle.std.specs.Prelude.{◌≢◌, Option, Some, None, filter, nat_eq, slice_get}
-use Rattle.std.proofs.lemmas.Bool.{eqb-true, eq-eqb}
+use Rattle.std.proofs.Common.{◌≡◌, ℕ, zero, suc, ◌+◌, ◌-◌, ◌<◌, ◌≤◌, Bool, true, false, cond, List, [], ◌∷◌, map, length, get_or, take, refl, sym, ap, ◌∙◌, arith}
+use Rattle.std.specs.Prelude.{◌≢◌, Option, Some, None, filter, nat_eq, nat_le, slice_get}
+use Rattle.std.proofs.lemmas.Bool.{eqb-true, eq-eqb, le-leb, lt-leb}
 use Rattle.window_index.specs.Moments.{moment_of, is_of, moments_of}
 use Rattle.window_runs.specs.Placed.{own_of, at_moment, at_place, at_places, at_only}
 
@@ -125,3 +125,30 @@ picked {A} moment time (x ∷ xs) zero n rising before behind = go (nat_eq (mome
         at zero = ap (λ b. cond b (Some x) None) e
         at (suc j) =
             (let a : 0 + suc j ≡ suc j = omega arith in ap (λ k. at_only moment time (slice_get (x ∷ xs) k)) a) ∙ only-late moment time xs j (late e)
+
+-- In the first phases
+
+-- among elements in ascending order of their moments, those up to a time are the first so many
+pub front-is : {A : Type 0} (moment : A → ℕ) (time : ℕ) (xs : List A) (count : ℕ) → count ≤ length xs → ((k : ℕ) → k < count → get_or (map moment xs) k 0 ≤ time) →
+    ((k : ℕ) → count ≤ k → k < length xs → time < get_or (map moment xs) k 0) → filter (λ x. nat_le (moment x) time) xs ≡ take count xs
+front-is moment time [] zero low before behind = refl
+front-is moment time [] (suc count) low before behind = absurd (omega (arith, low))
+front-is moment time (x ∷ xs) zero low before behind =
+    ap (λ b. cond b (x ∷ filter (λ y. nat_le (moment y) time) xs) (filter (λ y. nat_le (moment y) time) xs)) (lt-leb (moment x) time (behind 0 (omega arith) (omega arith)))
+    ∙ front-is moment time xs zero (omega arith) (λ k less. absurd (omega (arith, less))) (λ k more within. behind (suc k) (omega arith) (omega (arith, within)))
+front-is moment time (x ∷ xs) (suc count) low before behind =
+    ap (λ b. cond b (x ∷ filter (λ y. nat_le (moment y) time) xs) (filter (λ y. nat_le (moment y) time) xs)) (le-leb (moment x) time (before 0 (omega arith)))
+    ∙ ap (λ l. x ∷ l)
+    (front-is moment time xs count (omega (arith, low)) (λ k less. before (suc k) (omega (arith, less))) (λ k more within. behind (suc k) (omega (arith, more)) (omega (arith, within))))
+
+-- two tests in either order
+pub filter-swap : {A : Type 0} (p q : A → Bool) (xs : List A) → filter p (filter q xs) ≡ filter q (filter p xs)
+filter-swap p q [] = refl
+filter-swap {A} p q (x ∷ xs) = go (p x) (q x) refl refl (filter-swap p q xs)
+  where
+    go : (a b : Bool) → p x ≡ a → q x ≡ b → filter p (filter q xs) ≡ filter q (filter p xs) →
+        filter p (cond b (x ∷ filter q xs) (filter q xs)) ≡ filter q (cond a (x ∷ filter p xs) (filter p xs))
+    go true true e f rest = (λ i. cond (e i) (x ∷ rest i) (rest i)) ∙ sym (ap (λ c. cond c (x ∷ filter q (filter p xs)) (filter q (filter p xs))) f)
+    go true false e f rest = rest ∙ sym (ap (λ c. cond c (x ∷ filter q (filter p xs)) (filter q (filter p xs))) f)
+    go false true e f rest = λ i. cond (e i) (x ∷ rest i) (rest i)
+    go false false e f rest = rest

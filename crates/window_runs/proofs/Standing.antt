@@ -42,7 +42,7 @@ runs-append : (activity : Activity) (xs ys : List ProcessRun) → activity_after
 runs-append activity [] ys = refl
 runs-append activity (x ∷ xs) ys = runs-append (activity_at_end x.begins x.steps) xs ys
 
-abbrev told_in : Machine → ℕ → Phase → List RunTold
+abbrev pub told_in : Machine → ℕ → Phase → List RunTold
 told_in machine process phase = map (told_of phase.begins.time) (process_runs machine process phase)
 
 all-told : (machine : Machine) (process : ℕ) (activity : Activity) (phases : List Phase) →

@@ -2,3 +2,4 @@ pub mod Placed
 pub mod RunsByProcess
 pub mod Standing
 pub mod RunLaws
+pub mod Through

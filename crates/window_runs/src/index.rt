@@ -7,6 +7,8 @@ ghost use Rattle.vf_base.specs.Base.{process_number};
 ghost use Rattle.window_runs.specs.Placed.{at_moment, at_places};
 ghost use Rattle.run_ends.specs.RunEnds.{ends_of};
 ghost use Rattle.window_runs.specs.RunsByProcess.{run_process, run_phase, runs_of_process, only_at, IsRunIndexOf};
+ghost use Rattle.window_runs.specs.Standing.{last_run};
+ghost use Rattle.window_runs.specs.Through.{runs_through};
 
 use process_code::RunEnd;
 use std::alloc::Global;
@@ -113,8 +115,25 @@ impl RunIndex {
         phases.partition_point(|other| *other < phase)
     }
 
+    /// How many runs of a process come in the phases up to one, and in that.
+    pub(crate) fn count_through(&self, process: ProcId, phase: u32) -> usize
+        requires { process_number process < length self.now.phases }
+        ensures within { result ≤ length (get_or self.now.phases (process_number process) []) }
+        ensures before { (place : ℕ) → place < result → get_or (get_or self.now.phases (process_number process) []) place 0 ≤ phase }
+        ensures behind { (place : ℕ) → result ≤ place → place < length (get_or self.now.phases (process_number process) []) →
+            phase < get_or (get_or self.now.phases (process_number process) []) place 0 }
+    {
+        let phases = self.phases.moments(process.0);
+        phases.partition_point(|other| *other <= phase)
+    }
+
     /// The run at a place among those of a process, by some runs of which this is the index; none past the last.
-    fn run_at<'r>(&self, runs: &'r [RunEnd], process: ProcId, place: usize) -> Option<&'r RunEnd>
+    pub(crate) fn run_at<'r>(
+        &self,
+        runs: &'r [RunEnd],
+        process: ProcId,
+        place: usize,
+    ) -> Option<&'r RunEnd>
         requires process { process_number process < length self.now.phases }
         requires index { IsRunIndexOf (length self.now.phases) runs.now self.now }
         ensures { option_map (λ run. run.now) result ≡ slice_get (runs_of_process (process_number process) runs.now) place }
@@ -152,5 +171,23 @@ impl RunIndex {
     {
         let count = self.places.moments(process.0).len();
         self.run_at(runs, process, count.saturating_sub(1))
+    }
+
+    /// The last run of a process in the phases up to one, by some runs of which this is the index; none where it has none there.
+    pub fn last_through<'r>(
+        &self,
+        runs: &'r [RunEnd],
+        process: ProcId,
+        phase: u32,
+    ) -> Option<&'r RunEnd>
+        requires process { process_number process < length self.now.phases }
+        requires index { IsRunIndexOf (length self.now.phases) runs.now self.now }
+        ensures { option_map (λ run. run.now) result ≡ last_run (process_number process) (runs_through phase runs.now) }
+    {
+        let count = self.count_through(process, phase);
+        if count == 0 {
+            return None;
+        }
+        self.run_at(runs, process, count - 1)
     }
 }

@@ -11,7 +11,7 @@ use std::alloc::Global;
 use vf_base::{NoMemory, ProcId};
 
 /// Where a process stands after a run, if it had one; else where it stood before.
-fn standing_after<'s>(state: &'s ProcState, run: Option<&'s RunEnd>) -> &'s ProcState
+pub fn standing_after<'s>(state: &'s ProcState, run: Option<&'s RunEnd>) -> &'s ProcState
     ensures { result.now ≡ standing_after state.now (option_map (λ run. run.now) run.entry) }
 {
     match run {

@@ -9,7 +9,7 @@ use Rattle.good_trace.proofs.events.index_events.Goals as goal
 pub index_touches-requires : goal.index_touches-requires
 index_touches-requires c =
     subst (λ (l : List Occurrence). IsNonDecreasingBy moment_of l) (sym c.deref.ensures.value)
-    (touches-ascend c.in_ok-list.list.touches.items (slots_accesses c.args.slots.now) c.in_ok-list.ensures.touches)
+    (touches-ascend c.in_ok-gathered.gathered.list.touches.items (slots_accesses c.args.slots.now) c.in_ok-gathered.ensures.list.touches)
 
 pub new-requires : goal.new-requires
-new-requires c = changes-ascend c.in_ok-list.list.changes.items (slots_accesses c.args.slots.now) c.in_ok-list.ensures.changes
+new-requires c = changes-ascend c.in_ok-gathered.gathered.list.changes.items (slots_accesses c.args.slots.now) c.in_ok-gathered.ensures.list.changes

@@ -1,27 +1,34 @@
-use Rattle.std.proofs.Common.{◌≡◌, ℕ, List, [], length, refl, sym, ap, subst, ◌∙◌, Vec, Global}
+use Rattle.std.proofs.Common.{◌≡◌, ℕ, ◌-◌, ◌<◌, List, [], length, refl, sym, ap, subst, ◌∙◌, inl, inr, arith, Vec, Global}
 use Rattle.std.specs.List.Sorted.{IsNonDecreasingBy}
 use Rattle.four_value.specs.Values.{LogicValue}
 use Rattle.four_value.specs.declared.value.Vec4.{Vec4}
+use Rattle.std.specs.Prelude.{Some, slice_get}
+use Rattle.std.proofs.lemmas.Option.{slice_get_cases}
 use Rattle.v_design.specs.Designs.{FlatDesign, TestPlan, good_machine}
+use Rattle.v_design.specs.declared.plan.Due.{Due}
 use Rattle.causal_monitor.specs.declared.slot.SlotLog.{SlotLog}
 use Rattle.process_code.specs.declared.code.Code.{Code}
 use Rattle.process_code.specs.declared.state.ProcState.{ProcState}
 use Rattle.process_code.specs.declared.state.RunEnd.{RunEnd}
 use Rattle.copy_laws.specs.Windows.{WindowEnd, IsWindow}
 use Rattle.between_slots.specs.Between.{window_phases, RunsLead}
+use Rattle.between_slots.specs.Updates.{UpdatesArePending}
 use Rattle.window_runs.specs.declared.index.RunIndex.{RunIndex}
-use Rattle.window_runs.specs.RunLaws.{EndsStand, EndsLead}
+use Rattle.window_runs.specs.RunLaws.{EndsStand, EndsLead, EndsPart, EndsAppend}
 use Rattle.window_runs.specs.RunsByProcess.{run_phase, IsRunIndexOf}
 use Rattle.window_runs.specs.Standing.{AreStatesAfter}
+use Rattle.window_runs.specs.Through.{AreUpdatesAfter}
 use Rattle.good_trace.specs.declared.events.Events.{Events}
 use Rattle.good_trace.specs.Slots.{end_of}
 use Rattle.good_trace.specs.Events.{slots_accesses}
+use Rattle.good_trace.specs.Beginnings.{HasBeginnings}
 use Rattle.good_trace.specs.Closing.{AreClosed}
 use Rattle.good_trace.specs.Traces.{IsTrace, IsTraceWindow}
-use Rattle.good_trace.specs.RunsKept.{AreRunsKept, HasRuns}
+use Rattle.good_trace.specs.RunsKept.{AreUpdatesAt, AreRunsKept, HasRuns}
 use Rattle.good_trace.proofs.Keeping.{IsTrace-none, IsTraceWindow-closed, window-is}
 use Rattle.good_trace.proofs.Following.{AreWindowEvents-closed, ends-within, later-is}
 use Rattle.good_trace.proofs.RunsKeeping.{AreRunsKept-none, AreStatesAt-closed}
+use Rattle.good_trace.proofs.Boundaries.{AreUpdatesAt-closed}
 use Rattle.good_trace.proofs.trace.Trace.close_window.Goals as goal
 
 -- the slots since the last close as a window, with what its events write and touch
@@ -76,10 +83,25 @@ runs-go-on lead stand does codes design plan pushed before steps phases values s
     (AreRunsKept-none codes design plan pushed later runs_had.codes_are
     (AreStatesAt-closed lead stand does codes design plan pushed before steps phases values slots states later runs had runs_had within.0 within.1 own)))
 
+-- the updates that the trace goes on from
+updates-go-on : UpdatesArePending → EndsPart → EndsAppend → (codes : List Code) (design : FlatDesign) (plan : TestPlan) (pushed before steps phases time : ℕ) (values : List LogicValue)
+    (slots timed : List SlotLog) (states : List ProcState) (updates read later kept : List (List Due)) (runs taken : List RunEnd) →
+    IsTrace design plan pushed before steps values slots → AreRunsKept codes design plan pushed before phases states runs → AreUpdatesAt design plan before updates → before < pushed →
+    read ≡ updates → taken ≡ runs → timed ≡ slots → ((one : SlotLog) → slice_get timed (length timed - 1) ≡ Some one → time ≡ one.time) → AreUpdatesAfter phases time read taken later → kept ≡ later →
+    AreUpdatesAt design plan pushed kept
+updates-go-on pends part append codes design plan pushed before steps phases time values slots timed states updates read later kept runs taken had kept_runs updates_had some reads takes times time_is
+    after keeps = subst (λ u. AreUpdatesAt design plan pushed u) (sym keeps) (elim (slice_get_cases slots (length slots - 1)).1 [
+      | inl found ↦
+          AreUpdatesAt-closed pends part append codes design plan pushed before steps phases time values slots states updates later runs found.0 had kept_runs updates_had some found.2
+          (time_is found.0 (ap (λ (l : List SlotLog). slice_get l (length l - 1)) times ∙ found.2))
+          (subst (λ u. AreUpdatesAfter phases time u runs later) reads (subst (λ r. AreUpdatesAfter phases time read r later) takes after))
+      | inr past ↦ absurd (omega (arith, past.0, had.held, some))
+    ])
+
 pub close_runs-requires-clause-rise : goal.close_runs-requires-clause-rise
 close_runs-requires-clause-rise g c =
     let t = c.self.inside in
-    subst (λ (l : List RunEnd). IsNonDecreasingBy run_phase l) (sym c.deref-2.ensures.value)
+    subst (λ (l : List RunEnd). IsNonDecreasingBy run_phase l) (sym c.deref-4.ensures.value)
     (c.ends_go_on.ensures.ascend t.setup.now.codes (good_machine g.N.World.design) (window_phases g.N.World.design g.N.World.plan t.closed t.pushed) t.runs.items c.self.invariant.runs_kept.runs_are).0
 
 pub invariant_of-result : goal.invariant_of-result
@@ -88,15 +110,21 @@ invariant_of-result g c =
     let window = window-is t.setup.now.codes g.N.World.design g.N.World.plan t.pushed t.closed c.args.self.now (end_of c.args.last) c.self.view_is c.requires.last in
     record {
       window =
-          closed g.N.World.design g.N.World.plan t.pushed t.closed t.steps t.values.items c.deref-3.result.now c.replace-values.result.items
-          t.slots.items c.deref-4.result.now c.replace-slots.result.items c.in_ok-closed.closed.events c.in_ok-closed.closed.later.items (end_of c.args.last) c.self.invariant.slots_kept
-          window c.deref-3.ensures.value c.deref-4.ensures.value c.in_ok-closed.ensures (ap (λ (v : Vec Vec4 Global). v.items) c.replace-values.ensures.value)
+          closed g.N.World.design g.N.World.plan t.pushed t.closed t.steps t.values.items c.deref-5.result.now c.replace-values.result.items
+          t.slots.items c.deref-6.result.now c.replace-slots.result.items c.in_ok-closed.closed.events c.in_ok-closed.closed.later.items (end_of c.args.last) c.self.invariant.slots_kept
+          window c.deref-5.ensures.value c.deref-6.ensures.value c.in_ok-closed.ensures.events (ap (λ (v : Vec Vec4 Global). v.items) c.replace-values.ensures.value)
           (ap (λ (v : Vec SlotLog Global). v.items) c.replace-slots.ensures.value);
+      has_beginnings =
+          subst (λ (s : List SlotLog). HasBeginnings s c.in_ok-closed.closed.events) (sym (ap (λ (v : Vec SlotLog Global). v.items) c.replace-slots.ensures.value))
+          (subst (λ (s : List SlotLog). HasBeginnings s c.in_ok-closed.closed.events) c.deref-6.ensures.value c.in_ok-closed.ensures.beginnings);
       has_runs =
-          runs-closed t.setup.now.codes g.N.World.design g.N.World.plan t.pushed t.closed t.phases t.states.items c.deref.result.now c.replace-beginning.result.items
-          t.runs.items c.deref-2.result.now c.replace-runs.result.items c.in_ok-closed_runs.closed_runs.index c.self.invariant.runs_kept c.deref.ensures.value c.deref-2.ensures.value
+          runs-closed t.setup.now.codes g.N.World.design g.N.World.plan t.pushed t.closed t.phases t.states.items c.deref-2.result.now c.replace-beginning.result.items
+          t.runs.items c.deref-4.result.now c.replace-runs.result.items c.in_ok-closed_runs.closed_runs.index c.self.invariant.runs_kept c.deref-2.ensures.value c.deref-4.ensures.value
           c.in_ok-closed_runs.ensures.index (ap (λ (v : Vec ProcState Global). v.items) c.replace-beginning.ensures.value)
           (ap (λ (v : Vec RunEnd Global). v.items) c.replace-runs.ensures.value);
+      has_updates =
+          subst (λ (u : List (List Due)). AreUpdatesAt g.N.World.design g.N.World.plan t.closed u) (sym (ap (λ (v : Vec (List Due) Global). v.items) c.replace-updates.ensures.value))
+          c.self.invariant.updates_kept;
     }
 
 pub invariant_of-self : goal.invariant_of-self
@@ -105,14 +133,20 @@ invariant_of-self g c =
     let window = window-is t.setup.now.codes g.N.World.design g.N.World.plan t.pushed t.closed c.args.self.now (end_of c.args.last) c.self.view_is c.requires.last in
     record {
       slots_kept =
-          goes-on g.N.World.design g.N.World.plan t.pushed t.closed t.steps t.values.items c.deref-3.result.now c.replace-values.new.dest.items
-          t.slots.items c.deref-4.result.now c.replace-slots.new.dest.items c.in_ok-closed.closed.events c.in_ok-closed.closed.later.items (end_of c.args.last) c.self.invariant.slots_kept
-          window c.deref-3.ensures.value c.deref-4.ensures.value c.in_ok-closed.ensures (ap (λ (v : Vec Vec4 Global). v.items) c.replace-values.ensures.after)
+          goes-on g.N.World.design g.N.World.plan t.pushed t.closed t.steps t.values.items c.deref-5.result.now c.replace-values.new.dest.items
+          t.slots.items c.deref-6.result.now c.replace-slots.new.dest.items c.in_ok-closed.closed.events c.in_ok-closed.closed.later.items (end_of c.args.last) c.self.invariant.slots_kept
+          window c.deref-5.ensures.value c.deref-6.ensures.value c.in_ok-closed.ensures.events (ap (λ (v : Vec Vec4 Global). v.items) c.replace-values.ensures.after)
           (ap (λ (v : Vec SlotLog Global). v.items) c.replace-slots.ensures.after ∙ c.spare_of-spare.ensures.slots);
       runs_kept =
           runs-go-on c.runs_lead.ensures.runs c.ends_go_on.ensures.stand c.ends_go_on.ensures.lead t.setup.now.codes g.N.World.design g.N.World.plan t.pushed t.closed t.steps t.phases
-          t.values.items t.slots.items t.states.items c.deref.result.now c.in_ok-closed_runs.closed_runs.stand.items c.replace-beginning.new.dest.items t.runs.items c.deref-2.result.now
-          c.replace-runs.new.dest.items (end_of c.args.last) c.self.invariant.slots_kept c.self.invariant.runs_kept window c.deref.ensures.value c.deref-2.ensures.value
+          t.values.items t.slots.items t.states.items c.deref-2.result.now c.in_ok-closed_runs.closed_runs.stand.items c.replace-beginning.new.dest.items t.runs.items c.deref-4.result.now
+          c.replace-runs.new.dest.items (end_of c.args.last) c.self.invariant.slots_kept c.self.invariant.runs_kept window c.deref-2.ensures.value c.deref-4.ensures.value
           c.in_ok-closed_runs.ensures.stand (ap (λ (v : Vec ProcState Global). v.items) c.replace-beginning.ensures.after)
           (ap (λ (v : Vec RunEnd Global). v.items) c.replace-runs.ensures.after ∙ c.spare_of-spare.ensures.runs);
+      updates_kept =
+          updates-go-on c.updates_pend.ensures.updates c.ends_go_on.ensures.part c.ends_go_on.ensures.append t.setup.now.codes g.N.World.design g.N.World.plan t.pushed t.closed t.steps
+          t.phases c.last_time-time.result t.values.items t.slots.items c.deref.result.now t.states.items t.updates.items c.deref-3.result.now c.in_ok-closed_runs.closed_runs.pending.items
+          c.replace-updates.new.dest.items t.runs.items c.deref-4.result.now c.self.invariant.slots_kept c.self.invariant.runs_kept c.self.invariant.updates_kept window.some
+          c.deref-3.ensures.value c.deref-4.ensures.value c.deref.ensures.value c.last_time-time.ensures c.in_ok-closed_runs.ensures.pending
+          (ap (λ (v : Vec (List Due) Global). v.items) c.replace-updates.ensures.after);
     }

@@ -14,17 +14,19 @@ use Rattle.good_trace.specs.RunsKept.{AreRunsKept}
 use Rattle.good_trace.proofs.Steps.{run-fits}
 use Rattle.good_trace.proofs.Keeping.{IsTrace-none}
 use Rattle.good_trace.proofs.RunsKeeping.{AreStatesAt-start, AreRunsKept-none}
+use Rattle.good_trace.proofs.Boundaries.{AreUpdatesAt-start}
 use Rattle.good_trace.proofs.trace.Trace.new.Goals as goal
 
 pub first_states-requires : goal.first_states-requires
-first_states-requires g c = λ number code here. (c.codes.ensures.world.each number code here).code_of
+first_states-requires g c = λ number code here. (c.codes-codes.ensures.world.each number code here).code_of
 
 pub invariant_of-result : goal.invariant_of-result
 invariant_of-result g c =
     let own = c.setup.inside.design.now in
     let codes = c.args.setup.now.codes in
-    let are : AreCodesOf g.N.World.design codes = subst (AreCodesOf g.N.World.design) c.codes.ensures.codes c.codes.ensures.world in
-    let first : AreFirstStates codes c.in_ok-states.states.items = subst (λ (l : List Code). AreFirstStates l c.in_ok-states.states.items) c.codes.ensures.codes c.in_ok-states.ensures in
+    let are : AreCodesOf g.N.World.design codes = subst (AreCodesOf g.N.World.design) c.codes-codes.ensures.codes c.codes-codes.ensures.world in
+    let first : AreFirstStates codes c.in_ok-states.states.items =
+    subst (λ (l : List Code). AreFirstStates l c.in_ok-states.states.items) c.codes-codes.ensures.codes c.in_ok-states.ensures in
     record {
       slots_kept =
           subst (λ (l : List SlotLog). IsTrace g.N.World.design g.N.World.plan 0 0 0 c.in_ok-values.values.items l) (sym c.new.ensures.items)
@@ -35,4 +37,7 @@ invariant_of-result g c =
       runs_kept =
           subst (λ (l : List RunEnd). AreRunsKept codes g.N.World.design g.N.World.plan 0 0 0 c.in_ok-states.states.items l) (sym c.new-2.ensures.items)
           (AreRunsKept-none codes g.N.World.design g.N.World.plan 0 c.in_ok-states.states.items are (AreStatesAt-start codes g.N.World.design g.N.World.plan c.in_ok-states.states.items are first));
+      updates_kept =
+          AreUpdatesAt-start g.N.World.design g.N.World.plan c.in_ok-updates.updates.items (c.in_ok-updates.ensures.count ∙ c.codes-codes.ensures.world.count)
+          c.in_ok-updates.ensures.each;
     }

@@ -38,6 +38,7 @@ invariant_of-self-2 g c =
           AreRunsKept-more c.ends_go_on.ensures.join t.setup.now.codes g.N.World.design g.N.World.plan t.pushed t.closed t.phases c.in_ok-phases.phases t.states.items t.runs.items
           c.args.runs.items c.push_slot.new.runs.items c.args.slot c.self.invariant.runs_kept next (omega (arith, c.self.invariant.slots_kept.held)) c.in_ok-phases.ensures.count
           (c.in_ok-push_slot.ensures.runs ∙ ap (λ l. t.runs.items ++ l) c.number_from.ensures);
+      updates_kept = c.self.invariant.updates_kept;
     }
 
 pub returns-clause-full : goal.returns-clause-full

@@ -1,0 +1,49 @@
+use Rattle.std.proofs.Common.{◌+◌, ◌<◌, List, length, map, ap, sym, subst, ◌∙◌, arith}
+use Rattle.std.proofs.lemmas.List.{length-map}
+use Rattle.v_design.specs.Designs.{good_machine}
+use Rattle.trace_window.specs.declared.change.Change.{Change}
+use Rattle.trace_window.specs.Moments.{window_events}
+use Rattle.trace_window.specs.Writes.{Written, written_of}
+use Rattle.good_trace.specs.Slots.{end_of}
+use Rattle.good_trace.specs.SlotsTold.{AreWritesOf}
+use Rattle.good_trace.specs.Traces.{WindowKept}
+use Rattle.good_trace.proofs.Following.{ends-within}
+use Rattle.good_trace.proofs.Boundaries.{changes-bounds, changes-told}
+use Rattle.good_trace.proofs.window.TraceWindow.changes_in.Goals as goal
+
+pub changes_between-requires-clause-order : goal.changes_between-requires-clause-order
+changes_between-requires-clause-order g c =
+    let w = c.self.inside in
+    let own = c.self.invariant in
+    let fits : w.begins + c.args.slot < w.ends = subst (λ (k : WindowKept). k.before + c.args.slot < k.through) (sym c.self.view_is) c.requires in
+    (changes-bounds c.args.slot w.slots.items w.events.beginnings.items c.index.result.now c.index-2.result.now w.events.changes.writes own.has_beginnings.beginnings
+    (omega (arith, fits, own.window.stands.held)) c.index.ensures c.index-2.ensures own.has_beginnings.writes).0
+
+pub changes_between-requires-clause-within : goal.changes_between-requires-clause-within
+changes_between-requires-clause-within g c =
+    let w = c.self.inside in
+    let own = c.self.invariant in
+    let fits : w.begins + c.args.slot < w.ends = subst (λ (k : WindowKept). k.before + c.args.slot < k.through) (sym c.self.view_is) c.requires in
+    let within = (changes-bounds c.args.slot w.slots.items w.events.beginnings.items c.index.result.now c.index-2.result.now w.events.changes.writes own.has_beginnings.beginnings
+    (omega (arith, fits, own.window.stands.held)) c.index.ensures c.index-2.ensures own.has_beginnings.writes).1 in
+    let long = ap (λ (l : List Written). length l) c.all.ensures in
+    let mapped = length-map c.all.result.now written_of in
+    omega (arith, within, long, mapped)
+
+pub returns : goal.returns
+returns g c =
+    let w = c.self.inside in
+    let own = c.self.invariant in
+    let fits : w.begins + c.args.slot < w.ends = subst (λ (k : WindowKept). k.before + c.args.slot < k.through) (sym c.self.view_is) c.requires in
+    let within = ends-within g.N.World.design g.N.World.plan w.begins w.ends (end_of w.last) own.window.stands.window in
+    subst
+    (λ (k : WindowKept).
+    AreWritesOf (good_machine g.N.World.design) (window_events g.N.World.design g.N.World.plan (k.before + c.args.slot) (k.before + c.args.slot + 1))
+    (length (window_events g.N.World.design g.N.World.plan k.before (k.before + c.args.slot))) (map written_of c.changes_between.result.now)) c.self.view_is
+    (subst
+    (λ (l : List Change).
+    AreWritesOf (good_machine g.N.World.design) (window_events g.N.World.design g.N.World.plan (w.begins + c.args.slot) (w.begins + c.args.slot + 1))
+    (length (window_events g.N.World.design g.N.World.plan w.begins (w.begins + c.args.slot))) (map written_of l)) (sym c.changes_between.ensures)
+    (changes-told g.N.World.design g.N.World.plan w.begins c.args.slot w.ends w.slots.items c.all.result.now w.events.beginnings.items c.index.result.now c.index-2.result.now
+    own.window.stands.slots_are own.window.stands.held within.1 own.has_beginnings.beginnings (omega (arith, fits, own.window.stands.held)) c.index.ensures c.index-2.ensures
+    (c.all.ensures ∙ own.has_beginnings.writes)))
