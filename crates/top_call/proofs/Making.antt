@@ -24,7 +24,7 @@ use Rattle.plan_report.specs.Reports as reports
 use Rattle.plan_report.specs.declared.extent.Extent.TheVariants.{Lines, Totals}
 use Rattle.soak_text.specs.Soak as soaks
 use Rattle.v_elab.specs.declared.Mode.TheVariants.{Usual}
-use Rattle.vf_words.specs.Words.{Source, Form, Grade, Check, Faults, Soak, Dict, Diagnose, Pick}
+use Rattle.vf_words.specs.Words.{Source, Form, Grade, Check, Faults, Soak, Dict, Diagnose, Certify, Audit, Pick}
 use Rattle.vf_status.specs.declared.status.Which.{Which}
 use Rattle.vf_status.specs.declared.status.Which.TheVariants as whiches
 use Rattle.vf_status.specs.declared.status.Refusal.{Refusal}
@@ -33,9 +33,9 @@ use Rattle.vf_status.specs.declared.status.Status.{Status}
 use Rattle.vf_status.specs.declared.status.Status.TheVariants.{Done, Refused, Usage, ReadFault, WriteFault, NoMemory, GoodLoop, TooLong}
 use Rattle.top_call.specs.Answers.{Answer, Outputs, Refuses, Lacks, Exceeds, Loops, status_of, most_of, IsFile, HoldDesign, AfterSource, refusal_of, by_workers, IsAnswer, IsTheAnswer}
 use Rattle.std.specs.Prelude.{IfSome, IfErr}
-use Rattle.top_call.specs.Outside.{Answers, IsOutput, IfTold, ShelfCounts, reads_to, refused_file, IsReason, ComesTo, ReadFailed, ToldLong, PutGives, PutsInFew, Keeps, Names, MakesDictionary}
+use Rattle.top_call.specs.Outside.{Answers, IsOutput, IfTold, ShelfCounts, reads_to, refused_file, IsReason, ComesTo, ReadFailed, ToldLong, PutGives, PutsInFew, Keeps, Names}
 use Rattle.top_call.specs.Outside.{CanRefuse, CanEnd, files_of, files_named, files_for, as_answered, no_memory, no_read, no_put}
-use Rattle.top_call.specs.Making.{IsLongFile, FileGives, TextFails, HoldRefused, DesignGives, status_if, design_status, report_status, soak_status, OutputGives}
+use Rattle.top_call.specs.Making.{IsLongFile, FileGives, IsReasonOf, TextFails, HoldRefused, DesignGives, status_if, design_status, report_status, soak_status, OutputGives}
 use Rattle.top_call.proofs.OneAnswer.{The, source-lacks, source-exceeds, source-refused, plan-lacks, plan-exceeds, plan-tells, check-tells, faults-tell, soak-tells}
 
 -- what is handed on
@@ -61,28 +61,35 @@ file-ends form held name which old new NoMemory names h = tt
 file-ends form held name which old new (GoodLoop time) names h = absurd h
 file-ends form held name which old new (TooLong file) names h = subst (Names form) (sym h.0) names
 
-can-refuse : (form : Form) (which : Which) (why : Refusal) → Names form which → (whiches.Plan ≡ which → MakesDictionary form) → refused_file why ≡ which → CanRefuse form why
-can-refuse form which (refusals.Scan fault) names makes e = subst (Names form) (sym e) names
-can-refuse form which (refusals.Parse fault) names makes e = subst (Names form) (sym e) names
-can-refuse form which (refusals.Elab fault) names makes e = subst (Names form) (sym e) names
-can-refuse form which (refusals.Plan fault) names makes e = subst (Names form) (sym e) names
-can-refuse form which (refusals.Response fault) names makes e = subst (Names form) (sym e) names
-can-refuse form which (refusals.TooLarge room) names makes e = makes e
+-- a reason of a text other than the plan's
+can-refuse : (form : Form) (which : Which) (why : Refusal) → Names form which → (whiches.Plan ≡ which → ⊥) → refused_file why ≡ which → CanRefuse form why
+can-refuse form which (refusals.Scan fault) names other e = subst (Names form) (sym e) names
+can-refuse form which (refusals.Parse fault) names other e = subst (Names form) (sym e) names
+can-refuse form which (refusals.Elab fault) names other e = subst (Names form) (sym e) names
+can-refuse form which (refusals.Plan fault) names other e = subst (Names form) (sym e) names
+can-refuse form which (refusals.Response fault) names other e = subst (Names form) (sym e) names
+can-refuse form which (refusals.TooLarge room) names other e = absurd (other e)
+can-refuse form which (refusals.NoFault place) names other e = absurd (other e)
 
-pub text-ends : (form : Form) (held : Option Files) (name : List ℕ) (which : Which) (refuses : Files → Refusal → Type 0) (old new : ShelfCounts) (status : Status) → Names form which →
-    (whiches.Plan ≡ which → MakesDictionary form) → TextFails held name which refuses old new status → CanEnd form status
-text-ends form held name which refuses old new Done names makes h = absurd h
-text-ends form held name which refuses old new (Refused why) names makes h = (can-refuse form which why names makes h.0, h.1)
-text-ends form held name which refuses old new Usage names makes h = absurd h
-text-ends form held name which refuses old new (ReadFault file) names makes h = subst (Names form) (sym h.0) names
-text-ends form held name which refuses old new WriteFault names makes h = absurd h
-text-ends form held name which refuses old new NoMemory names makes h = tt
-text-ends form held name which refuses old new (GoodLoop time) names makes h = absurd h
-text-ends form held name which refuses old new (TooLong file) names makes h = subst (Names form) (sym h.0) names
+pub reason-can : (form : Form) (which : Which) → Names form which → (whiches.Plan ≡ which → ⊥) → (why : Refusal) → IsReasonOf which why → CanRefuse form why × IsReason why
+reason-can form which names other why reason = (can-refuse form which why names other reason.0, reason.1)
+
+pub text-ends : (form : Form) (held : Option Files) (name : List ℕ) (which : Which) (can : Refusal → Type 0) (refuses : Files → Refusal → Type 0) (old new : ShelfCounts) (status : Status) →
+    Names form which → ((why : Refusal) → can why → CanRefuse form why × IsReason why) → TextFails held name which can refuses old new status → CanEnd form status
+text-ends form held name which can refuses old new Done names cans h = absurd h
+text-ends form held name which can refuses old new (Refused why) names cans h = cans why h.0
+text-ends form held name which can refuses old new Usage names cans h = absurd h
+text-ends form held name which can refuses old new (ReadFault file) names cans h = subst (Names form) (sym h.0) names
+text-ends form held name which can refuses old new WriteFault names cans h = absurd h
+text-ends form held name which can refuses old new NoMemory names cans h = tt
+text-ends form held name which can refuses old new (GoodLoop time) names cans h = absurd h
+text-ends form held name which can refuses old new (TooLong file) names cans h = subst (Names form) (sym h.0) names
 
 pub source-ends : (form : Form) (held : Option Files) (source : Source) (old new : ShelfCounts) (status : Status) → Names form whiches.Design → DesignGives held source old new (Err status) →
     CanEnd form status
-source-ends form held source old new status names h = text-ends form held source.design whiches.Design (λ files why. HoldRefused files source why) old new status names (λ e. absurd (cc)) h
+source-ends form held source old new status names h =
+    text-ends form held source.design whiches.Design (IsReasonOf whiches.Design) (λ files why. HoldRefused files source why) old new status names
+    (reason-can form whiches.Design names (λ e. cc)) h
 
 -- a plan's text that was read isn't too long
 pub plan-reason : (design : FlatDesign) (text : List ℕ) (fault : PlanFault) → length text ≤ most_of whiches.Plan → plans.Refuses design text fault → fault ≢ plan_faults.NoMemory →
@@ -143,9 +150,9 @@ module _ (held : Option Files) (source : Source) (old new : ShelfCounts) (bytes 
       by : (told : Option Files) → IfTold told (λ files. IsFile files source.design whiches.Design bytes) → (reason : Option Refusal) → refusal_of fault ≡ reason →
           DesignGives told source old new (Err (status_if reason))
       by None f None e = tt
-      by None f (Some why) e = let r = its-reason why e in (r.0, r.1, tt)
+      by None f (Some why) e = (its-reason why e, tt)
       by (Some files) f None e = tt
-      by (Some files) f (Some why) e = let r = its-reason why e in (r.0, r.1, record { bytes = bytes; file = f; fault = fault; meaning = means-here (Err fault) is; told = e })
+      by (Some files) f (Some why) e = (its-reason why e, record { bytes = bytes; file = f; fault = fault; meaning = means-here (Err fault) is; told = e })
 
   pub design-faulty : (fault : DesignFault) (status : Status) → (fault ≡ designs.NoMemory) ⊎ texts.IsTheMeaning text top source.mode (Err fault) → status ≡ design_status fault →
       DesignGives held source old new (Err status)
@@ -183,34 +190,34 @@ module _ (form : Form) (name : List ℕ) (which : Which) (refuses : Files → Re
   abbrev Long : Option Files → Which → Type 0
   Long held file = ToldLong held file old new ⊎ ((files : Files) × (held ≡ Some files) × IsTheAnswer form files (Exceeds file))
 
-  pub text-not-read : (held : Option Files) (status : Status) → IfTold held (Decides form name which refuses) → TextFails held name which refuses mid new status →
+  pub text-not-read : (can : Refusal → Type 0) (held : Option Files) (status : Status) → IfTold held (Decides form name which refuses) → TextFails held name which can refuses mid new status →
       OutputGives form held old new (Err status)
-  text-not-read held Done d h = absurd h
-  text-not-read None (Refused why) d h = tt
-  text-not-read (Some files) (Refused why) d h = d.refused why h.2
-  text-not-read held Usage d h = absurd h
-  text-not-read held (ReadFault file) d (same, inl rose) =
+  text-not-read can held Done d h = absurd h
+  text-not-read can None (Refused why) d h = tt
+  text-not-read can (Some files) (Refused why) d h = d.refused why h.1
+  text-not-read can held Usage d h = absurd h
+  text-not-read can held (ReadFault file) d (same, inl rose) =
       subst (Failed held) (sym same) (inl (record { faults = rose-from old.faults mid.faults new.faults faults rose; reads = reads; due = due-of held d }))
-  text-not-read None (ReadFault file) d (same, inr none) = absurd none
-  text-not-read (Some files) (ReadFault file) d (same, inr none) = subst (Failed (Some files)) (sym same) (inr (files, refl, d.lacks none))
-  text-not-read held WriteFault d h = absurd h
-  text-not-read held NoMemory d h = tt
-  text-not-read held (GoodLoop time) d h = absurd h
-  text-not-read None (TooLong file) d h =
+  text-not-read can None (ReadFault file) d (same, inr none) = absurd none
+  text-not-read can (Some files) (ReadFault file) d (same, inr none) = subst (Failed (Some files)) (sym same) (inr (files, refl, d.lacks none))
+  text-not-read can held WriteFault d h = absurd h
+  text-not-read can held NoMemory d h = tt
+  text-not-read can held (GoodLoop time) d h = absurd h
+  text-not-read can None (TooLong file) d h =
       subst (Long None) (sym h.0) (inl (record { untold = refl; long = rose-from old.long_answers mid.long_answers new.long_answers longs h.1; reads = reads }))
-  text-not-read (Some files) (TooLong file) d h = subst (Long (Some files)) (sym h.0) (inr (files, refl, d.exceeds h.1))
+  text-not-read can (Some files) (TooLong file) d h = subst (Long (Some files)) (sym h.0) (inr (files, refl, d.exceeds h.1))
 
 -- reading a file fails as reading a text does
-pub file-fails : (held : Option Files) (name : List ℕ) (which : Which) (refuses : Files → Refusal → Type 0) (old new : ShelfCounts) (status : Status) →
-    FileGives held name which old new (Err status) → TextFails held name which refuses old new status
-file-fails held name which refuses old new Done h = absurd h
-file-fails held name which refuses old new (Refused why) h = absurd h
-file-fails held name which refuses old new Usage h = absurd h
-file-fails held name which refuses old new (ReadFault file) h = h
-file-fails held name which refuses old new WriteFault h = absurd h
-file-fails held name which refuses old new NoMemory h = tt
-file-fails held name which refuses old new (GoodLoop time) h = absurd h
-file-fails held name which refuses old new (TooLong file) h = h
+pub file-fails : (held : Option Files) (name : List ℕ) (which : Which) (can : Refusal → Type 0) (refuses : Files → Refusal → Type 0) (old new : ShelfCounts) (status : Status) →
+    FileGives held name which old new (Err status) → TextFails held name which can refuses old new status
+file-fails held name which can refuses old new Done h = absurd h
+file-fails held name which can refuses old new (Refused why) h = absurd h
+file-fails held name which can refuses old new Usage h = absurd h
+file-fails held name which can refuses old new (ReadFault file) h = h
+file-fails held name which can refuses old new WriteFault h = absurd h
+file-fails held name which can refuses old new NoMemory h = tt
+file-fails held name which can refuses old new (GoodLoop time) h = absurd h
+file-fails held name which can refuses old new (TooLong file) h = h
 
 -- the design of a form
 
@@ -228,14 +235,19 @@ module _ (form : Form) (source : Source) (next : Files → FlatDesign → Answer
   pub not-read : (held : Option Files) (old new : ShelfCounts) (status : Status) → new.reads ≡ raised old.reads → DesignGives held source old new (Err status) →
       OutputGives form held old new (Err status)
   not-read held old new status reads h =
-      text-not-read form source.design whiches.Design (λ files why. HoldRefused files source why) old old new (omega arith) (omega arith) reads held status (source-decides held) h
+      text-not-read form source.design whiches.Design (λ files why. HoldRefused files source why) old old new (omega arith) (omega arith) reads (IsReasonOf whiches.Design) held status
+      (source-decides held) h
 
 -- Where the plan of a report isn't read
 
-module _ (source : Source) (plan : List ℕ) (workers : ℕ) (design : FlatDesign) where
-  abbrev NoRefusal : Files → Refusal → Type 0
-  NoRefusal files why = ⊥
+-- a file alone is never refused
+abbrev pub NoReason : Refusal → Type 0
+NoReason why = ⊥
 
+abbrev pub NoRefusal : Files → Refusal → Type 0
+NoRefusal files why = ⊥
+
+module _ (source : Source) (plan : List ℕ) (workers : ℕ) (design : FlatDesign) where
   plan-decides : (held : Option Files) → IfTold held (λ files. HoldDesign files source design) → IfTold held (Decides (Grade source plan workers) plan whiches.Plan NoRefusal)
   plan-decides None d = tt
   plan-decides (Some files) d = record {
@@ -249,8 +261,8 @@ module _ (source : Source) (plan : List ℕ) (workers : ℕ) (design : FlatDesig
       new.reads ≡ raised mid.reads →
       IfTold held (λ files. HoldDesign files source design) → FileGives held plan whiches.Plan mid new (Err status) → OutputGives (Grade source plan workers) held old new (Err status)
   plan-not-read held old mid new status faults longs one two d h =
-      text-not-read (Grade source plan workers) plan whiches.Plan NoRefusal old mid new faults longs (two ∙ ap raised one) held status (plan-decides held d)
-      (file-fails held plan whiches.Plan NoRefusal mid new status h)
+      text-not-read (Grade source plan workers) plan whiches.Plan NoRefusal old mid new faults longs (two ∙ ap raised one) NoReason held status (plan-decides held d)
+      (file-fails held plan whiches.Plan NoReason NoRefusal mid new status h)
 
   -- Where both are read
 
@@ -360,6 +372,8 @@ any-workers (Faults source) workers files answer is = is
 any-workers (Soak number size count) workers files answer is = is
 any-workers (Dict source plan) workers files answer is = is
 any-workers (Diagnose source plan response) workers files answer is = is
+any-workers (Certify source plan fault) workers files answer is = is
+any-workers (Audit source plan cert) workers files answer is = is
 any-workers (Pick source plan) workers files answer is = is
 
 one-output : (form : Form) (files : Files) (text : List ℕ) → IsOutput form files text → (workers : ℕ) (other : List ℕ) → IsAnswer (by_workers workers form) files (Outputs other) → other ≡ text

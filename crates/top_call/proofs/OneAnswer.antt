@@ -18,21 +18,26 @@ use Rattle.response_text.specs.Reading.{response_of}
 use Rattle.response_text.specs.Spelled as responses
 use Rattle.response_text.specs.declared.fault.ResponseFault.{ResponseFault}
 use Rattle.response_text.specs.declared.fault.ResponseFault.TheVariants as response_faults
-use Rattle.dict_text.specs.Dictionaries.{too_large}
 use Rattle.dict_report.specs.declared.fault.OutputFault.{OutputFault}
 use Rattle.dict_report.specs.declared.fault.OutputFault.TheVariants as output_faults
 use Rattle.dict_report.specs.Outputs as outputs
+use Rattle.cert_report.specs.declared.fault.CertifyFault.{CertifyFault}
+use Rattle.cert_report.specs.declared.fault.CertifyFault.TheVariants as certify_faults
+use Rattle.cert_report.specs.Certificates as certificates
+use Rattle.cert_report.specs.Audits as audits
 use Rattle.soak_text.specs.Soak as soaks
 use Rattle.v_elab.specs.declared.Mode.TheVariants.{Usual}
-use Rattle.vf_words.specs.Words.{Source, Form, Grade, Check, Faults, Soak, Dict, Diagnose, Pick}
+use Rattle.vf_words.specs.Words.{Source, Form, Grade, Check, Faults, Soak, Dict, Diagnose, Certify, Audit, Pick}
 use Rattle.vf_status.specs.declared.status.Which.{Which}
 use Rattle.vf_status.specs.declared.status.Which.TheVariants as whiches
 use Rattle.vf_status.specs.declared.status.Refusal.{Refusal}
 use Rattle.vf_status.specs.declared.status.Refusal.TheVariants as refusals
-use Rattle.top_call.specs.Answers.{Answer, Outputs, Refuses, Lacks, Exceeds, most_of, IsFile, HoldDesign, HoldPlan, HoldResponse, AfterFile, refusal_of, IsRefusal, GoesOn, AfterDesign, AfterSource}
-use Rattle.top_call.specs.Answers.{IsReported, AfterPlan, PlanMeans, AfterRoom, PlanGoesOn, AfterPlanText, AfterTest, ResponseMeans, ResponseGoesOn, AfterResponse, IsMade, AfterOutput}
-use Rattle.top_call.specs.Answers.{AfterObserved, IsCounted, IsSoaked, IsTheAnswer}
-use Rattle.top_call.specs.Outside.{ComesTo, Names, MakesDictionary, RunsGood}
+use Rattle.top_call.specs.declared.purpose.Purpose.{Purpose}
+use Rattle.top_call.specs.declared.purpose.Purpose.TheVariants.{Dictionary, Certificate}
+use Rattle.top_call.specs.Answers.{Answer, Outputs, Refuses, Lacks, Exceeds, most_of, IsFile, HoldDesign, excess, HoldPlan, HoldResponse, AfterFile, refusal_of, IsRefusal, GoesOn, AfterDesign}
+use Rattle.top_call.specs.Answers.{AfterSource, IsReported, AfterPlan, PlanMeans, AfterRoom, PlanGoesOn, AfterPlanText, AfterTest, ResponseMeans, ResponseGoesOn, AfterResponse, IsMade}
+use Rattle.top_call.specs.Answers.{AfterOutput, AfterObserved, IsCertified, AfterPlace, AfterCert, AfterAudited, IsCounted, IsSoaked, IsTheAnswer}
+use Rattle.top_call.specs.Outside.{ComesTo, Names, MakesDictionary}
 use Rattle.top_call.specs.Making.{IsLongFile, HoldRefused, RefusesText, HoldRefusedPlan, RefusesObserved, HoldRefusedResponse}
 
 -- an answer, and the only one
@@ -120,7 +125,7 @@ plan-meaning design bytes (Ok one) (Err other) h d = absurd (no-reason design by
 plan-meaning design bytes (Err one) (Ok other) h d = absurd (no-reason design bytes other one d h.0 h.1)
 plan-meaning design bytes (Err one) (Err other) h d = ap (λ f. Err f) (one-reason design bytes other one d.0 h.0 d.1 h.1)
 
--- Plans of a dictionary
+-- Plans for a purpose
 
 room-refused : (room : Option ℕ) (most : ℕ) (next : Answer → Type 0) → room ≡ Some most → The (AfterRoom room next) (Refuses (refusals.TooLarge most))
 room-refused None most next e = absurd (cc)
@@ -131,22 +136,24 @@ room-left : (room : Option ℕ) (next : Answer → Type 0) (answer : Answer) →
 room-left None next answer e t = t
 room-left (Some found) next answer e t = absurd (cc)
 
-module _ (design : FlatDesign) (next : TestPlan → Answer → Type 0) (bytes : List ℕ) where
-  text-refused : (why : Refusal) → RefusesText design bytes why → The (AfterPlanText design next bytes) (Refuses why)
+module _ (purpose : Purpose) (design : FlatDesign) (next : TestPlan → Answer → Type 0) (bytes : List ℕ) where
+  text-refused : (why : Refusal) → RefusesText purpose design bytes why → The (AfterPlanText purpose design next bytes) (Refuses why)
   text-refused (refusals.Scan fault) h = absurd h
   text-refused (refusals.Parse fault) h = absurd h
   text-refused (refusals.Elab fault) h = absurd h
   text-refused (refusals.Plan fault) h =
-      the-meaning (PlanMeans design bytes) (PlanGoesOn next) (Err fault) (Refuses (refusals.Plan fault)) h (λ other d. plan-meaning design bytes (Err fault) other h d) (refl, λ other o. o)
+      the-meaning (PlanMeans design bytes) (PlanGoesOn purpose next) (Err fault) (Refuses (refusals.Plan fault)) h (λ other d. plan-meaning design bytes (Err fault) other h d) (refl, λ other o. o)
   text-refused (refusals.Response fault) h = absurd h
   text-refused (refusals.TooLarge room) h =
-      the-meaning (PlanMeans design bytes) (PlanGoesOn next) (Ok h.0) (Refuses (refusals.TooLarge room)) h.1 (λ other d. plan-meaning design bytes (Ok h.0) other h.1 d)
-      (room-refused (too_large h.0) room (next h.0) h.2)
+      the-meaning (PlanMeans design bytes) (PlanGoesOn purpose next) (Ok h.0) (Refuses (refusals.TooLarge room)) h.1 (λ other d. plan-meaning design bytes (Ok h.0) other h.1 d)
+      (room-refused (excess purpose h.0) room (next h.0) h.2)
+  text-refused (refusals.NoFault place) h = absurd h
 
-  text-spells : (plan : TestPlan) (answer : Answer) → plans.Spells design bytes plan → too_large plan ≡ None → The (next plan) answer → The (AfterPlanText design next bytes) answer
+  text-spells : (plan : TestPlan) (answer : Answer) → plans.Spells design bytes plan → excess purpose plan ≡ None → The (next plan) answer →
+      The (AfterPlanText purpose design next bytes) answer
   text-spells plan answer spelled roomy t =
-      the-meaning (PlanMeans design bytes) (PlanGoesOn next) (Ok plan) answer spelled (λ other d. plan-meaning design bytes (Ok plan) other spelled d)
-      (room-left (too_large plan) (next plan) answer roomy t)
+      the-meaning (PlanMeans design bytes) (PlanGoesOn purpose next) (Ok plan) answer spelled (λ other d. plan-meaning design bytes (Ok plan) other spelled d)
+      (room-left (excess purpose plan) (next plan) answer roomy t)
 
 -- Responses
 
@@ -187,6 +194,7 @@ module _ (plan : TestPlan) (next : List Sample → Answer → Type 0) (bytes : L
   response-refused (refusals.Response fault) h =
       the-meaning (ResponseMeans plan bytes) (ResponseGoesOn next) (Err fault) (Refuses (refusals.Response fault)) h (λ other d. response-meaning plan bytes (Err fault) other h d) (refl, λ other o. o)
   response-refused (refusals.TooLarge room) h = absurd h
+  response-refused (refusals.NoFault place) h = absurd h
 
   response-spells : (observed : List Sample) (answer : Answer) → responses.Spells plan bytes observed → The (next observed) answer → The (AfterResponse plan next bytes) answer
   response-spells observed answer spelled t =
@@ -203,6 +211,20 @@ pub the-output : (output : outputs.Output) (design : FlatDesign) (plan : TestPla
     IsMade meaning answer →
     The (AfterOutput output design plan) answer
 the-output output design plan meaning answer is told = the-meaning (outputs.Means output design plan) IsMade meaning answer is.means is.only (told, λ other h. made-one meaning answer other told h)
+
+-- Certificates
+
+certified-one : (meaning : Result (List ℕ) CertifyFault) (one other : Answer) → IsCertified meaning one → IsCertified meaning other → other ≡ one
+certified-one (Ok text) one other h d = d ∙ sym h
+certified-one (Err (certify_faults.NoFault place)) one other h d = d ∙ sym h
+certified-one (Err (certify_faults.GoodLoop time)) one other h d = d ∙ sym h
+certified-one (Err certify_faults.NoMemory) one other h d = absurd h
+
+pub the-certificate : (place : ℕ) (design : FlatDesign) (plan : TestPlan) (meaning : Result (List ℕ) CertifyFault) (answer : Answer) → certificates.IsTheMeaning design plan place meaning →
+    IsCertified meaning answer →
+    The (AfterPlace place design plan) answer
+the-certificate place design plan meaning answer is told =
+    the-meaning (certificates.Means design plan place) IsCertified meaning answer is.means is.only (told, λ other h. certified-one meaning answer other told h)
 
 -- Forms
 
@@ -248,30 +270,34 @@ module _ (source : Source) (files : Files) where
   pub faults-tell : (design : FlatDesign) (text : List ℕ) → HoldDesign files source design → IsTheFaultsText design text → IsTheAnswer (Faults source) files (Outputs text)
   faults-tell design text h is = faults-form (Outputs text) (source-design source faults_next files design (Outputs text) h ((text, is.is, refl), λ other o. o.2 ∙ ap Outputs (is.only o.0 o.1)))
 
--- Forms over a dictionary
+-- Forms over a plan that is read for a purpose
 
-module _ (source : Source) (plan : List ℕ) (files : Files) (next : FlatDesign → TestPlan → Answer → Type 0) where
+module _ (source : Source) (plan : List ℕ) (purpose : Purpose) (files : Files) (next : FlatDesign → TestPlan → Answer → Type 0) where
   abbrev OverTest : Answer → Type 0
-  OverTest = AfterSource source files (AfterTest files plan next)
+  OverTest = AfterSource source files (AfterTest purpose files plan next)
 
   pub test-lacks : (design : FlatDesign) → HoldDesign files source design → content_of files plan ≡ None → The OverTest (Lacks whiches.Plan)
-  test-lacks design h e = source-design source (AfterTest files plan next) files design (Lacks whiches.Plan) h (the-lacks whiches.Plan (AfterPlanText design (next design)) (content_of files plan) e)
+  test-lacks design h e =
+      source-design source (AfterTest purpose files plan next) files design (Lacks whiches.Plan) h
+      (the-lacks whiches.Plan (AfterPlanText purpose design (next design)) (content_of files plan) e)
 
   pub test-exceeds : (design : FlatDesign) → HoldDesign files source design → IsLongFile files plan whiches.Plan → The OverTest (Exceeds whiches.Plan)
   test-exceeds design h l =
-      source-design source (AfterTest files plan next) files design (Exceeds whiches.Plan) h
-      (the-exceeds whiches.Plan (AfterPlanText design (next design)) (content_of files plan) l.bytes l.held l.long)
+      source-design source (AfterTest purpose files plan next) files design (Exceeds whiches.Plan) h
+      (the-exceeds whiches.Plan (AfterPlanText purpose design (next design)) (content_of files plan) l.bytes l.held l.long)
 
-  pub test-refused : (design : FlatDesign) (why : Refusal) → HoldDesign files source design → HoldRefusedPlan files plan design why → The OverTest (Refuses why)
+  pub test-refused : (design : FlatDesign) (why : Refusal) → HoldDesign files source design → HoldRefusedPlan files plan purpose design why → The OverTest (Refuses why)
   test-refused design why h r =
-      source-design source (AfterTest files plan next) files design (Refuses why) h
-      (the-file whiches.Plan (AfterPlanText design (next design)) (content_of files plan) r.bytes (Refuses why) r.file.held r.file.short (text-refused design (next design) r.bytes why r.refused))
+      source-design source (AfterTest purpose files plan next) files design (Refuses why) h
+      (the-file whiches.Plan (AfterPlanText purpose design (next design)) (content_of files plan) r.bytes (Refuses why) r.file.held r.file.short
+      (text-refused purpose design (next design) r.bytes why r.refused))
 
-  pub test-spelled : (design : FlatDesign) (test : TestPlan) (answer : Answer) → HoldDesign files source design → HoldPlan files plan design test → The (next design test) answer → The OverTest answer
+  pub test-spelled : (design : FlatDesign) (test : TestPlan) (answer : Answer) → HoldDesign files source design → HoldPlan files plan purpose design test → The (next design test) answer →
+      The OverTest answer
   test-spelled design test answer h p t =
-      source-design source (AfterTest files plan next) files design answer h
-      (the-file whiches.Plan (AfterPlanText design (next design)) (content_of files plan) p.bytes answer p.file.held p.file.short
-      (text-spells design (next design) p.bytes test answer p.spelled p.roomy t))
+      source-design source (AfterTest purpose files plan next) files design answer h
+      (the-file whiches.Plan (AfterPlanText purpose design (next design)) (content_of files plan) p.bytes answer p.file.held p.file.short
+      (text-spells purpose design (next design) p.bytes test answer p.spelled p.roomy t))
 
 -- what was observed decides a diagnosis
 module _ (files : Files) (response : List ℕ) (design : FlatDesign) (test : TestPlan) where
@@ -294,43 +320,68 @@ module _ (files : Files) (response : List ℕ) (design : FlatDesign) (test : Tes
       the-file whiches.Response (AfterResponse test ByObserved) (content_of files response) h.bytes answer h.file.held h.file.short
       (response-spells test ByObserved h.bytes observed answer h.spelled t)
 
--- a form over the dictionary of a design and a plan: what comes next decides its answer
-pub record IsOver (form : Form) (source : Source) (plan : List ℕ) (next : Files → FlatDesign → TestPlan → Answer → Type 0) : Type 0 where
-  pub as_form : (files : Files) (answer : Answer) → The (AfterSource source files (AfterTest files plan (next files))) answer → IsTheAnswer form files answer
+-- what the bytes of a certificate decide of its audit
+module _ (files : Files) (cert : List ℕ) (design : FlatDesign) (test : TestPlan) where
+  pub cert-lacks : content_of files cert ≡ None → The (AfterAudited files cert design test) (Lacks whiches.Cert)
+  cert-lacks e = the-lacks whiches.Cert (AfterCert design test) (content_of files cert) e
+
+  pub cert-exceeds : IsLongFile files cert whiches.Cert → The (AfterAudited files cert design test) (Exceeds whiches.Cert)
+  cert-exceeds l = the-exceeds whiches.Cert (AfterCert design test) (content_of files cert) l.bytes l.held l.long
+
+  pub cert-tells : (bytes text : List ℕ) → IsFile files cert whiches.Cert bytes → text ≡ audits.audit_text design test bytes → The (AfterAudited files cert design test) (Outputs text)
+  cert-tells bytes text f e = the-file whiches.Cert (AfterCert design test) (content_of files cert) bytes (Outputs text) f.held f.short (ap Outputs e, λ other o. o ∙ ap Outputs (sym e))
+
+-- a form over a design and a plan that is read for a purpose: what comes next decides its answer
+pub record IsOver (form : Form) (source : Source) (plan : List ℕ) (purpose : Purpose) (next : Files → FlatDesign → TestPlan → Answer → Type 0) : Type 0 where
+  pub as_form : (files : Files) (answer : Answer) → The (AfterSource source files (AfterTest purpose files plan (next files))) answer → IsTheAnswer form files answer
   pub due : (files : Files) (design : FlatDesign) → HoldDesign files source design → ComesTo form files whiches.Plan
   pub names_design : Names form whiches.Design
   pub names_plan : Names form whiches.Plan
-  pub makes : MakesDictionary form
-  pub loops : RunsGood form
+  pub makes : purpose ≡ Dictionary → MakesDictionary form
 
-pub dict-over : (source : Source) (plan : List ℕ) → IsOver (Dict source plan) source plan (λ files. AfterOutput outputs.DictText)
+pub dict-over : (source : Source) (plan : List ℕ) → IsOver (Dict source plan) source plan Dictionary (λ files. AfterOutput outputs.DictText)
 dict-over source plan = record {
   as_form = λ files answer t. record { is = t.0; only = t.1 };
   due = λ files design h. (design, h);
   names_design = lit< tt;
   names_plan = lit< tt;
-  makes = tt;
-  loops = tt;
+  makes = λ e. tt;
 }
 
-pub pick-over : (source : Source) (plan : List ℕ) → IsOver (Pick source plan) source plan (λ files. AfterOutput outputs.PickText)
+pub pick-over : (source : Source) (plan : List ℕ) → IsOver (Pick source plan) source plan Dictionary (λ files. AfterOutput outputs.PickText)
 pick-over source plan = record {
   as_form = λ files answer t. record { is = t.0; only = t.1 };
   due = λ files design h. (design, h);
   names_design = lit< tt;
   names_plan = lit< tt;
-  makes = tt;
-  loops = tt;
+  makes = λ e. tt;
 }
 
-pub diagnose-over : (source : Source) (plan response : List ℕ) → IsOver (Diagnose source plan response) source plan (λ files. AfterObserved files response)
+pub diagnose-over : (source : Source) (plan response : List ℕ) → IsOver (Diagnose source plan response) source plan Dictionary (λ files. AfterObserved files response)
 diagnose-over source plan response = record {
   as_form = λ files answer t. record { is = t.0; only = t.1 };
   due = λ files design h. (design, h);
   names_design = lit< tt;
   names_plan = lit< tt;
-  makes = tt;
-  loops = tt;
+  makes = λ e. tt;
+}
+
+pub certify-over : (source : Source) (plan : List ℕ) (place : ℕ) → IsOver (Certify source plan place) source plan Certificate (λ files. AfterPlace place)
+certify-over source plan place = record {
+  as_form = λ files answer t. record { is = t.0; only = t.1 };
+  due = λ files design h. (design, h);
+  names_design = lit< tt;
+  names_plan = lit< tt;
+  makes = λ e. absurd (cc);
+}
+
+pub audit-over : (source : Source) (plan cert : List ℕ) → IsOver (Audit source plan cert) source plan Certificate (λ files. AfterAudited files cert)
+audit-over source plan cert = record {
+  as_form = λ files answer t. record { is = t.0; only = t.1 };
+  due = λ files design h. (design, h);
+  names_design = lit< tt;
+  names_plan = lit< tt;
+  makes = λ e. absurd (cc);
 }
 
 -- Generated designs

@@ -20,17 +20,23 @@ use Rattle.dict_report.specs.declared.fault.OutputFault.{OutputFault}
 use Rattle.dict_report.specs.declared.fault.OutputFault.TheVariants as output_faults
 use Rattle.dict_report.specs.Outputs as outputs
 use Rattle.dict_report.specs.Orders as orders
+use Rattle.cert_report.specs.declared.fault.CertifyFault.{CertifyFault}
+use Rattle.cert_report.specs.declared.fault.CertifyFault.TheVariants as certify_faults
+use Rattle.cert_report.specs.Certificates as certificates
+use Rattle.cert_report.specs.Audits as audits
 use Rattle.plan_report.specs.declared.extent.Extent.TheVariants.{Lines, Totals}
 use Rattle.plan_report.specs.declared.fault.ReportFault.{ReportFault}
 use Rattle.plan_report.specs.declared.fault.ReportFault.TheVariants as reported
 use Rattle.plan_report.specs.Reports as reports
-use Rattle.vf_words.specs.Words.{Source, Form, Grade, Check, Faults, Soak, Dict, Diagnose, Pick}
+use Rattle.vf_words.specs.Words.{Source, Form, Grade, Check, Faults, Soak, Dict, Diagnose, Certify, Audit, Pick}
 use Rattle.vf_status.specs.declared.status.Which.{Which}
 use Rattle.vf_status.specs.declared.status.Which.TheVariants as whiches
 use Rattle.vf_status.specs.declared.status.Refusal.{Refusal}
 use Rattle.vf_status.specs.declared.status.Refusal.TheVariants as refusals
 use Rattle.vf_status.specs.declared.status.Status.{Status}
 use Rattle.vf_status.specs.declared.status.Status.TheVariants as statuses
+use Rattle.top_call.specs.declared.purpose.Purpose.{Purpose}
+use Rattle.top_call.specs.declared.purpose.Purpose.TheVariants.{Dictionary, Certificate}
 
 -- the text of an output; a refusal; a file that isn't there; a file with more bytes than it may have; the time at which the good machine loops
 pub data Answer : Type 0 where
@@ -53,6 +59,7 @@ abbrev pub most_of : Which → ℕ
 most_of whiches.Design = 1048576
 most_of whiches.Plan = 262144
 most_of whiches.Response = 1048576
+most_of whiches.Cert = 16777216
 
 -- What the files hold
 
@@ -67,12 +74,17 @@ pub record HoldDesign (files : Files) (source : Source) (design : FlatDesign) : 
   pub file : IsFile files source.design whiches.Design bytes
   pub meaning : texts.IsTheMeaning bytes source.top source.mode (Ok design)
 
--- a text that spells the plan over the design, whose dictionary isn't too large; a text spells one plan
-pub record HoldPlan (files : Files) (name : List ℕ) (design : FlatDesign) (plan : TestPlan) : Type 0 where
+-- the room of a plan's dictionary where that is too much, if the plan is read for one
+abbrev pub excess : Purpose → TestPlan → Option ℕ
+excess Dictionary plan = too_large plan
+excess Certificate plan = None
+
+-- a text that spells the plan over the design, whose dictionary isn't too large if the plan is read for one; a text spells one plan
+pub record HoldPlan (files : Files) (name : List ℕ) (purpose : Purpose) (design : FlatDesign) (plan : TestPlan) : Type 0 where
   pub bytes : List ℕ
   pub file : IsFile files name whiches.Plan bytes
   pub spelled : plans.Spells design bytes plan
-  pub roomy : too_large plan ≡ None
+  pub roomy : excess purpose plan ≡ None
 
 -- a text that spells the response to the plan; a text spells one response
 pub record HoldResponse (files : Files) (name : List ℕ) (plan : TestPlan) (observed : List Sample) : Type 0 where
@@ -132,18 +144,18 @@ abbrev pub AfterRoom : Option ℕ → (Answer → Type 0) → Answer → Type 0
 AfterRoom None next answer = next answer
 AfterRoom (Some room) next answer = answer ≡ Refuses (refusals.TooLarge room)
 
--- the plan decides, if its dictionary isn't too large, or its text is refused
-abbrev pub PlanGoesOn : (TestPlan → Answer → Type 0) → Result TestPlan PlanFault → Answer → Type 0
-PlanGoesOn next (Ok plan) answer = AfterRoom (too_large plan) (next plan) answer
-PlanGoesOn next (Err fault) answer = answer ≡ Refuses (refusals.Plan fault)
+-- the plan decides, if its dictionary isn't too large where it is read for one, or its text is refused
+abbrev pub PlanGoesOn : Purpose → (TestPlan → Answer → Type 0) → Result TestPlan PlanFault → Answer → Type 0
+PlanGoesOn purpose next (Ok plan) answer = AfterRoom (excess purpose plan) (next plan) answer
+PlanGoesOn purpose next (Err fault) answer = answer ≡ Refuses (refusals.Plan fault)
 
--- the text of a plan for a dictionary is read over the design
-abbrev pub AfterPlanText : FlatDesign → (TestPlan → Answer → Type 0) → List ℕ → Answer → Type 0
-AfterPlanText design next bytes answer = (meaning : Result TestPlan PlanFault) × PlanMeans design bytes meaning × PlanGoesOn next meaning answer
+-- the text of a plan is read over the design, for a purpose
+abbrev pub AfterPlanText : Purpose → FlatDesign → (TestPlan → Answer → Type 0) → List ℕ → Answer → Type 0
+AfterPlanText purpose design next bytes answer = (meaning : Result TestPlan PlanFault) × PlanMeans design bytes meaning × PlanGoesOn purpose next meaning answer
 
--- the plan of a form over a dictionary is read: first its file, then its text
-abbrev pub AfterTest : Files → List ℕ → (FlatDesign → TestPlan → Answer → Type 0) → FlatDesign → Answer → Type 0
-AfterTest files plan next design answer = AfterFile whiches.Plan (content_of files plan) (AfterPlanText design (next design)) answer
+-- the plan of a form is read for a purpose: first its file, then its text
+abbrev pub AfterTest : Purpose → Files → List ℕ → (FlatDesign → TestPlan → Answer → Type 0) → FlatDesign → Answer → Type 0
+AfterTest purpose files plan next design answer = AfterFile whiches.Plan (content_of files plan) (AfterPlanText purpose design (next design)) answer
 
 -- what a response's text means for a plan: what was observed, or the reason why it spells no response
 abbrev pub ResponseMeans : TestPlan → List ℕ → Result (List Sample) ResponseFault → Type 0
@@ -174,6 +186,25 @@ abbrev pub AfterObserved : Files → List ℕ → FlatDesign → TestPlan → An
 AfterObserved files response design plan answer =
     AfterFile whiches.Response (content_of files response) (AfterResponse plan (λ observed. AfterOutput (outputs.Diagnosis observed) design plan)) answer
 
+-- what the place of a listed fault means, as an answer
+abbrev pub IsCertified : Result (List ℕ) CertifyFault → Answer → Type 0
+IsCertified (Ok text) answer = answer ≡ Outputs text
+IsCertified (Err (certify_faults.NoFault place)) answer = answer ≡ Refuses (refusals.NoFault place)
+IsCertified (Err (certify_faults.GoodLoop time)) answer = answer ≡ Loops time
+IsCertified (Err certify_faults.NoMemory) answer = ⊥
+
+-- the certificate of the listed fault of a place is made
+abbrev pub AfterPlace : ℕ → FlatDesign → TestPlan → Answer → Type 0
+AfterPlace place design plan answer = (meaning : Result (List ℕ) CertifyFault) × certificates.Means design plan place meaning × IsCertified meaning answer
+
+-- a certificate's text is audited
+abbrev pub AfterCert : FlatDesign → TestPlan → List ℕ → Answer → Type 0
+AfterCert design plan bytes answer = answer ≡ Outputs (audits.audit_text design plan bytes)
+
+-- an audit is made: first the certificate is read
+abbrev pub AfterAudited : Files → List ℕ → FlatDesign → TestPlan → Answer → Type 0
+AfterAudited files cert design plan answer = AfterFile whiches.Cert (content_of files cert) (AfterCert design plan) answer
+
 -- what the text of a generated plan means, as an answer
 abbrev pub IsCounted : Result (List ℕ) ReportFault → Answer → Type 0
 IsCounted (Ok totals) answer = answer ≡ Outputs totals
@@ -199,6 +230,8 @@ by_workers count (Faults source) = Faults source
 by_workers count (Soak number size workers) = Soak number size count
 by_workers count (Dict source plan) = Dict source plan
 by_workers count (Diagnose source plan response) = Diagnose source plan response
+by_workers count (Certify source plan fault) = Certify source plan fault
+by_workers count (Audit source plan cert) = Audit source plan cert
 by_workers count (Pick source plan) = Pick source plan
 
 abbrev pub IsAnswer : Form → Files → Answer → Type 0
@@ -206,9 +239,11 @@ IsAnswer (Grade source plan workers) files answer = AfterSource source files (λ
 IsAnswer (Check source) files answer = AfterSource source files (λ design answer. answer ≡ Outputs (check_text design)) answer
 IsAnswer (Faults source) files answer = AfterSource source files (λ design answer. (text : List ℕ) × IsFaultsText design text × (answer ≡ Outputs text)) answer
 IsAnswer (Soak number size workers) files answer = IsSoaked number size answer
-IsAnswer (Dict source plan) files answer = AfterSource source files (AfterTest files plan (AfterOutput outputs.DictText)) answer
-IsAnswer (Diagnose source plan response) files answer = AfterSource source files (AfterTest files plan (AfterObserved files response)) answer
-IsAnswer (Pick source plan) files answer = AfterSource source files (AfterTest files plan (AfterOutput outputs.PickText)) answer
+IsAnswer (Dict source plan) files answer = AfterSource source files (AfterTest Dictionary files plan (AfterOutput outputs.DictText)) answer
+IsAnswer (Diagnose source plan response) files answer = AfterSource source files (AfterTest Dictionary files plan (AfterObserved files response)) answer
+IsAnswer (Certify source plan fault) files answer = AfterSource source files (AfterTest Certificate files plan (AfterPlace fault)) answer
+IsAnswer (Audit source plan cert) files answer = AfterSource source files (AfterTest Certificate files plan (AfterAudited files cert)) answer
+IsAnswer (Pick source plan) files answer = AfterSource source files (AfterTest Dictionary files plan (AfterOutput outputs.PickText)) answer
 
 -- this is the answer, and there is no other
 pub record IsTheAnswer (form : Form) (files : Files) (answer : Answer) : Type 0 where
@@ -238,7 +273,7 @@ pub record TellsInEveryOrder (output : outputs.Output) (source : Source) (plan :
   pub design : FlatDesign
   pub design_held : HoldDesign files source design
   pub test : TestPlan
-  pub plan_held : HoldPlan files plan design test
+  pub plan_held : HoldPlan files plan Dictionary design test
   pub holds : orders.HoldsInEveryOrder output design test text
 
 -- the diagnosis is that of the response of the files over their design and plan, and what its lines say holds in every legal order
@@ -246,10 +281,28 @@ pub record DiagnosesInEveryOrder (source : Source) (plan response : List ℕ) (f
   pub design : FlatDesign
   pub design_held : HoldDesign files source design
   pub test : TestPlan
-  pub plan_held : HoldPlan files plan design test
+  pub plan_held : HoldPlan files plan Dictionary design test
   pub observed : List Sample
   pub response_held : HoldResponse files response test observed
   pub holds : orders.HoldsInEveryOrder (outputs.Diagnosis observed) design test text
+
+-- the certificate is that of the fault at a place of the plan of the files over their design: its line holds in every legal order, and it is read as a valid one
+pub record CertifiesInEveryOrder (source : Source) (plan : List ℕ) (place : ℕ) (files : Files) (text : List ℕ) : Type 0 where
+  pub design : FlatDesign
+  pub design_held : HoldDesign files source design
+  pub test : TestPlan
+  pub plan_held : HoldPlan files plan Certificate design test
+  pub holds : certificates.CertificateHolds design test place text
+
+-- the audit is that of the certificate of the files over their design and plan, and what a yes says holds in every legal order
+pub record AuditsInEveryOrder (source : Source) (plan cert : List ℕ) (files : Files) (text : List ℕ) : Type 0 where
+  pub design : FlatDesign
+  pub design_held : HoldDesign files source design
+  pub test : TestPlan
+  pub plan_held : HoldPlan files plan Certificate design test
+  pub bytes : List ℕ
+  pub cert_held : IsFile files cert whiches.Cert bytes
+  pub holds : audits.AuditHolds design test bytes text
 
 abbrev pub Stands : Form → Files → List ℕ → Type 0
 Stands (Grade source plan workers) files text = StandsInEveryOrder source plan files text
@@ -258,4 +311,6 @@ Stands (Faults source) files text = Unit {0}
 Stands (Soak number size workers) files text = CountsInEveryOrder number size text
 Stands (Dict source plan) files text = TellsInEveryOrder outputs.DictText source plan files text
 Stands (Diagnose source plan response) files text = DiagnosesInEveryOrder source plan response files text
+Stands (Certify source plan fault) files text = CertifiesInEveryOrder source plan fault files text
+Stands (Audit source plan cert) files text = AuditsInEveryOrder source plan cert files text
 Stands (Pick source plan) files text = TellsInEveryOrder outputs.PickText source plan files text

@@ -17,9 +17,10 @@ use Rattle.kept_samples.specs.declared.kept.Sample.{Sample}
 use Rattle.response_text.specs.Spelled as responses
 use Rattle.response_text.specs.declared.fault.ResponseFault.{ResponseFault}
 use Rattle.response_text.specs.declared.fault.ResponseFault.TheVariants as response_faults
-use Rattle.dict_text.specs.Dictionaries.{too_large}
 use Rattle.dict_report.specs.declared.fault.OutputFault.{OutputFault}
 use Rattle.dict_report.specs.declared.fault.OutputFault.TheVariants as output_faults
+use Rattle.cert_report.specs.declared.fault.CertifyFault.{CertifyFault}
+use Rattle.cert_report.specs.declared.fault.CertifyFault.TheVariants as certify_faults
 use Rattle.plan_report.specs.declared.fault.ReportFault.{ReportFault}
 use Rattle.plan_report.specs.declared.fault.ReportFault.TheVariants as reported
 use Rattle.vf_words.specs.Words.{Source, Form}
@@ -29,7 +30,9 @@ use Rattle.vf_status.specs.declared.status.Refusal.{Refusal}
 use Rattle.vf_status.specs.declared.status.Refusal.TheVariants as refusals
 use Rattle.vf_status.specs.declared.status.Status.{Status}
 use Rattle.vf_status.specs.declared.status.Status.TheVariants.{Done, Refused, Usage, ReadFault, WriteFault, NoMemory, GoodLoop, TooLong}
-use Rattle.top_call.specs.Answers.{Refuses, Lacks, Exceeds, Loops, refusal_of, most_of, IsFile, HoldDesign, HoldPlan, HoldResponse, IsTheAnswer}
+use Rattle.top_call.specs.declared.purpose.Purpose.{Purpose}
+use Rattle.top_call.specs.declared.purpose.Purpose.TheVariants.{Dictionary}
+use Rattle.top_call.specs.Answers.{Refuses, Lacks, Exceeds, Loops, refusal_of, most_of, IsFile, HoldDesign, excess, HoldPlan, HoldResponse, IsTheAnswer}
 use Rattle.top_call.specs.Outside.{IfTold, ShelfCounts, IsOutput, ReadFailed, ToldLong, refused_file, IsReason}
 
 -- Files
@@ -63,16 +66,20 @@ FileGives held name which old new (Err (TooLong file)) = (file ≡ which) × Lon
 
 -- Texts
 
--- how reading a text of the form can end without what it says: it is refused for a reason of that text, or as reading its file can
-abbrev pub TextFails : Option Files → List ℕ → Which → (Files → Refusal → Type 0) → ShelfCounts → ShelfCounts → Status → Type 0
-TextFails held name which refuses old new Done = ⊥
-TextFails held name which refuses old new (Refused why) = (refused_file why ≡ which) × IsReason why × IfTold held (λ files. refuses files why)
-TextFails held name which refuses old new Usage = ⊥
-TextFails held name which refuses old new (ReadFault file) = (file ≡ which) × (Rose old.faults new.faults ⊎ NoFile held name)
-TextFails held name which refuses old new WriteFault = ⊥
-TextFails held name which refuses old new NoMemory = Unit {0}
-TextFails held name which refuses old new (GoodLoop time) = ⊥
-TextFails held name which refuses old new (TooLong file) = (file ≡ which) × LongFile held name which old.long_answers new.long_answers
+-- a reason of the text of this file
+abbrev pub IsReasonOf : Which → Refusal → Type 0
+IsReasonOf which why = (refused_file why ≡ which) × IsReason why
+
+-- how reading a text of the form can end without what it says: it is refused for a reason that it can have, or as reading its file can
+abbrev pub TextFails : Option Files → List ℕ → Which → (Refusal → Type 0) → (Files → Refusal → Type 0) → ShelfCounts → ShelfCounts → Status → Type 0
+TextFails held name which can refuses old new Done = ⊥
+TextFails held name which can refuses old new (Refused why) = can why × IfTold held (λ files. refuses files why)
+TextFails held name which can refuses old new Usage = ⊥
+TextFails held name which can refuses old new (ReadFault file) = (file ≡ which) × (Rose old.faults new.faults ⊎ NoFile held name)
+TextFails held name which can refuses old new WriteFault = ⊥
+TextFails held name which can refuses old new NoMemory = Unit {0}
+TextFails held name which can refuses old new (GoodLoop time) = ⊥
+TextFails held name which can refuses old new (TooLong file) = (file ≡ which) × LongFile held name which old.long_answers new.long_answers
 
 -- Designs
 
@@ -95,9 +102,9 @@ design_status fault = status_if (refusal_of fault)
 -- what reading the design of a form answers
 abbrev pub DesignGives : Option Files → Source → ShelfCounts → ShelfCounts → Result Design Status → Type 0
 DesignGives held source old new (Ok design) = IfTold held (λ files. HoldDesign files source (design_of design))
-DesignGives held source old new (Err status) = TextFails held source.design whiches.Design (λ files why. HoldRefused files source why) old new status
+DesignGives held source old new (Err status) = TextFails held source.design whiches.Design (IsReasonOf whiches.Design) (λ files why. HoldRefused files source why) old new status
 
--- Plans of a dictionary
+-- Plans
 
 -- the status of a plan's text without a plan
 abbrev pub plan_status : PlanFault → Status
@@ -107,37 +114,48 @@ plan_status (plan_faults.TooMany line) = Refused (refusals.Plan (plan_faults.Too
 plan_status plan_faults.TooLong = Refused (refusals.Plan plan_faults.TooLong)
 plan_status plan_faults.NoMemory = NoMemory
 
--- why a plan's text is refused for a dictionary: it spells no plan, or one whose dictionary is too large
-abbrev pub RefusesText : FlatDesign → List ℕ → Refusal → Type 0
-RefusesText design bytes (refusals.Scan fault) = ⊥
-RefusesText design bytes (refusals.Parse fault) = ⊥
-RefusesText design bytes (refusals.Elab fault) = ⊥
-RefusesText design bytes (refusals.Plan fault) = plans.Refuses design bytes fault × (fault ≢ plan_faults.NoMemory)
-RefusesText design bytes (refusals.Response fault) = ⊥
-RefusesText design bytes (refusals.TooLarge room) = (plan : TestPlan) × plans.Spells design bytes plan × (too_large plan ≡ Some room)
+-- why a plan's text is refused for a purpose: it spells no plan, or one whose dictionary is too large where it is read for one
+abbrev pub RefusesText : Purpose → FlatDesign → List ℕ → Refusal → Type 0
+RefusesText purpose design bytes (refusals.Scan fault) = ⊥
+RefusesText purpose design bytes (refusals.Parse fault) = ⊥
+RefusesText purpose design bytes (refusals.Elab fault) = ⊥
+RefusesText purpose design bytes (refusals.Plan fault) = plans.Refuses design bytes fault × (fault ≢ plan_faults.NoMemory)
+RefusesText purpose design bytes (refusals.Response fault) = ⊥
+RefusesText purpose design bytes (refusals.TooLarge room) = (plan : TestPlan) × plans.Spells design bytes plan × (excess purpose plan ≡ Some room)
+RefusesText purpose design bytes (refusals.NoFault place) = ⊥
 
--- what reading a plan's text for a dictionary answers
-abbrev pub PlanTextGives : FlatDesign → List ℕ → Result Plan Status → Type 0
-PlanTextGives design bytes (Ok plan) = plans.Spells design bytes (plan_of plan) × (too_large (plan_of plan) ≡ None)
-PlanTextGives design bytes (Err Done) = ⊥
-PlanTextGives design bytes (Err (Refused why)) = RefusesText design bytes why
-PlanTextGives design bytes (Err Usage) = ⊥
-PlanTextGives design bytes (Err (ReadFault file)) = ⊥
-PlanTextGives design bytes (Err WriteFault) = ⊥
-PlanTextGives design bytes (Err NoMemory) = Unit {0}
-PlanTextGives design bytes (Err (GoodLoop time)) = ⊥
-PlanTextGives design bytes (Err (TooLong file)) = ⊥
+-- the reasons for which a plan's text can be refused for a purpose
+abbrev pub IsPlanReason : Purpose → Refusal → Type 0
+IsPlanReason purpose (refusals.Scan fault) = ⊥
+IsPlanReason purpose (refusals.Parse fault) = ⊥
+IsPlanReason purpose (refusals.Elab fault) = ⊥
+IsPlanReason purpose (refusals.Plan fault) = IsReason (refusals.Plan fault)
+IsPlanReason purpose (refusals.Response fault) = ⊥
+IsPlanReason purpose (refusals.TooLarge room) = (purpose ≡ Dictionary) × IsReason (refusals.TooLarge room)
+IsPlanReason purpose (refusals.NoFault place) = ⊥
 
--- the files hold a plan's text that is refused for a dictionary
-pub record HoldRefusedPlan (files : Files) (name : List ℕ) (design : FlatDesign) (why : Refusal) : Type 0 where
+-- what reading a plan's text for a purpose answers
+abbrev pub PlanTextGives : Purpose → FlatDesign → List ℕ → Result Plan Status → Type 0
+PlanTextGives purpose design bytes (Ok plan) = plans.Spells design bytes (plan_of plan) × (excess purpose (plan_of plan) ≡ None)
+PlanTextGives purpose design bytes (Err Done) = ⊥
+PlanTextGives purpose design bytes (Err (Refused why)) = RefusesText purpose design bytes why
+PlanTextGives purpose design bytes (Err Usage) = ⊥
+PlanTextGives purpose design bytes (Err (ReadFault file)) = ⊥
+PlanTextGives purpose design bytes (Err WriteFault) = ⊥
+PlanTextGives purpose design bytes (Err NoMemory) = Unit {0}
+PlanTextGives purpose design bytes (Err (GoodLoop time)) = ⊥
+PlanTextGives purpose design bytes (Err (TooLong file)) = ⊥
+
+-- the files hold a plan's text that is refused for a purpose
+pub record HoldRefusedPlan (files : Files) (name : List ℕ) (purpose : Purpose) (design : FlatDesign) (why : Refusal) : Type 0 where
   pub bytes : List ℕ
   pub file : IsFile files name whiches.Plan bytes
-  pub refused : RefusesText design bytes why
+  pub refused : RefusesText purpose design bytes why
 
--- what reading the plan of a form over a dictionary answers
-abbrev pub PlanGives : Option Files → List ℕ → FlatDesign → ShelfCounts → ShelfCounts → Result Plan Status → Type 0
-PlanGives held name design old new (Ok plan) = IfTold held (λ files. HoldPlan files name design (plan_of plan))
-PlanGives held name design old new (Err status) = TextFails held name whiches.Plan (λ files why. HoldRefusedPlan files name design why) old new status
+-- what reading the plan of a form for a purpose answers
+abbrev pub PlanGives : Option Files → List ℕ → Purpose → FlatDesign → ShelfCounts → ShelfCounts → Result Plan Status → Type 0
+PlanGives held name purpose design old new (Ok plan) = IfTold held (λ files. HoldPlan files name purpose design (plan_of plan))
+PlanGives held name purpose design old new (Err status) = TextFails held name whiches.Plan (IsPlanReason purpose) (λ files why. HoldRefusedPlan files name purpose design why) old new status
 
 -- Responses
 
@@ -155,6 +173,7 @@ RefusesObserved plan bytes (refusals.Elab fault) = ⊥
 RefusesObserved plan bytes (refusals.Plan fault) = ⊥
 RefusesObserved plan bytes (refusals.Response fault) = responses.Refuses plan bytes fault × (fault ≢ response_faults.NoMemory)
 RefusesObserved plan bytes (refusals.TooLarge room) = ⊥
+RefusesObserved plan bytes (refusals.NoFault place) = ⊥
 
 -- the files hold a response's text that is refused
 pub record HoldRefusedResponse (files : Files) (name : List ℕ) (plan : TestPlan) (why : Refusal) : Type 0 where
@@ -165,7 +184,7 @@ pub record HoldRefusedResponse (files : Files) (name : List ℕ) (plan : TestPla
 -- what reading the response of a form answers
 abbrev pub ResponseGives : Option Files → List ℕ → TestPlan → ShelfCounts → ShelfCounts → Result (Vec Sample Global) Status → Type 0
 ResponseGives held name plan old new (Ok observed) = IfTold held (λ files. HoldResponse files name plan (samples_kept observed.items))
-ResponseGives held name plan old new (Err status) = TextFails held name whiches.Response (λ files why. HoldRefusedResponse files name plan why) old new status
+ResponseGives held name plan old new (Err status) = TextFails held name whiches.Response (IsReasonOf whiches.Response) (λ files why. HoldRefusedResponse files name plan why) old new status
 
 -- Reports
 
@@ -185,6 +204,12 @@ soak_status reported.NoMemory = NoMemory
 abbrev pub output_status : OutputFault → Status
 output_status (output_faults.GoodLoop time) = GoodLoop time
 output_status output_faults.NoMemory = NoMemory
+
+-- the status of a place of the list without a certificate
+abbrev pub certify_status : CertifyFault → Status
+certify_status (certify_faults.NoFault place) = Refused (refusals.NoFault place)
+certify_status (certify_faults.GoodLoop time) = GoodLoop time
+certify_status certify_faults.NoMemory = NoMemory
 
 -- Outputs
 

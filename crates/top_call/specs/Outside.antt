@@ -11,13 +11,14 @@ use Rattle.elaborate.specs.declared.fault.ElabFault.TheVariants as elabs
 use Rattle.plan_read.specs.declared.fault.PlanFault.TheVariants as plans
 use Rattle.response_text.specs.declared.fault.ResponseFault.TheVariants as responses
 use Rattle.dict_text.specs.Dictionaries.{most_room}
-use Rattle.vf_words.specs.Words.{Form, Grade, Check, Faults, Soak, Dict, Diagnose, Pick}
+use Rattle.vf_words.specs.Words.{Form, Grade, Check, Faults, Soak, Dict, Diagnose, Certify, Audit, Pick}
 use Rattle.vf_status.specs.declared.status.Which.{Which}
 use Rattle.vf_status.specs.declared.status.Which.TheVariants as whiches
 use Rattle.vf_status.specs.declared.status.Refusal.{Refusal}
 use Rattle.vf_status.specs.declared.status.Refusal.TheVariants as refusals
 use Rattle.vf_status.specs.declared.status.Status.{Status}
 use Rattle.vf_status.specs.declared.status.Status.TheVariants.{Done, Refused, Usage, ReadFault, WriteFault, NoMemory, GoodLoop, TooLong}
+use Rattle.top_call.specs.declared.purpose.Purpose.TheVariants.{Dictionary, Certificate}
 use Rattle.top_call.specs.Answers.{Answer, Outputs, status_of, HoldDesign, HoldPlan, IsAnswer, IsTheAnswer, Stands}
 
 -- a fact about what is told, where it is told
@@ -39,6 +40,7 @@ abbrev pub reads_to : Which → ℕ → ℕ
 reads_to whiches.Design reads = raised reads
 reads_to whiches.Plan reads = raised (raised reads)
 reads_to whiches.Response reads = raised (raised (raised reads))
+reads_to whiches.Cert reads = raised (raised (raised reads))
 
 -- how many files a form names
 abbrev pub files_of : Form → ℕ
@@ -48,6 +50,8 @@ files_of (Faults source) = 1
 files_of (Soak number size workers) = 0
 files_of (Dict source plan) = 2
 files_of (Diagnose source plan response) = 3
+files_of (Certify source plan fault) = 2
+files_of (Audit source plan cert) = 3
 files_of (Pick source plan) = 2
 
 -- how many files the words name, which may be of no form
@@ -63,6 +67,8 @@ files_for (Faults source) held = held
 files_for (Soak number size workers) held = Some []
 files_for (Dict source plan) held = held
 files_for (Diagnose source plan response) held = held
+files_for (Certify source plan fault) held = held
+files_for (Audit source plan cert) held = held
 files_for (Pick source plan) held = held
 
 -- a form names a response
@@ -73,13 +79,28 @@ NamesResponse (Faults source) = ⊥
 NamesResponse (Soak number size workers) = ⊥
 NamesResponse (Dict source plan) = ⊥
 NamesResponse (Diagnose source plan response) = Unit {0}
+NamesResponse (Certify source plan fault) = ⊥
+NamesResponse (Audit source plan cert) = ⊥
 NamesResponse (Pick source plan) = ⊥
+
+-- a form names a certificate
+abbrev pub NamesCert : Form → Type 0
+NamesCert (Grade source plan workers) = ⊥
+NamesCert (Check source) = ⊥
+NamesCert (Faults source) = ⊥
+NamesCert (Soak number size workers) = ⊥
+NamesCert (Dict source plan) = ⊥
+NamesCert (Diagnose source plan response) = ⊥
+NamesCert (Certify source plan fault) = ⊥
+NamesCert (Audit source plan cert) = Unit {0}
+NamesCert (Pick source plan) = ⊥
 
 -- a form names a file of this place: the first is the design, the second the plan
 abbrev pub Names : Form → Which → Type 0
 Names form whiches.Design = 0 < files_of form
 Names form whiches.Plan = 1 < files_of form
 Names form whiches.Response = NamesResponse form
+Names form whiches.Cert = NamesCert form
 
 -- a form makes a dictionary
 abbrev pub MakesDictionary : Form → Type 0
@@ -89,9 +110,23 @@ MakesDictionary (Faults source) = ⊥
 MakesDictionary (Soak number size workers) = ⊥
 MakesDictionary (Dict source plan) = Unit {0}
 MakesDictionary (Diagnose source plan response) = Unit {0}
+MakesDictionary (Certify source plan fault) = ⊥
+MakesDictionary (Audit source plan cert) = ⊥
 MakesDictionary (Pick source plan) = Unit {0}
 
--- a form runs the good machine
+-- a form names the place of a listed fault
+abbrev pub NamesFault : Form → ℕ → Type 0
+NamesFault (Grade source plan workers) place = ⊥
+NamesFault (Check source) place = ⊥
+NamesFault (Faults source) place = ⊥
+NamesFault (Soak number size workers) place = ⊥
+NamesFault (Dict source plan) place = ⊥
+NamesFault (Diagnose source plan response) place = ⊥
+NamesFault (Certify source plan fault) place = place ≡ fault
+NamesFault (Audit source plan cert) place = ⊥
+NamesFault (Pick source plan) place = ⊥
+
+-- a form runs the good machine; an audit follows the runs that a certificate tells
 abbrev pub RunsGood : Form → Type 0
 RunsGood (Grade source plan workers) = Unit {0}
 RunsGood (Check source) = ⊥
@@ -99,9 +134,11 @@ RunsGood (Faults source) = ⊥
 RunsGood (Soak number size workers) = Unit {0}
 RunsGood (Dict source plan) = Unit {0}
 RunsGood (Diagnose source plan response) = Unit {0}
+RunsGood (Certify source plan fault) = Unit {0}
+RunsGood (Audit source plan cert) = ⊥
 RunsGood (Pick source plan) = Unit {0}
 
--- the file whose text is refused; a dictionary is too large by its plan
+-- the file whose text is refused; a dictionary is too large by its plan, and that lists the faults
 abbrev pub refused_file : Refusal → Which
 refused_file (refusals.Scan fault) = whiches.Design
 refused_file (refusals.Parse fault) = whiches.Design
@@ -109,6 +146,7 @@ refused_file (refusals.Elab fault) = whiches.Design
 refused_file (refusals.Plan fault) = whiches.Plan
 refused_file (refusals.Response fault) = whiches.Response
 refused_file (refusals.TooLarge room) = whiches.Plan
+refused_file (refusals.NoFault place) = whiches.Plan
 
 -- the reason is one of the text: a length and want of memory have statuses of their own; and a dictionary is too large only over the most room
 abbrev pub IsReason : Refusal → Type 0
@@ -118,8 +156,10 @@ IsReason (refusals.Elab fault) = fault ≢ elabs.NoMemory
 IsReason (refusals.Plan fault) = (fault ≢ plans.TooLong) × (fault ≢ plans.NoMemory)
 IsReason (refusals.Response fault) = (fault ≢ responses.TooLong) × (fault ≢ responses.NoMemory)
 IsReason (refusals.TooLarge room) = most_room < room
+IsReason (refusals.NoFault place) = Unit {0}
 
--- the reasons for which a form can be refused: those of the texts that it names, and the room of a dictionary only where it makes one
+-- the reasons for which a form can be refused: those of the texts that it names, the room of a dictionary only where it makes one, and that no fault of a place is
+-- listed only where it names that very place
 abbrev pub CanRefuse : Form → Refusal → Type 0
 CanRefuse form (refusals.Scan fault) = Names form whiches.Design
 CanRefuse form (refusals.Parse fault) = Names form whiches.Design
@@ -127,6 +167,7 @@ CanRefuse form (refusals.Elab fault) = Names form whiches.Design
 CanRefuse form (refusals.Plan fault) = Names form whiches.Plan
 CanRefuse form (refusals.Response fault) = Names form whiches.Response
 CanRefuse form (refusals.TooLarge room) = MakesDictionary form
+CanRefuse form (refusals.NoFault place) = NamesFault form place
 
 -- the statuses with which a form can end: a file's only where it names that file, a refusal only for a reason that it can have, a loop only where it runs the good
 -- machine
@@ -148,24 +189,29 @@ HoldItsDesign (Faults source) files = (design : FlatDesign) × HoldDesign files 
 HoldItsDesign (Soak number size workers) files = ⊥
 HoldItsDesign (Dict source plan) files = (design : FlatDesign) × HoldDesign files source design
 HoldItsDesign (Diagnose source plan response) files = (design : FlatDesign) × HoldDesign files source design
+HoldItsDesign (Certify source plan fault) files = (design : FlatDesign) × HoldDesign files source design
+HoldItsDesign (Audit source plan cert) files = (design : FlatDesign) × HoldDesign files source design
 HoldItsDesign (Pick source plan) files = (design : FlatDesign) × HoldDesign files source design
 
--- the files hold the design and the plan over it that the form names before a response, and the dictionary isn't too large
+-- the files hold the design and the plan over it that the form names before a response or a certificate, and the dictionary, if there is one, isn't too large
 abbrev pub HoldItsPlan : Form → Files → Type 0
 HoldItsPlan (Grade source plan workers) files = ⊥
 HoldItsPlan (Check source) files = ⊥
 HoldItsPlan (Faults source) files = ⊥
 HoldItsPlan (Soak number size workers) files = ⊥
 HoldItsPlan (Dict source plan) files = ⊥
-HoldItsPlan (Diagnose source plan response) files = (design : FlatDesign) × (test : TestPlan) × HoldDesign files source design × HoldPlan files plan design test
+HoldItsPlan (Diagnose source plan response) files = (design : FlatDesign) × (test : TestPlan) × HoldDesign files source design × HoldPlan files plan Dictionary design test
+HoldItsPlan (Certify source plan fault) files = ⊥
+HoldItsPlan (Audit source plan cert) files = (design : FlatDesign) × (test : TestPlan) × HoldDesign files source design × HoldPlan files plan Certificate design test
 HoldItsPlan (Pick source plan) files = ⊥
 
--- nothing decides before the file of this place is read: the design comes first, the plan where the design is there and is read, and the response where the plan
--- is there too and is read, and its dictionary isn't too large
+-- nothing decides before the file of this place is read: the design comes first, the plan where the design is there and is read, and the response or the certificate
+-- where the plan is there too and is read, and its dictionary, if there is one, isn't too large
 abbrev pub ComesTo : Form → Files → Which → Type 0
 ComesTo form files whiches.Design = Unit {0}
 ComesTo form files whiches.Plan = HoldItsDesign form files
 ComesTo form files whiches.Response = HoldItsPlan form files
+ComesTo form files whiches.Cert = HoldItsPlan form files
 
 -- the shelf's fault count rose at the read of the file of this place, and nothing had decided before
 pub record ReadFailed (form : Form) (held : Option Files) (which : Which) (old new : ShelfCounts) : Type 0 where

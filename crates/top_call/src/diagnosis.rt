@@ -8,6 +8,7 @@ ghost use Rattle.top_call.specs.Making as making;
 
 use crate::dictionary::output_status;
 use crate::plan::{read_observed, read_test_plan};
+use crate::purpose::Purpose;
 use crate::source::read_source;
 use dict_report::diagnose_output;
 use std::alloc::Global;
@@ -33,7 +34,7 @@ pub(crate) fn diagnosis_output<S: Shelf, L: Ledger>(
     ensures faults { S.faults shelf.old ≤ S.faults shelf.new }
 {
     let design = read_source(alloc, shelf, source)?;
-    let test = read_test_plan(alloc, shelf, &design, plan)?;
+    let test = read_test_plan(alloc, shelf, &design, plan, Purpose::Dictionary)?;
     let observed = read_observed(alloc, shelf, &test, response)?;
     match diagnose_output(alloc, &design, &test, observed.as_slice(), steps) {
         Ok(text) => Ok(text),

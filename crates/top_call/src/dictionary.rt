@@ -7,6 +7,7 @@ ghost use Rattle.top_call.specs.Outside.{counts_of, CanEnd};
 ghost use Rattle.top_call.specs.Making as making;
 
 use crate::plan::read_test_plan;
+use crate::purpose::Purpose;
 use crate::source::read_source;
 use dict_report::{OutputFault, dict_output, pick_output};
 use std::alloc::Global;
@@ -40,7 +41,7 @@ pub(crate) fn dictionary_output<S: Shelf, L: Ledger>(
     ensures faults { S.faults shelf.old ≤ S.faults shelf.new }
 {
     let design = read_source(alloc, shelf, source)?;
-    let test = read_test_plan(alloc, shelf, &design, plan)?;
+    let test = read_test_plan(alloc, shelf, &design, plan, Purpose::Dictionary)?;
     match dict_output(alloc, &design, &test, steps) {
         Ok(text) => Ok(text),
         Err(fault) => Err(output_status(fault)),
@@ -62,7 +63,7 @@ pub(crate) fn picked_output<S: Shelf, L: Ledger>(
     ensures faults { S.faults shelf.old ≤ S.faults shelf.new }
 {
     let design = read_source(alloc, shelf, source)?;
-    let test = read_test_plan(alloc, shelf, &design, plan)?;
+    let test = read_test_plan(alloc, shelf, &design, plan, Purpose::Dictionary)?;
     match pick_output(alloc, &design, &test, steps) {
         Ok(text) => Ok(text),
         Err(fault) => Err(output_status(fault)),

@@ -6,6 +6,8 @@ ghost use Rattle.vf_words.specs.Forms.{plain_source, plain_form};
 ghost use Rattle.top_call.specs.Outside.{counts_of, files_of, files_for, CanEnd};
 ghost use Rattle.top_call.specs.Making as making;
 
+use crate::audit::audited_output;
+use crate::certificate::certified_output;
 use crate::diagnosis::diagnosis_output;
 use crate::dictionary::{dictionary_output, picked_output};
 use crate::grade::grade_output;
@@ -95,6 +97,14 @@ pub(crate) fn make_output<R: Threads + Sync, S: Shelf, G: Gate + Sync, L: Ledger
             plan,
             response,
         } => diagnosis_output(alloc, shelf, source, plan, response, &mut steps[0]),
+        Form::Certify {
+            source,
+            plan,
+            fault,
+        } => certified_output(alloc, shelf, source, plan, fault, &mut steps[0]),
+        Form::Audit { source, plan, cert } => {
+            audited_output(alloc, shelf, source, plan, cert, &mut steps[0])
+        }
         Form::Pick { source, plan } => picked_output(alloc, shelf, source, plan, &mut steps[0]),
     }
 }

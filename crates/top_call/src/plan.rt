@@ -1,4 +1,4 @@
-// The plan and the response of a form over a dictionary.
+// The plan of a form, and the response of a diagnosis.
 
 ghost use Rattle.std.specs.Prelude.{◌≡◌, ◌≤◌, IfOk};
 ghost use Rattle.vf_base.specs.Counts.{raised};
@@ -9,8 +9,8 @@ ghost use Rattle.dict_laws.specs.Responses.{IsResponse};
 ghost use Rattle.top_call.specs.Outside.{counts_of};
 ghost use Rattle.top_call.specs.Making as making;
 
+use crate::purpose::{Purpose, excess};
 use crate::source::read_file;
-use dict_text::is_too_large;
 use kept_samples::Sample;
 use plan_read::{PlanFault, read_plan};
 use response_text::{ResponseFault, read_response};
@@ -29,29 +29,30 @@ fn plan_status(fault: PlanFault) -> Status
     }
 }
 
-/// The plan that a text spells over a design, unless its dictionary is too large.
-fn plan_with_room(alloc: Global, design: &Design, text: &[u8]) -> Result<Plan, Status>
-    ensures gives { making.PlanTextGives (design_of design.now) text.now result }
+/// The plan that a text spells over a design, unless its dictionary is too large where it is read for one.
+fn plan_for(alloc: Global, design: &Design, text: &[u8], purpose: Purpose) -> Result<Plan, Status>
+    ensures gives { making.PlanTextGives purpose (design_of design.now) text.now result }
     ensures fits { IfOk result (λ plan. IsPlanOf (design_of design.now) (plan_of plan)) }
 {
     let plan = match read_plan(alloc, text, design) {
         Ok(plan) => plan,
         Err(fault) => return Err(plan_status(fault)),
     };
-    match is_too_large(&plan) {
+    match excess(&plan, purpose) {
         None => Ok(plan),
         Some(room) => Err(Status::Refused(Refusal::TooLarge(room))),
     }
 }
 
-/// The plan of a form over a dictionary, from the shelf.
+/// The plan of a form, from the shelf, for a purpose.
 pub(crate) fn read_test_plan<S: Shelf>(
     alloc: Global,
     shelf: &mut S,
     design: &Design,
     name: &str,
+    purpose: Purpose,
 ) -> Result<Plan, Status>
-    ensures gives { making.PlanGives (S.held shelf.old) name.now (design_of design.now) (counts_of ⟦<S as Shelf>⟧ shelf.old) (counts_of ⟦<S as Shelf>⟧ shelf.new) result }
+    ensures gives { making.PlanGives (S.held shelf.old) name.now purpose (design_of design.now) (counts_of ⟦<S as Shelf>⟧ shelf.old) (counts_of ⟦<S as Shelf>⟧ shelf.new) result }
     ensures fits { IfOk result (λ plan. IsPlanOf (design_of design.now) (plan_of plan)) }
     ensures kept { S.held shelf.new ≡ S.held shelf.old }
     ensures reads { S.reads shelf.new ≡ raised (S.reads shelf.old) }
@@ -59,7 +60,7 @@ pub(crate) fn read_test_plan<S: Shelf>(
     ensures long { S.long_answers shelf.old ≤ S.long_answers shelf.new }
 {
     let text = read_file(alloc, shelf, name, Which::Plan)?;
-    plan_with_room(alloc, design, text.as_slice())
+    plan_for(alloc, design, text.as_slice(), purpose)
 }
 
 /// The status of a response's text that is refused.

@@ -7,6 +7,7 @@ ghost use Rattle.top_call.specs.Answers.{most_of};
 ghost use Rattle.top_call.specs.Outside.{counts_of};
 ghost use Rattle.top_call.specs.Making as making;
 
+use cert_report::MAX_CERT_BYTES;
 use elaborate::{DesignFault, read_design};
 use response_text::MAX_RESPONSE_BYTES;
 use std::alloc::Global;
@@ -23,6 +24,7 @@ fn most_of(which: Which) -> u64
         Which::Design => MAX_DESIGN_BYTES,
         Which::Plan => MAX_PLAN_BYTES,
         Which::Response => MAX_RESPONSE_BYTES,
+        Which::Cert => MAX_CERT_BYTES,
     }
 }
 

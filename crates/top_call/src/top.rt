@@ -23,9 +23,9 @@ use vf_words::read_words;
 ///
 /// The first counter is the calling thread's, and each worker has one of the others; the output is the same for every number of workers. Of the statuses
 /// the first of this order comes that is due: the words; reading the design, its length, its text; reading the plan, its length, its text; a dictionary that
-/// is too large; reading the response, its length, its text; a loop of the good machine; writing. Want of memory can come at any point but with the words.
-/// Nothing is put before the whole text is made. Before a worker begins a shard of faults it calls the gate; what stands on a dictionary is made by the
-/// calling thread alone.
+/// is too large, or a place at which no fault is listed; reading the response or the certificate, its length, the response's text; a loop of the good machine;
+/// writing. Want of memory can come at any point but with the words. Nothing is put before the whole text is made. Before a worker begins a shard of faults it
+/// calls the gate; what stands on a dictionary, certificates and their audits are made by the calling thread alone.
 pub fn vfault<R: Threads + Sync, S: Shelf, K: Sink, G: Gate + Sync, L: Ledger + Send + Sync>(
     rt: &R,
     alloc: Global,
@@ -52,14 +52,14 @@ pub fn vfault<R: Threads + Sync, S: Shelf, K: Sink, G: Gate + Sync, L: Ledger + 
     // machine loops only where it runs.
     ensures of_the_form { IfSome (form_of (bytes_of words.now)) (λ form. CanEnd form result) }
 
-    // The design, the plan or the response is refused for this reason, or the dictionary is too large.
+    // The design, the plan or the response is refused for this reason, the dictionary is too large, or no fault is listed at the place.
     ensures refused { (why : Reason) → result ≡ Status.Refused why → Answers (form_of (bytes_of words.now)) (S.held shelf.old) (Refuses why) }
 
     // The good machine loops.
     ensures loops { (time : ℕ) → result ≡ Status.GoodLoop time → Answers (form_of (bytes_of words.now)) (S.held shelf.old) (Loops time) }
 
-    // A read failed, for the plan over a design that is there and isn't refused, for the response over a plan that is so too; or the shelf tells that the file isn't
-    // there.
+    // A read failed, for the plan over a design that is there and isn't refused, for the response or the certificate over a plan that is so too; or the shelf tells
+    // that the file isn't there.
     ensures read_fault { (which : Which) → result ≡ Status.ReadFault which → IfSome (form_of (bytes_of words.now)) (λ form.
         ReadFailed form (files_for form (S.held shelf.old)) which (counts_of ⟦<S as Shelf>⟧ shelf.old) (counts_of ⟦<S as Shelf>⟧ shelf.new)
         ⊎ ((files : Files) × (files_for form (S.held shelf.old) ≡ Some files) × IsAnswer form files (Lacks which))) }

@@ -15,7 +15,7 @@ use Rattle.plan_read.specs.declared.fault.PlanFault.TheVariants as plans
 use Rattle.response_text.specs.declared.fault.ResponseFault.{ResponseFault}
 use Rattle.response_text.specs.declared.fault.ResponseFault.TheVariants as responses
 use Rattle.vf_status.specs.declared.status.Which.{Which}
-use Rattle.vf_status.specs.declared.status.Which.TheVariants.{Design, Plan, Response}
+use Rattle.vf_status.specs.declared.status.Which.TheVariants.{Design, Plan, Response, Cert}
 use Rattle.vf_status.specs.declared.status.Refusal.{Refusal}
 use Rattle.vf_status.specs.declared.status.Refusal.TheVariants as refusals
 use Rattle.vf_status.specs.declared.status.Status.{Status}
@@ -37,6 +37,7 @@ abbrev pub file_word : Which → List ℕ
 file_word Design = codes "design"
 file_word Plan = codes "plan"
 file_word Response = codes "response"
+file_word Cert = codes "certificate"
 
 -- a place, as it is printed
 abbrev pub place_text : Place → List ℕ
@@ -106,6 +107,10 @@ response_text responses.NoMemory = []
 abbrev pub too_large_text : ℕ → List ℕ
 too_large_text room = codes "vfault: the dictionary is too large (" ++ decimal room ++ codes ")"
 
+-- the line of a place at which the plan lists no fault
+abbrev pub no_fault_text : ℕ → List ℕ
+no_fault_text place = codes "vfault: no fault " ++ decimal place
+
 -- the line of a refusal
 abbrev pub refusal_text : Refusal → List ℕ
 refusal_text (refusals.Scan fault) = scan_text fault
@@ -114,12 +119,14 @@ refusal_text (refusals.Elab fault) = elab_text fault
 refusal_text (refusals.Plan fault) = plan_text fault
 refusal_text (refusals.Response fault) = response_text fault
 refusal_text (refusals.TooLarge room) = too_large_text room
+refusal_text (refusals.NoFault place) = no_fault_text place
 
 -- the line of words that are of no form: all forms
 abbrev pub usage_text : List ℕ
 usage_text =
     codes "vfault: usage: grade DESIGN PLAN TOP WORKERS [strict] | check DESIGN TOP [strict] | faults DESIGN TOP [strict] | soak NUMBER SIZE WORKERS"
-    ++ codes " | dict DESIGN PLAN TOP [strict] | diagnose DESIGN PLAN TOP RESPONSE [strict] | pick DESIGN PLAN TOP [strict]"
+    ++ codes " | dict DESIGN PLAN TOP [strict] | diagnose DESIGN PLAN TOP RESPONSE [strict]"
+    ++ codes " | certify DESIGN PLAN TOP FAULT [strict] | audit DESIGN PLAN TOP CERT [strict] | pick DESIGN PLAN TOP [strict]"
 
 -- the line that tells a status, without its end; there is none where all went well
 abbrev pub status_text : Status → List ℕ

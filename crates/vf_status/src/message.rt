@@ -3,7 +3,7 @@
 ghost use Rattle.std.specs.Prelude.{◌≡◌, ◌++◌, IfOk, OnOk, codes};
 ghost use Rattle.std.specs.Fmt.{decimal};
 ghost use Rattle.vf_status.specs.Status.{status_text, refusal_text, scan_text, parse_text, elab_text, plan_text, response_text};
-ghost use Rattle.vf_status.specs.Status.{too_large_text, numbered_text, place_text, at_place, what_word, file_word, usage_text};
+ghost use Rattle.vf_status.specs.Status.{too_large_text, no_fault_text, numbered_text, place_text, at_place, what_word, file_word, usage_text};
 
 use crate::status::{Refusal, Status, Which};
 use elaborate::ElabFault;
@@ -19,9 +19,13 @@ use vf_base::{NoMemory, Place, Text};
 const USAGE: &[u8] =
     b"vfault: usage: grade DESIGN PLAN TOP WORKERS [strict] | check DESIGN TOP [strict] | faults DESIGN TOP [strict] | soak NUMBER SIZE WORKERS";
 
-/// The rest of the usage line: the forms over a dictionary.
+/// What stands behind it in the usage line: the forms that tell a dictionary and compare with it.
 const DICTIONARY_USAGE: &[u8] =
-    b" | dict DESIGN PLAN TOP [strict] | diagnose DESIGN PLAN TOP RESPONSE [strict] | pick DESIGN PLAN TOP [strict]";
+    b" | dict DESIGN PLAN TOP [strict] | diagnose DESIGN PLAN TOP RESPONSE [strict]";
+
+/// The end of the usage line: the forms of certificates, and the one that picks strobes.
+const LAST_USAGE: &[u8] =
+    b" | certify DESIGN PLAN TOP FAULT [strict] | audit DESIGN PLAN TOP CERT [strict] | pick DESIGN PLAN TOP [strict]";
 
 /// Adds bytes.
 fn append(out: &mut Vec<u8>, bytes: &[u8]) -> Result<(), NoMemory>
@@ -57,6 +61,7 @@ fn file_word(which: Which) -> &'static [u8]
         Which::Design => b"design",
         Which::Plan => b"plan",
         Which::Response => b"response",
+        Which::Cert => b"certificate",
     }
 }
 
@@ -197,6 +202,15 @@ fn too_large(alloc: Global, room: u64) -> Result<Vec<u8>, NoMemory>
     Ok(text)
 }
 
+/// The line of a place at which the plan lists no fault.
+fn no_fault(alloc: Global, place: u32) -> Result<Vec<u8>, NoMemory>
+    ensures { IfOk result (λ text. text.items ≡ no_fault_text place) }
+{
+    let mut text = bytes_of(alloc, b"vfault: no fault ")?;
+    append_number(alloc, &mut text, u64::from(place))?;
+    Ok(text)
+}
+
 /// The line of a refusal.
 fn refusal_line(alloc: Global, refusal: Refusal) -> Result<Vec<u8>, NoMemory>
     ensures { IfOk result (λ text. text.items ≡ refusal_text refusal) }
@@ -208,6 +222,7 @@ fn refusal_line(alloc: Global, refusal: Refusal) -> Result<Vec<u8>, NoMemory>
         Refusal::Plan(fault) => plan_line(alloc, fault),
         Refusal::Response(fault) => response_line(alloc, fault),
         Refusal::TooLarge(room) => too_large(alloc, room),
+        Refusal::NoFault(place) => no_fault(alloc, place),
     }
 }
 
@@ -245,6 +260,7 @@ fn usage(alloc: Global) -> Result<Vec<u8>, NoMemory>
 {
     let mut text = bytes_of(alloc, USAGE)?;
     append(&mut text, DICTIONARY_USAGE)?;
+    append(&mut text, LAST_USAGE)?;
     Ok(text)
 }
 

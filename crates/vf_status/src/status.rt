@@ -15,6 +15,7 @@ pub enum Which {
     Design,
     Plan,
     Response,
+    Cert,
 }
 
 /// Why a design, a plan or a response is refused; never for a text's length or for want of memory.
@@ -32,6 +33,8 @@ pub enum Refusal {
     Response(ResponseFault),
     /// The dictionary of the design and the plan would be too large: strobes times watched bits and sixteen, times faults.
     TooLarge(u64),
+    /// The plan lists fewer faults than this place, from 1.
+    NoFault(u32),
 }
 
 /// How a run of the program ends.

@@ -5,14 +5,18 @@ use Rattle.std.specs.Str.{bytes_eq}
 use Rattle.v_elab.specs.declared.Mode.{Mode}
 use Rattle.v_elab.specs.declared.Mode.TheVariants.{Usual, Strict}
 use Rattle.vf_words.specs.NumberLaws.{number-is}
-use Rattle.vf_words.specs.Words.{Source, Form, Check, Faults, Dict, Diagnose, Pick, Fits, is_word, source_of, workers_of, seed_of, size_of, design_form_if, is_plan_form, dictionary_form_if}
-use Rattle.vf_words.specs.Words.{grade_form, last_form_if, soak_form, three_words, plan_words, last_words, form_of}
+use Rattle.vf_words.specs.Words.{Source, Form, Check, Faults, Dict, Diagnose, Audit, Pick, Fits, is_word, source_of, workers_of, place_of, seed_of, size_of, design_form_if, is_plan_form}
+use Rattle.vf_words.specs.Words.{dictionary_form_if, grade_form, certify_form, certificate_form, last_form_if, soak_form, three_words, plan_words, last_words, form_of}
 use Rattle.vf_words.specs.declared.words.Form.{Form as FormWords}
 use Rattle.vf_words.specs.Forms.{plain_form}
 
 -- so many workers as a word says
 workers-keep : (word : List ℕ) (workers : ℕ) → workers_of word ≡ Some workers → (1 ≤ workers) × (workers ≤ 64)
 workers-keep word workers e = let is = number-is 1 64 word workers e in (is.low, is.high)
+
+-- the place of a fault that a word says
+place-keeps : (word : List ℕ) (place : ℕ) → place_of word ≡ Some place → (1 ≤ place) × (place ≤ 65536)
+place-keeps word place e = let is = number-is 1 65536 word place e in (is.low, is.high)
 
 size-keeps : (word : List ℕ) (size : ℕ) → size_of word ≡ Some size → (1 ≤ size) × (size ≤ 4000)
 size-keeps word size e = let is = number-is 1 4000 word size e in (is.low, is.high)
@@ -41,15 +45,29 @@ grade-keeps : (source : Source) (plan : List ℕ) (workers : Option ℕ) → ((n
 grade-keeps source plan None keep = tt
 grade-keeps source plan (Some workers) keep = keep workers refl
 
--- `grade` and `diagnose`
+-- `certify`
+certify-keeps : (source : Source) (plan : List ℕ) (fault : Option ℕ) → ((n : ℕ) → fault ≡ Some n → (1 ≤ n) × (n ≤ 65536)) → IfSome (certify_form source plan fault) Fits
+certify-keeps source plan None keep = tt
+certify-keeps source plan (Some fault) keep = keep fault refl
+
+-- `certify` and `audit`
+certificate-keeps : (form : List ℕ) (source : Source) (plan last : List ℕ) → IfSome (certificate_form form source plan last) Fits
+certificate-keeps form source plan last =
+    if-keeps (bytes_eq form (codes "certify")) (certify_form source plan (place_of last)) (if bytes_eq form (codes "audit") then Some (Audit source plan last) else None)
+    (certify-keeps source plan (place_of last) (place-keeps last))
+    (if-keeps (bytes_eq form (codes "audit")) (Some (Audit source plan last)) None tt tt)
+
+-- the forms with a last word
 last-keep : (form plan last : List ℕ) (source : Option Source) → IfSome (last_form_if form source plan last) Fits
 last-keep form plan last None = tt
 last-keep form plan last (Some source) =
     if-keeps (is_word plan && is_word last)
-    (if bytes_eq form (codes "grade") then grade_form source plan (workers_of last) else if bytes_eq form (codes "diagnose") then Some (Diagnose source plan last) else None) None
-    (if-keeps (bytes_eq form (codes "grade")) (grade_form source plan (workers_of last)) (if bytes_eq form (codes "diagnose") then Some (Diagnose source plan last) else None)
+    (if bytes_eq form (codes "grade") then grade_form source plan (workers_of last)
+    else if bytes_eq form (codes "diagnose") then Some (Diagnose source plan last) else certificate_form form source plan last) None
+    (if-keeps (bytes_eq form (codes "grade")) (grade_form source plan (workers_of last))
+    (if bytes_eq form (codes "diagnose") then Some (Diagnose source plan last) else certificate_form form source plan last)
     (grade-keeps source plan (workers_of last) (workers-keep last))
-    (if-keeps (bytes_eq form (codes "diagnose")) (Some (Diagnose source plan last)) None tt tt)) tt
+    (if-keeps (bytes_eq form (codes "diagnose")) (Some (Diagnose source plan last)) (certificate_form form source plan last) tt (certificate-keeps form source plan last))) tt
 
 -- `soak`
 soak-keeps : (number size workers : Option ℕ) → ((n : ℕ) → size ≡ Some n → (1 ≤ n) × (n ≤ 4000)) → ((n : ℕ) → workers ≡ Some n → (1 ≤ n) × (n ≤ 64)) → IfSome (soak_form number size workers) Fits

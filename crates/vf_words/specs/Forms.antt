@@ -2,7 +2,7 @@
 use Rattle.vf_words.specs.declared.words.Source.{Source}
 use Rattle.vf_words.specs.declared.words.Form.{Form}
 use Rattle.vf_words.specs.declared.words.Form.TheVariants.{Grade as GradeWords, Check as CheckWords, Faults as FaultsWords, Soak as SoakWords, Dict as DictWords, Diagnose as DiagnoseWords}
-use Rattle.vf_words.specs.declared.words.Form.TheVariants.{Pick as PickWords}
+use Rattle.vf_words.specs.declared.words.Form.TheVariants.{Certify as CertifyWords, Audit as AuditWords, Pick as PickWords}
 use Rattle.vf_words.specs.Words as plain
 
 -- a design
@@ -17,4 +17,6 @@ plain_form (FaultsWords source) = plain.Faults (plain_source source)
 plain_form (SoakWords number size workers) = plain.Soak number size workers
 plain_form (DictWords source plan) = plain.Dict (plain_source source) plan.now
 plain_form (DiagnoseWords source plan response) = plain.Diagnose (plain_source source) plan.now response.now
+plain_form (CertifyWords source plan fault) = plain.Certify (plain_source source) plan.now fault
+plain_form (AuditWords source plan cert) = plain.Audit (plain_source source) plan.now cert.now
 plain_form (PickWords source plan) = plain.Pick (plain_source source) plan.now

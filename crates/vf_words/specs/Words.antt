@@ -15,7 +15,8 @@ pub record Source : Type 0 where
 
 -- what the program is asked for: the report on the faults of a plan's file, by so many workers; how large a design is; the faults that can be listed;
 -- the totals of a design of this size that is drawn from a number, by so many workers; the dictionary of the faults of a plan's file; those of its faults that fit
--- what a response's file says was observed; and the strobes of a plan's file that are enough
+-- what a response's file says was observed; the certificate of the fault at a place, from 1, of a plan's list; whether each line of a certificate's file is followed; and
+-- the strobes of a plan's file that are enough
 pub data Form : Type 0 where
   Grade : (source : Source) (plan : List ℕ) (workers : ℕ) → Form
   Check : (source : Source) → Form
@@ -23,11 +24,17 @@ pub data Form : Type 0 where
   Soak : (number size workers : ℕ) → Form
   Dict : (source : Source) (plan : List ℕ) → Form
   Diagnose : (source : Source) (plan response : List ℕ) → Form
+  Certify : (source : Source) (plan : List ℕ) (fault : ℕ) → Form
+  Audit : (source : Source) (plan cert : List ℕ) → Form
   Pick : (source : Source) (plan : List ℕ) → Form
 
 -- so many workers as a word says: 1 to 64
 abbrev pub workers_of : List ℕ → Option ℕ
 workers_of word = number_between 1 64 word
+
+-- the place of a listed fault that a word says: 1 to 65536
+abbrev pub place_of : List ℕ → Option ℕ
+place_of word = number_between 1 65536 word
 
 -- the number that a generated design is drawn from: any of 32 bits
 abbrev pub seed_of : List ℕ → Option ℕ
@@ -64,10 +71,21 @@ abbrev pub grade_form : Source → List ℕ → Option ℕ → Option Form
 grade_form source plan None = None
 grade_form source plan (Some workers) = Some (Grade source plan workers)
 
--- the form over a design, a plan and a last word, where both words have bytes: the number of workers of a report, or the response of a diagnosis
+-- the certificate of the fault at a place of a plan's list
+abbrev pub certify_form : Source → List ℕ → Option ℕ → Option Form
+certify_form source plan None = None
+certify_form source plan (Some fault) = Some (Certify source plan fault)
+
+-- the form of certificates that the word names: the last word is the place of a fault, or a certificate's file
+abbrev pub certificate_form : List ℕ → Source → List ℕ → List ℕ → Option Form
+certificate_form form source plan last =
+    if bytes_eq form (codes "certify") then certify_form source plan (place_of last) else if bytes_eq form (codes "audit") then Some (Audit source plan last) else None
+
+-- the form over a design, a plan and a last word, where both words have bytes: the number of workers of a report, the response of a diagnosis, or a word of certificates
 abbrev pub last_form : List ℕ → Source → List ℕ → List ℕ → Option Form
 last_form form source plan last = if is_word plan && is_word last
-    then (if bytes_eq form (codes "grade") then grade_form source plan (workers_of last) else if bytes_eq form (codes "diagnose") then Some (Diagnose source plan last) else None)
+    then (if bytes_eq form (codes "grade") then grade_form source plan (workers_of last)
+    else if bytes_eq form (codes "diagnose") then Some (Diagnose source plan last) else certificate_form form source plan last)
     else None
 
 abbrev pub design_form_if : List ℕ → Option Source → Option Form
@@ -90,7 +108,7 @@ three_words form design top mode = design_form_if form (source_of design top mod
 abbrev pub plan_words : List ℕ → List ℕ → List ℕ → List ℕ → Mode → Option Form
 plan_words form design plan top mode = dictionary_form_if form (source_of design top mode) plan
 
--- `grade DESIGN PLAN TOP WORKERS` and `diagnose DESIGN PLAN TOP RESPONSE`
+-- `grade DESIGN PLAN TOP WORKERS`, `diagnose DESIGN PLAN TOP RESPONSE`, `certify DESIGN PLAN TOP FAULT` and `audit DESIGN PLAN TOP CERT`
 abbrev pub last_words : List ℕ → List ℕ → List ℕ → List ℕ → List ℕ → Mode → Option Form
 last_words form design plan top last mode = last_form_if form (source_of design top mode) plan last
 
@@ -113,7 +131,7 @@ five_words form design plan top last = if is_plan_form form
     then (if bytes_eq last (codes "strict") then plan_words form design plan top Strict else None) else last_words form design plan top last Usual
 
 -- the form of the words, if they are of one; `strict` may stand behind each but `soak`. The first word tells how many follow, so `strict` is the name of a top
--- module, a response's file or a mode by its place alone
+-- module, a response's or a certificate's file or a mode by its place alone
 abbrev pub form_of : List (List ℕ) → Option Form
 form_of [] = None
 form_of (a ∷ []) = None
@@ -128,7 +146,7 @@ form_of (a ∷ b ∷ c ∷ d ∷ e ∷ f ∷ g ∷ rest) = None
 abbrev pub bytes_of : List (String Global) → List (List ℕ)
 bytes_of words = map string_bytes words
 
--- what the numbers of a form keep: 1 to 64 workers, and a generated design of 1 to 4000 registers
+-- what the numbers of a form keep: 1 to 64 workers, a generated design of 1 to 4000 registers, and the place of one of 65536 faults
 abbrev pub Fits : Form → Type 0
 Fits (Grade source plan workers) = (1 ≤ workers) × (workers ≤ 64)
 Fits (Check source) = Unit {0}
@@ -136,4 +154,6 @@ Fits (Faults source) = Unit {0}
 Fits (Soak number size workers) = ((1 ≤ size) × (size ≤ 4000)) × ((1 ≤ workers) × (workers ≤ 64))
 Fits (Dict source plan) = Unit {0}
 Fits (Diagnose source plan response) = Unit {0}
+Fits (Certify source plan fault) = (1 ≤ fault) × (fault ≤ 65536)
+Fits (Audit source plan cert) = Unit {0}
 Fits (Pick source plan) = Unit {0}

@@ -1,13 +1,13 @@
 // The words of the command line.
 
 ghost use Rattle.std.specs.Prelude.{◌≡◌, IfSome, option_map};
-ghost use Rattle.vf_words.specs.Words.{workers_of, seed_of, size_of, source_of, design_form, is_plan_form, dictionary_form, grade_form, last_form};
+ghost use Rattle.vf_words.specs.Words.{workers_of, place_of, seed_of, size_of, source_of, design_form, is_plan_form, dictionary_form, grade_form, certify_form, certificate_form, last_form};
 ghost use Rattle.vf_words.specs.Words.{soak_form, three_words, plan_words, last_words, four_words, five_words, form_of, bytes_of, Fits};
 ghost use Rattle.vf_words.specs.Forms.{plain_source, plain_form};
 
 use crate::number::number_between;
 use v_elab::Mode;
-use vf_base::{MAX_SOAK_SIZE, MAX_WORKERS};
+use vf_base::{MAX_FAULTS, MAX_SOAK_SIZE, MAX_WORKERS};
 
 /// A design: its file, the name of its top module, and whether its blocks may be nodes.
 #[derive(Clone, Copy, Debug)]
@@ -47,6 +47,18 @@ pub enum Form<'w> {
         plan: &'w str,
         response: &'w str,
     },
+    /// The certificate of the fault that stands at a place, from 1, in the list of a plan's file.
+    Certify {
+        source: Source<'w>,
+        plan: &'w str,
+        fault: u32,
+    },
+    /// Whether each line of a certificate's file is followed.
+    Audit {
+        source: Source<'w>,
+        plan: &'w str,
+        cert: &'w str,
+    },
     /// The strobes of a plan's file that are enough.
     Pick {
         source: Source<'w>,
@@ -59,6 +71,13 @@ fn workers_of(word: &str) -> Option<u32>
     ensures { result ≡ workers_of word.now }
 {
     number_between(word, 1, MAX_WORKERS)
+}
+
+/// The place of a listed fault, from 1, that a word says.
+fn place_of(word: &str) -> Option<u32>
+    ensures { result ≡ place_of word.now }
+{
+    number_between(word, 1, MAX_FAULTS as u32)
 }
 
 /// The design of these words, where both have bytes.
@@ -119,6 +138,40 @@ fn grade_form<'w>(source: Source<'w>, plan: &'w str, workers: &str) -> Option<Fo
     })
 }
 
+/// The certificate of a fault of a design and a plan, where the last word is the place of a fault.
+fn certify_form<'w>(source: Source<'w>, plan: &'w str, fault: &str) -> Option<Form<'w>>
+    ensures { option_map plain_form result ≡ certify_form (plain_source source.entry) plan.now (place_of fault.now) }
+{
+    let fault = place_of(fault)?;
+    Some(Form::Certify {
+        source,
+        plan,
+        fault,
+    })
+}
+
+/// The form of certificates over a design, a plan and a last word that the word names.
+fn certificate_form<'w>(
+    form: &str,
+    source: Source<'w>,
+    plan: &'w str,
+    last: &'w str,
+) -> Option<Form<'w>>
+    ensures { option_map plain_form result ≡ certificate_form form.now (plain_source source.entry) plan.now last.now }
+{
+    if form == "certify" {
+        return certify_form(source, plan, last);
+    }
+    if form == "audit" {
+        return Some(Form::Audit {
+            source,
+            plan,
+            cert: last,
+        });
+    }
+    None
+}
+
 /// The form over a design, a plan and a last word, where the words are of it.
 fn last_form<'w>(form: &str, source: Source<'w>, plan: &'w str, last: &'w str) -> Option<Form<'w>>
     ensures { option_map plain_form result ≡ last_form form.now (plain_source source.entry) plan.now last.now }
@@ -136,7 +189,7 @@ fn last_form<'w>(form: &str, source: Source<'w>, plan: &'w str, last: &'w str) -
             response: last,
         });
     }
-    None
+    certificate_form(form, source, plan, last)
 }
 
 /// Three words of a form, if they are of it, in a mode.

@@ -2,7 +2,6 @@ use Rattle.std.proofs.Common.{lit<}
 use Rattle.v_design.specs.PlainDesigns.{design_of}
 use Rattle.vf_words.specs.Forms.{plain_source}
 use Rattle.vf_words.specs.Words.{Check}
-use Rattle.vf_status.specs.declared.status.Which.TheVariants as whiches
 use Rattle.top_call.specs.Outside.{counts_of}
 use Rattle.top_call.proofs.OneAnswer.{check_next, check-form}
 use Rattle.top_call.proofs.Making.{err-gives, err-ends, source-ends, not-read, check-made}

@@ -2,7 +2,6 @@ use Rattle.std.proofs.Common.{lit<}
 use Rattle.v_design.specs.PlainDesigns.{design_of}
 use Rattle.vf_words.specs.Forms.{plain_source}
 use Rattle.vf_words.specs.Words.{Faults}
-use Rattle.vf_status.specs.declared.status.Which.TheVariants as whiches
 use Rattle.top_call.specs.Outside.{counts_of}
 use Rattle.top_call.proofs.OneAnswer.{faults_next, faults-form}
 use Rattle.top_call.proofs.Making.{err-gives, err-ends, source-ends, not-read, faults-made}

@@ -8,5 +8,5 @@ returns-clause-gives g c =
     let held = g.S.Shelf.held c.args.shelf.now in let text = c.in_ok-text.ensures.gives in
     let old = counts_of g.S.Shelf c.args.shelf.now in
     let new = counts_of g.S.Shelf c.read_file.new.shelf in
-    plan-given held c.args.name.now (design_of c.args.design.now) old new c.in_ok-text.text.items c.as_slice.result.now text.0 text.1 c.as_slice.ensures.value
-    c.plan_with_room.result c.plan_with_room.ensures.gives
+    plan-given held c.args.name.now c.args.purpose (design_of c.args.design.now) old new c.in_ok-text.text.items c.as_slice.result.now text.0 text.1 c.as_slice.ensures.value
+    c.plan_for.result c.plan_for.ensures.gives
