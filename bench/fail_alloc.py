@@ -1,10 +1,10 @@
 #!/usr/bin/env python3
 """Refuses each allocation of a run in turn, and tells how each run ended: bench/fail_alloc.py [PROGRAM] [--step N] [--run NAME] [-- WORD..]
 
-PROGRAM is the built program, by itself the one that ./run builds. The runs are those of the table RUNS: cases of crates/case_runs/data, in the forms grade, check, faults
-and soak, the last ones over a design with every construct. After -- stand the words of one run in the present folder instead. Each run has to write what it writes without
-a refusal and to end as it does then, or to write a prefix of that and end with 5; anything else is printed, and the status is then 1, as it is where a run allocates
-nothing that can be refused. --step N refuses each N-th allocation only, --run NAME takes the runs in whose line of --list NAME stands.
+PROGRAM is the built program, by itself the one that ./run builds. The runs are those of the table RUNS: cases of crates/case_runs/data, in each form, the last ones over a
+design with every construct. After -- stand the words of one run in the present folder instead. Each run has to write what it writes without a refusal and to end as it does
+then, or to write a prefix of that and end with 5; anything else is printed, and the status is then 1, as it is where a run allocates nothing that can be refused.
+--step N refuses each N-th allocation only, --run NAME takes the runs in whose line of --list NAME stands.
 Needs cc and the C library of GNU, on x86-64. Takes one run of the program for each allocation.
 """
 import argparse
@@ -18,6 +18,9 @@ import tempfile
 HOME = os.path.dirname(os.path.dirname(os.path.abspath(__file__)))
 # Each family with the cases that are run.
 RUNS = [("call", "a block"), ("call", "a glitch"), ("call", "a gate"), ("call", "its faults"), ("call", "its size"), ("call", "a generated design of one register"),
+        ("further", "further a gate with all faults, dict"), ("further", "further a gate with all faults, diagnose"), ("further", "further a gate with all faults, pick"),
+        ("examples", "certificate: certify design.v plan.txt top 1"), ("examples", "certificate: audit design.v plan.txt top valid.cert"),
+        ("examples", "certificate: audit design.v plan.txt top race.cert"),
         ("constructs", "every construct: its size"), ("constructs", "every construct: its faults"), ("constructs", "every construct")]
 NO_MEMORY = (5, b"vfault: out of memory\n")
 LIBRARY = r"""

@@ -3,7 +3,7 @@ _vfault() {
     local word=${COMP_WORDS[COMP_CWORD]} form=${COMP_WORDS[1]} place=$COMP_CWORD
     COMPREPLY=()
     if [ "$place" -eq 1 ]; then
-        mapfile -t COMPREPLY < <(compgen -W "grade check faults soak dict diagnose pick" -- "$word")
+        mapfile -t COMPREPLY < <(compgen -W "grade check faults soak dict diagnose certify audit pick" -- "$word")
         return
     fi
     # what stands at each place behind the form
@@ -13,7 +13,8 @@ _vfault() {
         check | faults) kinds=(file top strict) ;;
         soak) kinds=(number size workers) ;;
         dict | pick) kinds=(file file top strict) ;;
-        diagnose) kinds=(file file top file strict) ;;
+        diagnose | audit) kinds=(file file top file strict) ;;
+        certify) kinds=(file file top place strict) ;;
         *) return ;;
     esac
     case ${kinds[place - 2]-} in

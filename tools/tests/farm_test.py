@@ -1,6 +1,9 @@
 """Tests of tools/farm, tools/merge and examples/farm."""
 import os
+import shutil
+import socket
 import subprocess
+import time
 
 from shared import EXAMPLES, Tools, needs, program, read
 
@@ -33,6 +36,45 @@ case "$*" in
 esac
 echo "$*" >> "$RUNS"
 exec PROGRAM "$@"
+"""
+# A server of ssh that takes one key, and runs all words in a home of its own, as a second machine would.
+SERVER = """ListenAddress 127.0.0.1
+Port NUMBER
+HostKey FOLDER/host
+AuthorizedKeysFile FOLDER/key.pub
+StrictModes no
+UsePAM no
+PidFile none
+ForceCommand FOLDER/second
+"""
+SECOND = """#!/bin/sh
+HOME=FOLDER/home
+SESSION=$PPID
+export HOME SESSION
+cd || exit
+echo "$SSH_ORIGINAL_COMMAND" >> FOLDER/asked
+exec sh -c "$SSH_ORIGINAL_COMMAND"
+"""
+# Runs vfault there, but the first time that it is given part 5 the connection breaks.
+BROKEN = """#!/bin/sh
+case "$*" in
+    *part-0005.plan*)
+        if [ ! -e FOLDER/broken ]; then
+            touch FOLDER/broken
+            kill -9 "$SESSION"
+            exit 1
+        fi ;;
+esac
+exec FOLDER/killed "$@"
+"""
+CLIENT = """Host second
+HostName 127.0.0.1
+Port NUMBER
+IdentityFile FOLDER/key
+IdentitiesOnly yes
+UserKnownHostsFile FOLDER/known
+StrictHostKeyChecking accept-new
+BatchMode yes
 """
 
 
@@ -77,6 +119,42 @@ class Farm(Tools):
         got = self.farm("-parts", "4", "--sshlogin", "first", "--sshlogin", "second", "-jobs", "1", PARALLEL_SSH=ssh)
         self.assertEqual(got, REPORT)
         self.assertLessEqual({"first", "second"}, set(read(self.place["HOSTS"]).split("\n")))
+
+    def second_machine(self):
+        """Starts a server of ssh on this machine for this test alone; gives the words that call ssh so that the host `second` is that server."""
+        with socket.socket() as it:
+            it.bind(("127.0.0.1", 0))
+            number = it.getsockname()[1]
+        os.mkdir(os.path.join(self.folder, "home"))
+        for name, text in (("server", SERVER), ("client", CLIENT)):
+            self.file(name, text.replace("FOLDER", self.folder).replace("NUMBER", str(number)))
+        self.script("second", SECOND.replace("FOLDER", self.folder))
+        for name in ("host", "key"):
+            subprocess.run(["ssh-keygen", "-q", "-t", "ed25519", "-N", "", "-f", os.path.join(self.folder, name)], check=True)
+        with open(os.path.join(self.folder, "said"), "w", encoding="utf-8") as said:
+            server = subprocess.Popen([shutil.which("sshd"), "-D", "-e", "-f", os.path.join(self.folder, "server")], stderr=said)
+        self.addCleanup(server.wait)
+        self.addCleanup(server.terminate)
+        for _ in range(100):
+            with socket.socket() as it:
+                if it.connect_ex(("127.0.0.1", number)) == 0:
+                    return f"ssh -F {self.folder}/client"
+            if server.poll() is not None:
+                break
+            time.sleep(0.1)
+        return self.skipTest("sshd doesn't start: " + read(self.folder, "said").strip())
+
+    @needs("vfault", "parallel", "rsync", "perl", "ssh", "sshd", "ssh-keygen")
+    def test_second_machine(self):
+        ssh = self.second_machine()
+        there = KILLED.replace("$MARK", self.place["MARK"]).replace("$RUNS", self.place["RUNS"]).replace("PROGRAM", program())
+        self.script("killed", there)
+        broken = self.script("there", BROKEN.replace("FOLDER", self.folder))
+        got = self.farm("-parts", "8", "-jobs", "2", "--sshlogin", "second", "--remote-program", broken, PARALLEL_SSH=ssh)
+        self.assertEqual(got, REPORT)
+        self.assertTrue(os.path.exists(self.place["MARK"]) and os.path.exists(os.path.join(self.folder, "broken")))
+        self.assertEqual(sum("grade" in it for it in read(self.place["RUNS"]).split("\n")), 8)
+        self.assertIn("rsync --server", read(self.folder, "asked"))
 
     @needs("vfault", "parallel")
     def test_slurm_array(self):

@@ -58,11 +58,12 @@ class Install(Tools):
     def test_completion(self):
         design = os.path.join(EXAMPLES, "pipeline", "design.v")
         for words, wanted in (
-            (["gr"], ["grade"]), ([""], ["grade", "check", "faults", "soak", "dict", "diagnose", "pick"]), (["grade", design[:-2]], [design]),
+            (["gr"], ["grade"]), ([""], ["grade", "check", "faults", "soak", "dict", "diagnose", "certify", "audit", "pick"]), (["grade", design[:-2]], [design]),
             (["grade", design, "plan", ""], ["stage", "top"]), (["check", design, "t"], ["top"]), (["check", design, "top", ""], ["strict"]),
             (["grade", design, "plan", "top", "4"], ["4"]), (["grade", design, "plan", "top", "1", "s"], ["strict"]), (["soak", ""], []),
             (["dict", design, "plan", "t"], ["top"]), (["pick", design, "plan", "top", ""], ["strict"]), (["diagnose", design, "plan", "top", design[:-2]], [design]),
-            (["diagnose", design, "plan", "top", "response", ""], ["strict"]), (["check", design, "top", "strict", ""], []), (["other", ""], []),
+            (["diagnose", design, "plan", "top", "response", ""], ["strict"]), (["audit", design, "plan", "top", design[:-2]], [design]), (["certify", design, "plan", "top", ""], []),
+            (["certify", design, "plan", "top", "1", "s"], ["strict"]), (["check", design, "top", "strict", ""], []), (["other", ""], []),
         ):
             with self.subTest(words):
                 script = f'source {TOOLS}/vfault.bash; COMP_WORDS=(vfault "$@"); COMP_CWORD=$#; _vfault; printf "%s\\n" "${{COMPREPLY[@]}}"'
