@@ -6,4 +6,5 @@ pub mod Updates
 pub mod Releases
 pub mod NextTimes
 pub mod NothingHeld
+pub mod Clears
 pub mod Turns

@@ -23,7 +23,7 @@ pub struct Held {
 impl Held {
     ghost use Rattle.std.specs.Prelude.{◌≡◌, ◌<◌, OnOk, vec_len, vec_capacity};
     ghost use Rattle.v_design.specs.Plain.{due_of};
-    ghost use Rattle.event_queue.specs.Queues.{with_holding, with_later};
+    ghost use Rattle.event_queue.specs.Queues.{nothing_held, with_holding, with_later};
     ghost use Rattle.event_queue.specs.Arranged.{held_process, without_at};
 
     /// Holds the process so.
@@ -31,6 +31,14 @@ impl Held {
         ensures { held_process self.new ≡ with_holding holding (held_process self.old) }
     {
         self.holding = holding;
+    }
+
+    /// Lets go of the process, and of its updates.
+    pub fn clear(&mut self)
+        ensures { held_process self.new ≡ nothing_held }
+    {
+        self.holding = Holding::Free;
+        self.later.clear();
     }
 
     /// Appends an update. There is room for it.

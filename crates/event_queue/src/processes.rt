@@ -6,7 +6,7 @@ ghost use Rattle.vf_base.specs.Base.{process_number};
 ghost use Rattle.vf_base.specs.declared.ids.ProcId.{ProcId};
 ghost use Rattle.v_design.specs.declared.plan.Update.{Update};
 ghost use Rattle.v_design.specs.Plain.{due_of};
-ghost use Rattle.event_queue.specs.Queues.{with_holding, with_later};
+ghost use Rattle.event_queue.specs.Queues.{HeldProcess, held_at, nothing_held, repeated, with_holding, with_later};
 ghost use Rattle.event_queue.specs.declared.held.Holding.TheVariants as Holding;
 ghost use Rattle.event_queue.specs.Arranged.{HasRoom, held_by_process, without_at, lane_number, changed_each};
 
@@ -70,4 +70,30 @@ pub fn push_update(processes: &mut [Held], process: ProcId, due: Due)
 {
     let held = &mut processes[process.0 as usize];
     held.push(due);
+}
+
+/// Lets go of one process, and of its updates.
+fn clear_one(processes: &mut [Held], number: usize)
+    requires { number < length processes.old }
+    ensures { held_by_process processes.new ≡ change_at (held_by_process processes.old) number (λ (held : HeldProcess). nothing_held) }
+{
+    let held = &mut processes[number];
+    held.clear();
+}
+
+/// Lets go of all processes, and of their updates.
+pub fn clear_all(processes: &mut [Held])
+    ensures { held_by_process processes.new ≡ repeated nothing_held (length processes.old) }
+{
+    'numbers: for number in 0..processes.len() {
+        clear_one(processes, number);
+    }
+}
+
+/// The updates of a process, in the order of their appends.
+pub fn updates_of(processes: &[Held], process: ProcId) -> &[Due]
+    requires { process.0 < length processes.now }
+    ensures { map due_of result.now ≡ (held_at (held_by_process processes.now) process.0).later }
+{
+    processes[process.0 as usize].later.as_slice()
 }

@@ -4,7 +4,7 @@ ghost use Rattle.std.specs.Prelude.{◌≡◌, ◌<◌, ◌↔◌, length, map, 
 ghost use Rattle.std.specs.Option.{option_map};
 ghost use Rattle.vf_base.specs.Base.{process_number};
 ghost use Rattle.vf_base.specs.Lists.{AllHold, change_at};
-ghost use Rattle.v_design.specs.Plain.{update_of};
+ghost use Rattle.v_design.specs.Plain.{due_of, update_of};
 ghost use Rattle.v_design.specs.States.{some_in, is_due};
 ghost use Rattle.event_queue.specs.Queues.{HeldProcess, is_postponed, repeated, nothing_held, held_at, with_holding};
 ghost use Rattle.event_queue.specs.Queues.{with_later, ComesAfter, HoldsNothing, next_time, next_region, released, held_after};
@@ -14,7 +14,9 @@ ghost use Rattle.event_queue.specs.Regions.{turn_region};
 
 use crate::calendar::{Lanes, Sleepers, add_sleeper, add_update, earlier, first_time, put_process};
 use crate::held::{Held, Holding};
-use crate::processes::{drop_each, free_each, hold, push_update, reserve_update};
+use crate::processes::{
+    clear_all, drop_each, free_each, hold, push_update, reserve_update, updates_of,
+};
 use crate::region::Region;
 use std::alloc::Global;
 use std::collections::BTreeMap;
@@ -65,6 +67,24 @@ impl Queue {
             sleepers: BTreeMap::new(alloc),
             lanes: BTreeMap::new(alloc),
         })
+    }
+
+    /// Lets go of all processes, and of their updates.
+    pub fn clear(&mut self)
+        ensures { self.new ≡ repeated nothing_held (length self.old) }
+    {
+        clear_all(&mut self.processes);
+        self.postponed = Seq::from_vec(Vec::new(self.alloc));
+        self.sleepers = BTreeMap::new(self.alloc);
+        self.lanes = BTreeMap::new(self.alloc);
+    }
+
+    /// The nonblocking updates of a process that are pending, in the order of their appends.
+    pub fn updates(&self, process: ProcId) -> &[Due]
+        requires { process_number process < length self.now }
+        ensures { map due_of result.now ≡ (held_at self.now (process_number process)).later }
+    {
+        updates_of(&self.processes, process)
     }
 
     /// Lets a process sleep until a time, in steps.

@@ -1,10 +1,10 @@
 -- A slot is at its end (IEEE 1364-2001, clause 5.4).
-use Rattle.std.proofs.Common.{◌≡◌, List, map, length, Bool, true, false, refl, sym, ap, subst, ◌∙◌}
+use Rattle.std.proofs.Common.{◌≡◌, ℕ, ◌+◌, List, [], ◌∷◌, map, length, Bool, true, false, refl, sym, ap, subst, ◌∙◌, arith}
 use Rattle.std.specs.Prelude.{Some, None}
 use Rattle.v_design.specs.PlainDesigns.{design_of}
-use Rattle.v_design.specs.Designs.{Machine}
-use Rattle.v_design.specs.States.{State, time_turn, turn_of, has_event, some_in}
-use Rattle.v_design.specs.Runs.{slot_end, is_hyper}
+use Rattle.v_design.specs.Designs.{FlatNode, Machine}
+use Rattle.v_design.specs.States.{State, Evaluation, idle_node, time_turn, turn_of, has_event, some_in}
+use Rattle.v_design.specs.Runs.{slot_end, is_hyper, turn_in_slot, work_of}
 use Rattle.v_design.specs.Laws.{BeginsPhase}
 use Rattle.v_design.specs.Grades as plain
 use Rattle.v_design.specs.Grades.{SlotOutcome, slot_outcome}
@@ -20,12 +20,14 @@ use Rattle.slot_record.specs.SlotEnds.{outcome_kept, outcome-recorded, log-recor
 use Rattle.run_ends.specs.RunEnds.{HaveRunEnds}
 use Rattle.run_record.specs.RunRecords.{IsAtRest, SlotsEndNotes}
 use Rattle.run_record.specs.declared.record.RunRecord.{RunRecord}
+use Rattle.net_state.specs.declared.state.NetState.{NetState}
+use Rattle.net_state.specs.Held.{node_marked}
 use Rattle.net_state.specs.States.{machine_in, values_in, nodes_in}
 use Rattle.process_table.specs.Arranged.{IsKept, table_of}
 use Rattle.machine.specs.declared.end.SlotEnd.{SlotEnd}
 use Rattle.machine.specs.declared.parts.Stage.TheVariants.{Between}
 use Rattle.machine.specs.declared.parts.Machine.{Machine as Simulated}
-use Rattle.machine.specs.Standing.{machine_kept, state_kept, slot_after, begins_at, notes_runs, following, outcome_of, BeginsInFirstRun, IsStanding, RunsSlot}
+use Rattle.machine.specs.Standing.{machine_kept, state_kept, slot_after, begins_at, notes_runs, following, outcome_of, idle_nodes, BeginsInFirstRun, IsStanding, RunsSlot}
 use Rattle.machine.specs.Phases.{EndsSlot, outcome_told, stage_after}
 use Rattle.order_laws.specs.FirstRuns.{FirstRunsGoOn}
 use Rattle.machine.proofs.Moved.{graph-of}
@@ -66,6 +68,7 @@ slot-run law machine first begins hyper end old new log logged timed ends phase 
     (record {
       outcome = says ∙ told-kept hyper new.record ∙ sym (outcome-recorded machine hyper ends.at first new.record logged ends.ends recorded);
       state = same ∙ ends.is.state_is ∙ sym ends.ends.end_is;
+      between = λ few. stage ∙ ap stage_after (sym ends.ends.hyper_is ∙ few);
       next = ap (λ s. begins_at s (state_kept new)) stage ∙ next-is machine ends.at.begins (state_kept new) hyper ends.ends.hyper_is (same ∙ ends.is.state_is ∙ sym ends.ends.end_is);
       logged = record { phases_are = phases ∙ had.phases_are; actors_are = ap (map (λ (one : List Actor). map event_of one)) actors ∙ had.actors_are; turns_are = turns ∙ had.turns_are };
       log_time = time ∙ ap (λ (s : State). s.time) ends.is.state_is ∙ ends.is.comes.same_time;
@@ -96,6 +99,18 @@ next-rests law machine first begins next true old log ends e on = cc
 next-rests law machine first begins next false old log ends e on =
     (law machine ends.at.ended (present_phase ends.at) old.runs (none-ready machine ends.at ends.is.comes (ends.idle refl)) (ends.is.runs on)).rests
 
+-- where no node has work, none is marked
+idle-marks : (from : ℕ) (marks : List Bool) (nodes : List FlatNode) → length marks ≡ length nodes → work_of from (map node_marked marks) ≡ None →
+    map node_marked marks ≡ map (λ (node : FlatNode). idle_node) nodes
+idle-marks from [] [] long none = refl
+idle-marks from [] (node ∷ nodes) long none = absurd (omega (arith, long))
+idle-marks from (mark ∷ marks) [] long none = absurd (omega (arith, long))
+idle-marks from (true ∷ marks) (node ∷ nodes) long none = absurd (let no : Some (Evaluation from) ≡ None = none in cc)
+idle-marks from (false ∷ marks) (node ∷ nodes) long none = ap (λ rest. idle_node ∷ rest) (idle-marks (from + 1) marks nodes (omega (arith, long)) none)
+
+marks-count : (nets : NetState) → length nets.objects.settle.marks.items ≡ length (machine_in nets).design.nodes
+marks-count nets = omega (arith, nets.objects.settle.sized)
+
 -- the machine stands between two slots
 pub slot-stands : NextSlotsBegin → SlotsEndNotes → FirstRunsGoOn → (machine : Machine) (first : Turn) (begins : State) (hyper : Bool) (old new : Simulated) (log logged : SlotLog) →
     BeginsInFirstRun machine begins → EndsSlot machine first begins hyper old log →
@@ -115,6 +130,18 @@ slot-stands law quiet follows machine first begins hyper old new log logged with
       quiet = λ between.
           ap (λ t. some_in has_event (table_of t).processes) table ∙ ap (λ (s : State). some_in has_event s.processes) ends.is.state_is
           ∙ idle-processes ends.at.state (ends.idle (between-not-hyper hyper (sym stage ∙ between)));
+      nodes = λ between.
+          ap nodes_in nets
+          ∙ idle-marks 0 old.nets.objects.settle.marks.items (machine_in old.nets).design.nodes (marks-count old.nets)
+          (ap (λ (s : State). work_of 0 s.nodes) ends.is.state_is ∙ (ends.idle (between-not-hyper hyper (sym stage ∙ between))).0)
+          ∙ ap (λ n. idle_nodes (machine_in n).design) (sym nets);
+      no_turn = λ between.
+          subst (λ s. turn_in_slot (turn_of s) ≡ None) (sym ends.is.state_is ∙ (λ i. record {
+            time = (table_of (sym table i)).time;
+            values = values_in (sym nets i);
+            nodes = nodes_in (sym nets i);
+            processes = (table_of (sym table i)).processes;
+          })) (ends.no_turn (between-not-hyper hyper (sym stage ∙ between)));
       begins = λ next e. subst (λ k. BeginsPhase k next) (sym same)
           (next-begins law machine first begins next hyper old log ends
           ((λ i. begins_at (sym stage i) (record {

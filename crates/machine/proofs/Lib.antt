@@ -8,3 +8,4 @@ pub mod Beginnings
 pub mod Endings
 pub mod Started
 pub mod InRun
+pub mod PutLaws

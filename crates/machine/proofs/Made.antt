@@ -81,12 +81,14 @@ pub ends-quiet : QuietSlotsEnd → (machine : Machine) (first : Turn) (begins : 
     EndsSlot machine first begins false m log
 ends-quiet law machine first begins steps m log runs few quiet =
     let idle : IsIdle runs.at.state = subst IsIdle runs.is.state_is quiet.idle in
+    let no_turn : turn_in_slot (turn_of runs.at.state) ≡ None = subst (λ s. turn_in_slot (turn_of s) ≡ None) runs.is.state_is quiet.no_turn in
     record {
       at = runs.at;
       is = runs.is;
       begins_is = runs.begins_is;
-      ends = law machine runs.at runs.is.comes (subst (λ n. n ≤ most_steps) (sym runs.steps_is) few) idle (subst (λ s. turn_in_slot (turn_of s) ≡ None) runs.is.state_is quiet.no_turn);
+      ends = law machine runs.at runs.is.comes (subst (λ n. n ≤ most_steps) (sym runs.steps_is) few) idle no_turn;
       idle = λ e. idle;
+      no_turn = λ e. no_turn;
     }
 
 -- and where too many steps were taken, it is, and is hyperactive
@@ -98,6 +100,7 @@ ends-hyper law machine first begins steps m log runs many = record {
   begins_is = runs.begins_is;
   ends = law machine runs.at runs.is.comes (runs.steps_is ∙ many);
   idle = λ e. cc;
+  no_turn = λ e. cc;
 }
 
 -- a machine that stands in a slot is moving

@@ -37,6 +37,8 @@ start-stands law follows machine m both stage kept graph causes off = record {
   earlier = [];
   causes = causes;
   quiet = λ between. absurd (let no : Start ≡ Between = sym stage ∙ between in cc);
+  nodes = λ between. absurd (let no : Start ≡ Between = sym stage ∙ between in cc);
+  no_turn = λ between. absurd (let no : Start ≡ Between = sym stage ∙ between in cc);
   begins = λ begins next.
       subst (BeginsPhase (machine_kept m)) (some-state (state_kept m) begins (sym (ap (λ g. begins_at g (state_kept m)) stage) ∙ next)) (start-begins law machine m both);
   reached = λ begins next.

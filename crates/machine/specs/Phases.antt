@@ -73,6 +73,7 @@ pub record EndsSlot (machine : Machine) (first : Turn) (begins : State) (hyper :
   pub begins_is : at.begins ≡ begins
   pub ends : EndsAt machine hyper at
   pub idle : hyper ≡ false → IsIdle at.state
+  pub no_turn : hyper ≡ false → turn_in_slot (turn_of at.state) ≡ None
 
 -- from the beginning of a slot the machine came to its end, hyperactive or not
 pub record ComesToEnd (hyper : Bool) (old new : Simulated) (log_old log_new : SlotLog) : Type 0 where

@@ -1,12 +1,13 @@
 -- Where a machine stands in its first run, and what the run of a slot gives (slots and phases by IEEE 1364-2001, clause 5).
-use Rattle.std.specs.Prelude.{◌≡◌, ℕ, ◌≤◌, Bool, true, false, Option, Some, None, IsTrue, IsSomeAnd, nat_le, slice_get, List, length}
+use Rattle.std.specs.Prelude.{◌≡◌, ℕ, ◌≤◌, Bool, true, false, Option, Some, None, IsTrue, IsSomeAnd, nat_le, slice_get, List, length, map}
 use Rattle.std.specs.Option.{option_map}
 use Rattle.std.proofs.Common.{refl, subst}
 use Rattle.vf_base.specs.Base.{reported_pair}
+use Rattle.four_value.specs.Values.{LogicValue}
 use Rattle.v_design.specs.PlainDesigns.{design_of}
-use Rattle.v_design.specs.Designs.{Machine}
-use Rattle.v_design.specs.States.{State, TurnKind, PostponedTurn, UpdatesTurn, TimeTurn, turn_of, time_turn, has_event, some_in}
-use Rattle.v_design.specs.Runs.{Move, FirstSlot, Leads, ends_by, only_if, first_run, slot_end, is_hyper, next_slot, next_slot_at}
+use Rattle.v_design.specs.Designs.{FlatDesign, FlatNode, FlatProcess, Machine}
+use Rattle.v_design.specs.States.{State, NodeState, TurnKind, PostponedTurn, UpdatesTurn, TimeTurn, idle_node, idle_process, process_at, turn_of, time_turn, has_event, some_in}
+use Rattle.v_design.specs.Runs.{Move, FirstSlot, Leads, ends_by, only_if, first_run, slot_end, is_hyper, next_slot, next_slot_at, turn_in_slot}
 use Rattle.v_design.specs.Laws.{BeginsPhase}
 use Rattle.v_design.specs.PhaseLogs.{NotedEvent}
 use Rattle.v_design.specs.Grades.{SlotOutcome, Fine, Race, Hyper, phases, slot_outcome}
@@ -21,6 +22,7 @@ use Rattle.run_ends.specs.RunEnds.{HaveRunEnds}
 use Rattle.run_record.specs.RunRecords.{IsAtRest}
 use Rattle.net_state.specs.States.{machine_in, values_in, nodes_in}
 use Rattle.process_table.specs.Arranged.{IsKept, table_of}
+use Rattle.process_table.specs.Puts.{MayStand}
 use Rattle.machine.specs.declared.end.SlotEnd.{SlotEnd}
 use Rattle.machine.specs.declared.end.SlotEnd.TheVariants as ends
 use Rattle.machine.specs.declared.parts.Stage.{Stage}
@@ -99,6 +101,22 @@ pub record BeginsInFirstRun (machine : Machine) (begins : State) : Type 0 where
   pub number : ℕ
   pub stands : (time : ℕ) → begins.time ≤ time → slice_get (first_run machine time) number ≡ Some (slot_from machine begins)
 
+-- no node has work
+abbrev pub idle_nodes : FlatDesign → List NodeState
+idle_nodes design = map (λ (node : FlatNode). idle_node) design.nodes
+
+-- a state between two slots of a machine's first run, into which a machine may be put: no event and no turn within a slot is possible, each process may stand where it stands, and the slot to whose
+-- time the turn leads begins as the laws ask and is one of the first run
+pub record StandsBetween (machine : Machine) (state : State) : Type 0 where
+  pub values : length state.values ≡ length machine.design.objects
+  pub nodes : state.nodes ≡ idle_nodes machine.design
+  pub count : length state.processes ≡ length machine.design.processes
+  pub quiet : some_in has_event state.processes ≡ false
+  pub no_turn : turn_in_slot (turn_of state) ≡ None
+  pub processes : (number : ℕ) → MayStand machine.design state.time number (process_at state number)
+  pub begins : (begins : State) → slot_after state (turn_of state) ≡ Some begins → BeginsPhase machine begins
+  pub reached : (begins : State) → slot_after state (turn_of state) ≡ Some begins → BeginsInFirstRun machine begins
+
 -- a machine stands between two slots of its first run, and its parts agree
 pub record IsStanding (m : Simulated) : Type 0 where
   pub table : IsKept m.table
@@ -109,12 +127,23 @@ pub record IsStanding (m : Simulated) : Type 0 where
   pub causes : AreCausesOf (machine_kept m) earlier m.record.phase.causes
   -- no event is possible between two slots
   pub quiet : m.stage ≡ at.Between → some_in has_event (table_of m.table).processes ≡ false
+  pub nodes : m.stage ≡ at.Between → (state_kept m).nodes ≡ idle_nodes (machine_kept m).design
+  pub no_turn : m.stage ≡ at.Between → turn_in_slot (turn_of (state_kept m)) ≡ None
   -- the next slot begins as the laws ask
   pub begins : (begins : State) → begins_next m ≡ Some begins → BeginsPhase (machine_kept m) begins
   -- and is one of the first run
   pub reached : (begins : State) → begins_next m ≡ Some begins → BeginsInFirstRun (machine_kept m) begins
   -- where runs are noted, no process is in one
   pub rests : (begins : State) → begins_next m ≡ Some begins → notes_runs m ≡ true → IsAtRest (length (machine_kept m).design.processes) m.runs
+
+-- no slot is left to a machine, whose parts agree: it may be put into a state
+pub record IsCleared (m : Simulated) : Type 0 where
+  pub standing : IsStanding m
+  pub over : m.stage ≡ at.Over
+
+-- the state of a machine that is cleared at a time: its values stay, no node has work, and each process is done
+abbrev pub cleared_state : FlatDesign → ℕ → List LogicValue → State
+cleared_state design time values = record { time = time; values = values; nodes = idle_nodes design; processes = map (λ (process : FlatProcess). idle_process) design.processes }
 
 -- a machine still stands where it stood
 pub record StaysStanding (old new : Simulated) : Type 0 where
@@ -138,6 +167,7 @@ pub record RunsSlot (machine : Machine) (begins : State) (first : Turn) (end : S
   pub outcome : outcome_of end ≡ slot_outcome machine (slot_from machine begins)
   pub state : state_kept m ≡ slot_end machine (slot_from machine begins)
   pub next : begins_next m ≡ following machine (slot_from machine begins)
+  pub between : is_hyper (slot_from machine begins) ≡ false → m.stage ≡ at.Between
   pub logged : IsSlotLog machine first (phases machine (slot_from machine begins)) log
   pub log_time : log.time ≡ begins.time
   pub runs : notes_runs m ≡ true → is_hyper (slot_from machine begins) ≡ false → HaveRunEnds machine (phases machine (slot_from machine begins)) (runs_kept m)

@@ -12,7 +12,7 @@ use slot_record::SlotRecord;
 use v_design::Values;
 use vf_base::ObjectId;
 
-/// Where a machine stands in its run: at the start, after a slot, or after one that was hyperactive, after which there is none.
+/// Where a machine stands in its run: at the start, after a slot, or where no slot is left to it, as after one that was hyperactive and while it is put into a state.
 #[derive(Clone, Copy, PartialEq, Eq, Debug)]
 pub enum Stage {
     Start,

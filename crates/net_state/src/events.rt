@@ -1,15 +1,15 @@
 // What the events of a machine do to its values and its nodes.
 
-ghost use Rattle.std.specs.Prelude.{◌≡◌, ◌<◌, length, map, Some, slice_get, IfOk, IfSome};
+ghost use Rattle.std.specs.Prelude.{◌≡◌, ◌<◌, length, map, Some, slice_get, slice_set, IfOk, IfSome};
 ghost use Rattle.std.specs.Option.{option_map};
 ghost use Rattle.std.specs.List.{All};
 ghost use Rattle.vf_base.specs.Base.{object_number, node_number};
 ghost use Rattle.vf_base.specs.Lists.{AllHold};
-ghost use Rattle.v_design.specs.Designs.{FlatNode};
+ghost use Rattle.v_design.specs.Designs.{FlatNode, width_in};
 ghost use Rattle.v_design.specs.Assignments.{value_at, first_contents};
-ghost use Rattle.v_design.specs.States.{State, Evaluation, NetUpdate, start, written, value_written, after};
+ghost use Rattle.v_design.specs.States.{State, Evaluation, NetUpdate, start, written, value_written, after, idle_node};
 ghost use Rattle.v_design.specs.Runs.{work_of, named_event};
-ghost use Rattle.v_design.specs.Plain.{update_of};
+ghost use Rattle.v_design.specs.Plain.{update_of, fault_of};
 ghost use Rattle.v_design.specs.PlainDesigns.{design_of};
 ghost use Rattle.v_design.specs.Views.{machine_of};
 ghost use Rattle.value_change.specs.declared.change.Change.{Change};
@@ -23,7 +23,7 @@ use four_value::Vec4;
 use net_graph::Graph;
 use net_settle::{NodeWork, Settle, evaluate};
 use std::alloc::Global;
-use v_design::{Update, Values, View};
+use v_design::{Fault, Update, Values, View};
 use value_change::Change;
 use vf_base::{NoMemory, NodeId, ObjectId};
 
@@ -111,6 +111,35 @@ impl<'d> NetState<'d> {
             .view()
             .forced(object, old.place(update.low, update.value));
         self.objects.put(object, new)
+    }
+
+    /// An object holds a value. Nothing sees that as a change, so no node is marked.
+    pub fn put(&mut self, object: ObjectId, value: Vec4)
+        requires there { object_number object < length (values_in self.old) }
+        requires width { length value ≡ width_in (machine_in self.old).design (object_number object) }
+        ensures machine { machine_in self.new ≡ machine_in self.old }
+        ensures values { values_in self.new ≡ slice_set (values_in self.old) (object_number object) value }
+        ensures nodes { nodes_in self.new ≡ nodes_in self.old }
+    {
+        self.objects.hold_one(object, value);
+    }
+
+    /// The design is good or under another fault from now on. No value is forced by that.
+    pub fn set_fault(&mut self, fault: Option<Fault>)
+        ensures machine { machine_in self.new ≡ record (machine_in self.old) { fault = option_map fault_of fault } }
+        ensures values { values_in self.new ≡ values_in self.old }
+        ensures nodes { nodes_in self.new ≡ nodes_in self.old }
+    {
+        self.fault = fault;
+    }
+
+    /// No node is to be evaluated any more.
+    pub fn unmark_all(&mut self)
+        ensures machine { machine_in self.new ≡ machine_in self.old }
+        ensures values { values_in self.new ≡ values_in self.old }
+        ensures nodes { nodes_in self.new ≡ map (λ (node : FlatNode). idle_node) (machine_in self.old).design.nodes }
+    {
+        self.objects.unmark_all();
     }
 
     /// A node is evaluated, and its nets get the values. `changes` holds afterwards what that changed, in the order of the objects.

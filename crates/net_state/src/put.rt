@@ -117,6 +117,28 @@ impl<'d> Objects<'d> {
         }
     }
 
+    /// An object holds a value; no node is marked by that.
+    pub(crate) fn hold_one(&mut self, object: ObjectId, value: Vec4)
+        requires there { object_number object < length self.old.values.items }
+        requires width { length value ≡ width_in (design_of self.old.settle.graph.now.design.now) (object_number object) }
+        ensures settle { self.new.settle ≡ self.old.settle }
+        ensures values { self.new.values.items ≡ slice_set self.old.values.items (object_number object) value }
+    {
+        self.values[object.0 as usize] = value;
+    }
+
+    /// No node is to be evaluated any more.
+    pub(crate) fn unmark_all(&mut self)
+        ensures belongs { self.new.settle.graph.now ≡ self.old.settle.graph.now }
+        ensures values { self.new.values.items ≡ self.old.values.items }
+        ensures marks { NoneMarked self.new.settle.marks.items }
+    {
+        let count = self.settle.graph.design.nodes.as_slice().len();
+        'nodes: for number in 0..count {
+            self.unmark(NodeId(number as u32));
+        }
+    }
+
     /// The nets get the values that their nodes give them, in the nodes' order; no node is marked by that.
     pub(crate) fn settle_all(&mut self, fault: Option<Fault>, room: &mut NodeWork)
         requires { IsMadeFor (design_of self.old.settle.graph.now.design.now) room.old }

@@ -15,3 +15,5 @@ pub mod NotedLaws
 pub mod WaitCalls
 pub mod EachChanged
 pub mod TurnedLaws
+pub mod CodesAt
+pub mod PutLaws

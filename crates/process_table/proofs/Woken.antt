@@ -51,7 +51,7 @@ number-none changes number process e = ap (λ b. number_if b number []) e
 
 -- One element more
 
-below-more : {A : Type 0} (f : A → A) (k : ℕ) (xs : List A) → changed_below f (suc k) xs ≡ change_at (changed_below f k xs) k f
+pub below-more : {A : Type 0} (f : A → A) (k : ℕ) (xs : List A) → changed_below f (suc k) xs ≡ change_at (changed_below f k xs) k f
 below-more f zero [] = refl
 below-more f zero (x ∷ xs) = refl
 below-more f (suc k) [] = refl
@@ -77,7 +77,7 @@ listed-more d give n (suc k) m (x ∷ xs) e none =
 
 -- all elements
 
-below-all : {A : Type 0} (f : A → A) (k : ℕ) (xs : List A) → length xs ≤ k → changed_below f k xs ≡ map f xs
+pub below-all : {A : Type 0} (f : A → A) (k : ℕ) (xs : List A) → length xs ≤ k → changed_below f k xs ≡ map f xs
 below-all f zero [] past = refl
 below-all f zero (x ∷ xs) past = absurd (omega (arith, past))
 below-all f (suc k) [] past = refl

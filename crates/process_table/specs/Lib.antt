@@ -8,3 +8,4 @@ pub mod Arranged
 pub mod Wakes
 pub mod Noted
 pub mod Turned
+pub mod Puts

@@ -35,6 +35,10 @@ row_text row = process_of row.code.process.now
 abbrev pub row_states : List Row → List RowState
 row_states rows = map row_state rows
 
+-- a row whose process is done, with an empty lane
+abbrev pub idle_row : RowState
+idle_row = record { activity = Done; lane = [] }
+
 -- the row state with a number; a number with nothing behind it stands for a process that is done
 abbrev pub state_at : List RowState → ℕ → RowState
 state_at states number = found_or (record { activity = Done; lane = [] }) (slice_get states number)

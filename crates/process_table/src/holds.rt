@@ -1,6 +1,6 @@
 // What a step leaves to the sets and to the queue of a table.
 
-ghost use Rattle.std.specs.Prelude.{◌≡◌, ◌<◌, Bool, length, OnOk};
+ghost use Rattle.std.specs.Prelude.{◌≡◌, ◌<◌, Bool, length, map, OnOk};
 ghost use Rattle.std.specs.Option.{option_map, option_to_list};
 ghost use Rattle.vf_base.specs.Base.{process_number};
 ghost use Rattle.vf_base.specs.Lists.{change_at};
@@ -150,6 +150,33 @@ pub fn keep(queue: &mut Queue, process: ProcId, did: &Did, stage: Stage) -> Resu
     ensures { OnOk result (queue.new ≡ change_at queue.old (process_number process) (held_so (stage_holding stage) (later_by (said_by did.now)))) }
 {
     append_later(queue, process, did)?;
+    hold(queue, process, stage)?;
+    Ok(())
+}
+
+/// Appends some updates of a process.
+fn append_all(queue: &mut Queue, process: ProcId, updates: &[Due]) -> Result<(), NoMemory>
+    requires { process_number process < length queue.old }
+    ensures { OnOk result (queue.new ≡ change_at queue.old (process_number process) (with_laters (map due_of updates.now))) }
+{
+    'updates: for due in updates {
+        queue.schedule_update(process, due.time, due.update)?;
+    }
+    Ok(())
+}
+
+/// Lets the queue hold a process that isn't held as its stage says, with some updates.
+pub fn hold_with(
+    queue: &mut Queue,
+    process: ProcId,
+    stage: Stage,
+    updates: &[Due],
+) -> Result<(), NoMemory>
+    requires number { process_number process < length queue.old }
+    requires free { (held_at queue.old (process_number process)).holding ≡ Holding.Free }
+    ensures { OnOk result (queue.new ≡ change_at queue.old (process_number process) (held_so (stage_holding stage) (map due_of updates.now))) }
+{
+    append_all(queue, process, updates)?;
     hold(queue, process, stage)?;
     Ok(())
 }

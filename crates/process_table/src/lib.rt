@@ -2,13 +2,15 @@
 //! 1364-2001, clauses 5.3, 5.4 and 9).
 //!
 //! A `ProcessTable` stands for the processes of a machine's state. Its main contract: for every machine and state of the design with these
-//! processes, a step and a step of a lane lead to the processes of the state that the definition gives, and the next turn is the state's.
+//! processes, a step and a step of a lane lead to the processes of the state that the definition gives, and the next turn is the state's. A table can also be put
+//! into a given state: `clear`, and `put` for each process.
 #![tactic(auto)]
 
 mod calls;
 mod deed;
 mod entries;
 mod holds;
+mod puts;
 mod row;
 mod rows;
 mod set;

@@ -11,8 +11,11 @@ ghost use Rattle.v_design.specs.Sized.{IsSizedStatement};
 ghost use Rattle.v_design.specs.States.{is_ready, is_any, first_update};
 ghost use Rattle.v_design.specs.declared.plan.Process.{Process};
 ghost use Rattle.process_operands.specs.BoundsLaws.{AreBelow};
-ghost use Rattle.process_code.specs.Points.{said_by};
-ghost use Rattle.process_table.specs.Rows.{IsGoodRow, RowChanges, RowsChange, StepsRow, StepsRows, row_state, row_states, row_text, state_at, text_at, made_ready, after_update, with_lane, new_state};
+ghost use Rattle.process_code.specs.Points.{activity_of, said_by};
+ghost use Rattle.process_code.specs.StatesOf.{IsStateOf};
+ghost use Rattle.process_table.specs.Puts.{doing, IsStateAt, PutsState, ClearsRows};
+ghost use Rattle.process_table.specs.Rows.{RowState, IsGoodRow, RowChanges, RowsChange, StepsRow, StepsRows, row_state, row_states, row_text, state_at, text_at, made_ready, after_update};
+ghost use Rattle.process_table.specs.Rows.{with_lane, new_state, idle_row};
 
 use crate::row::Row;
 use process_code::{Did, ProcState, Stage, compile, step};
@@ -63,6 +66,23 @@ impl<'d> Row<'d> {
         }
         self.state.operands.clear();
         self.state.wake();
+    }
+
+    /// The process is done, and its lane is empty.
+    fn clear(&mut self)
+        ensures { RowChanges self.old self.new idle_row }
+    {
+        self.state.operands.clear();
+        self.state.stage = Stage::Done;
+        self.taken = self.lane.as_slice().len();
+    }
+
+    /// The process comes to stand at a state.
+    fn put_state(&mut self, state: ProcState)
+        requires { IsStateOf self.old.code state }
+        ensures { RowChanges self.old self.new (doing (activity_of self.old.code state) (row_state self.old)) }
+    {
+        self.state = state;
     }
 
     /// One step of a ready process. It answers the line of the step's statement and what the step did.
@@ -148,6 +168,32 @@ pub fn put_lane(rows: &mut Vec<Row>, process: ProcId, lane: Seq<Update>)
     ensures { RowsChange rows.old.items rows.new.items (process_number process) (with_lane (map update_of lane)) }
 {
     rows[process.0 as usize].put_lane(lane);
+}
+
+/// The process of a row is done, and its lane is empty.
+fn clear_row(rows: &mut Vec<Row>, number: usize)
+    requires { number < length rows.old.items }
+    ensures { RowsChange rows.old.items rows.new.items number (λ (row : RowState). idle_row) }
+{
+    rows[number].clear();
+}
+
+/// All processes are done, and their lanes are empty.
+pub fn clear_rows(rows: &mut Vec<Row>)
+    ensures { ClearsRows rows.old.items rows.new.items }
+{
+    'numbers: for number in 0..rows.len() {
+        clear_row(rows, number);
+    }
+}
+
+/// A process comes to stand at a state.
+pub fn put_state(rows: &mut Vec<Row>, process: ProcId, state: ProcState)
+    requires number { process_number process < length rows.old.items }
+    requires state { IsStateAt rows.old.items (process_number process) state }
+    ensures { PutsState rows.old.items rows.new.items (process_number process) state }
+{
+    rows[process.0 as usize].put_state(state);
 }
 
 /// Whether the lane of a process has an update.

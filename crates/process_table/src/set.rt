@@ -46,6 +46,15 @@ fn least_from(members: &[bool], from: u32) -> u32
     number
 }
 
+/// Takes each process out.
+fn clear_members(members: &mut Vec<bool>)
+    ensures { members.new.items ≡ repeated false (length members.old.items) }
+{
+    'numbers: for number in 0..members.len() {
+        members[number] = false;
+    }
+}
+
 /// The least member of all of so many processes, or of none of them.
 fn first_least(all: bool, count: u32) -> u32
     ensures { result ≡ cond all 0 count }
@@ -99,6 +108,14 @@ impl ProcessSet {
     {
         self.members[process.0 as usize] = true;
         self.least = self.least.min(process.0);
+    }
+
+    /// Takes all processes out of the set.
+    pub fn clear(&mut self)
+        ensures { self.new ≡ repeated false (length self.old) }
+    {
+        clear_members(&mut self.members);
+        self.least = self.members.len() as u32;
     }
 
     /// Takes a process out of the set.

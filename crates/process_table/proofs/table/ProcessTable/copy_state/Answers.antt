@@ -1,41 +1,22 @@
 -- The copy is a state of each code of its process.
-use Rattle.std.proofs.Common.{rules, ◌≡◌, ◌<◌, ◌∙◌, ℕ, length, get_or, false, sym, ap, arith}
-use Rattle.std.specs.Prelude.{Option}
+use Rattle.std.proofs.Common.{rules, ◌≡◌, ◌<◌, ◌∙◌, ℕ, length, get_or, sym, ap}
 use Rattle.vf_base.specs.Base.{process_number}
-use Rattle.v_design.specs.Trees.{Null}
-use Rattle.v_design.specs.Designs.{FlatProcess}
 use Rattle.v_design.specs.PlainDesigns.{design_of}
-use Rattle.v_design.specs.States.{ProcessState, found_or}
+use Rattle.v_design.specs.States.{ProcessState}
 use Rattle.process_code.specs.Codes.{rests_in_code}
 use Rattle.process_code.specs.OneCode.{AreCodesOfOne}
 use Rattle.process_code.specs.Points.{point_of, activity_at, activity_of}
-use Rattle.process_code.specs.declared.code.Code.{Code}
 use Rattle.process_code.specs.declared.state.ProcState.{ProcState}
-use Rattle.run_ends.specs.RunEnds.{IsCodeAt}
 use Rattle.process_table.specs.declared.row.Row.{Row}
 use Rattle.process_table.specs.declared.table.ProcessTable.{ProcessTable}
-use Rattle.process_table.specs.Rows.{RowState, IsGoodRow, text_at}
+use Rattle.process_table.specs.Rows.{RowState, IsGoodRow}
 use Rattle.process_table.specs.Arranged.{IsKept, table_of}
 use Rattle.process_table.specs.Tables.{process_in}
 use Rattle.process_table.proofs.Lists.{AllHold-at}
-use Rattle.process_table.proofs.Changed.{state-is, text-is}
-use Rattle.process_table.proofs.TableCalls.{process-row, count-processes}
+use Rattle.process_table.proofs.CodesAt.{row-low, one-process}
+use Rattle.process_table.proofs.Changed.{state-is}
+use Rattle.process_table.proofs.TableCalls.{process-row}
 use Rattle.process_table.proofs.table.ProcessTable.copy_state.Goals as goal
-
--- the process has a row
-low : (t : ProcessTable) → IsKept t → (p : ℕ) → p < length (table_of t).processes → p < length t.rows.items
-low t kept p there = omega (arith, there, count-processes (design_of t.design.now) t.time t.rows.items t.index t.ready t.lanes t.queue kept)
-
--- the row's code, and any other of the process
-one-process : (t : ProcessTable) → IsKept t → (p : ℕ) (row : Row) (code : Code) → p < length t.rows.items → row ≡ get_or t.rows.items p row → IsCodeAt (design_of t.design.now) p code →
-    AreCodesOfOne row.code code
-one-process t kept p row code there is at = record {
-  same =
-      sym (text-is t.rows.items p row there is) ∙ ap (λ texts. text_at texts p) kept.texts
-      ∙ ap (λ (o : Option FlatProcess). found_or (record { always = false; body = Null; place = record { line = 0; column = 0 } }) o) at.process_is;
-  first = (AllHold-at IsGoodRow t.rows.items p row kept.good there is).code;
-  second = at.code_of;
-}
 
 -- what the copy does in the row's code
 same-activity : (t : ProcessTable) → IsKept t → (p : ℕ) (row : Row) (copy : ProcState) → p < length t.rows.items → row ≡ get_or t.rows.items p row → point_of copy ≡ point_of row.state →
@@ -45,13 +26,13 @@ same-activity t kept p row copy there is point =
     ∙ ap (λ (process : ProcessState). process.activity) (sym (process-row (design_of t.design.now) t.time t.rows.items t.index t.ready t.lanes t.queue kept p))
 
 pub index-row-requires : goal.index-row-requires
-index-row-requires c = let there = low c.args.self.now c.requires.kept (process_number c.args.process) c.requires.number in search rules
+index-row-requires c = let there = row-low c.args.self.now c.requires.kept (process_number c.args.process) c.requires.number in search rules
 
 pub returns-clause-state : goal.returns-clause-state
 returns-clause-state c = λ code at.
     let t = c.args.self.now in
     let p = process_number c.args.process in
-    let there = low t c.requires.kept p c.requires.number in
+    let there = row-low t c.requires.kept p c.requires.number in
     let row : Row = c.index-row.result.now in
     let one : AreCodesOfOne row.code code = one-process t c.requires.kept p row code there c.index-row.ensures at in
     (c.codes_are_one.ensures.read row.code code one).states c.in_ok-copy.copy (c.in_ok-copy.ensures.state row.code
@@ -61,7 +42,7 @@ pub returns-clause-activity : goal.returns-clause-activity
 returns-clause-activity c = λ code at.
     let t = c.args.self.now in
     let p = process_number c.args.process in
-    let there = low t c.requires.kept p c.requires.number in
+    let there = row-low t c.requires.kept p c.requires.number in
     let row : Row = c.index-row.result.now in
     let one : AreCodesOfOne row.code code = one-process t c.requires.kept p row code there c.index-row.ensures at in
     sym ((c.codes_are_one.ensures.read row.code code one).activity c.in_ok-copy.copy) ∙ same-activity t c.requires.kept p row c.in_ok-copy.copy there c.index-row.ensures c.in_ok-copy.ensures.point
