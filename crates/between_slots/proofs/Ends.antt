@@ -86,7 +86,8 @@ end-rests laws machine rules slot asked few =
     end = all_made machine slot.begins (first_moves machine slot.begins)
 
     later : BeginsPhase machine (time_turn 0 (all_made machine slot.begins (first_moves machine slot.begins)))
-    later = next-asked laws machine rules slot.begins asked.asked (few-steps (record { begins = slot.begins; moves = first_moves machine slot.begins }) (asked-few machine slot asked few)) (TimeTurn 0)
+    later = next-asked laws machine rules slot.begins asked.asked (few-steps (record { begins = slot.begins; moves = first_moves machine slot.begins }) (asked-few machine slot asked few))
+        (TimeTurn 0)
 
     rests : is_quiescent (all_made machine slot.begins (first_moves machine slot.begins)) ≡ true
     rests = slot-rests laws machine rules slot.begins asked.asked (few-steps (record { begins = slot.begins; moves = first_moves machine slot.begins }) (asked-few machine slot asked few))

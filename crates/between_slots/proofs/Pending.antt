@@ -11,7 +11,8 @@ use Rattle.v_design.specs.Processes.{Activity}
 use Rattle.v_design.specs.States.{State, ProcessState, LaterUpdate, Event, Step, LaneStep, Evaluation, NetUpdate, TurnKind, PostponedTurn, UpdatesTurn, TimeTurn, after, process_at, node_at, found_or}
 use Rattle.v_design.specs.States.{idle_process, is_ready, is_postponed, is_due, some_in, turn_by, turn_of, time_turn, next_time_of, start, step_of, appended, woken_process, with_value, with_values}
 use Rattle.v_design.specs.States.{with_process, with_node, value_written, written_if, write_of, after_step, first_update, after_lane_step, evaluated, nets_updated, resumed, awake_at}
-use Rattle.v_design.specs.Runs.{Move, Happens, Turns, FirstSlot, happened, made, all_made, turned_by, turn_in_slot, first_event, event_or_turn, is_counted, less_one_if, slot_moves, most_steps, most_moves}
+use Rattle.v_design.specs.Runs.{Move, Happens, Turns, FirstSlot, happened, made, all_made, turned_by, turn_in_slot, first_event, event_or_turn, is_counted, less_one_if, slot_moves}
+use Rattle.v_design.specs.Runs.{most_steps, most_moves}
 use Rattle.v_design.specs.Runs.{first_moves, first_run, slot_end, is_hyper, next_slot, next_slot_at, only_if}
 use Rattle.v_design.specs.WellFormed.{KeepsRules}
 use Rattle.v_design.specs.Grades.{Phase, cut, phases}

@@ -87,8 +87,8 @@ pub slot-rests : LoopLaws → (machine : Machine) → KeepsRules machine.design 
 slot-rests laws machine rules begins asked few = (laws.ends machine begins rules asked few).0
 
 -- the slot to which a turn at its end leads begins as the laws ask
-pub next-asked : LoopLaws → (machine : Machine) → KeepsRules machine.design → (begins : State) → BeginsPhase machine begins → counted_steps (first_moves machine begins) ≤ most_steps → (turn : TurnKind) →
-    BeginsPhase machine (turned turn (all_made machine begins (first_moves machine begins)))
+pub next-asked : LoopLaws → (machine : Machine) → KeepsRules machine.design → (begins : State) → BeginsPhase machine begins → counted_steps (first_moves machine begins) ≤ most_steps →
+    (turn : TurnKind) → BeginsPhase machine (turned turn (all_made machine begins (first_moves machine begins)))
 next-asked laws machine rules begins asked few turn =
     let zeros : 0 + (most_steps + 1) ≡ most_steps + 1 = omega arith in
     let r = reaches laws machine rules (most_moves machine) (most_steps + 1) (first_moment begins) (laws.begin machine begins asked) zeros in

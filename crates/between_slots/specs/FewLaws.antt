@@ -46,4 +46,5 @@ fine-before machine (first ∷ slots) (suc number) slot next here there = go (sl
 -- so before each slot of the good first run
 pub few-before : (design : FlatDesign) (plan : TestPlan) (number : ℕ) (next : FirstSlot) → slice_get (good_slots design plan) number ≡ Some next → LastIsFew design plan number
 few-before design plan zero next there = tt
-few-before design plan (suc last) next there = λ slot here. fine-few (good_machine design) slot (fine-before (good_machine design) (first_run (good_machine design) plan.end) last slot next here there)
+few-before design plan (suc last) next there = λ slot here.
+    fine-few (good_machine design) slot (fine-before (good_machine design) (first_run (good_machine design) plan.end) last slot next here there)

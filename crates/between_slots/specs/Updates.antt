@@ -1,5 +1,5 @@
--- What a state between the slots of the good first run has: the nonblocking updates that its processes have pending, and nothing that is still to be done (slots by IEEE 1364-2001, clause 5; nonblocking
--- updates by clause 9.2.2).
+-- What a state between the slots of the good first run has: the nonblocking updates that its processes have pending, and nothing that is still to be done (slots by IEEE 1364-2001, clause 5;
+-- nonblocking updates by clause 9.2.2).
 use Rattle.std.specs.Prelude.{◌≡◌, ℕ, zero, suc, ◌<◌, ◌≤◌, false, not, List, [], ◌++◌, map, filter, length, Some, slice_get}
 use Rattle.vf_base.specs.Lists.{joined}
 use Rattle.v_design.specs.Designs.{FlatDesign, Machine, TestPlan, good_machine}

@@ -216,8 +216,9 @@ AreUpdatesAt-closed pends part append codes design plan pushed before steps phas
 -- What a slot does
 
 -- its changes
-pub writes-in : (design : FlatDesign) (plan : TestPlan) (before count through first end number : ℕ) (slots : List SlotLog) (all : List Change) (log : SlotLog) → AreSlotsFrom design plan before slots →
-    before + length slots ≡ through → through ≤ length (good_slots design plan) → count < length slots → slice_get slots count ≡ Some log → log ≡ get_or slots count log →
+pub writes-in : (design : FlatDesign) (plan : TestPlan) (before count through first end number : ℕ) (slots : List SlotLog) (all : List Change) (log : SlotLog) →
+    AreSlotsFrom design plan before slots → before + length slots ≡ through → through ≤ length (good_slots design plan) → count < length slots →
+    slice_get slots count ≡ Some log → log ≡ get_or slots count log →
     map written_of all ≡ writes_from 0 (slots_accesses slots) → first ≡ length (writes_from 0 (slots_accesses (take count slots))) →
     end ≡ length (writes_from 0 (slots_accesses (take (count + 1) slots))) → number ≡ length (window_events design plan before (before + count)) →
     AreWritesOf (good_machine design) (window_events design plan (before + count) (before + count + 1)) number (map written_of (between first end all))
@@ -342,7 +343,8 @@ pending-before pends part append codes design plan before last through phase tim
     ]
 
 -- a slot has no fewer phases behind it than before it
-pub phases-rise : (design : FlatDesign) (plan : TestPlan) (before number : ℕ) → before ≤ number → length (window_phases design plan before number) ≤ length (window_phases design plan before (number + 1))
+pub phases-rise : (design : FlatDesign) (plan : TestPlan) (before number : ℕ) → before ≤ number →
+    length (window_phases design plan before number) ≤ length (window_phases design plan before (number + 1))
 phases-rise design plan before number low =
     let parts = ap (λ (l : List Phase). length l) (window_phases-part design plan before number (number + 1) low (omega arith)) in
     let long = length-append (window_phases design plan before number) (window_phases design plan number (number + 1)) in omega (arith, parts, long)

@@ -17,7 +17,8 @@ pub slots-preserved : goal.slots-preserved
 slots-preserved c = record {
   list =
       subst (λ l. IsGathered l c.note_slot.new.self) (sym (slots_accesses-more c.args.slots.now c.slots.slot-index c.slot-item.result c.slots-test.true c.slot-item.is))
-      (IsGathered-more (slots_accesses (take c.slots.slot-index c.args.slots.now)) (log_accesses c.slot-item.result) c.slots.list c.note_slot.new.self c.slots.invariant.list c.in_ok-note_slot.ensures);
+      (IsGathered-more (slots_accesses (take c.slots.slot-index c.args.slots.now)) (log_accesses c.slot-item.result) c.slots.list c.note_slot.new.self
+      c.slots.invariant.list c.in_ok-note_slot.ensures);
   count = ap length c.in_ok-push.ensures.items ∙ length_push c.slots.beginnings.items c.beginning_of.result ∙ ap (λ n. n + 1) c.slots.invariant.count;
   each =
       rw c.in_ok-push.ensures.items
@@ -31,7 +32,8 @@ returns-clause-list c = subst (λ l. IsGathered (slots_accesses l) c.slots.list)
 
 pub returns-clause-beginnings : goal.returns-clause-beginnings
 returns-clause-beginnings c = record {
-  count = ap length c.in_ok-push-2.ensures.items ∙ length_push c.slots.beginnings.items c.beginning_of-2.result ∙ ap (λ n. n + 1) (omega (arith, c.slots.invariant.count, c.slots-test.false, c.slots.auto.slot-index-end));
+  count = ap length c.in_ok-push-2.ensures.items ∙ length_push c.slots.beginnings.items c.beginning_of-2.result
+      ∙ ap (λ n. n + 1) (omega (arith, c.slots.invariant.count, c.slots-test.false, c.slots.auto.slot-index-end));
   each =
       rw c.in_ok-push-2.ensures.items
       (begins-more c.args.slots.now c.slots.beginnings.items c.slots.slot-index c.beginning_of-2.result c.slots.invariant.each c.slots.invariant.count

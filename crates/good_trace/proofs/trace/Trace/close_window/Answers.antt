@@ -102,7 +102,8 @@ pub close_runs-requires-clause-rise : goal.close_runs-requires-clause-rise
 close_runs-requires-clause-rise g c =
     let t = c.self.inside in
     subst (λ (l : List RunEnd). IsNonDecreasingBy run_phase l) (sym c.deref-4.ensures.value)
-    (c.ends_go_on.ensures.ascend t.setup.now.codes (good_machine g.N.World.design) (window_phases g.N.World.design g.N.World.plan t.closed t.pushed) t.runs.items c.self.invariant.runs_kept.runs_are).0
+    (c.ends_go_on.ensures.ascend t.setup.now.codes (good_machine g.N.World.design) (window_phases g.N.World.design g.N.World.plan t.closed t.pushed) t.runs.items
+    c.self.invariant.runs_kept.runs_are).0
 
 pub invariant_of-result : goal.invariant_of-result
 invariant_of-result g c =
