@@ -1,7 +1,8 @@
 -- The text of an object by its name and what stands behind it.
 use Rattle.std.proofs.Common.{◌≡◌, ℕ, ◌+◌, ◌<◌, ◌&&◌, ◌||◌, List, [], ◌∷◌, ◌++◌, Bool, true, false, length, take, drop, map, get_or, refl, sym, ap, ◌∙◌}
 use Rattle.std.proofs.Common.{append-nil, zero, suc, ◌≤◌, Some, None, arith}
-use Rattle.std.specs.Prelude.{nat_eq, slice_get, if◌then◌else◌}
+use Rattle.std.specs.Prelude.{Option, nat_eq, slice_get, if◌then◌else◌}
+use Rattle.std.specs.Option.{ForSome}
 use Rattle.std.specs.List.{list_any}
 use Rattle.std.specs.Str.{bytes_eq}
 use Rattle.std.proofs.lemmas.Bool.{ne_eqb, eqb-true, and_parts, false≢true}
@@ -53,9 +54,9 @@ parts-back (n ∷ name) (w ∷ word) rest same is =
     ap (λ b. b ∷ word) (eqb-true w n p.0) ∙ ap (λ l. n ∷ l) (parts-back name word rest p.1 is)
 
 -- whether a net of the word's name has several pieces
-pub several-behind : (design : FlatDesign) (name word rest : List ℕ) (several : Bool) → bytes_eq (take (length name) word) name ≡ true → rest ≡ drop (length name) word →
-    several ≡ has_pieces design word → several ≡ has_pieces design (name ++ rest)
-several-behind design name word rest several same is have = have ∙ ap (has_pieces design) (parts-back name word rest same is)
+pub several-behind : (design : FlatDesign) (name word rest : List ℕ) (several : Option Bool) → bytes_eq (take (length name) word) name ≡ true → rest ≡ drop (length name) word →
+    ForSome several (λ several. several ≡ has_pieces design word) → ForSome several (λ several. several ≡ has_pieces design (name ++ rest))
+several-behind design name word rest several same is have told some = have told some ∙ ap (has_pieces design) (parts-back name word rest same is)
 
 pub prints-found : (design : FlatDesign) (object : FlatObject) (word rest : List ℕ) → bytes_eq (take (length object.name) word) object.name ≡ true →
     rest ≡ drop (length object.name) word → bytes_eq rest (behind_name design object object.kind) ≡ prints_as design word object

@@ -1,6 +1,7 @@
 // The text of an object, as a report names it.
 
 ghost use Rattle.std.specs.Prelude.{◌≡◌, ◌++◌, IfOk, OnOk, nat_lt, count_by};
+ghost use Rattle.std.specs.Option.{ForSome};
 ghost use Rattle.std.specs.Str.{bytes_eq};
 ghost use Rattle.v_design.specs.Plain.{object_of};
 ghost use Rattle.v_design.specs.PlainDesigns.{design_of};
@@ -53,20 +54,31 @@ fn write_bounds(alloc: Global, text: &mut Vec<u8>, high: u32, low: u32) -> Resul
     Ok(())
 }
 
+/// Whether a net of a name has several pieces: as `several` says, if it does, else all objects are looked through.
+fn several_of(design: &Design, name: &[u8], several: Option<bool>) -> bool
+    requires { ForSome several (λ several. several ≡ has_pieces (design_of design.now) name.now) }
+    ensures { result ≡ has_pieces (design_of design.now) name.now }
+{
+    match several {
+        Some(several) => several,
+        None => has_pieces(design, name),
+    }
+}
+
 /// Whether some bytes are what stands behind the name of a net piece; `several` is asked where there are none.
 fn is_behind_piece(
     alloc: Global,
     design: &Design,
     text: &mut Vec<u8>,
     object: &Object,
-    several: bool,
+    several: Option<bool>,
     bytes: &[u8],
 ) -> Result<bool, NoMemory>
-    requires { several ≡ has_pieces (design_of design.now) ((object_of object.now).name ++ bytes.now) }
+    requires { ForSome several (λ several. several ≡ has_pieces (design_of design.now) ((object_of object.now).name ++ bytes.now)) }
     ensures { IfOk result (λ same. same ≡ bytes_eq bytes.now (behind_name (design_of design.now) (object_of object.now) ObjectKind.Net)) }
 {
     if bytes.is_empty() {
-        return Ok(!several);
+        return Ok(!several_of(design, object.name.as_bytes(), several));
     }
     write_bounds(alloc, text, object.high, object.low)?;
     if bytes != text.as_slice() {
@@ -81,10 +93,10 @@ fn is_behind(
     design: &Design,
     text: &mut Vec<u8>,
     object: &Object,
-    several: bool,
+    several: Option<bool>,
     bytes: &[u8],
 ) -> Result<bool, NoMemory>
-    requires { several ≡ has_pieces (design_of design.now) ((object_of object.now).name ++ bytes.now) }
+    requires { ForSome several (λ several. several ≡ has_pieces (design_of design.now) ((object_of object.now).name ++ bytes.now)) }
     ensures { IfOk result (λ same. same ≡ bytes_eq bytes.now (behind_name (design_of design.now) (object_of object.now) object.now.kind)) }
 {
     match object.kind {
@@ -97,16 +109,16 @@ fn is_behind(
     }
 }
 
-/// Whether an object prints as a word; `several` says whether a net of this name has several pieces.
+/// Whether an object prints as a word; `several` says, if it is known already, whether a net of this name has several pieces.
 fn prints_as(
     alloc: Global,
     design: &Design,
     text: &mut Vec<u8>,
     object: &Object,
-    several: bool,
+    several: Option<bool>,
     word: &[u8],
 ) -> Result<bool, NoMemory>
-    requires { several ≡ has_pieces (design_of design.now) word.now }
+    requires { ForSome several (λ several. several ≡ has_pieces (design_of design.now) word.now) }
     ensures { IfOk result (λ same. same ≡ prints_as (design_of design.now) word.now (object_of object.now)) }
 {
     match word.strip_prefix(object.name.as_bytes()) {
@@ -123,14 +135,14 @@ pub fn is_object(alloc: Global, design: &Design, word: &[u8]) -> Result<bool, No
     let several = has_pieces(design, word);
     let mut text = Vec::new(alloc);
     'objects: for object in objects {
-        if prints_as(alloc, design, &mut text, object, several, word)? {
+        if prints_as(alloc, design, &mut text, object, Some(several), word)? {
             return Ok(true);
         }
     }
     Ok(false)
 }
 
-/// Whether an object that is there prints as a word.
+/// Whether an object that is there prints as a word. All objects are looked through only for a net piece whose name, alone or with its bounds, is the word.
 fn prints_found(
     alloc: Global,
     design: &Design,
@@ -139,9 +151,8 @@ fn prints_found(
 ) -> Result<bool, NoMemory>
     ensures { IfOk result (λ same. same ≡ prints_as (design_of design.now) word.now (object_of object.now)) }
 {
-    let several = has_pieces(design, word);
     let mut text = Vec::new(alloc);
-    let same = prints_as(alloc, design, &mut text, object, several, word)?;
+    let same = prints_as(alloc, design, &mut text, object, None, word)?;
     Ok(same)
 }
 

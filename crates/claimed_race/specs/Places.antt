@@ -1,11 +1,20 @@
 -- The accesses of a phase by their places (the order that IEEE 1364-2001, clause 5, leaves free decides which conflict).
-use Rattle.std.specs.Prelude.{ℕ, ◌+◌, Bool, ◌&&◌, List, [], ◌∷◌, Option, None, option_map, find, nat_lt}
+use Rattle.std.specs.Prelude.{◌≡◌, ℕ, ◌+◌, Bool, true, ◌&&◌, List, [], ◌∷◌, Option, None, option_map, find, nat_lt}
+use Rattle.std.specs.Option.{ForSome}
+use Rattle.std.specs.Str.{bytes_eq}
+use Rattle.vf_base.specs.Base.{reported_access}
+use Rattle.vf_base.specs.declared.finding.Access.{Access}
 use Rattle.v_design.specs.Designs.{FlatDesign}
 use Rattle.v_design.specs.Laws.{place_if}
 use Rattle.v_design.specs.Logs.{LoggedPhase, PhaseAccess, conflict}
+use Rattle.grade_report.specs.Report.{access_text}
 use Rattle.causal_monitor.specs.Links.{access_at}
 use Rattle.cert_laws.specs.Valid.{prints}
 use Rattle.replay_laws.specs.Claimed.{pair_or}
+
+-- an access that may be known prints as a text
+abbrev pub PrintsIfKnown : FlatDesign → List ℕ → Option Access → Type 0
+PrintsIfKnown design text known = ForSome known (λ access. bytes_eq (access_text design (reported_access access)) text ≡ true)
 
 -- the places, from a number on, of the accesses that print as a text
 abbrev pub places_of : FlatDesign → List ℕ → ℕ → List PhaseAccess → List ℕ
