@@ -1,0 +1,5 @@
+pub mod Runs
+pub mod Again
+pub mod Gradings
+pub mod GoodRuns
+pub mod Shards

@@ -1,0 +1,4 @@
+pub mod Stands
+pub mod Gradings
+pub mod GoodRuns
+pub mod Shards
