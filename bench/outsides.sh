@@ -179,7 +179,7 @@ status=0
 ends 'no standard input' 0 '' "$wanted_report"
 
 # words
-usage='vfault: usage: grade DESIGN PLAN TOP WORKERS [strict] | check DESIGN TOP [strict] | faults DESIGN TOP [strict] | soak NUMBER SIZE WORKERS | dict DESIGN PLAN TOP [strict] | diagnose DESIGN PLAN TOP RESPONSE [strict] | pick DESIGN PLAN TOP [strict]'
+usage='vfault: usage: grade DESIGN PLAN TOP WORKERS [strict] | check DESIGN TOP [strict] | faults DESIGN TOP [strict] | soak NUMBER SIZE WORKERS | dict DESIGN PLAN TOP [strict] | diagnose DESIGN PLAN TOP RESPONSE [strict] | certify DESIGN PLAN TOP FAULT [strict] | audit DESIGN PLAN TOP CERT [strict] | pick DESIGN PLAN TOP [strict]'
 run
 ends 'no words' 2 "$usage" nothing
 run check "$(printf 'd\377')" top

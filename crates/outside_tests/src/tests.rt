@@ -19,12 +19,13 @@ mod parts;
 mod system;
 mod workers;
 
-/// A run: the words, the files `d` and `p`, the number and the line of the status and the output.
+/// A run: the words, the files `d`, `p` and `c`, the number and the line of the status and the output.
 #[derive(Drop)]
 struct Run<'r> {
     words: &'r str,
     design: &'r [u8],
     plan: &'r [u8],
+    cert: &'r [u8],
     number: u8,
     line: &'r [u8],
     output: &'r [u8],
@@ -40,6 +41,10 @@ fn shelf(alloc: Global, run: &Run<'_>, failing: u64) -> Result<MemShelf, AllocEr
     files.push((
         String::from_str(alloc, "p")?,
         Vec::from_slice(alloc, run.plan)?,
+    ))?;
+    files.push((
+        String::from_str(alloc, "c")?,
+        Vec::from_slice(alloc, run.cert)?,
     ))?;
     let mut list = Vec::new(alloc);
     list.push(failing)?;

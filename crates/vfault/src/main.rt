@@ -1,4 +1,4 @@
-//! Grades a test: which stuck-at faults of a design it finds, and at which strobe.
+//! Grades a test: which stuck-at faults of a design it finds, and at which strobe; and writes and audits certificates of the lines of its reports.
 //!
 //! `vfault`, of the library `top_call`, is the whole program but for the outside, and its contract is the main one (orders of events by IEEE 1364-2001,
 //! clause 5). `main` makes the outside, calls it, prints the line of the status on standard error, and ends with its number.

@@ -43,6 +43,7 @@ fn is_graded<R: Threads + Sync + Abort>(
         words: "grade d p top 1",
         design,
         plan,
+        cert: b"",
         number,
         line,
         output,
@@ -135,4 +136,33 @@ fn the_longest_lists_of_faults(rt: HostRuntime) -> Result<(), Fail> {
     is_planned(&rt, alloc, ALL_FAULTS, 16_384, 0, b"", report.as_slice())?;
     let line = b"vfault: plan 16386: too many";
     is_planned(&rt, alloc, ALL_FAULTS, 16_385, 1, line, b"")
+}
+
+/// The audit of a certificate of one line of so many blanks, and of some more, ends with this number, this line and this output.
+fn is_audited<R: Threads + Sync + Abort>(
+    rt: &R,
+    alloc: Global,
+    more: &[u8],
+    number: u8,
+    line: &[u8],
+    output: &[u8],
+) -> Result<(), Fail> {
+    let cert = repeated(alloc, b"", b"                ", 1_048_576, more)?;
+    let run = Run {
+        words: "audit d p top c",
+        design: TWO_BITS,
+        plan: b"end 0\n",
+        cert: cert.as_slice(),
+        number,
+        line,
+        output,
+    };
+    is_answered(rt, alloc, &run, 0, None, &OpenGate)
+}
+
+#[test]
+fn the_longest_certificates(rt: HostRuntime) -> Result<(), Fail> {
+    is_audited(&rt, rt.alloc(), b"", 0, b"", b"no 1\n")?;
+    let line = b"vfault: the certificate is too long";
+    is_audited(&rt, rt.alloc(), b" ", 7, line, b"")
 }

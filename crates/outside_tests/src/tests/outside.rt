@@ -12,7 +12,13 @@ use vf_status::{Status, code};
 const REPORT: &[u8] =
     b"vfault 1\nq sa0 detected 15\nq sa1 detected 5\ntotal 2 detected 2 possible 0 undetected 0 race 0 hyper 0\n";
 
-/// A run over a block whose shelf fails at this call and whose sink takes so many bytes ends with this number, this line and this output.
+/// A block.
+const DESIGN: &[u8] = b"module top;\nreg q;\ninitial begin q = 0; #10 q = 1; end\nendmodule\n";
+
+/// A plan over it.
+const PLAN: &[u8] = b"end 20\nwatch q\nstrobe 5\nstrobe 15\nfault q 0\nfault q 1\n";
+
+/// A run over the block whose shelf fails at this call and whose sink takes so many bytes ends with this number, this line and this output.
 fn ends<R: Threads + Sync + Abort>(
     rt: &R,
     alloc: Global,
@@ -24,8 +30,9 @@ fn ends<R: Threads + Sync + Abort>(
 ) -> Result<(), Fail> {
     let run = Run {
         words: "grade d p top 1",
-        design: b"module top;\nreg q;\ninitial begin q = 0; #10 q = 1; end\nendmodule\n",
-        plan: b"end 20\nwatch q\nstrobe 5\nstrobe 15\nfault q 0\nfault q 1\n",
+        design: DESIGN,
+        plan: PLAN,
+        cert: b"",
         number,
         line,
         output,
@@ -40,6 +47,20 @@ fn reads_that_fail(rt: HostRuntime) -> Result<(), Fail> {
     ends(&rt, alloc, 1, None, 3, line, b"")?;
     let line = b"vfault: cannot read the plan";
     ends(&rt, alloc, 2, None, 3, line, b"")
+}
+
+#[test]
+fn a_certificate_that_fails(rt: HostRuntime) -> Result<(), Fail> {
+    let run = Run {
+        words: "audit d p top c",
+        design: DESIGN,
+        plan: PLAN,
+        cert: b"vfault cert 1\n",
+        number: 3,
+        line: b"vfault: cannot read the certificate",
+        output: b"",
+    };
+    is_answered(&rt, rt.alloc(), &run, 3, None, &OpenGate)
 }
 
 /// Runs into sinks that take fewer bytes than this report has, and so many, put as many of its bytes as the sink takes.

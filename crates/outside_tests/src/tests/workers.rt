@@ -12,6 +12,7 @@ fn two_workers_at_once(rt: HostRuntime) -> Result<(), Fail> {
         words: "soak 5 64 2",
         design: b"",
         plan: b"",
+        cert: b"",
         number: 0,
         line: b"",
         output: b"total 514 detected 386 possible 0 undetected 128 race 0 hyper 0\n",
