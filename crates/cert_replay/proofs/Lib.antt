@@ -2,3 +2,4 @@ pub mod Words
 pub mod Going
 pub mod Lines
 pub mod Turning
+mod Looking

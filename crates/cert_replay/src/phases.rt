@@ -1,18 +1,22 @@
 // The ends of phases, and the turns between them.
 
-ghost use Rattle.std.specs.Prelude.{◌≡◌, ◌||◌, not, is_some, IfOk};
+ghost use Rattle.std.specs.Prelude.{◌≡◌, ◌||◌, not, is_some, option_map, IfOk};
+ghost use Rattle.vf_base.specs.Base.{reported_pair};
 ghost use Rattle.v_design.specs.States.{turn_of};
 ghost use Rattle.v_design.specs.Runs.{ends_by};
 ghost use Rattle.v_design.specs.Designs.{Machine};
 ghost use Rattle.v_design.specs.PhaseLogs.{log_of};
 ghost use Rattle.causal_monitor.specs.Phases.{IsLogOf};
 ghost use Rattle.cert_laws.specs.Replays.{Replay, phase_on, slot_on};
+ghost use Rattle.replay_laws.specs.Looked.{found_then};
 ghost use Rattle.cert_replay.specs.Kept.{HasEnded, IsReplaying, IsAtPhaseEnd, EndsPhase, Turns, bound_kept};
 ghost use Rattle.cert_replay.specs.Deeds.{TellsQuiet};
 
 use crate::replaying::Replaying;
 use causal_monitor::{PhaseLog, Turn};
+use claimed_race::claimed_pair;
 use machine_events::{begin_phase, later_time, slot_turn};
+use std::alloc::Global;
 use vf_base::{NoMemory, Pair};
 
 /// Whether a phase may end: a race is claimed, or no race is found.
@@ -60,13 +64,53 @@ impl<'d> Replaying<'d> {
     }
 
     /// The log of the phase that has ended, by which a claimed race is looked for.
-    pub fn phase_log(&self) -> &PhaseLog
+    fn phase_log(&self) -> &PhaseLog
         requires { IsAtPhaseEnd self.now }
         ensures log { (machine : Machine) (replay : Replay) → HasEnded machine replay self.now → result.now.log ≡ log_of machine replay.begins replay.events }
         ensures named { (machine : Machine) (replay : Replay) → HasEnded machine replay self.now → IsLogOf machine.design result.now.log }
     {
         let phases = self.log.phases.as_slice();
         &phases[phases.len() - 1]
+    }
+
+    /// What has been found of a claimed race once the phase has ended: where the phase is the one of a time, in steps, and of a number, from 1 on, the first two of
+    /// its accesses that print as claimed and conflict, if there are such; else what was found before.
+    ///
+    /// # Errors
+    ///
+    /// Want of memory.
+    pub fn look(
+        &self,
+        alloc: Global,
+        time: u64,
+        number: u32,
+        first: &[u8],
+        second: &[u8],
+        before: Option<Pair>,
+    ) -> Result<Option<Pair>, NoMemory>
+        requires { IsAtPhaseEnd self.now }
+        ensures { IfOk result (λ found. (machine : Machine) (replay : Replay) → HasEnded machine replay self.now →
+            option_map reported_pair found ≡ found_then machine time number first.now second.now replay (option_map reported_pair before)) }
+    {
+        let now = self.table.time();
+        if now != time {
+            return Ok(before);
+        }
+        let present = self.record.number();
+        if present != number {
+            return Ok(before);
+        }
+        let found = claimed_pair(
+            alloc,
+            self.graph.design,
+            self.graph,
+            self.phase_log(),
+            time,
+            number,
+            first,
+            second,
+        )?;
+        Ok(found)
     }
 
     /// The next phase of the slot begins, where it has this number. The answer is whether it does.

@@ -1,4 +1,5 @@
 mod Taking
+mod Looking
 mod Keeping
 mod Seeing
 mod Standing

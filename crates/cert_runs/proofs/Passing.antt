@@ -19,7 +19,7 @@ use Rattle.cert_runs.specs.declared.lines.Taken.TheVariants as taken
 use Rattle.cert_runs.specs.declared.section.Section.TheVariants as section
 use Rattle.cert_runs.specs.Along.{Along, BreaksOff, ComesTo, behind, run_in, along}
 use Rattle.cert_runs.specs.Asking.{race_asked, bound_asked, Shows}
-use Rattle.cert_runs.specs.AskedRuns.{IsAsked, IsAskedRun, KeepsAsked, SameAsked, TellsShown, FollowsAsked, asked_race, asked_bound, asked_time, stands_at}
+use Rattle.cert_runs.specs.AskedRuns.{IsAsked, IsAskedRun, KeepsAsked, SameAsked, TellsShown, FollowsAsked, asked_of, asked_race, asked_bound, asked_time, stands_at}
 use Rattle.cert_runs.specs.Lines.{along_of, line_by, TakesLine, GoesAlong}
 use Rattle.cert_runs.specs.Sections.{SectionBy, begins_run}
 use Rattle.cert_runs.proofs.Standing.{asked-rules, asked-time-is, times-on}
@@ -228,15 +228,15 @@ section-breaks asked machine (said ∷ lines) unbounded some =
 
 -- how far the lines of a run go, by what is asked of it
 pub along-asked : (machine : Machine) (lines : List CertLine) (run : Option Replay) (r : AskedRun) → KeepsAsked machine run r →
-    along (race_asked r.asked) machine (bound_asked r.asked) lines run ≡ along_of r machine lines run
+    along (race_asked (asked_of r)) machine (bound_asked (asked_of r)) lines run ≡ along_of r machine lines run
 along-asked machine lines run r k = λ i. along (sym k.race_is i) machine (k.bound_is i) lines run
 
 pub bounded-breaks : (machine : Machine) (lines : List CertLine) (run : Option Replay) (count : ℕ) (old new : AskedRun) → GoesAlong lines (followed.Breaks count) old new → KeepsAsked machine run old →
-    SectionBy old.asked machine lines run (section.Breaks count)
+    SectionBy (asked_of old) machine lines run (section.Breaks count)
 bounded-breaks machine lines run count old new g k = along-asked machine lines run old k ∙ g.goes machine run k
 
 pub bounded-stops : (machine : Machine) (lines : List CertLine) (run : Option Replay) (count : ℕ) (shown : Option Shown) (old new : AskedRun) → GoesAlong lines (followed.Stops count) old new →
-    TellsShown shown new → KeepsAsked machine run old → SectionBy old.asked machine lines run (section.Stops count shown)
+    TellsShown shown new → KeepsAsked machine run old → SectionBy (asked_of old) machine lines run (section.Stops count shown)
 bounded-stops machine lines run count shown old new g t k =
     let n = g.goes machine run k in
     let told = t machine n.0 n.2 in (

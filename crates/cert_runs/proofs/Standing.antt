@@ -72,7 +72,7 @@ asked-time-is machine run r k =
 
 -- Times
 
-first-is : (machine : Machine) (line : RunLine) (next : Replay) → first_line machine line ≡ Some next → begun machine ≡ next
+pub first-is : (machine : Machine) (line : RunLine) (next : Replay) → first_line machine line ≡ Some next → begun machine ≡ next
 first-is machine (SlotAt time) next e = by (nat_eq time 0) e
   where
     by : (b : Bool) → only_if b (begun machine) ≡ Some next → begun machine ≡ next

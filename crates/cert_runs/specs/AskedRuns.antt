@@ -1,7 +1,8 @@
 -- What stands for a run that is followed, with what it has shown so far of what is asked (strobes by the plan; runs by IEEE 1364-2001, clause 5).
 use Rattle.std.specs.Prelude.{◌≡◌, ℕ, ◌+◌, Bool, true, false, List, map, Option, Some, None, is_some}
 use Rattle.four_value.specs.Values.{LogicValue}
-use Rattle.vf_base.specs.Base.{watched_bit}
+use Rattle.vf_base.specs.Base.{watched_bit, ReportedPair}
+use Rattle.vf_base.specs.declared.finding.Pair.{Pair}
 use Rattle.v_design.specs.Designs.{Machine}
 use Rattle.v_design.specs.Grades.{samples}
 use Rattle.net_state.specs.States.{values_in}
@@ -14,9 +15,15 @@ use Rattle.cert_runs.specs.declared.asked.Asked.TheVariants as asks
 use Rattle.cert_runs.specs.declared.asked.Shown.{Shown}
 use Rattle.cert_runs.specs.declared.asked.Shown.TheVariants as answers
 use Rattle.cert_runs.specs.declared.asked_run.AskedRun.{AskedRun}
+use Rattle.cert_runs.specs.declared.search.Search.{Search}
 use Rattle.cert_runs.specs.Asking.{race_asked, bound_asked, IsAskedOf, IsNothing, Shows}
 use Rattle.cert_runs.specs.Runs.{KeepsRun, race_of, bound_of, time_of}
 use Rattle.cert_runs.specs.Samples.{KeepsBefore, SeenSoFar}
+use Rattle.cert_runs.specs.Searches.{FoundSoFar, found_in}
+
+-- what is asked
+abbrev pub asked_of : AskedRun → Asked
+asked_of r = r.search.asked
 
 -- whether a race is claimed of the run, and the time to which it goes
 abbrev pub asked_race : AskedRun → Bool
@@ -34,19 +41,19 @@ abbrev pub stands_at : Machine → Option Replay → Replay
 stands_at machine None = begun machine
 stands_at machine (Some replay) = replay
 
--- what is kept is what a run has shown so far of what is asked
-abbrev pub IsShownSoFar : Asked → Machine → Option Replay → List Sample → Type 0
-IsShownSoFar (asks.Samples bound watched strobes) machine run kept = SeenSoFar machine (map watched_bit watched.now) strobes.now bound run kept
-IsShownSoFar (asks.Conflict time phase first second) machine run kept = Unit {0}
-IsShownSoFar asks.Nothing machine run kept = Unit {0}
+-- what is kept, or has been found, is what a run has shown so far of what is asked
+abbrev pub IsShownSoFar : Asked → Machine → Option Replay → List Sample → Option ReportedPair → Type 0
+IsShownSoFar (asks.Samples bound watched strobes) machine run kept found = SeenSoFar machine (map watched_bit watched.now) strobes.now bound run kept
+IsShownSoFar (asks.Conflict time phase first second) machine run kept found = FoundSoFar machine time phase first.now second.now run found
+IsShownSoFar asks.Nothing machine run kept found = Unit {0}
 
 -- what is kept stands for a run that may have begun, and shows what it has shown so far
 pub record KeepsAsked (machine : Machine) (run : Option Replay) (r : AskedRun) : Type 0 where
   pub keeps : KeepsRun machine run r.run
-  pub race_is : race_of r.run ≡ race_asked r.asked
-  pub bound_is : bound_asked r.asked ≡ Some (bound_of r.run)
-  pub of_design : IsAskedOf machine.design r.asked
-  pub shown : IsShownSoFar r.asked machine run r.samples.items
+  pub race_is : race_of r.run ≡ race_asked (asked_of r)
+  pub bound_is : bound_asked (asked_of r) ≡ Some (bound_of r.run)
+  pub of_design : IsAskedOf machine.design (asked_of r)
+  pub shown : IsShownSoFar (asked_of r) machine run r.samples.items (found_in r.search)
 
 -- the same of some run
 pub record IsAsked (r : AskedRun) : Type 0 where
@@ -63,7 +70,7 @@ pub record IsAskedRun (turns : ℕ) (r : AskedRun) : Type 0 where
 
 -- what is asked of a run stays
 pub record SameAsked (old new : AskedRun) : Type 0 where
-  pub asked : new.asked ≡ old.asked
+  pub asked : asked_of new ≡ asked_of old
   pub race : asked_race new ≡ asked_race old
   pub bound : asked_bound new ≡ asked_bound old
 
@@ -99,26 +106,31 @@ values_of r = values_in r.run.replaying.nets
 -- nothing but the samples changes
 pub record SameButSamples (old new : AskedRun) : Type 0 where
   pub run : new.run ≡ old.run
-  pub asked : new.asked ≡ old.asked
+  pub search : new.search ≡ old.search
 
 pub record SeesBefore (time : ℕ) (old new : AskedRun) : Type 0 where
   pub same : SameButSamples old new
-  pub seen : SeenBefore old.asked time (values_of old) old.samples.items new.samples.items
+  pub seen : SeenBefore (asked_of old) time (values_of old) old.samples.items new.samples.items
 
 pub record SeesLast (old new : AskedRun) : Type 0 where
   pub same : SameButSamples old new
-  pub seen : SeenLast old.asked (values_of old) old.samples.items new.samples.items
+  pub seen : SeenLast (asked_of old) (values_of old) old.samples.items new.samples.items
 
--- what was kept is what is shown
-abbrev pub ShowsKept : Asked → List Sample → Shown → Type 0
-ShowsKept (asks.Samples bound watched strobes) kept (answers.Samples samples) = samples.items ≡ kept
-ShowsKept (asks.Samples bound watched strobes) kept (answers.Conflict pair) = ⊥
-ShowsKept (asks.Samples bound watched strobes) kept answers.Nothing = ⊥
-ShowsKept (asks.Conflict time phase first second) kept shown = ⊥
-ShowsKept asks.Nothing kept shown = IsNothing shown
+-- what was kept or found is what is shown
+abbrev pub ShowsAsked : Asked → List Sample → Option Pair → Shown → Type 0
+ShowsAsked (asks.Samples bound watched strobes) kept found (answers.Samples samples) = samples.items ≡ kept
+ShowsAsked (asks.Samples bound watched strobes) kept found (answers.Conflict pair) = ⊥
+ShowsAsked (asks.Samples bound watched strobes) kept found answers.Nothing = ⊥
+ShowsAsked (asks.Conflict time phase first second) kept found (answers.Samples samples) = ⊥
+ShowsAsked (asks.Conflict time phase first second) kept found (answers.Conflict pair) = pair ≡ found
+ShowsAsked (asks.Conflict time phase first second) kept found answers.Nothing = ⊥
+ShowsAsked asks.Nothing kept found shown = IsNothing shown
+
+abbrev pub ShowsKept : Search → List Sample → Shown → Type 0
+ShowsKept search kept shown = ShowsAsked search.asked kept search.found shown
 
 -- what a run shows is told exactly where it may be left
 abbrev pub TellsShown : Option Shown → AskedRun → Type 0
 TellsShown shown old =
     (machine : Machine) (run : Option Replay) → KeepsAsked machine run old →
-    (is_some shown ≡ is_left (race_asked old.asked) machine (bound_asked old.asked) run) × Shows old.asked machine run shown
+    (is_some shown ≡ is_left (race_asked (asked_of old)) machine (bound_asked (asked_of old)) run) × Shows (asked_of old) machine run shown

@@ -11,6 +11,7 @@ ghost use Rattle.cert_runs.specs.Samples.{slot_time};
 use crate::asked::{Asked, Shown};
 use crate::follow::CertRun;
 use crate::samples::{keep_before, keep_until};
+use crate::search::Search;
 use cert_text::RunLine;
 use kept_samples::Sample;
 use net_graph::Graph;
@@ -20,14 +21,14 @@ use std::sync::ledger::Ledger;
 use v_design::{Design, Fault};
 use vf_base::{NoMemory, Steps};
 
-/// A run that the lines of a certificate go through, what is asked of it, and what it has shown of that: the watched bits at the strobes that it has passed.
+/// A run that the lines of a certificate go through, what is asked of it, and what it has shown of that: what has been found of a claimed race, and the watched
+/// bits at the strobes that it has passed.
 ///
 /// After a call that answered `false` or ran out of memory, and after `show`, it isn't to be used again.
 #[derive(Drop)]
 pub(crate) struct AskedRun<'d, 'a> {
-    alloc: Global,
     pub(crate) run: CertRun<'d>,
-    pub(crate) asked: Asked<'a>,
+    pub(crate) search: Search<'a>,
     pub(crate) samples: Vec<Sample>,
 }
 
@@ -72,13 +73,17 @@ impl<'d, 'a> AskedRun<'d, 'a> {
         requires asked { IsAskedOf (design_of design.now) asked }
         requires bound { bound_asked asked ≡ Some bound }
         ensures before { IfOk result (KeepsAsked (machine_with design.now fault) None) }
-        ensures asked { IfOk result (λ run. run.asked ≡ asked.entry) }
+        ensures asked { IfOk result (λ run. run.search.asked ≡ asked.entry) }
     {
         let run = CertRun::new(alloc, design, graph, fault, claims_race(asked), bound)?;
-        Ok(AskedRun {
+        let search = Search {
             alloc,
-            run,
             asked,
+            found: None,
+        };
+        Ok(AskedRun {
+            run,
+            search,
             samples: Vec::new(alloc),
         })
     }
@@ -88,14 +93,14 @@ impl<'d, 'a> AskedRun<'d, 'a> {
         requires { IsAsked self.old }
         ensures { OnOk result (SeesBefore time self.old self.new) }
     {
-        match self.asked {
+        match self.search.asked {
             Asked::Samples {
                 watched,
                 strobes,
                 ..
             } => {
                 keep_before(
-                    self.alloc,
+                    self.search.alloc,
                     watched,
                     strobes,
                     time,
@@ -114,14 +119,14 @@ impl<'d, 'a> AskedRun<'d, 'a> {
         requires { IsAsked self.old }
         ensures { OnOk result (SeesLast self.old self.new) }
     {
-        match self.asked {
+        match self.search.asked {
             Asked::Samples {
                 bound,
                 watched,
                 strobes,
             } => {
                 keep_until(
-                    self.alloc,
+                    self.search.alloc,
                     watched,
                     strobes,
                     bound,
@@ -149,22 +154,23 @@ impl<'d, 'a> AskedRun<'d, 'a> {
         requires low { asked_time self.old ≤ 2 ^ 63 }
         ensures { IfOk result (λ went. FollowsAsked (run_line_said line) went self.old self.new) }
     {
+        replay_laws::races_are_looked_for();
         self.see_before(slot_time(line))?;
-        let went = self.run.follow(line, steps)?;
+        let went = self.run.follow(&mut self.search, line, steps)?;
         Ok(went)
     }
 
     /// What the run has shown, which is taken out of it.
-    fn take_shown(&mut self) -> Result<Shown, NoMemory>
-        ensures { IfOk result (ShowsKept self.old.asked self.old.samples.items) }
+    fn take_shown(&mut self) -> Shown
+        ensures { ShowsKept self.old.search self.old.samples.items result }
     {
-        match self.asked {
+        match self.search.asked {
             Asked::Samples { .. } => {
-                let samples = mem::replace(&mut self.samples, Vec::new(self.alloc));
-                Ok(Shown::Samples(samples))
+                let samples = mem::replace(&mut self.samples, Vec::new(self.search.alloc));
+                Shown::Samples(samples)
             }
-            Asked::Conflict { .. } => Err(NoMemory),
-            Asked::Nothing => Ok(Shown::Nothing),
+            Asked::Conflict { .. } => Shown::Conflict(self.search.found),
+            Asked::Nothing => Shown::Nothing,
         }
     }
 
@@ -177,11 +183,12 @@ impl<'d, 'a> AskedRun<'d, 'a> {
         requires { IsAsked self.old }
         ensures { IfOk result (λ shown. TellsShown shown self.old) }
     {
+        replay_laws::races_are_looked_for();
         self.see_last()?;
-        if !self.run.is_through()? {
+        if !self.run.is_through(&mut self.search)? {
             return Ok(None);
         }
-        let shown = self.take_shown()?;
+        let shown = self.take_shown();
         Ok(Some(shown))
     }
 }

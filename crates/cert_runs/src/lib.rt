@@ -6,7 +6,7 @@
 //!
 //! Main contract: each call answers exactly whether the definition of a valid certificate follows the line there (`follow_section`: how many lines it
 //! follows), and where it does the run stands where the definition stands; what is shown is what the run's moves show: the watched bits at each strobe up
-//! to the bound. `runs_tell`: the counts tell which line of the certificate fails first.
+//! to the bound, or the first pair of accesses that a claimed race may mean. `runs_tell`: the counts tell which line of the certificate fails first.
 #![tactic(auto)]
 
 mod asked;
@@ -15,10 +15,10 @@ mod follow;
 mod law;
 mod lines;
 mod samples;
+mod search;
 mod section;
 mod turns;
 
 pub use asked::{Asked, Shown};
-pub use follow::CertRun;
 pub use law::runs_tell;
 pub use section::{Section, follow_section};

@@ -7,7 +7,7 @@ ghost use Rattle.v_design.specs.Views.{machine_with};
 ghost use Rattle.text_lines.specs.Plain.{plain_texts};
 ghost use Rattle.cert_laws.specs.Replays.{Replay};
 ghost use Rattle.cert_laws.specs.Valid.{lines_said};
-ghost use Rattle.cert_runs.specs.AskedRuns.{IsAskedRun, KeepsAsked};
+ghost use Rattle.cert_runs.specs.AskedRuns.{IsAskedRun, KeepsAsked, asked_of};
 ghost use Rattle.cert_runs.specs.Asking.{IsAskedOf, bound_asked};
 ghost use Rattle.cert_runs.specs.Sections.{SectionBy, begins_run};
 
@@ -71,7 +71,7 @@ fn bounded_section<L: Ledger>(
     requires run { IsAskedRun 0 run.old }
     requires few { length lines.now ≤ 16777216 }
     ensures { IfOk result (λ section. (machine : Machine) (before : Option Replay) → KeepsAsked machine before run.old →
-        SectionBy run.old.asked machine (lines_said (plain_texts lines.now)) before section) }
+        SectionBy (asked_of run.old) machine (lines_said (plain_texts lines.now)) before section) }
 {
     match follow_lines(run, lines, steps)? {
         Followed::Breaks(count) => Ok(Section::Breaks(count)),

@@ -12,10 +12,10 @@ keep_before-requires c =
     asked-watched is.machine is.run c.args.self.now (map watched_bit c.in-Samples.watched.now) is.keeps (subst (IsAskedOf is.machine.design) c.in-Samples.is is.keeps.of_design).0
 
 pub returns-in_ok-keep_before-in-Samples : goal.returns-in_ok-keep_before-in-Samples
-returns-in_ok-keep_before-in-Samples c = sees-before c.args.time c.args.self.now _ _ c.in-Samples.is (record { run = refl; asked = refl }) c.in_ok-keep_before-in-Samples.ensures
+returns-in_ok-keep_before-in-Samples c = sees-before c.args.time c.args.self.now _ _ c.in-Samples.is (record { run = refl; search = refl }) c.in_ok-keep_before-in-Samples.ensures
 
 pub returns-in-Conflict : goal.returns-in-Conflict
-returns-in-Conflict c = sees-before c.args.time c.args.self.now _ _ c.in-Conflict.is (record { run = refl; asked = refl }) tt
+returns-in-Conflict c = sees-before c.args.time c.args.self.now _ _ c.in-Conflict.is (record { run = refl; search = refl }) tt
 
 pub returns-in-Nothing : goal.returns-in-Nothing
-returns-in-Nothing c = sees-before c.args.time c.args.self.now _ _ c.in-Nothing.is (record { run = refl; asked = refl }) tt
+returns-in-Nothing c = sees-before c.args.time c.args.self.now _ _ c.in-Nothing.is (record { run = refl; search = refl }) tt
