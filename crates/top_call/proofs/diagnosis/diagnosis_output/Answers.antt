@@ -115,4 +115,5 @@ returns-clause-gives g c =
 pub returns-clause-ends : goal.returns-clause-ends
 returns-clause-ends g c =
     let source = plain_source c.args.source in let plan = c.args.plan.now in let response = c.args.response.now in
-    output-ends (Diagnose source plan response) source plan Dictionary (λ files. AfterObserved files response) (diagnose-over source plan response) tt c.in-Err.fault c.output_status.result c.output_status.ensures
+    output-ends (Diagnose source plan response) source plan Dictionary (λ files. AfterObserved files response) (diagnose-over source plan response)
+    tt c.in-Err.fault c.output_status.result c.output_status.ensures

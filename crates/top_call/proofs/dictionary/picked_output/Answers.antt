@@ -18,7 +18,8 @@ returns-in_err-design-clause-gives g c =
     let old = counts_of g.S.Shelf c.args.shelf.now in
     let new = counts_of g.S.Shelf c.read_source.new.shelf in
     err-gives (Pick source plan) held old new c.from_residual.result status c.from_residual.ensures.1
-    (design-not-read (Pick source plan) source plan Dictionary (λ files. AfterOutput outputs.PickText) (pick-over source plan) held old new status c.in_err-design.ensures.reads c.in_err-design.ensures.gives)
+    (design-not-read (Pick source plan) source plan Dictionary (λ files. AfterOutput outputs.PickText) (pick-over source plan) held old new status
+    c.in_err-design.ensures.reads c.in_err-design.ensures.gives)
 
 pub returns-in_err-design-clause-ends : goal.returns-in_err-design-clause-ends
 returns-in_err-design-clause-ends g c =
@@ -36,8 +37,8 @@ returns-in_err-test-clause-gives g c =
     let new = counts_of g.S.Shelf c.read_test_plan.new.shelf in
     let design = design_of c.in_ok-design.design in
     err-gives (Pick source plan) held old new c.from_residual-in_err-test.result status c.from_residual-in_err-test.ensures.1
-    (test-not-read (Pick source plan) source plan Dictionary (λ files. AfterOutput outputs.PickText) (pick-over source plan) design held old mid new status d.faults d.long d.reads c.in_err-test.ensures.reads
-    d.gives
+    (test-not-read (Pick source plan) source plan Dictionary (λ files. AfterOutput outputs.PickText) (pick-over source plan) design held old mid new status
+    d.faults d.long d.reads c.in_err-test.ensures.reads d.gives
     (subst (λ h. PlanGives h plan Dictionary design mid new (Err status)) d.kept c.in_err-test.ensures.gives))
 
 pub returns-in_err-test-clause-ends : goal.returns-in_err-test-clause-ends
@@ -46,7 +47,8 @@ returns-in_err-test-clause-ends g c =
     let mid = counts_of g.S.Shelf c.read_source.new.shelf in
     let new = counts_of g.S.Shelf c.read_test_plan.new.shelf in
     err-ends (Pick source plan) c.from_residual-in_err-test.result status c.from_residual-in_err-test.ensures.1
-    (test-ends (Pick source plan) source plan Dictionary (λ files. AfterOutput outputs.PickText) (pick-over source plan) held (design_of c.in_ok-design.design) mid new status c.in_err-test.ensures.gives)
+    (test-ends (Pick source plan) source plan Dictionary (λ files. AfterOutput outputs.PickText) (pick-over source plan) held (design_of c.in_ok-design.design) mid new status
+    c.in_err-test.ensures.gives)
 
 pub returns-in-Ok-clause-gives : goal.returns-in-Ok-clause-gives
 returns-in-Ok-clause-gives g c =
