@@ -4,12 +4,12 @@ use Rattle.std.specs.Prelude.{Option, Some, None}
 use Rattle.v_design.specs.Designs.{Machine}
 use Rattle.cert_laws.specs.Replays.{Replay, RunLine, SlotAt, PhaseNumber, StepsOf, UpdatesOf}
 use Rattle.cert_replay.specs.declared.replaying.Replaying.{Replaying}
-use Rattle.cert_replay.specs.Kept.{Keeps, HasEnded, EndsPhase}
+use Rattle.cert_replay.specs.Kept.{HasEnded, EndsPhase}
 use Rattle.cert_runs.specs.declared.asked.Asked.{Asked}
 use Rattle.cert_runs.specs.declared.search.Search.{Search}
 use Rattle.cert_runs.specs.declared.follow.CertRun.{CertRun}
 use Rattle.cert_runs.specs.Runs.{KeepsRun}
-use Rattle.cert_runs.specs.Searches.{found_in, found_at_end, found_by_line, found_on, LooksAt, LooksIfEnded, LooksAlong, LooksInRun, LooksAtLast}
+use Rattle.cert_runs.specs.Searches.{found_in, found_at_end, found_on, LooksAt, LooksIfEnded, LooksAlong, LooksInRun, LooksAtLast}
 
 -- a phase that has ended is looked into, by what is asked
 pub looks-at : (r : Replaying) (old new : Search) (asked : Asked) → old.asked ≡ asked → new.asked ≡ old.asked →

@@ -4,7 +4,7 @@ use Rattle.std.specs.Prelude.{Option, Some, None, is_some}
 use Rattle.std.proofs.lemmas.List.{drop_more, drop_all}
 use Rattle.v_design.specs.Designs.{Machine}
 use Rattle.text_lines.specs.Plain.{plain_texts}
-use Rattle.cert_laws.specs.Replays.{RunLine, Replay, run_line}
+use Rattle.cert_laws.specs.Replays.{RunLine, Replay}
 use Rattle.cert_laws.specs.Valid.{CertLine, Formless, line_of, line_in, lines_said, is_left}
 use Rattle.replay_laws.specs.Times.{TimesGrow}
 use Rattle.cert_runs.specs.declared.asked.Asked.{Asked}
@@ -19,7 +19,7 @@ use Rattle.cert_runs.specs.declared.lines.Taken.TheVariants as taken
 use Rattle.cert_runs.specs.declared.section.Section.TheVariants as section
 use Rattle.cert_runs.specs.Along.{Along, BreaksOff, ComesTo, behind, run_in, along}
 use Rattle.cert_runs.specs.Asking.{race_asked, bound_asked, Shows}
-use Rattle.cert_runs.specs.AskedRuns.{IsAsked, IsAskedRun, KeepsAsked, SameAsked, TellsShown, FollowsAsked, asked_of, asked_race, asked_bound, asked_time, stands_at}
+use Rattle.cert_runs.specs.AskedRuns.{IsAsked, IsAskedRun, KeepsAsked, SameAsked, TellsShown, FollowsAsked, asked_of, asked_race, asked_bound, asked_time}
 use Rattle.cert_runs.specs.Lines.{along_of, line_by, TakesLine, GoesAlong}
 use Rattle.cert_runs.specs.Sections.{SectionBy, begins_run}
 use Rattle.cert_runs.proofs.Standing.{asked-rules, asked-time-is, times-on}

@@ -10,7 +10,7 @@ use Rattle.v_design.specs.Designs.{Machine}
 use Rattle.v_design.specs.WellFormed.{IsAscending}
 use Rattle.v_design.specs.States.{State, Event, Step, LaneStep, TurnKind, PostponedTurn, UpdatesTurn, TimeTurn, start, possible, after, turn_of, turned, found_or}
 use Rattle.v_design.specs.Runs.{Move, Happens, Turns, then_state, only_if, stays_within, happened, most_steps}
-use Rattle.v_design.specs.Grades.{Sample as PlainSample, Samples, samples, samples_at, state_after_slots}
+use Rattle.v_design.specs.Grades.{Samples, samples, samples_at, state_after_slots}
 use Rattle.v_design.specs.Laws.{run_samples}
 use Rattle.order_laws.specs.Settling.{settling}
 use Rattle.kept_samples.specs.Plain.{sample_of}

@@ -1,5 +1,5 @@
 -- Where a run stands: its design's rules, its time, and the values that the strobes see there.
-use Rattle.std.proofs.Common.{◌≡◌, ℕ, zero, suc, ◌+◌, ◌<◌, ◌≤◌, List, [], ◌∷◌, length, map, get_or, Bool, true, false, sym, ap, subst, ◌∙◌, arith}
+use Rattle.std.proofs.Common.{◌≡◌, ℕ, zero, suc, ◌+◌, ◌<◌, List, [], ◌∷◌, length, map, get_or, Bool, true, false, sym, ap, subst, ◌∙◌, arith}
 use Rattle.std.specs.Prelude.{Option, Some, None, nat_eq}
 use Rattle.four_value.specs.Values.{LogicValue}
 use Rattle.vf_base.specs.Base.{WatchedBit}
@@ -11,7 +11,7 @@ use Rattle.v_design.specs.Designs.{FlatObject, FlatDesign, Machine, width_in}
 use Rattle.v_design.specs.States.{State}
 use Rattle.v_design.specs.Runs.{only_if}
 use Rattle.strobe_detect.specs.Graders.{IsWatched}
-use Rattle.net_state.specs.States.{machine_in, values_in}
+use Rattle.net_state.specs.States.{values_in}
 use Rattle.cert_laws.specs.Replays.{RunLine, SlotAt, PhaseNumber, StepsOf, UpdatesOf, Replay, begun, first_line, run_line}
 use Rattle.replay_laws.specs.Times.{TimesWithin, TimesGrow}
 use Rattle.cert_replay.specs.declared.replaying.Replaying.{Replaying}

@@ -1,5 +1,5 @@
 -- What following lines does to a run (runs by IEEE 1364-2001, clause 5).
-use Rattle.std.specs.Prelude.{◌≡◌, List, ◌∷◌, Option, Some, None}
+use Rattle.std.specs.Prelude.{◌≡◌, List, Option, Some, None}
 use Rattle.v_design.specs.Designs.{Machine}
 use Rattle.cert_laws.specs.Replays.{RunLine, Replay, run_line}
 use Rattle.cert_laws.specs.Valid.{CertLine}

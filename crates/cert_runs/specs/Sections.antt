@@ -1,5 +1,5 @@
 -- What the section of a run in a certificate says (the format is this program's own; runs by IEEE 1364-2001, clause 5).
-use Rattle.std.specs.Prelude.{◌≡◌, ℕ, Bool, false, List, [], ◌∷◌, Option, is_some}
+use Rattle.std.specs.Prelude.{◌≡◌, Bool, false, List, [], ◌∷◌, Option, is_some}
 use Rattle.v_design.specs.Designs.{Machine}
 use Rattle.cert_laws.specs.Replays.{Replay}
 use Rattle.cert_laws.specs.Valid.{CertLine, is_left}

@@ -1,5 +1,5 @@
 -- The lines of a run are followed.
-use Rattle.std.proofs.Common.{◌≡◌, length, sym, arith}
+use Rattle.std.proofs.Common.{arith}
 use Rattle.text_lines.specs.Plain.{plain_texts}
 use Rattle.cert_laws.specs.Valid.{lines_said}
 use Rattle.cert_runs.proofs.Passing.{passing-none, passing-goes, passing-breaks, passing-stops, passing-ends, takes-as, low-time, some-asked, times-go}

@@ -1,7 +1,6 @@
 -- One sample more.
 use Rattle.std.proofs.Common.{[], ◌∷◌, ◌++◌, map, ap, ◌∙◌}
 use Rattle.std.proofs.lemmas.List.{map-append}
-use Rattle.v_design.specs.Grades.{Sample as PlainSample}
 use Rattle.kept_samples.specs.Plain.{sample_of}
 use Rattle.cert_runs.proofs.samples.keep_sample.Goals as goal
 

@@ -1,5 +1,5 @@
 -- The strobes up to the last time saw the values.
-use Rattle.std.proofs.Common.{◌≡◌, ◌<◌, ◌+◌, length, map, get_or, refl, ap, sym, subst, ◌∙◌, arith}
+use Rattle.std.proofs.Common.{◌<◌, ◌+◌, length, map, get_or, ap, sym, subst, ◌∙◌, arith}
 use Rattle.vf_base.specs.Base.{watched_bit}
 use Rattle.v_design.specs.Grades.{samples}
 use Rattle.cert_runs.proofs.Keeping.{keeping-none, keeping-more, keeping-stops, keeping-over, one-more}

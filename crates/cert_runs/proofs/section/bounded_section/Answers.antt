@@ -1,8 +1,6 @@
 -- How far the lines go, and what the run shows where they stop.
-use Rattle.std.proofs.Common.{sym, subst}
 use Rattle.text_lines.specs.Plain.{plain_texts}
 use Rattle.cert_laws.specs.Valid.{lines_said}
-use Rattle.cert_runs.specs.Lines.{GoesAlong}
 use Rattle.cert_runs.proofs.Passing.{bounded-breaks, bounded-stops, stopped-run, goes-as}
 use Rattle.cert_runs.proofs.section.bounded_section.Goals as goal
 

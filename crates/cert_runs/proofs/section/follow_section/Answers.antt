@@ -1,5 +1,5 @@
 -- The section of a run, with a bound or without one.
-use Rattle.std.proofs.Common.{None, ◌∙◌, sym, subst}
+use Rattle.std.proofs.Common.{None, sym, subst}
 use Rattle.v_design.specs.Views.{machine_with}
 use Rattle.text_lines.specs.Plain.{plain_texts}
 use Rattle.cert_laws.specs.Valid.{lines_said}

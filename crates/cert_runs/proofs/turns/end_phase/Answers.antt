@@ -1,5 +1,5 @@
 -- The phase ends, and is looked into.
-use Rattle.std.proofs.Common.{true, subst}
+use Rattle.std.proofs.Common.{subst}
 use Rattle.cert_replay.specs.Kept.{EndsPhase}
 use Rattle.cert_runs.proofs.Looking.{looks-not, looks-ended}
 use Rattle.cert_runs.proofs.Taking.{at-end}
