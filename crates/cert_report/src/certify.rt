@@ -5,10 +5,9 @@ ghost use Rattle.v_design.specs.Plain.{fault_of};
 ghost use Rattle.v_design.specs.PlainDesigns.{design_of, plan_of};
 ghost use Rattle.v_design.specs.WellFormed.{IsPlanOf};
 ghost use Rattle.cert_report.specs.declared.fault.CertifyFault.TheVariants as faults;
-ghost use Rattle.cert_report.specs.Certificates.{NeverLoops, listed, IsFaultOf, IsCertificateText, IsTheMeaning, CertificateHolds};
+ghost use Rattle.cert_report.specs.Certificates.{listed, IsFaultOf, IsCertificateText, IsTheMeaning, CertificateHolds};
 
 use crate::fault::CertifyFault;
-use crate::good::good_loop;
 use std::alloc::Global;
 use std::sync::ledger::Ledger;
 use v_design::{Design, Fault, Plan};
@@ -23,7 +22,7 @@ fn listed_fault(plan: &Plan, place: u32) -> Option<Fault>
     plan.faults.as_slice().get(place as usize - 1).copied()
 }
 
-/// The certificate of the listed fault of a place, where the good machine doesn't loop.
+/// The certificate of the listed fault of a place.
 fn certificate_of<L: Ledger>(
     alloc: Global,
     design: &Design,
@@ -34,7 +33,6 @@ fn certificate_of<L: Ledger>(
 ) -> Result<Vec<u8>, CertifyFault>
     requires plan { IsPlanOf (design_of design.now) (plan_of plan.now) }
     requires is_listed { listed (plan_of plan.now) place ≡ Some (fault_of fault) }
-    requires no_loop { NeverLoops (design_of design.now) (plan_of plan.now) }
     ensures made { MatchResult result (λ text. IsCertificateText (design_of design.now) (plan_of plan.now) place text.items)
         (λ reason. (reason ≡ faults.NoMemory) ⊎ IsFaultOf (design_of design.now) (plan_of plan.now) place reason) }
     ensures every_order { IfOk result (λ text. CertificateHolds (design_of design.now) (plan_of plan.now) place text.items) }
@@ -70,9 +68,5 @@ pub fn certify_output<L: Ledger>(
     let Some(fault) = listed_fault(plan, place) else {
         return Err(CertifyFault::NoFault(place));
     };
-    match good_loop(alloc, design, plan, steps) {
-        Ok(None) => certificate_of(alloc, design, plan, place, fault, steps),
-        Ok(Some(time)) => Err(CertifyFault::GoodLoop(time)),
-        Err(_) => Err(CertifyFault::NoMemory),
-    }
+    certificate_of(alloc, design, plan, place, fault, steps)
 }

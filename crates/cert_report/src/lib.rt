@@ -9,7 +9,6 @@
 mod audit;
 mod certify;
 mod fault;
-mod good;
 
 pub use audit::{MAX_CERT_BYTES, audit_output};
 pub use certify::certify_output;

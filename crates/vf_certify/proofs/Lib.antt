@@ -1,3 +1,4 @@
 mod SlotsLeft
 mod Texts
 mod Readings
+pub mod Loops

@@ -6,6 +6,7 @@ use Rattle.v_design.specs.Designs.{FlatDesign, TestPlan, StuckAt, good_machine}
 use Rattle.v_design.specs.Runs.{first_run}
 use Rattle.v_design.specs.Sites.{sites_of}
 use Rattle.v_design.specs.Grades.{Hyper, first_stop, FaultGrade, grade}
+use Rattle.grade_laws.specs.Grading.{good_stop}
 use Rattle.text_lines.specs.Text.{lines_of}
 use Rattle.fault_list.specs.RoundTrip.{HasNumber}
 use Rattle.cert_laws.specs.Claims.{Claim}
@@ -20,6 +21,11 @@ abbrev pub IsCertified : FlatDesign → TestPlan → StuckAt → Certified → T
 IsCertified design plan fault (Cert text) = (line : FaultGrade) × (grade design plan fault ≡ Some line) × (text.items ≡ certificate design plan fault line)
 IsCertified design plan fault (GoodLoop time) =
     first_stop (good_machine design) (first_run (good_machine design) plan.end) ≡ Some (record { time = time; outcome = Hyper })
+
+-- where there is a certificate the good machine isn't hyperactive up to the plan's end before a race of its own
+abbrev pub NoLoop : FlatDesign → TestPlan → Certified → Type 0
+NoLoop design plan (Cert text) = (time : ℕ) → good_stop design plan ≡ Some (record { time = time; outcome = Hyper }) → ⊥
+NoLoop design plan (GoodLoop time) = Unit {0}
 
 -- the certificate of a fault of the design, whose grade claims something, is read as a valid one of that fault and that claim
 abbrev pub IsRead : FlatDesign → TestPlan → StuckAt → Certified → Type 0

@@ -9,7 +9,7 @@ ghost use Rattle.grade_laws.specs.Grading.{IsGoodRun};
 ghost use Rattle.fault_grade.specs.Benches.{IsBench, bench_design, bench_plan};
 ghost use Rattle.fault_grade.specs.Samples.{samples_kept};
 ghost use Rattle.fault_grade.specs.Stops.{race_if};
-ghost use Rattle.vf_certify.specs.Answers.{IsCertificate, IsCertified, IsRead};
+ghost use Rattle.vf_certify.specs.Answers.{IsCertificate, IsCertified, IsRead, NoLoop};
 
 use crate::lines::append_lines;
 use cert_text::append_head;
@@ -56,6 +56,7 @@ fn certify_beside<L: Ledger>(
     requires good { IsGoodRun (bench_design bench.now) (bench_plan bench.now) (samples_kept good.now) (race_if good.now.race) }
     ensures certified { IfOk result (IsCertified (bench_design bench.now) (bench_plan bench.now) (fault_of fault)) }
     ensures read { IfOk result (IsRead (bench_design bench.now) (bench_plan bench.now) (fault_of fault)) }
+    ensures no_loop { IfOk result (NoLoop (bench_design bench.now) (bench_plan bench.now)) }
 {
     cert_text::certificates_are_read();
     race_laws::races_name_parts();
@@ -80,6 +81,8 @@ pub fn certify<L: Ledger>(
     ensures certified { IfOk result (IsCertified (design_of design.now) (plan_of plan.now) (fault_of fault)) }
     // The text is read back as a valid certificate of this fault and its claim.
     ensures read { IfOk result (IsRead (design_of design.now) (plan_of plan.now) (fault_of fault)) }
+    // There is a certificate only where the good machine doesn't loop.
+    ensures no_loop { IfOk result (NoLoop (design_of design.now) (plan_of plan.now)) }
 {
     let graph = Graph::new(alloc, design)?;
     let bench = Bench {
