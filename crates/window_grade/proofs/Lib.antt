@@ -1,0 +1,4 @@
+pub mod Slots
+pub mod Placed
+pub mod Passing
+pub mod Through

@@ -1,0 +1,160 @@
+-- A faulty machine from strobe to strobe (strobes and slots by IEEE 1364-2001, clause 5).
+use Rattle.std.proofs.Common.{◌≡◌, ℕ, ◌<◌, ◌≤◌, List, [], ◌∷◌, ◌++◌, length, refl, sym, ap, subst, ◌∙◌, arith}
+use Rattle.std.specs.Prelude.{Option, Some, None, IsSome}
+use Rattle.std.proofs.lemmas.List.{length-map}
+use Rattle.vf_base.specs.Lists.{AllHold}
+use Rattle.vf_base.specs.declared.finding.End.{End}
+use Rattle.v_design.specs.Designs.{FlatDesign, Machine, StuckAt, TestPlan, faulty_machine}
+use Rattle.v_design.specs.States.{State}
+use Rattle.v_design.specs.Grades.{Sample, Stop, Judged, Detected, FaultGrade, samples}
+use Rattle.v_design.specs.Plain.{grade_of}
+use Rattle.v_design.specs.WellFormed.{IsAscending}
+use Rattle.strobe_detect.specs.Graders.{GraderState, IsWatched, shown_at}
+use Rattle.copy_laws.specs.Windows.{state_at}
+use Rattle.grade_laws.specs.Ahead.{StopsAfter}
+use Rattle.grade_laws.specs.Strobes.{ascending-later, all-since}
+use Rattle.grade_laws.specs.Grading.{good_stop, faulty_seen, faulty_stop, times}
+use Rattle.machine.specs.Standing.{state_kept}
+use Rattle.machine.specs.declared.parts.Machine.{Machine as Simulated}
+use Rattle.fault_grade.specs.Benches.{IsObjectOf}
+use Rattle.fault_grade.specs.Beside.{early, values-watched}
+use Rattle.beside_laws.specs.Stands.{IsAfter, IsSince, RunsGoOn, RunsStand}
+use Rattle.beside_laws.specs.Gradings.{GradingGoesOn, GradingsGoOn, EndsAt, GradingsEnd}
+use Rattle.window_grade.specs.Running.{IsRunningAt, StopsWith, CanRunTo, RunLeads}
+use Rattle.window_grade.specs.Grading.{IsGradingAt, CanPass, GradingLeads}
+
+-- Times and lists
+
+pub after-since : (now : Option ℕ) (time : ℕ) → IsAfter now time → IsSince now time
+after-since None time h = tt
+after-since (Some now) time h = omega (arith, h)
+
+pub hold-at : (P : ℕ → Type 0) (before : List ℕ) (time : ℕ) (later : List ℕ) → AllHold P (before ++ time ∷ later) → P time
+hold-at P [] time later h = h.0
+hold-at P (x ∷ before) time later h = hold-at P before time later h.1
+
+stops-earlier : (low time : ℕ) (stop : Option Stop) → low ≤ time → StopsAfter time stop → StopsAfter low stop
+stops-earlier low time None h a = tt
+stops-earlier low time (Some stop) h a = omega (arith, h, a)
+
+-- a grading that ended by a time ended by a later one
+pub ends-later : (design : FlatDesign) (plan : TestPlan) (fault : StuckAt) (time later : ℕ) (found : FaultGrade) → time ≤ later → EndsAt design plan fault time found →
+    EndsAt design plan fault later found
+ends-later design plan fault time later found h e = record { grade_is = e.grade_is; ended = (let by = e.ended in omega (arith, h, by)) }
+
+since-all : (low time : ℕ) (strobes : List ℕ) → low ≤ time → AllHold (λ strobe. time ≤ strobe) strobes → AllHold (λ strobe. low ≤ strobe) strobes
+since-all low time [] h a = tt
+since-all low time (x ∷ strobes) h a = (let y : time ≤ x = a.0 in omega (arith, h, y), since-all low time strobes h a.1)
+
+-- the faulty machine stops by a time that isn't after the next strobes
+pub ends-stopped : GradingsEnd → (design : FlatDesign) (plan : TestPlan) (fault : StuckAt) (now : Option ℕ) (passed next : List ℕ) (grader : GraderState) (time : ℕ) (end : End) →
+    GradingGoesOn design plan fault now passed next grader → StopsWith design plan fault time end → AllHold (λ strobe. time ≤ strobe) next → StopsAfter time (good_stop design plan) →
+    EndsAt design plan fault time (grade_of end)
+ends-stopped law design plan fault now passed next grader time end g s since good =
+    let by : s.stop.time ≤ time = s.by_then in
+    ends-later design plan fault s.stop.time time (grade_of end) by
+    (law.faulty design plan fault now passed next grader s.stop (grade_of end) g s.stop_is (since-all s.stop.time time next by since)
+    (stops-earlier s.stop.time time (good_stop design plan) by good) s.ends)
+
+-- what is watched are objects of the machine
+pub watched-there : (design : FlatDesign) (plan : TestPlan) (fault : StuckAt) (now : Option ℕ) (m : Simulated) (grader : GraderState) → IsRunningAt design plan fault now m →
+    grader.watched ≡ plan.watched → AllHold (IsObjectOf design) plan.watched → AllHold (IsWatched (state_kept m).values) grader.watched
+watched-there design plan fault now m grader at is all =
+    values-watched m grader.watched at.standing.values
+    (subst (λ (machine : Machine). AllHold (IsObjectOf machine.design) grader.watched) (sym at.same_machine) (subst (AllHold (IsObjectOf design)) (sym is) all))
+
+-- At a strobe
+
+module _ (sample : Sample) (m : Simulated) (grader : GraderState) (of : CanPass sample m grader) where
+  abbrev rest : List ℕ
+  rest = times of.next ++ of.later
+
+  pub grading-here : GradingGoesOn of.design of.plan of.fault of.now of.at.passed (sample.time ∷ rest) grader
+  grading-here = of.at.grading
+
+  pub others-later : AllHold (λ strobe. sample.time < strobe) rest
+  others-later = ascending-later of.at.passed sample.time rest (subst IsAscending grading-here.strobes of.at.rules.ascending)
+
+  pub sample-within : sample.time ≤ of.plan.end
+  sample-within = hold-at (λ strobe. strobe ≤ of.plan.end) of.at.passed sample.time rest (subst (AllHold (λ strobe. strobe ≤ of.plan.end)) grading-here.strobes of.at.rules.in_time)
+
+  -- the machine may be run to it
+  abbrev pub can-run : CanRunTo sample.time m
+  can-run = record {
+    design = of.design;
+    plan = of.plan;
+    fault = of.fault;
+    now = of.now;
+    at = of.at.at;
+    since = after-since of.now sample.time grading-here.later.0;
+    within = sample-within;
+    early = early of.plan sample.time of.at.rules sample-within;
+  }
+
+  pub sized : length sample.bits ≡ length grader.watched
+  sized = ap length of.at.bits.0 ∙ length-map of.plan.watched _ ∙ sym (ap length of.at.grading.watched)
+
+  pub pass-stopped : (end : End) → StopsWith of.design of.plan of.fault sample.time end → GradingsEnd → EndsAt of.design of.plan of.fault sample.time (grade_of end)
+  pass-stopped end s law =
+      ends-stopped law of.design of.plan of.fault of.now of.at.passed (sample.time ∷ rest) grader sample.time end grading-here s
+      (omega arith, all-since sample.time sample.time rest (omega arith) others-later) of.at.before.0
+
+  -- the machine went on to the strobe and is compared
+  module _ (runs : RunsGoOn) (stand : RunsStand) (new : Simulated) (running : IsRunningAt of.design of.plan of.fault (Some sample.time) new) (after : GraderState)
+      (is : after ≡ shown_at sample.time sample.bits (samples grader.watched (state_kept new).values) grader) where
+    here : (state_at (faulty_machine of.design of.fault) of.plan.end sample.time ≡ state_kept new) × StopsAfter sample.time (faulty_stop of.design of.plan of.fault)
+    here = runs.stands (faulty_machine of.design of.fault) of.plan.end sample.time _ (state_kept new) running.run
+
+    seen : samples grader.watched (state_kept new).values ≡ faulty_seen of.design of.plan of.fault sample.time
+    seen =
+        ap (λ w. samples w (state_kept new).values) of.at.grading.watched
+        ∙ ap (λ (s : State). samples of.plan.watched s.values) (sym here.0)
+        ∙ sym (stand.sees (faulty_machine of.design of.fault) of.plan.watched of.plan.end sample.time of.at.design_rules)
+
+    pub pass-hard : GradingsEnd → IsSome after.hard → EndsAt of.design of.plan of.fault sample.time (Judged (Detected sample.time))
+    pass-hard law some = go after.hard refl some
+      where
+        go : (found : Option ℕ) → after.hard ≡ found → IsSome found → EndsAt of.design of.plan of.fault sample.time (Judged (Detected sample.time))
+        go None e h = cc
+        go (Some time) e h =
+            law.hard of.design of.plan of.fault of.now of.at.passed rest sample.time time grader after sample.bits (samples grader.watched (state_kept new).values) grading-here of.at.before.0 here.1
+            of.at.bits.0 seen is e
+
+    no-hard : (found : Option ℕ) → (IsSome found → ⊥) → found ≡ None
+    no-hard None h = refl
+    no-hard (Some time) h = absurd (h refl)
+
+    pub pass-on : GradingsGoOn → (IsSome after.hard → ⊥) → IsGradingAt of.design of.plan of.fault (Some sample.time) new of.next of.later after
+    pass-on law none = record {
+      design_rules = of.at.design_rules;
+      rules = of.at.rules;
+      watched = of.at.watched;
+      passed = of.at.passed ++ sample.time ∷ [];
+      at = running;
+      grading =
+          law.strobe of.design of.plan of.fault of.now of.at.passed rest sample.time grader after sample.bits (samples grader.watched (state_kept new).values) of.at.rules grading-here of.at.before.0
+          here.1 of.at.bits.0 seen is (no-hard after.hard none);
+      bits = of.at.bits.1;
+      before = of.at.before.1;
+    }
+
+-- After the window's strobes
+
+module _ (runs : RunsGoOn) (law : GradingsGoOn) (ends : GradingsEnd) (design : FlatDesign) (plan : TestPlan) (fault : StuckAt) (now : Option ℕ) (m new : Simulated) (later : List ℕ)
+    (grader : GraderState) (until : ℕ) (at : IsGradingAt design plan fault now m [] later grader) (after : AllHold (λ strobe. until < strobe) later)
+    (good : StopsAfter until (good_stop design plan)) where
+  pub window-leads : (end : Option End) → RunLeads design plan fault until end new → GradingLeads design plan fault until [] later end new grader
+  window-leads None running = record {
+    design_rules = at.design_rules;
+    rules = at.rules;
+    watched = at.watched;
+    passed = at.passed;
+    at = running;
+    grading =
+        law.passes design plan fault now at.passed later grader until at.grading after good
+        (runs.stands (faulty_machine design fault) plan.end until _ (state_kept new) running.run).1;
+    bits = tt;
+    before = tt;
+  }
+  window-leads (Some end) s =
+      ends-stopped ends design plan fault now at.passed later grader until end at.grading s (all-since until until later (omega arith) after) good

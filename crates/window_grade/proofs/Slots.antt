@@ -1,0 +1,131 @@
+-- A faulty machine runs slot by slot (slots by IEEE 1364-2001, clause 5).
+use Rattle.std.proofs.Common.{◌≡◌, ℕ, ◌+◌, ◌-◌, ◌<◌, ◌≤◌, Bool, true, false, refl, sym, ap, subst, ◌∙◌, arith, inl, inr}
+use Rattle.std.specs.Prelude.{Option, Some, None, nat_le}
+use Rattle.std.specs.Option.{option_map}
+use Rattle.std.proofs.lemmas.Bool.{le-leb, cases_lt}
+use Rattle.vf_base.specs.declared.finding.End.{End}
+use Rattle.v_design.specs.Designs.{FlatDesign, Machine, StuckAt, TestPlan, faulty_machine}
+use Rattle.v_design.specs.States.{State}
+use Rattle.v_design.specs.Runs.{only_if, slot_end}
+use Rattle.v_design.specs.Grades.{SlotOutcome, Fine, Race, Hyper, slot_outcome, faulty_ending}
+use Rattle.v_design.specs.Plain.{grade_of}
+use Rattle.causal_monitor.specs.declared.slot.Turn.{Turn}
+use Rattle.causal_monitor.specs.declared.slot.SlotLog.{SlotLog}
+use Rattle.machine_laws.specs.SlotLoop.{slot_from}
+use Rattle.machine.specs.Standing.{IsStanding, RunsSlot, machine_kept, state_kept, begins_next, begun_within, outcome_of, next-is-following}
+use Rattle.machine.specs.declared.end.SlotEnd.{SlotEnd}
+use Rattle.machine.specs.declared.parts.Machine.{Machine as Simulated}
+use Rattle.fault_grade.specs.Reached.{next_of}
+use Rattle.beside_laws.specs.Stands.{HasRun, RunsGoOn}
+use Rattle.window_grade.specs.Running.{IsRunningAt, StopsWith, EndsSo, RunsSlotAt, IsOnWayTo}
+
+-- The slot that is next
+
+some-is : {A : Type 0} (one other : A) → Some one ≡ Some other → one ≡ other
+some-is one other e = cc
+
+-- the state in which the next slot begins
+pub next-is : (m : Simulated) (time : ℕ) → next_of m ≡ Some time → (begins : State) × (begins_next m ≡ Some begins) × (begins.time ≡ time)
+next-is m time e = go (begins_next m) refl e
+  where
+    go : (next : Option State) → begins_next m ≡ next → option_map (λ (s : State). s.time) next ≡ Some time → (begins : State) × (begins_next m ≡ Some begins) × (begins.time ≡ time)
+    go None n f = cc
+    go (Some begins) n f = (begins, n, some-is begins.time time f)
+
+within-some : (end : ℕ) (begins : State) → begins.time ≤ end → begun_within end (Some begins) ≡ Some begins
+within-some end begins h = ap (λ b. only_if b begins) (le-leb begins.time end h)
+
+within-is : (end : ℕ) (next : Option State) (begins : State) → begun_within end next ≡ Some begins → next ≡ Some begins
+within-is end None begins e = cc
+within-is end (Some state) begins e = go (nat_le state.time end) e
+  where
+    go : (b : Bool) → only_if b state ≡ Some begins → Some state ≡ Some begins
+    go true f = f
+    go false f = cc
+
+-- how much time is left up to a time
+abbrev pub time_left : ℕ → Option ℕ → ℕ
+time_left until None = 0
+time_left until (Some time) = until + 1 - time
+
+pub left-falls : (until time : ℕ) (next : Option ℕ) → time ≤ until → ((later : ℕ) → next ≡ Some later → time < later) → time_left until next < time_left until (Some time)
+left-falls until time None h rises = omega (arith, h)
+left-falls until time (Some later) h rises = let r : time < later = rises later refl in omega (arith, h, r)
+
+-- A slot
+
+ending-fine : (time : ℕ) (outcome : SlotOutcome) (ended : End) → outcome ≡ Fine → faulty_ending time outcome ≡ Some (grade_of ended) → ⊥
+ending-fine time Fine ended e f = cc
+ending-fine time (Race pair) ended e f = cc
+ending-fine time Hyper ended e f = cc
+
+-- what is ahead begins with the slot that is next
+run-here : (design : FlatDesign) (plan : TestPlan) (fault : StuckAt) (now : Option ℕ) (m : Simulated) (begins : State) → IsRunningAt design plan fault now m → begins_next m ≡ Some begins →
+    begins.time ≤ plan.end → HasRun (faulty_machine design fault) plan.end now (Some begins) (state_kept m)
+run-here design plan fault now m begins at is early =
+    subst (λ (next : Option State). HasRun (faulty_machine design fault) plan.end now next (state_kept m)) (ap (begun_within plan.end) is ∙ within-some plan.end begins early) at.run
+
+-- the next slot was run
+pub slot-leads : RunsGoOn → (time : ℕ) (old new : Simulated) (begins : State) (first : Turn) (end : SlotEnd) (ended : Option End) (log : SlotLog) → begins_next old ≡ Some begins →
+    begins.time ≡ time → machine_kept new ≡ machine_kept old → RunsSlot (machine_kept old) begins first end new log → IsStanding new → EndsSo time end ended → RunsSlotAt time old ended new
+slot-leads law time old new begins first end None log is at same runs standing so = λ design plan fault now running early.
+    let machine = faulty_machine design fault in
+    let here = run-here design plan fault now old begins running is (omega (arith, at, early)) in
+    let ran : RunsSlot machine begins first end new log = subst (λ (m : Machine). RunsSlot m begins first end new log) running.same_machine runs in
+    let next : begun_within plan.end (begins_next new) ≡ _ = ap (begun_within plan.end) ran.next ∙ sym (next-is-following machine plan.end (slot_from machine begins)) in
+    record {
+      same_machine = same ∙ running.same_machine;
+      standing = standing;
+      run =
+          subst (λ t. HasRun machine plan.end (Some t) (begun_within plan.end (begins_next new)) (state_kept new)) at
+          (subst (λ (s : State). HasRun machine plan.end (Some begins.time) (begun_within plan.end (begins_next new)) s) (sym ran.state)
+          (subst (λ (n : Option State). HasRun machine plan.end (Some begins.time) n (slot_end machine (slot_from machine begins))) (sym next)
+          (law.fine machine plan.end now begins (state_kept old) here (sym ran.outcome ∙ so))));
+    }
+slot-leads law time old new begins first end (Some ended) log is at same runs standing so = λ design plan fault now running early.
+    let machine = faulty_machine design fault in
+    let here = run-here design plan fault now old begins running is (omega (arith, at, early)) in
+    let ran : RunsSlot machine begins first end new log = subst (λ (m : Machine). RunsSlot m begins first end new log) running.same_machine runs in
+    record {
+      stop = record { time = begins.time; outcome = slot_outcome machine (slot_from machine begins) };
+      stop_is = law.stops machine plan.end now begins (state_kept old) here (λ fine. ending-fine time (outcome_of end) ended (ran.outcome ∙ fine) so);
+      by_then = omega (arith, at);
+      ends = (λ i. faulty_ending (at i) (sym ran.outcome i)) ∙ so;
+    }
+
+-- the slot after it is later
+pub slot-rises : RunsGoOn → (design : FlatDesign) (plan : TestPlan) (fault : StuckAt) (time : ℕ) (m : Simulated) → IsRunningAt design plan fault (Some time) m → time ≤ plan.end →
+    (later : ℕ) → next_of m ≡ Some later → time < later
+slot-rises law design plan fault time m at early later e =
+    let n = next-is m later e in
+    let same : n.0.time ≡ later = n.2 in
+    elim (cases_lt plan.end n.0.time) [
+      | inl past ↦ omega (arith, past, early, same)
+      | inr by ↦
+          let after : time < n.0.time = law.later (faulty_machine design fault) plan.end (Some time) n.0 (state_kept m) (run-here design plan fault (Some time) m n.0 at n.1 by) in
+          omega (arith, after, same)
+    ]
+
+-- Between slots
+
+-- no slot up to a time is next
+pub run-passed : RunsGoOn → (design : FlatDesign) (plan : TestPlan) (fault : StuckAt) (until : ℕ) (m : Simulated) → IsOnWayTo design plan fault until m →
+    ((later : ℕ) → next_of m ≡ Some later → until < later) → IsRunningAt design plan fault (Some until) m
+run-passed law design plan fault until m way past = record {
+  same_machine = way.at.same_machine;
+  standing = way.at.standing;
+  run = law.passes (faulty_machine design fault) plan.end way.now (begun_within plan.end (begins_next m)) (state_kept m) until way.at.run way.since
+      (λ begins e. past begins.time (ap (option_map (λ (s : State). s.time)) (within-is plan.end (begins_next m) begins e)));
+}
+
+pub none-next : (until : ℕ) (m : Simulated) → next_of m ≡ None → (later : ℕ) → next_of m ≡ Some later → until < later
+none-next until m e later f = cc
+
+pub later-next : (until time : ℕ) (m : Simulated) → next_of m ≡ Some time → until < time → (later : ℕ) → next_of m ≡ Some later → until < later
+later-next until time m e h later f = subst (λ t. until < t) (some-is time later (sym e ∙ f)) h
+
+-- a run that stopped by a time stopped by a later one
+pub stops-later : (design : FlatDesign) (plan : TestPlan) (fault : StuckAt) (time until : ℕ) (end : End) → time ≤ until → StopsWith design plan fault time end → StopsWith design plan fault until end
+stops-later design plan fault time until end h s =
+    let by : s.stop.time ≤ time = s.by_then in
+    record { stop = s.stop; stop_is = s.stop_is; by_then = omega (arith, by, h); ends = s.ends }

@@ -1,0 +1,8 @@
+-- Each grading that began is on its way.
+use Rattle.window_grade.specs.Grading.{CanGrade}
+use Rattle.window_grade.proofs.Through.{IsOnWay}
+use Rattle.window_grade.proofs.strobes.grade_through.Given as goal
+
+abbrev pub invariant-strobes : goal.invariant-strobes
+invariant-strobes g l =
+    (of : CanGrade l.samples l.until l.fn.machine l.fn.grader) → IsOnWay of.design of.plan of.fault of.later l.until l.sample-index l.samples l.machine l.grader

@@ -1,0 +1,60 @@
+-- A faulty machine in its first run (slots by IEEE 1364-2001, clause 5).
+use Rattle.std.specs.Prelude.{◌≡◌, ℕ, ◌≤◌, ◌^◌, Option, Some, None}
+use Rattle.vf_base.specs.declared.finding.End.{End}
+use Rattle.v_design.specs.Designs.{FlatDesign, StuckAt, TestPlan, faulty_machine}
+use Rattle.v_design.specs.Grades.{Fine, Stop, faulty_ending}
+use Rattle.v_design.specs.Plain.{grade_of}
+use Rattle.grade_laws.specs.Grading.{faulty_stop}
+use Rattle.machine.specs.Standing.{IsStanding, machine_kept, state_kept, begins_next, begun_within, outcome_of}
+use Rattle.machine.specs.declared.end.SlotEnd.{SlotEnd}
+use Rattle.machine.specs.declared.parts.Machine.{Machine as Simulated}
+use Rattle.beside_laws.specs.Stands.{IsSince, HasRun}
+
+-- the faulty machine ran the slots of its first run up to a time, all fine, or none yet; it stands there
+pub record IsRunningAt (design : FlatDesign) (plan : TestPlan) (fault : StuckAt) (now : Option ℕ) (m : Simulated) : Type 0 where
+  pub same_machine : machine_kept m ≡ faulty_machine design fault
+  pub standing : IsStanding m
+  pub run : HasRun (faulty_machine design fault) plan.end now (begun_within plan.end (begins_next m)) (state_kept m)
+
+-- the first run of the faulty machine stops at a time or before it, and this ends the grading so
+pub record StopsWith (design : FlatDesign) (plan : TestPlan) (fault : StuckAt) (time : ℕ) (end : End) : Type 0 where
+  pub stop : Stop
+  pub stop_is : faulty_stop design plan fault ≡ Some stop
+  pub by_then : stop.time ≤ time
+  pub ends : faulty_ending stop.time stop.outcome ≡ Some (grade_of end)
+
+-- A slot
+
+-- a slot of the faulty machine at a time is fine, or ends the grading so
+abbrev pub EndsSo : ℕ → SlotEnd → Option End → Type 0
+EndsSo time end None = outcome_of end ≡ Fine
+EndsSo time end (Some ended) = faulty_ending time (outcome_of end) ≡ Some (grade_of ended)
+
+-- the machine stands at a time, or its run stopped by then
+abbrev pub RunLeads : FlatDesign → TestPlan → StuckAt → ℕ → Option End → Simulated → Type 0
+RunLeads design plan fault time None m = IsRunningAt design plan fault (Some time) m
+RunLeads design plan fault time (Some end) m = StopsWith design plan fault time end
+
+-- the next slot of a machine, at a time, was run
+abbrev pub RunsSlotAt : ℕ → Simulated → Option End → Simulated → Type 0
+RunsSlotAt time old end new =
+    (design : FlatDesign) (plan : TestPlan) (fault : StuckAt) (now : Option ℕ) → IsRunningAt design plan fault now old → time ≤ plan.end → RunLeads design plan fault time end new
+
+-- Slots up to a time
+
+-- a faulty machine may be run to a time
+pub record CanRunTo (until : ℕ) (m : Simulated) : Type 0 where
+  pub design : FlatDesign
+  pub plan : TestPlan
+  pub fault : StuckAt
+  pub now : Option ℕ
+  pub at : IsRunningAt design plan fault now m
+  pub since : IsSince now until
+  pub within : until ≤ plan.end
+  pub early : until ≤ 2 ^ 63
+
+-- it went on towards that time
+pub record IsOnWayTo (design : FlatDesign) (plan : TestPlan) (fault : StuckAt) (until : ℕ) (m : Simulated) : Type 0 where
+  pub now : Option ℕ
+  pub at : IsRunningAt design plan fault now m
+  pub since : IsSince now until

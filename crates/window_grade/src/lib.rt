@@ -1,0 +1,12 @@
+//! Grades a fault through a window of the good first run, by its faulty machine (slots and the order of events by IEEE 1364-2001, clause 5).
+//!
+//! A faulty machine stands somewhere in its first run, beside the good one. `run_to` runs it through its slots up to a time, and `grade_through` does so from strobe
+//! to strobe, with the good machine's samples of the window, and to the window's end. The main contract: either the machine stands at the window's end and the
+//! fault's grading goes on there, or it ended by then and this is the fault's grade.
+#![tactic(auto)]
+
+mod run;
+mod strobes;
+
+pub use run::{machines_stand, run_to};
+pub use strobes::grade_through;

@@ -1,0 +1,78 @@
+// A faulty machine's first run, slot by slot to a time.
+
+ghost use Rattle.std.specs.Prelude.{◌≡◌, ◌≤◌, ◌^◌, Some, IfOk};
+ghost use Rattle.machine.specs.Standing.{IsStanding};
+ghost use Rattle.fault_grade.specs.Reached.{next_of};
+ghost use Rattle.window_grade.specs.Running.{EndsSo, RunsSlotAt, CanRunTo, RunLeads};
+ghost use Rattle.window_grade.specs.Standing.{MachinesStand};
+
+use causal_monitor::SlotLog;
+use machine::{Machine, SlotEnd};
+use std::sync::ledger::Ledger;
+use vf_base::{End, NoMemory, Side, Steps};
+
+/// Where a machine stands that is at the start of the faulty machine's first run, or was put into its state at a time. The function does nothing when it runs; its contract
+/// is the law.
+pub fn machines_stand()
+    ensures { MachinesStand }
+{
+    beside_laws::runs_go_on();
+    beside_laws::runs_stand();
+}
+
+/// How a slot of the faulty machine, at a time in steps, ends the grading, if it isn't fine.
+fn end_of(time: u64, end: SlotEnd) -> Option<End>
+    ensures { EndsSo time end result }
+{
+    match end {
+        SlotEnd::Fine => None,
+        SlotEnd::Race(pair) => Some(End::Race(Side::Faulty, pair)),
+        SlotEnd::Hyper => Some(End::Hyper(time)),
+    }
+}
+
+/// Runs the next slot of a faulty machine, which is at this time. The answer is how it ends the grading, where it isn't fine.
+fn run_slot<L: Ledger>(
+    log: &mut SlotLog,
+    machine: &mut Machine<'_>,
+    time: u64,
+    steps: &mut Steps<L>,
+) -> Result<Option<End>, NoMemory>
+    requires standing { IsStanding machine.old }
+    requires next { next_of machine.old ≡ Some time }
+    requires limit { time ≤ 2 ^ 63 }
+    ensures { IfOk result (λ end. RunsSlotAt time machine.old end machine.new) }
+{
+    beside_laws::runs_go_on();
+    let end = machine.slot(log, steps)?;
+    Ok(end_of(time, end))
+}
+
+/// Runs all slots of a faulty machine up to a time, in steps, or through the first that isn't fine. The answer is how that one ends the grading. `log` is room for
+/// the log of a slot.
+///
+/// # Errors
+///
+/// Want of memory.
+pub fn run_to<L: Ledger>(
+    log: &mut SlotLog,
+    machine: &mut Machine<'_>,
+    until: u64,
+    steps: &mut Steps<L>,
+) -> Result<Option<End>, NoMemory>
+    requires { CanRunTo until machine.old }
+    ensures { IfOk result (λ end. (of : CanRunTo until machine.old) → RunLeads of.design of.plan of.fault until end machine.new) }
+{
+    beside_laws::runs_go_on();
+    let mut next = machine.next_time();
+    'slots: while let Some(time) = next {
+        if until < time {
+            return Ok(None);
+        }
+        if let Some(end) = run_slot(log, machine, time, steps)? {
+            return Ok(Some(end));
+        }
+        next = machine.next_time();
+    }
+    Ok(None)
+}
