@@ -23,6 +23,9 @@ import subprocess
 import sys
 import tempfile
 import time
+
+# no folder of compiled modules beside the scripts
+sys.dont_write_bytecode = True
 from audit_fuzz import Mutations
 from whole_output import SAMPLE, lines_of, wrong_output
 
