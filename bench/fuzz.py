@@ -1,13 +1,16 @@
 #!/usr/bin/env python3
-"""Runs the program over mutated texts, and looks how each run ends: bench/fuzz.py [PROGRAM] [--texts N] [--seed S] [--seconds T] [--keep FOLDER]
+"""Runs the program over mutated texts, and looks how each run ends: bench/fuzz.py [PROGRAM] [--form FORM] [--texts N] [--seed S] [--seconds T] [--keep FOLDER]
 
-PROGRAM is the built program, by itself the one that ./run builds. The texts are the designs and plans of examples/ and those of the cases `constructs`, each with a few
-tokens or bytes taken out, put in, repeated, exchanged or put in place of others, or with a piece of another text; the words are those of grade, check and faults in both
-modes, now and then with a word more, less or changed, and those of soak. N is 10000. Text k of a seed is the same for each run of this script.
+PROGRAM is the built program, by itself the one that ./run builds. The texts are the designs and plans of examples/ and those of the cases `constructs` and of the cases of
+dict, diagnose, pick, certify and audit, each with a few tokens or bytes taken out, put in, repeated, exchanged or put in place of others, or with a piece of another text. The
+words are those of all forms in both modes, now and then with a word more, less or changed; --form, which may stand several times, takes some forms alone. FAULT is in and out of
+range. A response or a certificate is one of the same case, or is made of what the program writes by dict or certify over this very design and plan; most are mutated too. N is
+10000. Text k of a seed is the same for each run of this script over a program that writes the same.
 
 A run is wrong where it ends by a signal, with a status that its words and texts can't have, with a message that isn't the status's own, at a place that isn't in the text,
-with output beside a message, with a report that isn't whole, or later than after T seconds (10). Each wrong text is printed with its number and what was wrong, and is kept
-in FOLDER where one is given. The last lines count the runs by their ends; the status is 1 where one was wrong.
+with output beside a message, with an output that isn't whole, or later than after T seconds (10); also where the program's own certificate doesn't hold, and where its own good
+samples aren't explained by the good machine. Each wrong text is printed with its number and what was wrong, and is kept in FOLDER where one is given. The last lines count the
+runs by their forms and ends; the status is 1 where one was wrong.
 """
 import argparse
 import collections
@@ -20,6 +23,11 @@ import subprocess
 import sys
 import tempfile
 import time
+
+# no folder of compiled modules beside the scripts
+sys.dont_write_bytecode = True
+from audit_fuzz import Mutations
+from whole_output import SAMPLE, lines_of, wrong_output
 
 HOME = os.path.dirname(os.path.dirname(os.path.abspath(__file__)))
 TOKEN = re.compile(rb"\s+|//[^\n]*|/\*.*?\*/|\"[^\"\n]*\"|[A-Za-z_$][\w$]*|[0-9]*\s*'[sS]?[bodhBODH]\s*[0-9a-fA-FxXzZ?_]+|[0-9]+|===|!==|<<<|>>>|&&|\|\||[=!<>]=|<<|>>|~[&|^]|\^~|.", re.S)
@@ -40,13 +48,16 @@ DESIGN_WORDS = ("bad byte|bad number|not closed|unexpected|not in the profile|to
 PLACE = re.compile(rf"vfault: design (\d+):(\d+): (?:{DESIGN_WORDS})\n")
 NO_PLACE = re.compile(r"vfault: design: (?:no module of that name|too many (?:objects|nodes|processes|instances|inputs) \([0-9]+\))\n")
 PLAN_LINE = re.compile(r"vfault: plan (\d+): (?:bad line|unknown name|too many)\n")
-OTHER = {5: "vfault: out of memory\n", 7: "vfault: the (?:design|plan) is too long\n", 6: r"vfault: the good machine loops at time \d+\n", 2: "vfault: usage: [^\n]*\n",
-         3: "vfault: cannot read the (?:design|plan)\n"}
-ACCESS = r"(?:write|read|await|ended|held|settle|\w+) \S+ p\d+ l\d+"
-FAULT = re.compile(rf"\S+ sa[01] (?:detected \d+|possible \d+|undetected|hyper \d+|race (?:good|faulty) \d+\.\d+ {ACCESS} {ACCESS})")
-TOTAL = re.compile(r"total (\d+) detected (\d+) possible (\d+) undetected (\d+) race (\d+) hyper (\d+)")
-SIZES = re.compile(r"objects \d+ nodes \d+ processes \d+\n")
-SITES = re.compile(r"(?:fault \S+ [01] # \d+\n)*")
+RESPONSE_LINE = re.compile(r"vfault: response (\d+): bad line\n")
+TOO_LARGE = re.compile(r"vfault: the dictionary is too large \((\d+)\)\n")
+FILE = "(design|plan|response|certificate)"
+OTHER = {5: "vfault: out of memory\n", 7: f"vfault: the {FILE} is too long\n", 6: r"vfault: the good machine loops at time \d+\n", 2: "vfault: usage: [^\n]*\n",
+         3: f"vfault: cannot read the {FILE}\n"}
+# How many words of a form stand behind it, and which of them are files.
+NEEDS = {"grade": 4, "check": 2, "faults": 2, "soak": 3, "dict": 3, "diagnose": 4, "pick": 3, "certify": 4, "audit": 4}
+READS = {"soak": {}, "check": {"design": 1}, "faults": {"design": 1}, "diagnose": {"design": 1, "plan": 2, "response": 4}, "audit": {"design": 1, "plan": 2, "certificate": 4}}
+NEVER = {"check": (6,), "faults": (6,), "audit": (6,), "soak": (1, 3, 7)}
+WEIGHED = ["grade"] * 6 + ["check", "faults", "soak"] + ["dict", "pick"] + ["diagnose", "certify"] * 2 + ["audit"] * 3
 
 
 def read(*path):
@@ -54,44 +65,114 @@ def read(*path):
         return file.read()
 
 
+# A text before it is changed: `third` is the response or the certificate, None where there is none.
+Original = collections.namedtuple("Original", "form design plan top third")
+
+
 def sources():
-    """Each design with its plan and its top: those of the examples that are graded, and those of the cases `constructs`."""
+    """What is mutated: the designs of the examples that are graded, of the cases `constructs`, and the texts of the cases of each later form."""
     found = set()
     for folder in sorted(os.listdir(f"{HOME}/examples")):
         if os.path.exists(f"{HOME}/examples/{folder}/runs"):
             for line in read("examples", folder, "runs").decode().splitlines():
                 words = line.split(" ")[2:]
                 if words[0] == "grade" and all(os.path.exists(f"{HOME}/examples/{folder}/{word}") for word in words[1:3]):
-                    found.add((read("examples", folder, words[1]), read("examples", folder, words[2]), words[3]))
-    for line in read("crates", "case_runs", "data", "constructs.jsonl").splitlines():
-        case = json.loads(line)
-        if case["args"][0] == "grade":
-            found.add((case["files"]["design"].encode("latin-1"), case["files"]["plan"].encode("latin-1"), case["args"][3]))
-    return sorted(found)
+                    found.add(Original("grade", read("examples", folder, words[1]), read("examples", folder, words[2]), words[3], None))
+    for family in ("constructs", "examples", "dict", "diagnose", "pick", "certify", "audit", "further", "certificates"):
+        for line in read("crates", "case_runs", "data", f"{family}.jsonl").splitlines():
+            case = json.loads(line)
+            form, *words = case["args"] or [""]
+            if case["status"] == 2 or form not in ("grade" if family == "constructs" else "dict diagnose pick certify audit").split():
+                continue
+            files = [case["files"].get(word, "").encode("latin-1") for word in words]
+            if files[0] and files[1]:
+                found.add(Original(form, files[0], files[1], words[2], files[3] if form in ("diagnose", "audit") else None))
+    return sorted(found, key=lambda original: (*original[:4], original.third or b""))
 
 
 class Fuzz:
-    """Text k of a seed."""
+    """Text k of a seed. `written` gives what the program writes by these words over these files."""
 
-    def __init__(self, seed, number, originals):
+    def __init__(self, seed, number, originals, forms, written):
         self.random = random.Random(f"{seed} {number}")
+        self.lines = Mutations(f"{seed} {number}")
         self.originals = originals
-        design, plan, self.top = self.random.choice(originals)
-        kind = self.random.random()
-        self.design = self.mutated(design, 0) if kind < 0.8 else design
-        self.plan = self.with_early_end(plan, self.mutated(plan, 1)) if kind > 0.7 else plan
+        self.form = self.random.choice(forms)
+        self.third = {"diagnose": "response", "audit": "cert"}.get(self.form)
+        of_form = [original for original in originals if original.form == self.form]
+        original = self.random.choice(of_form if of_form and self.random.random() < 0.6 else originals)
+        self.top = original.top
+        self.mode = ["strict"] * (self.random.random() < 0.25)
+        changed = self.random.choice(["design"] * 5 + ["plan"] * 4 + ["design plan"]).split()
+        if self.third:
+            changed = self.random.choice(["design"] * 2 + ["plan"] + ["third"] * 5 + ["design third", "plan third", ""]).split()
+        self.files = {"design": self.mutated(original.design, "design") if "design" in changed else original.design,
+                      "plan": self.with_early_end(original.plan, self.mutated(original.plan, "plan")) if "plan" in changed else original.plan, "response": b"", "cert": b""}
+        # what the whole output has to begin with
+        self.wanted = ""
+        if self.third:
+            self.files[self.third] = self.third_file(original if original.form == self.form else None, "third" in changed, written)
         self.words = self.choose_words()
 
     def choose_words(self):
-        form = self.random.choice(["grade"] * 6 + ["check", "faults"])
-        words = {"grade": ["grade", "design", "plan", self.top, self.random.choice("113")]}.get(form, [form, "design", self.top])
-        words += ["strict"] * (self.random.random() < 0.25)
-        if self.random.random() < 0.03:
+        words = [self.form, "design", "plan", self.top][:3 + (self.form not in ("check", "faults"))]
+        if self.form in ("check", "faults"):
+            words[2] = self.top
+        if self.third:
+            words.append(self.third)
+        elif self.form == "grade":
+            words.append(self.random.choice("113"))
+        elif self.form == "certify":
+            numbers = ["1", "1", "1", "2", "3", str(self.random.randrange(1, 12)), str(self.random.randrange(100)), self.random.choice(["65535", "65536", "65537", "01", "4294967297"])]
+            words.append(self.random.choice(numbers))
+        words += self.mode
+        if self.form == "soak":
             words = ["soak", self.random.choice(["0", "7", "4294967295", "4294967296", "-1", "01"]), self.random.choice(["1", "3", "0", "4001"]), self.random.choice(["1", "2", "65"])]
         if self.random.random() < 0.03:
             at = self.random.randrange(len(words))
             words[at:at + self.random.randrange(2)] = self.random.choice([[], [""], ["strict"], ["0"], ["plan"], ["\xe9"], ["x" * 5000]])
+            self.wanted = ""
         return words
+
+    def third_file(self, original, is_changed, written):
+        """The response or the certificate: that of the original, or the program's own over this design and plan, with changes or without."""
+        text = original and original.third
+        if text is None or self.random.random() < 0.5:
+            own = (self.own_certificate if self.third == "cert" else self.own_response)(written)
+            text = own if own is not None else text or self.random.choice([other.third for other in self.originals if other.form == self.form])
+        if is_changed:
+            self.wanted = ""
+            text = self.third_changed(text)
+        return text
+
+    def own_certificate(self, written):
+        own = written(["certify", "design", "plan", self.top, self.random.choice("11123456"), *self.mode], self.files)
+        if own is None:
+            return None
+        line = own.split("\n")[1]
+        self.wanted = "" if " hyper " in line else f"yes {line}\n"
+        return own.encode("latin-1")
+
+    def own_response(self, written):
+        own = written(["dict", "design", "plan", self.top, *self.mode], self.files)
+        if own is None:
+            return None
+        # where a fault is known, so are all samples of the good machine
+        self.wanted = "vfault diagnose 1\ngood exact\n" if re.search(r"\ntotal \d+ known [1-9]", own) else ""
+        good = "".join(line[5:] + "\n" for line in own.split("\n") if line.startswith("good ") and SAMPLE.fullmatch(line[5:]))
+        return good.replace("x", "-").replace("z", "-").encode("latin-1")
+
+    def third_changed(self, text):
+        kind = self.random.random()
+        if self.third == "response" and kind < 0.5:
+            bits = [at for at, byte in enumerate(text) if byte in b"01-"]
+            for at in self.random.choices(bits, k=self.random.choice([1, 1, 2, 4])) if bits else []:
+                text = text[:at] + self.random.choice([b"0", b"1", b"-"]) + text[at + 1:]
+            return text
+        if kind < 0.8:
+            text = text.decode("latin-1")
+            return self.lines.mutated(text if text.endswith("\n") else text + "\n").encode("latin-1")
+        return self.mutated(text, "third")
 
     def mutated(self, text, which):
         """The text after one to four changes."""
@@ -127,7 +208,7 @@ class Fuzz:
         elif kind == 8:
             tokens[first] = self.random.choice(ALIKE.get(tokens[first]) or self.of_its_kind(tokens, tokens[first]))
         else:
-            other = TOKEN.findall(self.random.choice(self.originals)[which]) or [b""]
+            other = TOKEN.findall(getattr(self.random.choice(self.originals), which) or b"") or [b""]
             at = self.random.randrange(len(other))
             tokens[first:first + self.random.randrange(12)] = other[at:at + self.random.randrange(1, 40)]
         return b"".join(tokens)
@@ -149,7 +230,7 @@ class Fuzz:
 
 def is_form(words):
     """Whether the words are of a form."""
-    need = {"grade": 4, "check": 2, "faults": 2, "soak": 3}.get(words[0] if words else "")
+    need = NEEDS.get(words[0] if words else "")
     rest = words[1:]
     if need is None or (len(rest) != need and (words[0] == "soak" or len(rest) != need + 1 or rest[-1] != "strict")):
         return False
@@ -162,40 +243,27 @@ def is_form(words):
         return False
     if words[0] == "soak":
         return is_number(rest[0], 0, 4294967295) and is_number(rest[1], 1, 4000) and is_number(rest[2], 1, 64)
-    return words[0] != "grade" or is_number(rest[3], 1, 64)
-
-
-def whole_report(words, output):
-    """What is wrong with the output of a run that went well, or None."""
-    if words[0] == "check":
-        return None if SIZES.fullmatch(output) else "no sizes"
-    if words[0] == "faults":
-        return None if SITES.fullmatch(output) else "no list of faults"
-    lines = output.split("\n")
-    total = TOTAL.fullmatch(lines[-2]) if len(lines) > 1 else None
-    if not total or lines[-1]:
-        return "no totals"
-    counts = [int(count) for count in total.groups()]
-    if counts[0] != sum(counts[1:]):
-        return "totals that don't add up"
-    if words[0] == "soak":
-        return None if len(lines) == 2 else "more than the totals"
-    if lines[0] != "vfault 1" or len(lines) != counts[0] + 3:
-        return "not a line for each fault"
-    return next((f"the line {line!r}" for line in lines[1:-2] if not FAULT.fullmatch(line)), None)
+    return words[0] not in ("grade", "certify") or is_number(rest[3], 1, 64 if words[0] == "grade" else 65536)
 
 
 def wrong_message(text, status, message):
     """What is wrong with the message of a run over this text, or None."""
+    form = text.words[0]
+    reads = READS.get(form, {"design": 1, "plan": 2})
     if status != 1:
-        return None if re.fullmatch(OTHER[status], message) else f"status {status} with {message!r}"
-    place, line = PLACE.fullmatch(message), PLAN_LINE.fullmatch(message)
+        said = re.fullmatch(OTHER[status], message)
+        return None if said and (not said.groups() or said[1] in reads) else f"status {status} with {message!r}"
+    place, no_fault, too_large = PLACE.fullmatch(message), re.fullmatch(r"vfault: no fault (\d+)\n", message), TOO_LARGE.fullmatch(message)
     if place:
-        lines = text.design.split(b"\n")
+        lines = text.files[text.words[1]].split(b"\n")
         row, column = int(place[1]), int(place[2])
         return None if 1 <= row <= len(lines) and 1 <= column <= len(lines[row - 1]) + 1 else f"no such place: {message!r}"
-    if line:
-        return None if 1 <= int(line[1]) <= text.plan.count(b"\n") + 2 else f"no such line: {message!r}"
+    for file, pattern in (("plan", PLAN_LINE), ("response", RESPONSE_LINE)):
+        line = pattern.fullmatch(message)
+        if line and file in reads:
+            return None if 1 <= int(line[1]) <= len(lines_of(text.files[text.words[reads[file]]])) + 1 else f"no such line: {message!r}"
+    if no_fault and form == "certify" and no_fault[1] == text.words[4] or too_large and form in ("dict", "diagnose", "pick") and int(too_large[1]) > 268435456:
+        return None
     return None if NO_PLACE.fullmatch(message) else f"status 1 with {message!r}"
 
 
@@ -203,39 +271,54 @@ def wrong_end(text, status, output, message):
     """What is wrong with the end of a run, or None."""
     if status < 0:
         return f"ended by {signal.Signals(-status).name}"
-    if status not in range(8) or status == 4:
+    if status not in range(8) or status == 4 or status in NEVER.get(text.form, ()) and is_form(text.words):
         return f"status {status}: {message[:200]!r}"
     if (status == 2) == is_form(text.words):
         return f"status {status} for the words {text.words}"
+    if status == 0 and not output.startswith(text.wanted):
+        return f"{output[:200]!r} where {text.wanted!r} has to stand"
     if status == 0:
-        return whole_report(text.words, output) or (f"a message: {message[:200]!r}" if message else None)
+        certificate = lines_of(text.files[text.words[4]]) if text.form == "audit" else None
+        return wrong_output(text.words[0], output, certificate) or (f"a message: {message[:200]!r}" if message else None)
     if output:
         return "output beside a message"
+    if text.wanted:
+        return f"{message[:200]!r} where {text.wanted!r} has to stand"
     if status == 5:
         return "want of memory"
-    return wrong_message(text, status, message)
+    return wrong_message(text, status, message) if status != 2 or re.fullmatch(OTHER[2], message) else f"status 2 with {message!r}"
 
 
-def run(program, text, folder, seconds):
-    """How the run over a text ended, and what is wrong with that or None."""
-    for name in ("design", "plan"):
+def write_files(folder, files):
+    for name, content in files.items():
         with open(f"{folder}/{name}", "wb") as file:
-            file.write(getattr(text, name))
-    began = time.monotonic()
+            file.write(content)
+
+
+def run(program, words, folder, seconds):
+    """The status, the output and the message of a run, or None where it has no end."""
     try:
-        done = subprocess.run([program] + [word.encode("latin-1") for word in text.words], cwd=folder, capture_output=True, timeout=seconds + 20)
+        done = subprocess.run([program] + [word.encode("latin-1") for word in words], cwd=folder, capture_output=True, timeout=seconds + 20)
     except subprocess.TimeoutExpired:
-        return "no end", f"no end after {seconds + 20:g} s"
+        return None
+    return done.returncode, done.stdout.decode("latin-1"), done.stderr.decode("latin-1")
+
+
+def run_text(program, text, folder, seconds):
+    """How the run over a text ended, and what is wrong with that or None."""
+    write_files(folder, text.files)
+    began = time.monotonic()
+    end = run(program, text.words, folder, seconds)
     took = time.monotonic() - began
-    wrong = wrong_end(text, done.returncode, done.stdout.decode("latin-1"), done.stderr.decode("latin-1"))
-    return f"status {done.returncode}", wrong or (f"took {took:.1f} s" if took > seconds else None)
+    if end is None:
+        return "no end", f"no end after {seconds + 20:g} s"
+    said = f" {end[1].split(' ')[0]}" if text.words[0] == "audit" and end[0] == 0 else ""
+    return f"status {end[0]}{said}", wrong_end(text, *end) or (f"took {took:.1f} s" if took > seconds else None)
 
 
 def keep(folder, number, text):
     os.makedirs(f"{folder}/{number}", exist_ok=True)
-    for name in ("design", "plan"):
-        with open(f"{folder}/{number}/{name}", "wb") as file:
-            file.write(getattr(text, name))
+    write_files(f"{folder}/{number}", text.files)
     with open(f"{folder}/{number}/words", "w", encoding="utf-8") as file:
         file.write(json.dumps(text.words) + "\n")
 
@@ -243,6 +326,7 @@ def keep(folder, number, text):
 def words_of_command_line():
     parser = argparse.ArgumentParser(description=__doc__, formatter_class=argparse.RawDescriptionHelpFormatter)
     parser.add_argument("program", nargs="?", default=f"{HOME}/crates/vfault/out/vfault", metavar="PROGRAM")
+    parser.add_argument("--form", action="append", choices=sorted(NEEDS), metavar="FORM")
     parser.add_argument("--texts", type=int, default=10000, metavar="N")
     parser.add_argument("--first", type=int, default=0, metavar="K", help="the number of the first text")
     parser.add_argument("--most", type=int, default=1 << 20, metavar="BYTES", help="leaves out the designs that have more bytes with their plans, for a slow build")
@@ -254,19 +338,25 @@ def words_of_command_line():
 
 def main():
     given = words_of_command_line()
-    originals = [source for source in sources() if len(source[0]) + len(source[1]) <= given.most]
+    program = os.path.realpath(given.program)
+    originals = [original for original in sources() if sum(len(content or b"") for content in (original.design, original.plan, original.third)) <= given.most]
     ends, wrongs = collections.Counter(), 0
     with tempfile.TemporaryDirectory() as folder:
+        def written(words, files):
+            write_files(folder, files)
+            end = run(program, words, folder, given.seconds)
+            return end[1] if end and end[0] == 0 else None
+
         for number in range(given.first, given.first + given.texts):
-            text = Fuzz(given.seed, number, originals)
-            end, wrong = run(os.path.realpath(given.program), text, folder, given.seconds)
-            ends[end] += 1
+            text = Fuzz(given.seed, number, originals, given.form or WEIGHED, written)
+            end, wrong = run_text(program, text, folder, given.seconds)
+            ends[f"{text.form} {end}"] += 1
             if wrong:
                 wrongs += 1
                 print(f"text {number}: {wrong}", flush=True)
                 if given.keep:
                     keep(given.keep, number, text)
-    print(f"{given.texts} texts over {len(originals)} designs: " + ", ".join(f"{end} {count} times" for end, count in sorted(ends.items())))
+    print(f"{given.texts} texts over {len(originals)} originals: " + ", ".join(f"{end} {count} times" for end, count in sorted(ends.items())))
     print(f"{wrongs} wrong")
     return 1 if wrongs else 0
 
