@@ -10,7 +10,7 @@ use Rattle.window_index.specs.declared.occurrence.Occurrence.{Occurrence}
 use Rattle.window_index.specs.Moments.{moment_of, is_of, moments_of, IsIndexOf, IsLastBefore}
 use Rattle.trace_window.specs.declared.change.Change.{Change}
 use Rattle.trace_window.specs.Writes.{written_of, value_or, latest}
-use Rattle.trace_window.specs.Tables.{change_moment, at_moment, at_place, at_places, AreChanges}
+use Rattle.trace_window.specs.Tables.{occurrence_of, change_moment, at_moment, at_place, at_places, AreChanges}
 use Rattle.trace_window.specs.Rising.{RisesBy, rises-weaken, rises-by}
 use Rattle.trace_window.specs.ValueLaws.{ComeFrom, latest-later}
 
@@ -256,3 +256,8 @@ AreChanges-made changes count list others moments places same also first second 
       moments_are = subst (λ n. IsIndexOf n (map at_moment changes) moments) (sym long) (subst (λ l. IsIndexOf count l moments) same first);
       places_are = subst (λ n. IsIndexOf n (at_places 0 changes) places) (sym long) (subst (λ l. IsIndexOf count l places) also second);
     }
+
+-- the changes as occurrences are the writes as such
+pub change-occurrences : (changes : List Change) → map at_moment changes ≡ map occurrence_of (map written_of changes)
+change-occurrences [] = refl
+change-occurrences (c ∷ changes) = ap (λ l. at_moment c ∷ l) (change-occurrences changes)

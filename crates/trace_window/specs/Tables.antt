@@ -15,6 +15,10 @@ pub record ChangesKept : Type 0 where
 abbrev pub change_moment : Change → ℕ
 change_moment change = change.moment
 
+-- a write as an occurrence of its object
+abbrev pub occurrence_of : Written → Occurrence
+occurrence_of write = record { number = write.object; moment = write.moment }
+
 -- a change as an occurrence of its object, at its moment or at its place among all
 abbrev pub at_moment : Change → Occurrence
 at_moment change = record { number = object_number change.object; moment = change.moment }

@@ -3,8 +3,8 @@
 ghost use Rattle.std.specs.Prelude.{◌≡◌, ◌<◌, ◌^◌, length, map, filter, nat_lt, IfOk};
 ghost use Rattle.std.specs.List.Sorted.{IsNonDecreasingBy};
 ghost use Rattle.vf_base.specs.Base.{object_number};
-ghost use Rattle.window_index.specs.Moments.{moment_of, IsIndexOf};
-ghost use Rattle.trace_window.specs.Tables.{change_moment, at_moment, at_places};
+ghost use Rattle.window_index.specs.Moments.{moment_of, moments_of, IsIndexOf, IsFirstAtOrAfter};
+ghost use Rattle.trace_window.specs.Tables.{change_moment, at_moment, at_places, occurrence_of};
 ghost use Rattle.trace_window.specs.Writes.{written_of, latest};
 
 use crate::change::Change;
@@ -136,5 +136,13 @@ impl Changes {
                 self.changes[places[own] as usize].value
             }
         }
+    }
+
+    /// The least moment, not before another, at which an object is written; none where it is only written before.
+    pub fn next(&self, object: ObjectId, moment: u32) -> Option<u32>
+        requires { object_number object < self.now.count }
+        ensures { IsFirstAtOrAfter (moments_of (map occurrence_of self.now.writes) (object_number object)) moment result }
+    {
+        self.moments.first_at_or_after(object.0, moment)
     }
 }

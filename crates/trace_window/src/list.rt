@@ -1,26 +1,31 @@
-// What the events of a window write and touch, gathered from the logs of its slots.
+// What the events of a window write and touch, and who acts in them, gathered from the logs of its slots.
 
 ghost use Rattle.std.specs.Prelude.{◌≡◌, ◌+◌, ◌++◌, [], ◌∷◌, map, IfOk, OnOk};
 ghost use Rattle.vf_base.specs.Lists.{AllHold};
 ghost use Rattle.causal_monitor.specs.Notes.{IsNoted, noted_access};
-ghost use Rattle.trace_window.specs.Listed.{phase_accesses, log_accesses};
+ghost use Rattle.slot_record.specs.Records.{event_of};
+ghost use Rattle.trace_window.specs.Listed.{phase_accesses, log_accesses, log_events, HasActors, IsActed};
 ghost use Rattle.trace_window.specs.Kinds.{is_write, is_touch};
 ghost use Rattle.trace_window.specs.Touched.{touches_in};
 ghost use Rattle.trace_window.specs.Writes.{written_of, writes_in};
 
+use crate::acted::{node_evaluated, process_stepped, push_number};
 use crate::change::Change;
-use causal_monitor::{Noted, PhaseLog, SlotLog};
+use causal_monitor::{Actor, Noted, PhaseLog, SlotLog};
 use std::alloc::Global;
 use vf_base::{AccessKind, NoMemory};
 use window_index::Occurrence;
 
-/// What the events of a window write and touch, in order, and the moment of the next event.
+/// What the events of a window write and touch, in order, and who acts in them, and the moment of the next event.
 #[derive(Drop)]
 pub struct EventList {
     pub moment: u32,
     pub changes: Vec<Change>,
     /// The objects that the events read or write, each at the moment of its event.
     pub touches: Vec<Occurrence>,
+    /// The nodes that are evaluated, and the processes that take steps, each at the moment of the event.
+    pub evaluations: Vec<Occurrence>,
+    pub steps: Vec<Occurrence>,
 }
 
 /// Whether an access of a kind is a write.
@@ -126,33 +131,40 @@ impl EventList {
         ensures moment { result.moment ≡ 0 }
         ensures changes { result.changes.items ≡ [] }
         ensures touches { result.touches.items ≡ [] }
+        ensures evaluations { result.evaluations.items ≡ [] }
+        ensures steps { result.steps.items ≡ [] }
     {
         EventList {
             moment: 0,
             changes: Vec::new(alloc),
             touches: Vec::new(alloc),
+            evaluations: Vec::new(alloc),
+            steps: Vec::new(alloc),
         }
     }
 
-    /// Puts an event at the end.
-    fn note_event(&mut self, accesses: &[Noted]) -> Result<(), NoMemory>
+    /// Puts an event at the end, in which somebody acts.
+    fn note_event(&mut self, accesses: &[Noted], actor: Actor) -> Result<(), NoMemory>
         requires { AllHold IsNoted accesses.now }
-        ensures { OnOk result (Gathers (map noted_access accesses.now ∷ []) self.old self.new) }
+        ensures { OnOk result (Gathers (map noted_access accesses.now ∷ []) (event_of actor ∷ []) self.old self.new) }
     {
         let moment = self.moment;
         let next = next_moment(moment)?;
         push_writes(&mut self.changes, moment, accesses)?;
         push_touches(&mut self.touches, moment, accesses)?;
+        push_number(&mut self.evaluations, moment, node_evaluated(actor))?;
+        push_number(&mut self.steps, moment, process_stepped(actor))?;
         self.moment = next;
         Ok(())
     }
 
-    /// Puts the events of a phase at the end.
-    fn note_phase(&mut self, log: &PhaseLog) -> Result<(), NoMemory>
-        ensures { OnOk result (Gathers (phase_accesses log.now) self.old self.new) }
+    /// Puts the events of a phase at the end, in which these act.
+    fn note_phase(&mut self, log: &PhaseLog, actors: &[Actor]) -> Result<(), NoMemory>
+        requires { HasActors log.now actors.now }
+        ensures { OnOk result (Gathers (phase_accesses log.now) (map event_of actors.now) self.old self.new) }
     {
-        'events: for event in 0..log.event_count() {
-            self.note_event(log.accesses_of(event))?;
+        'events: for (event, actor) in actors.iter().enumerate() {
+            self.note_event(log.accesses_of(event as u64), *actor)?;
         }
         Ok(())
     }
@@ -163,11 +175,13 @@ impl EventList {
     ///
     /// Want of memory, or no further number of a moment.
     pub fn note_slot(&mut self, log: &SlotLog) -> Result<(), NoMemory>
-        ensures { OnOk result (Gathers (log_accesses log.now) self.old self.new) }
+        requires { IsActed log.now }
+        ensures { OnOk result (Gathers (log_accesses log.now) (log_events log.now) self.old self.new) }
     {
         let phases = log.phases.as_slice();
-        'phases: for phase in phases {
-            self.note_phase(phase)?;
+        let actors = log.actors.as_slice();
+        'phases: for (number, phase) in phases.iter().enumerate() {
+            self.note_phase(phase, actors[number].as_slice())?;
         }
         Ok(())
     }

@@ -1,23 +1,25 @@
-use Rattle.std.proofs.Common.{map, take, sym, subst, ◌∙◌}
+use Rattle.std.proofs.Common.{◌<◌, ◌+◌, ◌∙◌, List, length, map, take, sym, ap, subst, arith}
+use Rattle.std.specs.List.{AllZip}
 use Rattle.std.proofs.lemmas.List.{take_all}
+use Rattle.std.proofs.lemmas.Slice.Zip.{AllZip-long}
 use Rattle.vf_base.specs.Lists.{joined}
+use Rattle.causal_monitor.specs.Phases.{PhaseOfSlot}
+use Rattle.causal_monitor.specs.declared.slot.Actor.{Actor}
+use Rattle.v_design.specs.Accesses.{ObjectAccess}
+use Rattle.v_design.specs.States.{Event}
+use Rattle.slot_record.specs.Records.{event_of}
 use Rattle.trace_window.specs.Gathered.{Gathers}
-use Rattle.trace_window.specs.Listed.{phase_accesses}
+use Rattle.trace_window.specs.Listed.{phase_accesses, HasActors}
 use Rattle.trace_window.specs.GatherLaws.{Gathers-none, Gathers-more}
-use Rattle.trace_window.proofs.Gathering.{slot_accesses-more}
+use Rattle.trace_window.proofs.Gathering.{slot_accesses-more, slot_events-more, zip-at}
 use Rattle.trace_window.proofs.list.EventList.note_slot.Goals as goal
 
 pub phases-init : goal.phases-init
 phases-init c = Gathers-none c.args.self.now
 
-pub phases-preserved : goal.phases-preserved
-phases-preserved c =
-    subst (λ l. Gathers l c.args.self.now c.note_phase.new.self)
-    (sym (slot_accesses-more c.as_slice-phases.result.now c.phases.phase-index c.phase-item.result c.phases-test.true c.phase-item.is))
-    (Gathers-more (joined (map phase_accesses (take c.phases.phase-index c.as_slice-phases.result.now))) (phase_accesses c.phase-item.result) c.args.self.now c.phases.self c.note_phase.new.self
-    c.phases.invariant c.in_ok-note_phase.ensures)
-
-pub returns : goal.returns
-returns c =
-    subst (λ l. Gathers (joined (map phase_accesses l)) c.args.self.now c.phases.self) (take_all c.phases.phase-index c.as_slice-phases.result.now c.phases-test.false ∙ c.as_slice-phases.ensures)
-    c.phases.invariant
+pub bounds-actors-number : goal.bounds-actors-number
+bounds-actors-number c =
+    let long = AllZip-long HasActors c.args.log.now.phases c.args.log.now.actors c.requires in
+    let phases = ap (λ (l : List PhaseOfSlot). length l) c.as_slice-phases.ensures in
+    let actors = ap (λ (l : List (List Actor)). length l) c.as_slice-actors.ensures in
+    omega (arith, long, phases, actors, c.phases-test.true)
