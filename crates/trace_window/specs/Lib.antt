@@ -11,6 +11,7 @@ pub mod Listed
 pub mod WriteLaws
 pub mod ValueLaws
 pub mod LogLaws
+pub mod BelowLaws
 pub mod FirstLaws
 pub mod TouchLaws
 pub mod ActedLaws

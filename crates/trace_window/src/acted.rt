@@ -3,7 +3,9 @@
 ghost use Rattle.std.specs.Prelude.{◌≡◌, ◌++◌, OnOk};
 ghost use Rattle.slot_record.specs.Records.{event_of};
 ghost use Rattle.trace_window.specs.Acted.{node_evaluated, process_stepped, occurrence_at};
+ghost use Rattle.trace_window.specs.Occurring.{below};
 
+use crate::occurrences::push_below;
 use causal_monitor::Actor;
 use vf_base::NoMemory;
 use window_index::Occurrence;
@@ -32,18 +34,19 @@ pub(crate) fn process_stepped(actor: Actor) -> Option<u32>
     }
 }
 
-/// Puts a number, if there is one, behind some occurrences, at a moment.
+/// Puts a number, if there is one and it is below a count, behind some occurrences, at a moment.
 pub(crate) fn push_number(
     occurrences: &mut Vec<Occurrence>,
+    count: u32,
     moment: u32,
     number: Option<u32>,
 ) -> Result<(), NoMemory>
-    ensures { OnOk result (occurrences.new.items ≡ occurrences.old.items ++ occurrence_at moment number) }
+    ensures { OnOk result (occurrences.new.items ≡ occurrences.old.items ++ below count (occurrence_at moment number)) }
 {
     match number {
         None => Ok(()),
         Some(number) => {
-            occurrences.push(Occurrence { number, moment })?;
+            push_below(occurrences, count, Occurrence { number, moment })?;
             Ok(())
         }
     }

@@ -2,9 +2,8 @@
 //!
 //! All events of a window are numbered through; the number of an event is its moment. An `EventList` gathers what the events of slot after slot write and touch, and
 //! who acts in them, from the slots' logs. `Changes` finds by binary search what an object holds before a moment: what the last write before it left, else what the object held at
-//! the beginning, and when it is written next; `index_occurrences` has for each object the moments at which it is read or written, for each node those at which it is
-//! evaluated, and for each process those at which it or its lane takes a step. The laws that these are the values, the accesses and the events of the definitions stand in
-//! `specs/ValueLaws`, `specs/TouchLaws` and `specs/ActedLaws`.
+//! the beginning, and when it is written next. What the list has of an object's reads and writes, a node's evaluations and a process's steps is made for an index. The laws
+//! that these are the values, the accesses and the events of the definitions stand in `specs/ValueLaws`, `specs/TouchLaws` and `specs/ActedLaws`.
 #![tactic(auto)]
 
 mod acted;
@@ -17,5 +16,4 @@ mod sizes;
 pub use change::Change;
 pub use changes::Changes;
 pub use list::EventList;
-pub use occurrences::index_occurrences;
 pub use sizes::Sizes;

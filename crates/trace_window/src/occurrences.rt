@@ -1,27 +1,22 @@
-// Occurrences by their numbers and moments.
+// Occurrences of numbers below a count.
 
-ghost use Rattle.std.specs.Prelude.{IfOk};
-ghost use Rattle.std.specs.List.Sorted.{IsNonDecreasingBy};
-ghost use Rattle.window_index.specs.Moments.{moment_of, IsIndexOf};
+ghost use Rattle.std.specs.Prelude.{◌≡◌, [], ◌∷◌, ◌++◌, OnOk};
+ghost use Rattle.trace_window.specs.Occurring.{below};
 
-use crate::changes::index_within;
-use std::alloc::Global;
 use vf_base::NoMemory;
-use window_index::{Occurrence, WindowIndex};
+use window_index::Occurrence;
 
-/// For each of so many numbers the moments of its occurrences, which come in ascending order; those of further numbers are never asked for.
-///
-/// # Errors
-///
-/// Want of memory.
-pub fn index_occurrences(
-    alloc: Global,
+/// Puts an occurrence behind others, if its number is below a count.
+pub(crate) fn push_below(
+    occurrences: &mut Vec<Occurrence>,
     count: u32,
-    occurrences: &[Occurrence],
-) -> Result<WindowIndex, NoMemory>
-    requires { IsNonDecreasingBy moment_of occurrences.now }
-    ensures { IfOk result (λ index. IsIndexOf count occurrences.now index) }
+    occurrence: Occurrence,
+) -> Result<(), NoMemory>
+    ensures { OnOk result (occurrences.new.items ≡ occurrences.old.items ++ below count (occurrence ∷ [])) }
 {
-    let index = index_within(alloc, count, occurrences)?;
-    Ok(index)
+    if occurrence.number >= count {
+        return Ok(());
+    }
+    occurrences.push(occurrence)?;
+    Ok(())
 }

@@ -15,7 +15,7 @@ use Rattle.trace_window.proofs.Gathering.{slot_accesses-more, slot_events-more, 
 use Rattle.trace_window.proofs.list.EventList.note_slot.Goals as goal
 
 pub phases-init : goal.phases-init
-phases-init c = Gathers-none c.args.self.now
+phases-init c = Gathers-none c.args.sizes c.args.self.now
 
 pub bounds-actors-number : goal.bounds-actors-number
 bounds-actors-number c =

@@ -8,4 +8,4 @@ use Rattle.trace_window.proofs.list.EventList.note_slot.Given as goal
 
 abbrev pub invariant-phases : goal.invariant-phases
 invariant-phases l =
-    Gathers (joined (map phase_accesses (take l.number l.phases))) (joined (map (λ (own : List Actor). map event_of own) (take l.number l.actors))) l.fn.self l.self
+    Gathers l.sizes (joined (map phase_accesses (take l.number l.phases))) (joined (map (λ (own : List Actor). map event_of own) (take l.number l.actors))) l.fn.self l.self
