@@ -164,9 +164,8 @@ phase_accesses-all phase event past = take_all event (phase_accesses phase)
     (let long : length (phase_accesses phase) ≡ length phase.log.events = length-map phase.log.events (λ (e : LoggedEvent). e.accesses) in omega arith)
 
 -- who acts in one event more
-pub actors-more : (actors : List Actor) (i : ℕ) (actor : Actor) → i < length actors → actor ≡ get_or actors i actor →
-    map event_of (take (i + 1) actors) ≡ map event_of (take i actors) ++ event_of actor ∷ []
-actors-more actors i actor low read = ap (map event_of) (take_more actors i actor low ∙ ap (λ a. take i actors ++ a ∷ []) (sym read)) ∙ map_push event_of (take i actors) actor
+pub actors-more : (actors : List Actor) (i : ℕ) (d : Actor) → i < length actors → map event_of (take (i + 1) actors) ≡ map event_of (take i actors) ++ event_of (get_or actors i d) ∷ []
+actors-more actors i d low = ap (map event_of) (take_more actors i d low) ∙ map_push event_of (take i actors) (get_or actors i d)
 
 -- the events of one phase more
 pub slot_events-more : (actors : List (List Actor)) (i : ℕ) (own : List Actor) → i < length actors → own ≡ get_or actors i own →

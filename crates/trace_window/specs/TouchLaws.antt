@@ -84,7 +84,7 @@ abbrev Forth : (AccessAct → Bool) → ℕ → ℕ → List ObjectAccess → Li
 Forth kind object moment accesses list acting = (found : ℕ) → Contains (moments_of list object) found → (found ≡ moment) × (acting ≡ true)
 
 acting-forth : (kind : AccessAct → Bool) (object moment : ℕ) (accesses : List ObjectAccess) → Forth kind object moment accesses (acting_in kind moment accesses) (acts kind object accesses)
-acting-forth kind object moment [] found there = let low : there.0 < 0 = there.1 in absurd (omega arith)
+acting-forth kind object moment [] = λ found there. let low : there.0 < 0 = there.1 in absurd (omega arith)
 acting-forth kind object moment (access ∷ rest) = go (kind access.act) (acting-forth kind object moment rest)
   where
     go : (b : Bool) → Forth kind object moment rest (acting_in kind moment rest) (acts kind object rest) →
@@ -97,7 +97,7 @@ acting-forth kind object moment (access ∷ rest) = go (kind access.act) (acting
     ]
 
 acting-back : (kind : AccessAct → Bool) (object moment : ℕ) (accesses : List ObjectAccess) → acts kind object accesses ≡ true → Contains (moments_of (acting_in kind moment accesses) object) moment
-acting-back kind object moment [] e = cc
+acting-back kind object moment [] = λ e. cc
 acting-back kind object moment (access ∷ rest) = go (kind access.act) (acting-back kind object moment rest)
   where
     go : (b : Bool) → (acts kind object rest ≡ true → Contains (moments_of (acting_in kind moment rest) object) moment) → ((b && nat_eq access.object object) || acts kind object rest) ≡ true →
