@@ -7,9 +7,11 @@ use Rattle.v_design.specs.Accesses.{ObjectAccess}
 use Rattle.v_design.specs.States.{Event}
 use Rattle.causal_monitor.specs.declared.slot.SlotLog.{SlotLog}
 use Rattle.trace_window.specs.declared.list.EventList.{EventList}
-use Rattle.trace_window.specs.Acted.{node_evaluated, process_stepped, occurrence_at, evaluations_from, steps_from}
-use Rattle.trace_window.specs.GatherLaws.{writes_from-append, touches_from-append, occurrences_from-append}
-use Rattle.trace_window.specs.Gathered.{Gathers}
+use Rattle.trace_window.specs.declared.sizes.Sizes.{Sizes}
+use Rattle.trace_window.specs.Acted.{evaluations_from, steps_from}
+use Rattle.trace_window.specs.GatherLaws.{writes_from-append, touches_from-append, evaluations_from-append, steps_from-append, below-append}
+use Rattle.trace_window.specs.Gathered.{Gathers, BeginsAt}
+use Rattle.trace_window.specs.Occurring.{below}
 use Rattle.trace_window.specs.Listed.{log_accesses, log_events}
 use Rattle.trace_window.specs.Touched.{touches_from}
 use Rattle.trace_window.specs.Writes.{Written, written_of, writes_from}
@@ -19,23 +21,35 @@ use Rattle.good_trace.specs.Events.{slots_accesses, slots_events, IsGathered}
 use Rattle.good_trace.proofs.Growing.{slice_get-push}
 
 -- of no slot
-pub IsGathered-none : (list : EventList) → list.moment ≡ 0 → list.changes.items ≡ [] → list.touches.items ≡ [] → list.evaluations.items ≡ [] → list.steps.items ≡ [] → IsGathered [] [] list
-IsGathered-none list moment changes touches evaluations steps =
-    record { as_many = refl; moment = moment; changes = ap (map written_of) changes; touches = touches; evaluations = evaluations; steps = steps }
+pub IsGathered-none : (sizes : Sizes) (list : EventList) → BeginsAt 0 list → IsGathered sizes [] [] list
+IsGathered-none sizes list none = record {
+  as_many = refl;
+  moment = none.moment_is;
+  changes = ap (map written_of) none.changes;
+  touches = none.touches;
+  evaluations = none.evaluations;
+  steps = none.steps;
+}
 
 -- of some events and then of others
-pub IsGathered-more : (xs ys : List (List ObjectAccess)) (es fs : List Event) (old new : EventList) → IsGathered xs es old → Gathers ys fs old new → IsGathered (xs ++ ys) (es ++ fs) new
-IsGathered-more xs ys es fs old new had more =
+pub IsGathered-more : (sizes : Sizes) (xs ys : List (List ObjectAccess)) (es fs : List Event) (old new : EventList) → IsGathered sizes xs es old → Gathers sizes ys fs old new →
+    IsGathered sizes (xs ++ ys) (es ++ fs) new
+IsGathered-more sizes xs ys es fs old new had more =
     let at : old.moment ≡ 0 + length xs = omega (arith, had.moment) in
     let acted : old.moment ≡ 0 + length es = omega (arith, had.moment, had.as_many) in
     record {
       as_many = let long = length-append xs ys in let many = length-append es fs in omega (arith, had.as_many, more.as_many, long, many);
       moment = let long = length-append xs ys in omega (arith, had.moment, more.moment, long);
       changes = more.changes ∙ (λ i. had.changes i ++ writes_from (at i) ys) ∙ sym (writes_from-append 0 xs ys);
-      touches = more.touches ∙ (λ i. had.touches i ++ touches_from (at i) ys) ∙ sym (touches_from-append 0 xs ys);
+      touches =
+          more.touches ∙ (λ i. had.touches i ++ below sizes.objects (touches_from (at i) ys))
+          ∙ sym (ap (below sizes.objects) (touches_from-append 0 xs ys) ∙ below-append sizes.objects (touches_from 0 xs) (touches_from (0 + length xs) ys));
       evaluations =
-          more.evaluations ∙ (λ i. had.evaluations i ++ evaluations_from (acted i) fs) ∙ sym (occurrences_from-append (λ moment event. occurrence_at moment (node_evaluated event)) 0 es fs);
-      steps = more.steps ∙ (λ i. had.steps i ++ steps_from (acted i) fs) ∙ sym (occurrences_from-append (λ moment event. occurrence_at moment (process_stepped event)) 0 es fs);
+          more.evaluations ∙ (λ i. had.evaluations i ++ below sizes.nodes (evaluations_from (acted i) fs))
+          ∙ sym (ap (below sizes.nodes) (evaluations_from-append 0 es fs) ∙ below-append sizes.nodes (evaluations_from 0 es) (evaluations_from (0 + length es) fs));
+      steps =
+          more.steps ∙ (λ i. had.steps i ++ below sizes.processes (steps_from (acted i) fs))
+          ∙ sym (ap (below sizes.processes) (steps_from-append 0 es fs) ∙ below-append sizes.processes (steps_from 0 es) (steps_from (0 + length es) fs));
     }
 
 pub joined-append : {A : Type 0} (xs ys : List (List A)) → joined (xs ++ ys) ≡ joined xs ++ joined ys
@@ -62,9 +76,9 @@ slots_events-more slots i slot low read =
 -- Where slots begin
 
 -- behind what is gathered
-pub IsBeginning-gathered : (accesses : List (List ObjectAccess)) (acted : List Event) (list : EventList) (beginning : SlotBeginning) → IsGathered accesses acted list → beginning.moment ≡ list.moment →
+pub IsBeginning-gathered : (sizes : Sizes) (accesses : List (List ObjectAccess)) (acted : List Event) (list : EventList) (beginning : SlotBeginning) → IsGathered sizes accesses acted list → beginning.moment ≡ list.moment →
     beginning.changes ≡ length list.changes.items → IsBeginning accesses beginning
-IsBeginning-gathered accesses acted list beginning had moment changes = record {
+IsBeginning-gathered sizes accesses acted list beginning had moment changes = record {
   moment = moment ∙ had.moment;
   changes = changes ∙ sym (length-map list.changes.items written_of) ∙ ap (λ (l : List Written). length l) had.changes;
 }

@@ -13,6 +13,7 @@ use Rattle.trace_window.specs.declared.sizes.Sizes.{Sizes}
 use Rattle.trace_window.specs.Acted.{events_of, evaluations_from, steps_from}
 use Rattle.trace_window.specs.Listed.{log_accesses, log_events, IsActed, AreListed}
 use Rattle.trace_window.specs.Moments.{window_events, values_through}
+use Rattle.trace_window.specs.Occurring.{below}
 use Rattle.trace_window.specs.Touched.{touches_from}
 use Rattle.trace_window.specs.Writes.{written_of, writes_from}
 use Rattle.good_trace.specs.declared.events.Events.{Events}
@@ -29,14 +30,14 @@ slots_events slots = joined (map log_events slots)
 abbrev pub AreActed : List SlotLog → Type 0
 AreActed slots = (place : ℕ) (slot : SlotLog) → slice_get slots place ≡ Some slot → IsActed slot
 
--- what some events write and touch is gathered, and who acts in them
-pub record IsGathered (accesses : List (List ObjectAccess)) (acted : List Event) (list : EventList) : Type 0 where
+-- what some events of a design of these sizes write and touch is gathered, and who acts in them
+pub record IsGathered (sizes : Sizes) (accesses : List (List ObjectAccess)) (acted : List Event) (list : EventList) : Type 0 where
   pub as_many : length acted ≡ length accesses
   pub moment : list.moment ≡ length accesses
   pub changes : map written_of list.changes.items ≡ writes_from 0 accesses
-  pub touches : list.touches.items ≡ touches_from 0 accesses
-  pub evaluations : list.evaluations.items ≡ evaluations_from 0 acted
-  pub steps : list.steps.items ≡ steps_from 0 acted
+  pub touches : list.touches.items ≡ below sizes.objects (touches_from 0 accesses)
+  pub evaluations : list.evaluations.items ≡ below sizes.nodes (evaluations_from 0 acted)
+  pub steps : list.steps.items ≡ below sizes.processes (steps_from 0 acted)
 
 -- how much a design has
 pub record AreSizes (design : FlatDesign) (sizes : Sizes) : Type 0 where

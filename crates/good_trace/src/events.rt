@@ -10,7 +10,7 @@ ghost use Rattle.good_trace.specs.Closing.{AreClosed};
 use causal_monitor::SlotLog;
 use four_value::Vec4;
 use std::alloc::Global;
-use trace_window::{Change, Changes, EventList, Sizes, index_occurrences};
+use trace_window::{Change, Changes, EventList, Sizes};
 use vf_base::{NoMemory, ObjectId};
 use window_index::WindowIndex;
 
@@ -59,16 +59,17 @@ fn beginning_of(list: &EventList) -> SlotBeginning
 }
 
 /// What the events of some slots write and touch, in order, and who acts in them.
-fn gather(alloc: Global, slots: &[SlotLog]) -> Result<Gathered, NoMemory>
+fn gather(alloc: Global, sizes: Sizes, slots: &[SlotLog]) -> Result<Gathered, NoMemory>
     requires { AreActed slots.now }
-    ensures list { IfOk result (λ gathered. IsGathered (slots_accesses slots.now) (slots_events slots.now) gathered.list) }
+    ensures list { IfOk result (λ gathered. IsGathered sizes (slots_accesses slots.now) (slots_events slots.now) gathered.list) }
     ensures beginnings { IfOk result (λ gathered. AreBeginnings slots.now gathered.beginnings.items) }
 {
     let mut list = EventList::new(alloc);
+    let mut own = EventList::new(alloc);
     let mut beginnings = Vec::new(alloc);
     'slots: for slot in slots {
         beginnings.push(beginning_of(&list))?;
-        list.note_slot(slot)?;
+        list.push_slot(sizes, slot, &mut own)?;
     }
     beginnings.push(beginning_of(&list))?;
     Ok(Gathered { list, beginnings })
@@ -80,19 +81,20 @@ fn index_events(alloc: Global, sizes: Sizes, slots: &[SlotLog]) -> Result<Events
     ensures events { IfOk result (λ events. AreEvents sizes (slots_accesses slots.now) (slots_events slots.now) events) }
     ensures beginnings { IfOk result (λ events. AreBeginnings slots.now events.beginnings.items) }
 {
-    let gathered = gather(alloc, slots)?;
+    let gathered = gather(alloc, sizes, slots)?;
     let Gathered { list, beginnings } = gathered;
     let EventList {
         moment,
-        changes,
-        touches,
+        changes: mut written,
+        touches: mut occurrences,
         evaluations,
         steps,
     } = list;
-    let touches = index_occurrences(alloc, sizes.objects, &touches)?;
-    let evaluations = index_occurrences(alloc, sizes.nodes, &evaluations)?;
-    let steps = index_occurrences(alloc, sizes.processes, &steps)?;
-    let changes = Changes::new(alloc, sizes.objects, changes)?;
+    let touches = WindowIndex::build(alloc, sizes.objects, &occurrences)?;
+    let evaluations = WindowIndex::build(alloc, sizes.nodes, &evaluations)?;
+    let steps = WindowIndex::build(alloc, sizes.processes, &steps)?;
+    let none = Changes::new(alloc, sizes.objects)?;
+    let changes = none.refill(&mut written, &mut occurrences)?;
     Ok(Events {
         count: moment,
         changes,

@@ -81,8 +81,8 @@ touched-rise number (accesses ∷ lists) =
     touches-rise number accesses (touches_from (number + 1) lists) (rises-weaken moment_of number (number + 1) (touches_from (number + 1) lists) (omega arith) (touched-rise (number + 1) lists))
 
 -- the touches of a window
-pub touches-ascend : (touches : List Occurrence) (lists : List (List ObjectAccess)) → touches ≡ touches_from 0 lists → IsNonDecreasingBy moment_of touches
-touches-ascend touches lists are = rises-by moment_of 0 touches (subst (λ l. RisesBy moment_of 0 l) (sym are) (touched-rise 0 lists))
+pub all-touches-ascend : (lists : List (List ObjectAccess)) → IsNonDecreasingBy moment_of (touches_from 0 lists)
+all-touches-ascend lists = rises-by moment_of 0 (touches_from 0 lists) (touched-rise 0 lists)
 
 -- what occurs in some events in a row, each at its moment alone
 number-rises : (number : ℕ) (own : Option ℕ) (rest : List Occurrence) → RisesBy moment_of number rest → RisesBy moment_of number (occurrence_at number own ++ rest)
@@ -96,8 +96,8 @@ keyed-rise key number (event ∷ events) =
     (rises-weaken moment_of number (number + 1) (occurrences_from (λ moment one. occurrence_at moment (key one)) (number + 1) events) (omega arith) (keyed-rise key (number + 1) events))
 
 -- the evaluations of a window, and its steps
-pub evaluations-ascend : (list : List Occurrence) (events : List Event) → list ≡ evaluations_from 0 events → IsNonDecreasingBy moment_of list
-evaluations-ascend list events are = rises-by moment_of 0 list (subst (λ l. RisesBy moment_of 0 l) (sym are) (keyed-rise node_evaluated 0 events))
+pub all-evaluations-ascend : (events : List Event) → IsNonDecreasingBy moment_of (evaluations_from 0 events)
+all-evaluations-ascend events = rises-by moment_of 0 (evaluations_from 0 events) (keyed-rise node_evaluated 0 events)
 
-pub steps-ascend : (list : List Occurrence) (events : List Event) → list ≡ steps_from 0 events → IsNonDecreasingBy moment_of list
-steps-ascend list events are = rises-by moment_of 0 list (subst (λ l. RisesBy moment_of 0 l) (sym are) (keyed-rise process_stepped 0 events))
+pub all-steps-ascend : (events : List Event) → IsNonDecreasingBy moment_of (steps_from 0 events)
+all-steps-ascend events = rises-by moment_of 0 (steps_from 0 events) (keyed-rise process_stepped 0 events)

@@ -7,7 +7,7 @@ use Rattle.good_trace.proofs.events.gather.Given as goal
 
 abbrev pub invariant-slots : goal.invariant-slots
 invariant-slots l = record {
-  list : IsGathered (slots_accesses (take l.slot-index l.slots)) (slots_events (take l.slot-index l.slots)) l.list;
+  list : IsGathered l.sizes (slots_accesses (take l.slot-index l.slots)) (slots_events (take l.slot-index l.slots)) l.list;
   count : length l.beginnings.items ≡ l.slot-index;
   each : (place : ℕ) (beginning : SlotBeginning) → slice_get l.beginnings.items place ≡ Some beginning → IsBeginning (slots_accesses (take place l.slots)) beginning;
 }

@@ -1,25 +1,55 @@
-use Rattle.std.proofs.Common.{List, sym, subst}
+use Rattle.std.proofs.Common.{◌≡◌, ℕ, ◌<◌, List, sym, subst, ◌∙◌}
+use Rattle.std.specs.Prelude.{All}
 use Rattle.std.specs.List.Sorted.{IsNonDecreasingBy}
 use Rattle.window_index.specs.declared.occurrence.Occurrence.{Occurrence}
-use Rattle.window_index.specs.Moments.{moment_of}
-use Rattle.trace_window.specs.Rising.{changes-ascend, touches-ascend, evaluations-ascend, steps-ascend}
+use Rattle.window_index.specs.Moments.{moment_of, IsIndexOf}
+use Rattle.trace_window.specs.Acted.{evaluations_from, steps_from}
+use Rattle.trace_window.specs.BelowLaws.{below-low, below-ascend, index-below}
+use Rattle.trace_window.specs.Occurring.{below}
+use Rattle.trace_window.specs.Rising.{changes-ascend, all-touches-ascend, all-evaluations-ascend, all-steps-ascend}
+use Rattle.trace_window.specs.Touched.{touches_from}
 use Rattle.good_trace.specs.Events.{slots_accesses, slots_events}
 use Rattle.good_trace.proofs.events.index_events.Goals as goal
 
-pub index_occurrences-touches-requires : goal.index_occurrences-touches-requires
-index_occurrences-touches-requires c =
-    subst (λ (l : List Occurrence). IsNonDecreasingBy moment_of l) (sym c.deref.ensures.value)
-    (touches-ascend c.in_ok-gathered.gathered.list.touches.items (slots_accesses c.args.slots.now) c.in_ok-gathered.ensures.list.touches)
+-- what is below a count is so, ascends, and is as good as all
+low-in : (count : ℕ) (list all : List Occurrence) → list ≡ below count all → All (λ (o : Occurrence). o.number < count) list
+low-in count list all is = subst (λ (l : List Occurrence). All (λ (o : Occurrence). o.number < count) l) (sym is) (below-low count all)
 
-pub index_occurrences-evaluations-requires : goal.index_occurrences-evaluations-requires
-index_occurrences-evaluations-requires c =
-    subst (λ (l : List Occurrence). IsNonDecreasingBy moment_of l) (sym c.deref-2.ensures.value)
-    (evaluations-ascend c.in_ok-gathered.gathered.list.evaluations.items (slots_events c.args.slots.now) c.in_ok-gathered.ensures.list.evaluations)
+up-in : (count : ℕ) (list all : List Occurrence) → list ≡ below count all → IsNonDecreasingBy moment_of all → IsNonDecreasingBy moment_of list
+up-in count list all is up = subst (λ (l : List Occurrence). IsNonDecreasingBy moment_of l) (sym is) (below-ascend count all up)
 
-pub index_occurrences-steps-requires : goal.index_occurrences-steps-requires
-index_occurrences-steps-requires c =
-    subst (λ (l : List Occurrence). IsNonDecreasingBy moment_of l) (sym c.deref-3.ensures.value)
-    (steps-ascend c.in_ok-gathered.gathered.list.steps.items (slots_events c.args.slots.now) c.in_ok-gathered.ensures.list.steps)
+index-in : (count : ℕ) (list all : List Occurrence) (index : List (List ℕ)) → list ≡ below count all → IsIndexOf count list index → IsIndexOf count all index
+index-in count list all index is had = index-below count all index (subst (λ (l : List Occurrence). IsIndexOf count l index) is had)
 
-pub new-requires : goal.new-requires
-new-requires c = changes-ascend c.in_ok-gathered.gathered.list.changes.items (slots_accesses c.args.slots.now) c.in_ok-gathered.ensures.list.changes
+pub build-touches-requires-clause-numbers : goal.build-touches-requires-clause-numbers
+build-touches-requires-clause-numbers c =
+    low-in c.args.sizes.objects c.deref.result.now (touches_from 0 (slots_accesses c.args.slots.now)) (c.deref.ensures.value ∙ c.in_ok-gathered.ensures.list.touches)
+
+pub build-touches-requires-clause-ascending : goal.build-touches-requires-clause-ascending
+build-touches-requires-clause-ascending c =
+    up-in c.args.sizes.objects c.deref.result.now (touches_from 0 (slots_accesses c.args.slots.now)) (c.deref.ensures.value ∙ c.in_ok-gathered.ensures.list.touches)
+    (all-touches-ascend (slots_accesses c.args.slots.now))
+
+pub build-evaluations-requires-clause-numbers : goal.build-evaluations-requires-clause-numbers
+build-evaluations-requires-clause-numbers c =
+    low-in c.args.sizes.nodes c.deref-2.result.now (evaluations_from 0 (slots_events c.args.slots.now)) (c.deref-2.ensures.value ∙ c.in_ok-gathered.ensures.list.evaluations)
+
+pub build-evaluations-requires-clause-ascending : goal.build-evaluations-requires-clause-ascending
+build-evaluations-requires-clause-ascending c =
+    up-in c.args.sizes.nodes c.deref-2.result.now (evaluations_from 0 (slots_events c.args.slots.now)) (c.deref-2.ensures.value ∙ c.in_ok-gathered.ensures.list.evaluations)
+    (all-evaluations-ascend (slots_events c.args.slots.now))
+
+pub build-steps-requires-clause-numbers : goal.build-steps-requires-clause-numbers
+build-steps-requires-clause-numbers c =
+    low-in c.args.sizes.processes c.deref-3.result.now (steps_from 0 (slots_events c.args.slots.now)) (c.deref-3.ensures.value ∙ c.in_ok-gathered.ensures.list.steps)
+
+pub build-steps-requires-clause-ascending : goal.build-steps-requires-clause-ascending
+build-steps-requires-clause-ascending c =
+    up-in c.args.sizes.processes c.deref-3.result.now (steps_from 0 (slots_events c.args.slots.now)) (c.deref-3.ensures.value ∙ c.in_ok-gathered.ensures.list.steps)
+    (all-steps-ascend (slots_events c.args.slots.now))
+
+pub refill-changes-requires : goal.refill-changes-requires
+refill-changes-requires c = changes-ascend c.in_ok-gathered.gathered.list.changes.items (slots_accesses c.args.slots.now) c.in_ok-gathered.ensures.list.changes
+
+pub returns-clause-events : goal.returns-clause-events
+returns-clause-events c = ?
