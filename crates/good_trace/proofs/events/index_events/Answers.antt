@@ -1,4 +1,4 @@
-use Rattle.std.proofs.Common.{◌≡◌, ℕ, ◌<◌, List, sym, subst, ◌∙◌}
+use Rattle.std.proofs.Common.{◌≡◌, ℕ, ◌<◌, List, sym, ap, subst, ◌∙◌}
 use Rattle.std.specs.Prelude.{All}
 use Rattle.std.specs.List.Sorted.{IsNonDecreasingBy}
 use Rattle.window_index.specs.declared.occurrence.Occurrence.{Occurrence}
@@ -7,6 +7,7 @@ use Rattle.trace_window.specs.Acted.{evaluations_from, steps_from}
 use Rattle.trace_window.specs.BelowLaws.{below-low, below-ascend, index-below}
 use Rattle.trace_window.specs.Occurring.{below}
 use Rattle.trace_window.specs.Rising.{changes-ascend, all-touches-ascend, all-evaluations-ascend, all-steps-ascend}
+use Rattle.trace_window.specs.Tables.{ChangesKept}
 use Rattle.trace_window.specs.Touched.{touches_from}
 use Rattle.good_trace.specs.Events.{slots_accesses, slots_events}
 use Rattle.good_trace.proofs.events.index_events.Goals as goal
@@ -52,4 +53,17 @@ pub refill-changes-requires : goal.refill-changes-requires
 refill-changes-requires c = changes-ascend c.in_ok-gathered.gathered.list.changes.items (slots_accesses c.args.slots.now) c.in_ok-gathered.ensures.list.changes
 
 pub returns-clause-events : goal.returns-clause-events
-returns-clause-events c = ?
+returns-clause-events c =
+    let own = c.in_ok-gathered.ensures.list in
+    record {
+      count = own.moment;
+      objects_are = ap (λ (k : ChangesKept). k.count) c.in_ok-changes.ensures.changes ∙ ap (λ (k : ChangesKept). k.count) c.in_ok-none.ensures;
+      changes_are = ap (λ (k : ChangesKept). k.writes) c.in_ok-changes.ensures.changes ∙ own.changes;
+      touches_are =
+          index-in c.args.sizes.objects c.deref.result.now (touches_from 0 (slots_accesses c.args.slots.now)) c.in_ok-touches.touches (c.deref.ensures.value ∙ own.touches) c.in_ok-touches.ensures;
+      evaluations_are =
+          index-in c.args.sizes.nodes c.deref-2.result.now (evaluations_from 0 (slots_events c.args.slots.now)) c.in_ok-evaluations.evaluations (c.deref-2.ensures.value ∙ own.evaluations)
+          c.in_ok-evaluations.ensures;
+      steps_are =
+          index-in c.args.sizes.processes c.deref-3.result.now (steps_from 0 (slots_events c.args.slots.now)) c.in_ok-steps.steps (c.deref-3.ensures.value ∙ own.steps) c.in_ok-steps.ensures;
+    }
