@@ -17,7 +17,7 @@ ghost use Rattle.between_slots.specs.Between.{state_through, activity_through, w
 ghost use Rattle.between_slots.specs.Updates.{updates_through, Rests, RestingStatesAreTold};
 ghost use Rattle.copy_laws.specs.Windows.{IsWindow, good_slots, window_steps};
 ghost use Rattle.good_trace.specs.RunsKept.{Stands, TellsRun};
-ghost use Rattle.good_trace.specs.SlotsTold.{AreWritesOf, slot_run_ends};
+ghost use Rattle.good_trace.specs.SlotsTold.{AreWritesOf, IsUnwritten, slot_run_ends};
 
 use crate::ending::GoodEnd;
 use crate::events::{Events, changes_between};
@@ -264,11 +264,14 @@ impl<N: World> TraceWindow<N> {
         let _last = self.last;
     }
 
-    /// The changes of objects in the events of a slot, in order: each write of a variable, also where that keeps its value, and each change of a net piece.
+    /// The changes of objects in the events of a slot, in order: each write of a variable, also where that keeps its value, and each change of a net piece. So an object
+    /// without a change holds behind the slot what it held before.
     pub fn changes_in(&self, slot: u32) -> &[Change]
         requires { self.now.before + slot < self.now.through }
-        ensures { AreWritesOf (good_machine N.design) (window_events N.design N.plan (self.now.before + slot) (self.now.before + slot + 1))
+        ensures changes { AreWritesOf (good_machine N.design) (window_events N.design N.plan (self.now.before + slot) (self.now.before + slot + 1))
             (length (window_events N.design N.plan self.now.before (self.now.before + slot))) (map written_of result.now) }
+        ensures others { (object : ℕ) → object < length N.design.objects → IsUnwritten object result.now →
+            value_at (state_through N.design N.plan (self.now.before + slot + 1)).values object ≡ value_at (state_through N.design N.plan (self.now.before + slot)).values object }
     {
         let first = self.events.beginnings[slot as usize].changes;
         let end = self.events.beginnings[slot as usize + 1].changes;

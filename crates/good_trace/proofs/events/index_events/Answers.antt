@@ -22,35 +22,35 @@ up-in count list all is up = subst (λ (l : List Occurrence). IsNonDecreasingBy 
 index-in : (count : ℕ) (list all : List Occurrence) (index : List (List ℕ)) → list ≡ below count all → IsIndexOf count list index → IsIndexOf count all index
 index-in count list all index is had = index-below count all index (subst (λ (l : List Occurrence). IsIndexOf count l index) is had)
 
-pub build-touches-requires-clause-numbers : goal.build-touches-requires-clause-numbers
-build-touches-requires-clause-numbers c =
+pub build-requires-clause-numbers : goal.build-requires-clause-numbers
+build-requires-clause-numbers c =
     low-in c.args.sizes.objects c.deref.result.now (touches_from 0 (slots_accesses c.args.slots.now)) (c.deref.ensures.value ∙ c.in_ok-gathered.ensures.list.touches)
 
-pub build-touches-requires-clause-ascending : goal.build-touches-requires-clause-ascending
-build-touches-requires-clause-ascending c =
+pub build-requires-clause-ascending : goal.build-requires-clause-ascending
+build-requires-clause-ascending c =
     up-in c.args.sizes.objects c.deref.result.now (touches_from 0 (slots_accesses c.args.slots.now)) (c.deref.ensures.value ∙ c.in_ok-gathered.ensures.list.touches)
     (all-touches-ascend (slots_accesses c.args.slots.now))
 
-pub build-evaluations-requires-clause-numbers : goal.build-evaluations-requires-clause-numbers
-build-evaluations-requires-clause-numbers c =
+pub build-requires-2-clause-numbers : goal.build-requires-2-clause-numbers
+build-requires-2-clause-numbers c =
     low-in c.args.sizes.nodes c.deref-2.result.now (evaluations_from 0 (slots_events c.args.slots.now)) (c.deref-2.ensures.value ∙ c.in_ok-gathered.ensures.list.evaluations)
 
-pub build-evaluations-requires-clause-ascending : goal.build-evaluations-requires-clause-ascending
-build-evaluations-requires-clause-ascending c =
+pub build-requires-2-clause-ascending : goal.build-requires-2-clause-ascending
+build-requires-2-clause-ascending c =
     up-in c.args.sizes.nodes c.deref-2.result.now (evaluations_from 0 (slots_events c.args.slots.now)) (c.deref-2.ensures.value ∙ c.in_ok-gathered.ensures.list.evaluations)
     (all-evaluations-ascend (slots_events c.args.slots.now))
 
-pub build-steps-requires-clause-numbers : goal.build-steps-requires-clause-numbers
-build-steps-requires-clause-numbers c =
+pub build-requires-3-clause-numbers : goal.build-requires-3-clause-numbers
+build-requires-3-clause-numbers c =
     low-in c.args.sizes.processes c.deref-3.result.now (steps_from 0 (slots_events c.args.slots.now)) (c.deref-3.ensures.value ∙ c.in_ok-gathered.ensures.list.steps)
 
-pub build-steps-requires-clause-ascending : goal.build-steps-requires-clause-ascending
-build-steps-requires-clause-ascending c =
+pub build-requires-3-clause-ascending : goal.build-requires-3-clause-ascending
+build-requires-3-clause-ascending c =
     up-in c.args.sizes.processes c.deref-3.result.now (steps_from 0 (slots_events c.args.slots.now)) (c.deref-3.ensures.value ∙ c.in_ok-gathered.ensures.list.steps)
     (all-steps-ascend (slots_events c.args.slots.now))
 
-pub refill-changes-requires : goal.refill-changes-requires
-refill-changes-requires c = changes-ascend c.in_ok-gathered.gathered.list.changes.items (slots_accesses c.args.slots.now) c.in_ok-gathered.ensures.list.changes
+pub refill-requires : goal.refill-requires
+refill-requires c = changes-ascend c.in_ok-gathered.gathered.list.changes.items (slots_accesses c.args.slots.now) c.in_ok-gathered.ensures.list.changes
 
 pub returns-clause-events : goal.returns-clause-events
 returns-clause-events c =

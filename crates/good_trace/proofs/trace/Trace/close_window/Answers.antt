@@ -106,8 +106,8 @@ close_runs-requires-clause-rise g c =
     (c.ends_go_on.ensures.ascend t.setup.now.codes (good_machine g.N.World.design) (window_phases g.N.World.design g.N.World.plan t.closed t.pushed) t.runs.items
     c.self.invariant.runs_kept.runs_are).0
 
-pub close_events-closed-requires-clause-acted : goal.close_events-closed-requires-clause-acted
-close_events-closed-requires-clause-acted g c =
+pub close_events-requires-clause-acted : goal.close_events-requires-clause-acted
+close_events-requires-clause-acted g c =
     subst AreActed (sym c.deref-6.ensures.value) (AreActed-held g.N.World.design g.N.World.plan c.self.inside.closed c.self.inside.slots.items c.self.invariant.slots_kept.slots_are)
 
 pub invariant_of-result : goal.invariant_of-result
@@ -117,7 +117,7 @@ invariant_of-result g c =
     record {
       window =
           closed g.N.World.design g.N.World.plan t.pushed t.closed t.steps t.values.items c.deref-5.result.now c.replace-values.result.items
-          t.slots.items c.deref-6.result.now c.replace-slots.result.items c.sizes.result c.in_ok-closed.closed.events c.in_ok-closed.closed.later.items (end_of c.args.last) c.sizes.ensures c.self.invariant.slots_kept
+          t.slots.items c.deref-6.result.now c.replace-slots.result.items c.sizes-sizes.result c.in_ok-closed.closed.events c.in_ok-closed.closed.later.items (end_of c.args.last) c.sizes-sizes.ensures c.self.invariant.slots_kept
           window c.deref-5.ensures.value c.deref-6.ensures.value c.in_ok-closed.ensures.events (ap (λ (v : Vec Vec4 Global). v.items) c.replace-values.ensures.value)
           (ap (λ (v : Vec SlotLog Global). v.items) c.replace-slots.ensures.value);
       has_beginnings =
@@ -140,7 +140,7 @@ invariant_of-self g c =
     record {
       slots_kept =
           goes-on g.N.World.design g.N.World.plan t.pushed t.closed t.steps t.values.items c.deref-5.result.now c.replace-values.new.dest.items
-          t.slots.items c.deref-6.result.now c.replace-slots.new.dest.items c.sizes.result c.in_ok-closed.closed.events c.in_ok-closed.closed.later.items (end_of c.args.last) c.sizes.ensures c.self.invariant.slots_kept
+          t.slots.items c.deref-6.result.now c.replace-slots.new.dest.items c.sizes-sizes.result c.in_ok-closed.closed.events c.in_ok-closed.closed.later.items (end_of c.args.last) c.sizes-sizes.ensures c.self.invariant.slots_kept
           window c.deref-5.ensures.value c.deref-6.ensures.value c.in_ok-closed.ensures.events (ap (λ (v : Vec Vec4 Global). v.items) c.replace-values.ensures.after)
           (ap (λ (v : Vec SlotLog Global). v.items) c.replace-slots.ensures.after ∙ c.spare_of-spare.ensures.slots);
       runs_kept =
