@@ -5,6 +5,7 @@ ghost use Rattle.std.specs.Option.{option_map};
 ghost use Rattle.vf_base.specs.Base.{object_number, process_number};
 ghost use Rattle.v_design.specs.Assignments.{value_at};
 ghost use Rattle.v_design.specs.Designs.{good_machine};
+ghost use Rattle.v_design.specs.Laws.{HaveWidths};
 ghost use Rattle.v_design.specs.Plain.{due_of};
 ghost use Rattle.v_design.specs.Runs.{FirstSlot};
 ghost use Rattle.trace_window.specs.Moments.{window_events, window_values};
@@ -222,13 +223,14 @@ impl<N: World> TraceWindow<N> {
         Ok(pending)
     }
 
-    /// In the state before a slot, and behind the last one, nothing is left to do before time moves on: no node has work, and each lane is empty. So that state is
-    /// told by its time, its values, and what the processes do and have pending.
+    /// In the state before a slot, and behind the last one, each value is as wide as its object, and nothing is left to do before time moves on: no node has work, and
+    /// each lane is empty. So that state is told by its time, its values, and what the processes do and have pending.
     ///
     /// It does nothing when it runs.
     pub fn rests_before(&self, slot: u32)
         requires { self.now.before + slot ≤ self.now.through }
         ensures rests { Rests N.design (state_through N.design N.plan (self.now.before + slot)) }
+        ensures widths { HaveWidths (good_machine N.design) (state_through N.design N.plan (self.now.before + slot)).values }
         ensures told { RestingStatesAreTold }
     {
         between_slots::updates_pend();
