@@ -1,0 +1,3 @@
+pub mod FirstSlots
+pub mod Quiet
+pub mod Strobes
