@@ -99,7 +99,7 @@ slot-rests laws machine rules begins asked few =
     record {
       quiescent = ends.0;
       no_turn = ends.1;
-      begins = λ time turn. next-asked laws machine rules begins asked (few-steps (slot_from machine begins) few) (TimeTurn time);
+      begins = λ time. next-asked laws machine rules begins asked (few-steps (slot_from machine begins) few) (TimeTurn time);
     }
 
 -- Slots in a row

@@ -157,8 +157,8 @@ both-next laws design plan fault d from until good0 faulty0 pass now good faulty
         (let l : now < time = later in omega (arith, l, since)) by
 
     slot : PassesSlot design fault d good0 (time_turn time good) (time_turn time faulty)
-    slot = slot-passes laws.walk design fault pass.rules d until good0 faulty0 pass.kept (time_turn time good) (time_turn time faulty) (good_rest.begins time good_turn)
-        (own_rest.begins time on.turn) on.within (jump-there design d until good0 faulty0 pass.kept good faulty time on.within on.keeps) on.keeps by fine
+    slot = slot-passes laws.walk design fault pass.rules d until good0 faulty0 pass.kept (time_turn time good) (time_turn time faulty) (good_rest.begins time)
+        (own_rest.begins time) on.within (jump-there design d until good0 faulty0 pass.kept good faulty time on.within on.keeps) on.keeps by fine
         (good-rests laws design plan pass.rules time (slot_end (good_machine design) (slot_from (good_machine design) (time_turn time good))) good_next) free
 
 next-goes : PassLaws → (design : FlatDesign) (plan : TestPlan) (fault : StuckAt) (d : Differences) (good0 : State) → KeepsNothingEqual d good0 → (until now : ℕ) (good faulty : State) →

@@ -19,35 +19,11 @@ use Rattle.copy_laws.specs.Rest.{within_of}
 use Rattle.trace_window.specs.Moments.{Seen, seen_from, phase_seen, slot_seen}
 use Rattle.quiet_slots.specs.FirstSlots.{RestsAfterSlot}
 use Rattle.quiet_slots.specs.Quiet.{IsFreeBeside}
+use Rattle.quiet_slots.specs.SlotMoves.{slot-seen}
 use Rattle.quiet_slots.proofs.FirstSlots.{few-steps}
 use Rattle.quiet_slots.proofs.Lockstep.{WalkLaws, Kept, held-same}
-use Rattle.quiet_slots.proofs.Walked.{EndsBeside, seen_moves, walks}
+use Rattle.quiet_slots.proofs.Walked.{EndsBeside, walks}
 use Rattle.quiet_slots.proofs.Wide.{begins-wide}
-
--- The events of a slot by its moves
-
-seen_from-more : (machine : Machine) (state : State) (events : List Event) (event : Event) →
-    seen_from machine state (events ++ event ∷ []) ≡ seen_from machine state events ++ record { before = happened machine state events; event = event } ∷ []
-seen_from-more machine state [] event = refl
-seen_from-more machine state (first ∷ events) event = ap (λ l. record { before = state; event = first } ∷ l) (seen_from-more machine (after machine state first) events event)
-
-cut-seen : (machine : Machine) (turn : Option TurnKind) (begins : State) (events : List Event) (state : State) (moves : List Move) → state ≡ happened machine begins events →
-    joined (map (phase_seen machine) (cut machine turn begins events state moves)) ≡ seen_from machine begins events ++ seen_moves machine state moves
-cut-seen machine turn begins events state [] e = refl
-cut-seen machine turn begins events state (Happens event ∷ moves) e =
-    cut-seen machine turn begins (events ++ event ∷ []) (after machine state event) moves (ap (λ s. after machine s event) e ∙ sym (happened-more events begins))
-    ∙ ap (λ l. l ++ seen_moves machine (after machine state event) moves)
-    (seen_from-more machine begins events event ∙ ap (λ s. seen_from machine begins events ++ record { before = s; event = event } ∷ []) (sym e))
-    ∙ append_assoc (seen_from machine begins events) (record { before = state; event = event } ∷ []) (seen_moves machine (after machine state event) moves)
-  where
-    happened-more : (events : List Event) (begins : State) → happened machine begins (events ++ event ∷ []) ≡ after machine (happened machine begins events) event
-    happened-more [] begins = refl
-    happened-more (first ∷ events) begins = happened-more events (after machine begins first)
-cut-seen machine turn begins events state (Turns ∷ moves) e =
-    ap (λ l. seen_from machine begins events ++ l) (cut-seen machine (turn_of state) (made machine state Turns) [] (made machine state Turns) moves refl)
-
-slot-seen : (machine : Machine) (slot : FirstSlot) → slot_seen machine slot ≡ seen_moves machine slot.begins slot.moves
-slot-seen machine slot = cut-seen machine None slot.begins [] slot.begins slot.moves refl
 
 -- Races
 

@@ -18,6 +18,7 @@ use Rattle.copy_laws.specs.Moves.{IsWithin, MayJump}
 use Rattle.copy_laws.specs.Differences.{Differences, apart_of}
 use Rattle.copy_laws.specs.Rest.{within_of}
 use Rattle.trace_window.specs.Moments.{Seen}
+use Rattle.quiet_slots.specs.SlotMoves.{seen_moves}
 use Rattle.quiet_slots.proofs.FirstSlots.{idle-at, moves_from}
 use Rattle.quiet_slots.proofs.Rests.{or-neither, NoneTurns, none-turns, turn-outside, after-lower, after-due}
 use Rattle.quiet_slots.proofs.Lockstep.{WalkLaws, Kept, InStep, TurnsBy, apart-is, own-is, same-is, event-goes, turn-goes, phases-clean}
@@ -48,13 +49,6 @@ no-first state e =
     λ i. or_event (no-work 0 state.nodes parts.1 i)
     (or_event (named_event LaneStep (no-place (λ (p : ProcessState). is_any p.lane) state.processes (λ p h. (or-neither (is_ready p.activity) (is_any p.lane) h).1) parts.0 i))
     (named_event Step (no-place (λ (p : ProcessState). is_ready p.activity) state.processes (λ p h. (or-neither (is_ready p.activity) (is_any p.lane) h).0) parts.0 i)))
-
--- The events of some moves
-
-abbrev pub seen_moves : Machine → State → List Move → List Seen
-seen_moves machine state [] = []
-seen_moves machine state (Happens event ∷ moves) = record { before = state; event = event } ∷ seen_moves machine (after machine state event) moves
-seen_moves machine state (Turns ∷ moves) = seen_moves machine (made machine state Turns) moves
 
 -- What the good machine has left of its slot
 

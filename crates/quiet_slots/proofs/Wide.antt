@@ -14,6 +14,7 @@ use Rattle.v_design.specs.Laws.{BeginsPhase}
 use Rattle.v_design.specs.WellFormed.{KeepsRules}
 use Rattle.node_eval.specs.ValuesOf.{AreValuesOf}
 use Rattle.net_state.specs.Held.{HaveWidths}
+use Rattle.quiet_slots.specs.Pending.{begun-widths, begun-idle, still-pending, changed-or}
 use Rattle.net_state.specs.OutputLaws.{outputs-wide, length-forced_variable}
 
 -- each value is as wide as its object, and so is each value that a node is still to give
@@ -25,34 +26,11 @@ pub record IsWide (design : FlatDesign) (state : State) : Type 0 where
 
 -- A phase's beginning
 
-widths-map : (values : List LogicValue) (objects : List FlatObject) → map (λ (value : LogicValue). length value) values ≡ map (λ (object : FlatObject). object.width) objects → (object : ℕ) →
-    length (value_at values object) ≡ get_or (map (λ (o : FlatObject). o.width) objects) object 0
-widths-map values objects e object = at values object ∙ ap (λ l. get_or l object 0) e
-  where
-    at : (vs : List LogicValue) (o : ℕ) → length (value_at vs o) ≡ get_or (map (λ (value : LogicValue). length value) vs) o 0
-    at [] o = refl
-    at (v ∷ vs) zero = refl
-    at (v ∷ vs) (suc o) = at vs o
-
-none-pending : (nodes : List NodeState) (number : ℕ) → some_in has_work nodes ≡ false → (found_or idle_node (slice_get nodes number)).pending ≡ None
-none-pending [] number h = refl
-none-pending (n ∷ nodes) zero h = no-pending n.marked n.pending (some_in has_work nodes) h
-  where
-    no-pending : (marked : Bool) (pending : Option (List LogicValue)) (rest : Bool) → ((marked || is_some pending) || rest) ≡ false → pending ≡ None
-    no-pending true pending rest e = cc
-    no-pending false None rest e = refl
-    no-pending false (Some v) rest e = cc
-none-pending (n ∷ nodes) (suc number) h = none-pending nodes number (rest (has_work n) (some_in has_work nodes) h)
-  where
-    rest : (b c : Bool) → (b || c) ≡ false → c ≡ false
-    rest true c e = cc
-    rest false c e = e
-
 pub begins-wide : (machine : Machine) (state : State) → BeginsPhase machine state → IsWide machine.design state
 begins-wide machine state begins = record {
   count = begins.fits.values;
-  values = widths-map state.values machine.design.objects begins.widths;
-  pending = λ number node given at pending. absurd (let no : None ≡ Some given = sym (none-pending state.nodes number begins.idle) ∙ pending in cc);
+  values = begun-widths machine state begins;
+  pending = λ number node given at pending. absurd (let no : None ≡ Some given = sym (begun-idle machine state begins number) ∙ pending in cc);
 }
 
 -- An object gets a value
@@ -69,14 +47,6 @@ put-count : (values : List LogicValue) (object : ℕ) (new : LogicValue) → len
 put-count [] object new = refl
 put-count (v ∷ values) zero new = refl
 put-count (v ∷ values) (suc object) new = ap suc (put-count values object new)
-
--- a node that is marked has what was pending
-still-pending : (object : ℕ) (changed : Bool) (nodes : List FlatNode) (states : List NodeState) (number : ℕ) (given : List LogicValue) →
-    (found_or idle_node (slice_get (zip_with (marked_by object changed) nodes states) number)).pending ≡ Some given → (found_or idle_node (slice_get states number)).pending ≡ Some given
-still-pending object changed [] states number given e = cc
-still-pending object changed (n ∷ nodes) [] number given e = cc
-still-pending object changed (n ∷ nodes) (s ∷ states) zero given e = e
-still-pending object changed (n ∷ nodes) (s ∷ states) (suc number) given e = still-pending object changed nodes states number given e
 
 put-wide : (machine : Machine) (object : ℕ) (new : LogicValue) (state : State) → length new ≡ width_in machine.design object → IsWide machine.design state →
     IsWide machine.design (with_value machine object new state)
@@ -103,16 +73,6 @@ puts-wide machine (object ∷ objects) (value ∷ values) state h w =
     (put-wide machine object value state (h.widths 0 (omega arith)) w)
 
 -- Nodes
-
--- a place among changed ones: another, or the one that is changed
-changed-or : (states : List NodeState) (place number : ℕ) (f : NodeState → NodeState) →
-    (found_or idle_node (slice_get (change_at states place f) number) ≡ found_or idle_node (slice_get states number))
-    ⊎ ((place ≡ number) × (found_or idle_node (slice_get (change_at states place f) number) ≡ f (found_or idle_node (slice_get states number))))
-changed-or [] place number f = inl refl
-changed-or (s ∷ states) zero zero f = inr (refl, refl)
-changed-or (s ∷ states) zero (suc number) f = inl refl
-changed-or (s ∷ states) (suc place) zero f = inl refl
-changed-or (s ∷ states) (suc place) (suc number) f = elim (changed-or states place number f) [ inl e ↦ inl e | inr e ↦ inr (ap suc e.0, e.1) ]
 
 cleared-wide : (design : FlatDesign) (number : ℕ) (state : State) → IsWide design state → IsWide design (with_node number (λ (old : NodeState). record old { pending = None }) state)
 cleared-wide design number state w = record {

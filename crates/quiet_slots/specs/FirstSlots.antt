@@ -1,17 +1,17 @@
 -- The slots of a first run: how each begins, and what is left to do at its end (slots by IEEE 1364-2001, clause 5).
 use Rattle.std.specs.Prelude.{◌≡◌, ℕ, suc, true, false, Some, None, slice_get}
 use Rattle.v_design.specs.Designs.{Machine}
-use Rattle.v_design.specs.States.{State, TimeTurn, is_quiescent, turn_of, time_turn}
+use Rattle.v_design.specs.States.{State, is_quiescent, turn_of, time_turn}
 use Rattle.v_design.specs.Runs.{FirstSlot, first_run, slot_end, is_hyper, next_slot, turn_in_slot}
 use Rattle.v_design.specs.Laws.{BeginsPhase}
 use Rattle.v_design.specs.WellFormed.{KeepsRules}
 use Rattle.machine_laws.specs.SlotLoop.{slot_from}
 
--- a state at a slot's end: no event and no turn within the slot is possible, and the slot to whose time the turn leads begins as the laws ask
+-- a state at a slot's end: no event and no turn within the slot is possible, and a slot to which time moves on begins as the laws ask
 pub record RestsAfterSlot (machine : Machine) (state : State) : Type 0 where
   pub quiescent : is_quiescent state ≡ true
   pub no_turn : turn_in_slot (turn_of state) ≡ None
-  pub begins : (time : ℕ) → turn_of state ≡ Some (TimeTurn time) → BeginsPhase machine (time_turn time state)
+  pub begins : (time : ℕ) → BeginsPhase machine (time_turn time state)
 
 -- the slots of a first run
 pub record FirstSlotsStand : Type 0 where
