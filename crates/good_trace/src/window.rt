@@ -14,7 +14,7 @@ ghost use Rattle.trace_window.specs.Writes.{written_of};
 ghost use Rattle.v_design.specs.Grades.{Phase};
 ghost use Rattle.run_ends.specs.RunEnds.{ender_told};
 ghost use Rattle.between_slots.specs.Between.{state_through, activity_through, window_phases};
-ghost use Rattle.between_slots.specs.Updates.{updates_through, Rests, RestingStatesAreTold};
+ghost use Rattle.between_slots.specs.Updates.{updates_through, Rests, LastIsFew, RestingStatesAreTold};
 ghost use Rattle.copy_laws.specs.Windows.{IsWindow, good_slots, window_steps};
 ghost use Rattle.good_trace.specs.RunsKept.{Stands, TellsRun};
 ghost use Rattle.good_trace.specs.SlotsTold.{AreWritesOf, slot_run_ends};
@@ -232,6 +232,7 @@ impl<N: World> TraceWindow<N> {
         ensures rests { Rests N.design (state_through N.design N.plan (self.now.before + slot)) }
         ensures widths { HaveWidths (good_machine N.design) (state_through N.design N.plan (self.now.before + slot)).values }
         ensures told { RestingStatesAreTold }
+        ensures few { LastIsFew N.design N.plan (self.now.before + slot) }
     {
         between_slots::updates_pend();
         // What the window keeps says so.

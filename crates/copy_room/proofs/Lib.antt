@@ -1,0 +1,4 @@
+mod Placing
+mod Standing
+mod Puts
+mod Keeping

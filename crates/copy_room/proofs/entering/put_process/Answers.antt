@@ -1,0 +1,28 @@
+-- The process stands where it stands in the state.
+use Rattle.std.proofs.Common.{◌+◌, length, map, refl, sym, ap, ◌∙◌, arith}
+use Rattle.std.specs.Prelude.{option_map, Some}
+use Rattle.vf_base.specs.Base.{process_number}
+use Rattle.v_design.specs.Plain.{due_of}
+use Rattle.between_slots.specs.Between.{state_through}
+use Rattle.copy_room.proofs.Standing.{later-own, later-good}
+use Rattle.copy_room.proofs.Puts.{may-stand, process-put}
+use Rattle.copy_room.proofs.entering.put_process.Goals as goal
+
+pub put_process-requires-clause-cleared : goal.put_process-requires-clause-cleared
+put_process-requires-clause-cleared g c = c.requires.put.placed.cleared
+
+pub put_process-requires-clause-number : goal.put_process-requires-clause-number
+put_process-requires-clause-number g c = omega (arith, c.requires.process, c.requires.put.placed.process_count, c.requires.put.between.count)
+
+pub put_process-requires-clause-idle : goal.put_process-requires-clause-idle
+put_process-requires-clause-idle g c = c.requires.put.placed.others (process_number c.args.process) (omega arith)
+
+pub put_process-requires-clause-stands : goal.put_process-requires-clause-stands
+put_process-requires-clause-stands g c =
+    let put = c.requires.put in
+    let p = process_number c.args.process in
+    let good = state_through g.N.World.design g.N.World.plan (c.args.window.now.before + c.args.slot) in
+    may-stand g.N.World.design g.N.World.plan (c.args.window.now.before + c.args.slot) c.args.copy.now (length g.N.World.design.objects) p c.args.room.now put c.requires.process c.in_ok-state.state
+    (map due_of c.in-Some.own.now) (c.in_ok-state.ensures put.codes put.faulty put.codes_are put.copy)
+    (later-own g.N.World.design put.codes good put.faulty c.args.copy.now p put.codes_are put.copy (map due_of c.in-Some.own.now)
+    (sym c.updates.ensures ∙ ap (option_map (λ own. map due_of own.now)) c.in-Some.is))
