@@ -1,4 +1,0 @@
-mod Placing
-mod Standing
-mod Puts
-mod Keeping
