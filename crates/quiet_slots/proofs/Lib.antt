@@ -1,0 +1,11 @@
+mod FirstSlots
+mod Wide
+mod Rests
+mod Untouched
+mod Lockstep
+mod Walked
+mod Slots
+mod Between
+mod Stands
+mod Passing
+mod Seen

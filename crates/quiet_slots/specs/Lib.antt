@@ -1,0 +1,5 @@
+pub mod FirstSlots
+pub mod Quiet
+pub mod Strobes
+pub mod SlotMoves
+pub mod Pending
