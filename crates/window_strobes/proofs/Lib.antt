@@ -1,0 +1,7 @@
+pub mod GoodStates
+pub mod Led
+pub mod Counting
+pub mod Seeing
+pub mod Beginning
+pub mod Knowing
+pub mod Behind

@@ -1,0 +1,7 @@
+pub mod Watched
+pub mod Known
+pub mod Passed
+pub mod Slots
+pub mod Leading
+pub mod Seen
+pub mod Strobes
