@@ -55,6 +55,14 @@ cd || exit
 echo "$SSH_ORIGINAL_COMMAND" >> FOLDER/asked
 exec sh -c "$SSH_ORIGINAL_COMMAND"
 """
+# What a machine of its own network runs: it says its name, and has a home of its own.
+OWN = """#!/bin/sh
+HOME=FOLDER/NAME/home
+export HOME
+cd || exit
+echo "$(hostname)" >> FOLDER/NAME/asked
+exec sh -c "$SSH_ORIGINAL_COMMAND"
+"""
 # Runs vfault there, but the first time that it is given part 5 the connection breaks.
 BROKEN = """#!/bin/sh
 case "$*" in
@@ -155,6 +163,59 @@ class Farm(Tools):
         self.assertTrue(os.path.exists(self.place["MARK"]) and os.path.exists(os.path.join(self.folder, "broken")))
         self.assertEqual(sum("grade" in it for it in read(self.place["RUNS"]).split("\n")), 8)
         self.assertIn("rsync --server", read(self.folder, "asked"))
+
+    def machine(self, name, number):
+        """Starts a machine with a network, a host's name and a home of its own, and a server of ssh in it; gives its address. It stands for this test alone."""
+        space, here, there = f"vf{os.getpid()}n{number}", f"vf{os.getpid()}h{number}", f"vf{os.getpid()}t{number}"
+        address = f"10.77.{number}.2"
+
+        def ip(*words, inside=False):
+            subprocess.run(["ip", *(["netns", "exec", space, "ip"] if inside else []), *words], check=True, stdout=subprocess.DEVNULL, stderr=subprocess.DEVNULL)
+
+        try:
+            ip("netns", "add", space)
+        except subprocess.CalledProcessError:
+            self.skipTest("a network of its own can't be made here")
+        self.addCleanup(ip, "netns", "del", space)
+        ip("link", "add", here, "type", "veth", "peer", "name", there)
+        ip("link", "set", there, "netns", space)
+        ip("addr", "add", f"10.77.{number}.1/24", "dev", here)
+        ip("link", "set", here, "up")
+        ip("addr", "add", f"{address}/24", "dev", there, inside=True)
+        ip("link", "set", there, "up", inside=True)
+        os.makedirs(os.path.join(self.folder, name, "home"))
+        self.script(f"{name}/run", OWN.replace("FOLDER", self.folder).replace("NAME", name))
+        text = SERVER.replace("127.0.0.1", address).replace("NUMBER", "22").replace("FOLDER/second", f"FOLDER/{name}/run").replace("FOLDER", self.folder)
+        self.file(f"{name}/server", text)
+        server = [shutil.which("sshd"), "-D", "-e", "-f", os.path.join(self.folder, name, "server")]
+        script = f"hostname {name} && exec \"$@\""
+        with open(os.path.join(self.folder, name, "said"), "w", encoding="utf-8") as said:
+            ran = subprocess.Popen(["ip", "netns", "exec", space, "unshare", "--uts", "sh", "-c", script, "sh", *server], stderr=said)
+        self.addCleanup(ran.wait)
+        self.addCleanup(ran.terminate)
+        for _ in range(100):
+            with socket.socket() as it:
+                if it.connect_ex((address, 22)) == 0:
+                    return address
+            if ran.poll() is not None:
+                break
+            time.sleep(0.1)
+        return self.skipTest("sshd doesn't start: " + read(self.folder, name, "said").strip())
+
+    @needs("vfault", "parallel", "rsync", "perl", "ssh", "sshd", "ssh-keygen", "ip", "unshare")
+    def test_two_machines(self):
+        if os.geteuid():
+            self.skipTest("only root can make machines with networks of their own")
+        for name in ("host", "key"):
+            subprocess.run(["ssh-keygen", "-q", "-t", "ed25519", "-N", "", "-f", os.path.join(self.folder, name)], check=True)
+        text = ""
+        for number, name in enumerate(("first", "second"), 1):
+            text += CLIENT.replace("127.0.0.1", self.machine(name, number)).replace("NUMBER", "22").replace("second", name).replace("FOLDER", self.folder)
+        self.file("client", text)
+        got = self.farm("-parts", "8", "-jobs", "1", "--sshlogin", "first", "--sshlogin", "second", PARALLEL_SSH=f"ssh -F {self.folder}/client")
+        self.assertEqual(got, REPORT)
+        for name in ("first", "second"):
+            self.assertEqual(set(read(self.folder, name, "asked").split()), {name})
 
     @needs("vfault", "parallel")
     def test_slurm_array(self):

@@ -7,12 +7,14 @@ use Rattle.vf_base.specs.Lists.{AllHold}
 use Rattle.v_design.specs.Designs.{Machine}
 use Rattle.v_design.specs.States.{State, start, turn_of}
 use Rattle.v_design.specs.Runs.{FirstSlot, first_run, next_slot, next_slot_at, slot_end, is_hyper}
-use Rattle.v_design.specs.Grades.{SlotOutcome, Fine, Race, Hyper, phases, slot_outcome, first_race, race_or_fine, first_stop, samples, values_after}
+use Rattle.v_design.specs.Grades.{SlotOutcome, Fine, Race, Hyper, phases, slot_outcome, first_race, race_or_fine, Stop, first_stop, samples, values_after}
 use Rattle.order_laws.specs.FirstRuns.{Follow, Rise, FirstRunsGoOn}
 use Rattle.copy_laws.specs.Windows.{state_by}
 use Rattle.grade_laws.specs.Ahead.{StopsAfter}
+use Rattle.grade_laws.specs.Grading.{StopsWithin}
 use Rattle.beside_laws.specs.Stands.{RunsStand}
 use Rattle.beside_laws.proofs.Runs.{states_by, state-begun, stop_by, all-after}
+use Rattle.beside_laws.proofs.Gradings.{run-within, stops-within}
 
 -- Slots
 
@@ -160,6 +162,13 @@ values-seen machine end time (slot ∷ slots) f =
     ∙ values-are machine time (slot_end machine slot) slots
     ∙ sym (ap (λ (s : State). s.values) (state-begun machine time (start machine) slot slots low))
 
+-- At the end
+
+-- what stops neither up to a time nor after it doesn't stop
+never-stops : (time : ℕ) (stop : Option Stop) → StopsWithin time stop → StopsAfter time stop → stop ≡ None
+never-stops time None within after = refl
+never-stops time (Some stop) within after = absurd (omega (arith, within, after))
+
 -- The laws
 
 pub runs_stand : FirstRunsGoOn → RunsStand
@@ -170,5 +179,6 @@ runs_stand law = record {
   slot = λ machine end time rules stops.
       let l = stands-after machine end time (first_run machine end) (law.follow machine end rules) stops in
       record { number = l.number; slot = l.slot; stands = l.stands; fine = l.fine; by_then = l.by_then; state_is = l.state_is };
+  never = λ machine end rules. never-stops end (first_stop machine (first_run machine end)) (stops-within machine end (first_run machine end) (run-within law machine end rules));
   sees = λ machine watched end time rules. ap (samples watched) (values-seen machine end time (first_run machine end) (law.follow machine end rules));
 }

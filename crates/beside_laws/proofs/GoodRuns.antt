@@ -184,6 +184,14 @@ module _ (law : FirstRunsGoOn) (design : FlatDesign) (plan : TestPlan) (rules : 
       go [] f = absurd f
       go (slot ∷ slots) f = omega arith
 
+  first-slot : (slot : FirstSlot) → slice_get (good_slots design plan) 0 ≡ Some slot → slot.begins.time ≡ 0
+  first-slot slot = go (first_run (good_machine design) plan.end) (law.follow (good_machine design) plan.end rules)
+    where
+      go : (slots : List FirstSlot) → Follow (good_machine design) plan.end (Some (start (good_machine design))) slots → slice_get (slots_through_stop (good_machine design) slots) 0 ≡ Some slot →
+          slot.begins.time ≡ 0
+      go [] f e = absurd f
+      go (first ∷ slots) f e = ap (λ (s : FirstSlot). s.begins.time) (sym (some-is first slot e) ∙ f.0)
+
   run-stands : (number time : ℕ) (last : FirstSlot) → slice_get (good_slots design plan) number ≡ Some last → slot_outcome (good_machine design) last ≡ Fine → last.begins.time ≤ time →
       ((next : FirstSlot) → slice_get (good_slots design plan) (suc number) ≡ Some next → time < next.begins.time) →
       state_at (good_machine design) plan.end time ≡ state_through design plan (suc number)
@@ -369,6 +377,8 @@ pub good_run_goes_on : FirstRunsGoOn → GoodRunGoesOn
 good_run_goes_on law = record {
   times = λ design plan at later one other rules. times-rise law design plan rules at later one other;
   some = λ design plan rules. some-slots law design plan rules;
+  first = λ design plan slot rules. first-slot law design plan rules slot;
+  within = λ design plan number slot rules here. all-at (λ (s : FirstSlot). s.begins.time ≤ plan.end) (good_slots design plan) number slot (slots-within law design plan rules) here;
   stands = λ design plan number time last rules. run-stands law design plan rules number time last;
   fine = λ design plan number last next rules here there.
       let f = run-followed law design plan rules number last next here there in (f.fine, f.later, f.stops);

@@ -305,7 +305,7 @@ run-within law machine end rules =
     all-within machine end (Some (start machine)) (first_run machine end) (law.follow machine end rules)
     (λ begins e. let same : start machine ≡ begins = cc in subst (λ (s : State). s.time ≤ end) same (omega arith))
 
-stops-within : (machine : Machine) (end : ℕ) (slots : List FirstSlot) → AllHold (λ (slot : FirstSlot). slot.begins.time ≤ end) slots → StopsWithin end (first_stop machine slots)
+pub stops-within : (machine : Machine) (end : ℕ) (slots : List FirstSlot) → AllHold (λ (slot : FirstSlot). slot.begins.time ≤ end) slots → StopsWithin end (first_stop machine slots)
 stops-within machine end [] h = tt
 stops-within machine end (slot ∷ slots) h = go (slot_outcome machine slot) (stops-within machine end slots h.1)
   where

@@ -29,6 +29,9 @@ pub record GoodRunGoesOn : Type 0 where
       one ≤ other
   -- the run has a slot
   pub some : (design : FlatDesign) (plan : TestPlan) → KeepsRules design → 0 < length (good_slots design plan)
+  -- the first one begins at time 0, and none begins after the plan's end
+  pub first : (design : FlatDesign) (plan : TestPlan) (slot : FirstSlot) → KeepsRules design → slice_get (good_slots design plan) 0 ≡ Some slot → slot.begins.time ≡ 0
+  pub within : (design : FlatDesign) (plan : TestPlan) (number : ℕ) (slot : FirstSlot) → KeepsRules design → slice_get (good_slots design plan) number ≡ Some slot → slot.begins.time ≤ plan.end
   -- at a time up to which these are the slots that begin, the last of them fine, it stands in the state after them
   pub stands : (design : FlatDesign) (plan : TestPlan) (number time : ℕ) (last : FirstSlot) → KeepsRules design → slice_get (good_slots design plan) number ≡ Some last →
       slot_outcome (good_machine design) last ≡ Fine → last.begins.time ≤ time → ((next : FirstSlot) → slice_get (good_slots design plan) (suc number) ≡ Some next → time < next.begins.time) →

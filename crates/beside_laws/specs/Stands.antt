@@ -69,6 +69,8 @@ pub record RunsStand : Type 0 where
   pub again : (machine : Machine) (end time : ℕ) → KeepsRules machine.design → StopsAfter time (first_stop machine (first_run machine end)) →
       HasRun machine end (Some time) (next_slot_at end (state_at machine end time) (turn_of (state_at machine end time))) (state_at machine end time)
   pub slot : (machine : Machine) (end time : ℕ) → KeepsRules machine.design → StopsAfter time (first_stop machine (first_run machine end)) → StandsAfterSlot machine end time
+  -- one that doesn't stop up to its end doesn't stop
+  pub never : (machine : Machine) (end : ℕ) → KeepsRules machine.design → StopsAfter end (first_stop machine (first_run machine end)) → first_stop machine (first_run machine end) ≡ None
   -- and the strobes see its values
   pub sees : (machine : Machine) (watched : List WatchedBit) (end time : ℕ) → KeepsRules machine.design →
       first_samples machine watched (first_run machine end) time ≡ samples watched (state_at machine end time).values

@@ -15,7 +15,7 @@ pub fn runs_go_on()
 }
 
 /// A first run that doesn't stop up to a time stands there after one of its slots, in the state at that time, and goes on where the turn of that state leads; the
-/// strobes see the values of that state.
+/// strobes see the values of that state. One that doesn't stop up to its end doesn't stop.
 pub fn runs_stand()
     ensures { RunsStand }
 {

@@ -10,10 +10,10 @@ use Rattle.v_design.specs.States.{State, ProcessState, NodeState, TimeTurn, proc
 use Rattle.v_design.specs.States.{is_quiescent, start, time_turn, awake_at}
 use Rattle.v_design.specs.Runs.{FirstSlot, first_moves, first_run, slot_end, is_hyper, next_slot, all_made}
 use Rattle.v_design.specs.WellFormed.{KeepsRules}
-use Rattle.v_design.specs.Laws.{BeginsPhase}
+use Rattle.v_design.specs.Laws.{BeginsPhase, HaveWidths}
 use Rattle.order_laws.specs.FirstRuns.{Follow}
 use Rattle.copy_laws.specs.Windows.{good_slots}
-use Rattle.between_slots.specs.Updates.{Rests, StatesRest, RestingStatesAreTold}
+use Rattle.between_slots.specs.Updates.{Rests, StatesRest, StatesHaveWidths, RestingStatesAreTold}
 use Rattle.between_slots.proofs.Resting.{LoopLaws, Asked, few-steps, next-asked, or-neither, quiet-parts, slot-asked, slot-rests, some-slot}
 use Rattle.between_slots.proofs.Leading.{after-is, through-get}
 
@@ -92,6 +92,12 @@ end-rests laws machine rules slot asked few =
     rests : is_quiescent (all_made machine slot.begins (first_moves machine slot.begins)) ≡ true
     rests = slot-rests laws machine rules slot.begins asked.asked (few-steps (record { begins = slot.begins; moves = first_moves machine slot.begins }) (asked-few machine slot asked few))
 
+end-widths : LoopLaws → (machine : Machine) → KeepsRules machine.design → (slot : FirstSlot) → IsAsked machine slot → is_hyper slot ≡ false → HaveWidths machine (slot_end machine slot).values
+end-widths laws machine rules slot asked few =
+    subst (λ moves. HaveWidths machine (all_made machine slot.begins moves).values) (sym asked.moves)
+    (next-asked laws machine rules slot.begins asked.asked (few-steps (record { begins = slot.begins; moves = first_moves machine slot.begins }) (asked-few machine slot asked few))
+    (TimeTurn 0)).widths
+
 -- and at the start
 start-lane : (processes : List FlatProcess) (p : ℕ) →
     (found_or idle_process (slice_get (map (λ (process : FlatProcess). record { activity = Ready (opened process.body []) []; later = []; lane = [] }) processes) p)).lane ≡ []
@@ -116,6 +122,16 @@ states_rest laws design plan (suc last) rules low few = elim (slice_get_cases (g
   | inl found ↦
       subst (Rests design) (sym (after-is (good_machine design) (start (good_machine design)) (good_slots design plan) last found.0 found.2))
       (end-rests laws (good_machine design) rules found.0 (good-asked laws design plan rules last found.0 found.2) (few found.0 found.2))
+  | inr past ↦ absurd (omega (arith, past.0, low))
+]
+
+pub states_have_widths : LoopLaws → StatesHaveWidths
+states_have_widths laws design plan zero rules low few = (laws.phases.first (good_machine design) rules).widths
+states_have_widths laws design plan (suc last) rules low few = elim (slice_get_cases (good_slots design plan) last).1 [
+  | inl found ↦
+      subst (λ (s : State). HaveWidths (good_machine design) s.values)
+      (sym (after-is (good_machine design) (start (good_machine design)) (good_slots design plan) last found.0 found.2))
+      (end-widths laws (good_machine design) rules found.0 (good-asked laws design plan rules last found.0 found.2) (few found.0 found.2))
   | inr past ↦ absurd (omega (arith, past.0, low))
 ]
 

@@ -17,7 +17,7 @@ behind machine slots Fine = slots_through_stop machine slots
 behind machine slots (Race pair) = []
 behind machine slots Hyper = []
 
-fine-few : (machine : Machine) (slot : FirstSlot) → slot_outcome machine slot ≡ Fine → is_hyper slot ≡ false
+pub fine-few : (machine : Machine) (slot : FirstSlot) → slot_outcome machine slot ≡ Fine → is_hyper slot ≡ false
 fine-few machine slot = go (is_hyper slot)
   where
     go : (hyper : Bool) → elim hyper as (λ _. SlotOutcome) [ true ↦ Hyper | false ↦ race_or_fine (first_race machine 1 (phases machine slot)) ] ≡ Fine → hyper ≡ false

@@ -7,6 +7,7 @@ use Rattle.v_design.specs.States.{State, LaterUpdate, process_at, node_at, idle_
 use Rattle.v_design.specs.Runs.{FirstSlot, is_hyper}
 use Rattle.v_design.specs.Grades.{Phase}
 use Rattle.v_design.specs.OwnSteps.{ProcessRun, process_runs}
+use Rattle.v_design.specs.Laws.{HaveWidths}
 use Rattle.v_design.specs.WellFormed.{KeepsRules}
 use Rattle.copy_laws.specs.SharedRuns.{appended_by}
 use Rattle.copy_laws.specs.Windows.{good_slots}
@@ -56,6 +57,12 @@ abbrev pub StatesRest : Type 0
 StatesRest =
     (design : FlatDesign) (plan : TestPlan) (number : ℕ) → KeepsRules design → number ≤ length (good_slots design plan) → LastIsFew design plan number →
     Rests design (state_through design plan number)
+
+-- and each value is as wide as its object
+abbrev pub StatesHaveWidths : Type 0
+StatesHaveWidths =
+    (design : FlatDesign) (plan : TestPlan) (number : ℕ) → KeepsRules design → number ≤ length (good_slots design plan) → LastIsFew design plan number →
+    HaveWidths (good_machine design) (state_through design plan number).values
 
 -- a state in which nothing is left to do is told by its time, its values, and what its processes do and have pending
 abbrev pub RestingStatesAreTold : Type 0

@@ -7,7 +7,7 @@
 #![tactic(auto)]
 
 ghost use Rattle.between_slots.specs.Between.{SlotsRest, SlotsLeave, RunsLead};
-ghost use Rattle.between_slots.specs.Updates.{StatesRest, RestingStatesAreTold, SlotsTakeNoTime, UpdatesArePending};
+ghost use Rattle.between_slots.specs.Updates.{StatesRest, StatesHaveWidths, RestingStatesAreTold, SlotsTakeNoTime, UpdatesArePending};
 
 /// At the end of a slot of the first run that isn't hyperactive no event is possible; each process does what its runs of the slot left it doing; and what it does
 /// after so many slots of the good first run its runs of the slots since others lead to.
@@ -23,11 +23,12 @@ pub fn runs_lead()
     machine_laws::stretches_go_on();
 }
 
-/// After so many slots of the good first run a state has a part for each part of the design, no node has work and each lane is empty, so that it is told by its time,
-/// its values, and what its processes do and have pending. Its time is that of the last slot, and each process has those updates pending, of all that it had pending
+/// After so many slots of the good first run a state has a part for each part of the design, each value as wide as its object, no node has work and each lane is empty,
+/// so that it is told by its time, its values, and what its processes do and have pending. Its time is that of the last slot, and each process has those updates pending, of all that it had pending
 /// some slots before and that its runs appended since then, that are due after that slot.
 pub fn updates_pend()
     ensures rest { StatesRest }
+    ensures widths { StatesHaveWidths }
     ensures told { RestingStatesAreTold }
     ensures time { SlotsTakeNoTime }
     ensures updates { UpdatesArePending }

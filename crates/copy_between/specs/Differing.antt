@@ -1,10 +1,6 @@
 -- What is kept of what differs, number by number (nothing of the language).
-use Rattle.std.specs.Prelude.{◌≡◌, ◌≢◌, ℕ, ◌<◌, ◌≤◌, List, [], map, get_or, length, Option, Some, option_map, slice_get}
-use Rattle.four_value.specs.Values.{LogicValue}
-use Rattle.v_design.specs.Assignments.{value_at}
-use Rattle.v_design.specs.Plain.{due_of}
-use Rattle.v_design.specs.States.{LaterUpdate, found_or}
-use Rattle.v_design.specs.declared.plan.Due.{Due}
+use Rattle.std.specs.Prelude.{◌≡◌, ◌≢◌, ℕ, ◌<◌, ◌≤◌, List, Option, Some, option_map}
+use Rattle.v_design.specs.States.{found_or}
 use Rattle.process_code.specs.Points.{activity_of}
 use Rattle.process_code.specs.StatesOf.{IsStateOf}
 use Rattle.process_code.specs.declared.code.Code.{Code}
@@ -22,14 +18,6 @@ pub record IsOwnState (good own : ProcState) (found : Option ProcState) : Type 0
   pub does : (code : Code) → AreOfCode code good own → IsDifference (activity_of code good) (activity_of code own) (option_map (activity_of code) found)
   pub state_of : (code : Code) (state : ProcState) → IsStateOf code own → found ≡ Some state → IsStateOf code state
 
--- the same of the states of a number among those of all processes
-abbrev pub IsOwnStateAt : List ProcState → List ProcState → ℕ → Option ProcState → Type 0
-IsOwnStateAt goods owns process found = (good own : ProcState) → slice_get goods process ≡ Some good → slice_get owns process ≡ Some own → IsOwnState good own found
-
--- the pending updates of a number among those of all processes
-abbrev pub later_at : List (List Due) → ℕ → List LaterUpdate
-later_at updates process = map due_of (get_or updates process [])
-
 -- what is kept under a number is as wanted, and what is kept under each other is what was kept
 pub record IsKeptAt {A : Type 0} (R : Option A → Type 0) (number : ℕ) (old new : List (ℕ × A)) : Type 0 where
   pub here : R (own_of new number)
@@ -39,7 +27,3 @@ pub record IsKeptAt {A : Type 0} (R : Option A → Type 0) (number : ℕ) (old n
 pub record AreKeptBelow {A : Type 0} (R : ℕ → Option A → Type 0) (count : ℕ) (old new : List (ℕ × A)) : Type 0 where
   pub each : (number : ℕ) → number < count → R number (own_of new number)
   pub others : (number : ℕ) → count ≤ number → own_of new number ≡ own_of old number
-
--- each object is as wide in both
-abbrev pub HaveWidths : List LogicValue → List LogicValue → Type 0
-HaveWidths good own = (object : ℕ) → object < length good → length (value_at good object) ≡ length (value_at own object)

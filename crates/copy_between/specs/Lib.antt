@@ -1,4 +1,5 @@
 pub mod Differing
-pub mod Given
-pub mod GivenLaws
+pub mod DifferingLaws
+pub mod Beside
+pub mod BesideLaws
 pub mod OneState

@@ -7,7 +7,7 @@ use Rattle.v_design.specs.States.{State, process_at, found_or, idle_process}
 use Rattle.copy_laws.specs.Differences.{Differences, StandsFor}
 use Rattle.copy_laws.specs.Rest.{SameLanes}
 
-at-process : (state : State) (process : ℕ) → process < length state.processes → process_at state process ≡ get_or state.processes process idle_process
+pub at-process : (state : State) (process : ℕ) → process < length state.processes → process_at state process ≡ get_or state.processes process idle_process
 at-process state process within = ap (found_or idle_process) (slice_get-get_or state.processes process idle_process within)
 
 -- all values are the same

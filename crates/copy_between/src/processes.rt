@@ -1,8 +1,8 @@
 // The states of processes that a copy keeps.
 
-ghost use Rattle.std.specs.Prelude.{◌≡◌, ◌<◌, ◌^◌, OnOk, length};
+ghost use Rattle.std.specs.Prelude.{◌≡◌, OnOk};
 ghost use Rattle.vf_base.specs.Base.{process_number};
-ghost use Rattle.copy_between.specs.Differing.{IsOwnState, IsOwnStateAt, IsKeptAt, AreKeptBelow};
+ghost use Rattle.copy_between.specs.Differing.{IsOwnState, IsKeptAt};
 
 use copy_state::FaultCopy;
 use process_code::ProcState;
@@ -10,7 +10,11 @@ use std::alloc::Global;
 use vf_base::{NoMemory, ProcId};
 
 /// A process stands in a state of its own, which is kept where the process does otherwise in it than in the good machine's.
-fn keep_state(
+///
+/// # Errors
+///
+/// Want of memory. The copy isn't to be used again then.
+pub fn keep_state(
     alloc: Global,
     copy: &mut FaultCopy,
     process: ProcId,
@@ -26,24 +30,5 @@ fn keep_state(
     }
     let kept = own.copy(alloc)?;
     copy.split(process, kept)?;
-    Ok(())
-}
-
-/// Each process stands in the state of its number.
-pub(crate) fn keep_states(
-    alloc: Global,
-    copy: &mut FaultCopy,
-    good: &[ProcState],
-    own: &[ProcState],
-) -> Result<(), NoMemory>
-    requires count { length own.now ≡ length good.now }
-    requires few { length good.now < 2 ^ 32 }
-    ensures rest { OnOk result (copy.new ≡ record copy.old { states = copy.new.states }) }
-    ensures kept { OnOk result (AreKeptBelow (IsOwnStateAt good.now own.now) (length good.now) copy.old.states copy.new.states) }
-{
-    'processes: for number in 0..good.len() {
-        let process = ProcId(number as u32);
-        keep_state(alloc, copy, process, &good[number], &own[number])?;
-    }
     Ok(())
 }

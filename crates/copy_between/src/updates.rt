@@ -1,15 +1,15 @@
 // Whether pending updates are the same, and those that a copy keeps.
 
-ghost use Rattle.std.specs.Prelude.{◌≡◌, ◌↔◌, ◌<◌, ◌^◌, IsTrue, IfOk, OnOk, length, map};
+ghost use Rattle.std.specs.Prelude.{◌≡◌, ◌↔◌, IsTrue, IfOk, OnOk, map};
 ghost use Rattle.vf_base.specs.Base.{process_number};
 ghost use Rattle.v_design.specs.Plain.{due_of};
-ghost use Rattle.copy_between.specs.Differing.{IsDifference, IsKeptAt, AreKeptBelow, later_at};
+ghost use Rattle.copy_between.specs.Differing.{IsDifference, IsKeptAt};
 
 use copy_state::FaultCopy;
 use four_value::Vec4;
 use std::alloc::Global;
 use v_design::Due;
-use vf_base::{NoMemory, ProcId, Seq};
+use vf_base::{NoMemory, ProcId};
 
 /// Whether two values are equal.
 fn same_value(one: Vec4, other: Vec4) -> bool
@@ -54,7 +54,11 @@ fn copied(alloc: Global, updates: &[Due]) -> Result<Vec<Due>, NoMemory>
 }
 
 /// A process has these updates pending, which are kept where they aren't the good machine's.
-fn keep_updates(
+///
+/// # Errors
+///
+/// Want of memory. The copy isn't to be used again then.
+pub fn keep_updates(
     alloc: Global,
     copy: &mut FaultCopy,
     process: ProcId,
@@ -70,31 +74,5 @@ fn keep_updates(
     }
     let kept = copied(alloc, own)?;
     copy.hold_updates(process, kept)?;
-    Ok(())
-}
-
-/// Each process has the updates pending that stand at its number.
-pub(crate) fn keep_all_updates(
-    alloc: Global,
-    copy: &mut FaultCopy,
-    good: &[Seq<Due>],
-    own: &[Seq<Due>],
-) -> Result<(), NoMemory>
-    requires count { length own.now ≡ length good.now }
-    requires few { length good.now < 2 ^ 32 }
-    ensures rest { OnOk result (copy.new ≡ record copy.old { updates = copy.new.updates }) }
-    ensures kept { OnOk result (AreKeptBelow (λ process. IsDifference (later_at good.now process) (later_at own.now process)) (length good.now)
-        copy.old.updates copy.new.updates) }
-{
-    'processes: for number in 0..good.len() {
-        let process = ProcId(number as u32);
-        keep_updates(
-            alloc,
-            copy,
-            process,
-            good[number].as_slice(),
-            own[number].as_slice(),
-        )?;
-    }
     Ok(())
 }

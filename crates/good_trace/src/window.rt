@@ -5,6 +5,7 @@ ghost use Rattle.std.specs.Option.{option_map};
 ghost use Rattle.vf_base.specs.Base.{object_number, process_number};
 ghost use Rattle.v_design.specs.Assignments.{value_at};
 ghost use Rattle.v_design.specs.Designs.{good_machine};
+ghost use Rattle.v_design.specs.Laws.{HaveWidths};
 ghost use Rattle.v_design.specs.Plain.{due_of};
 ghost use Rattle.v_design.specs.Runs.{FirstSlot};
 ghost use Rattle.trace_window.specs.Moments.{window_events, window_values};
@@ -13,7 +14,7 @@ ghost use Rattle.trace_window.specs.Writes.{written_of};
 ghost use Rattle.v_design.specs.Grades.{Phase};
 ghost use Rattle.run_ends.specs.RunEnds.{ender_told};
 ghost use Rattle.between_slots.specs.Between.{state_through, activity_through, window_phases};
-ghost use Rattle.between_slots.specs.Updates.{updates_through, Rests, RestingStatesAreTold};
+ghost use Rattle.between_slots.specs.Updates.{updates_through, Rests, LastIsFew, RestingStatesAreTold};
 ghost use Rattle.copy_laws.specs.Windows.{IsWindow, good_slots, window_steps};
 ghost use Rattle.good_trace.specs.RunsKept.{Stands, TellsRun};
 ghost use Rattle.good_trace.specs.SlotsTold.{AreWritesOf, slot_run_ends};
@@ -222,14 +223,16 @@ impl<N: World> TraceWindow<N> {
         Ok(pending)
     }
 
-    /// In the state before a slot, and behind the last one, nothing is left to do before time moves on: no node has work, and each lane is empty. So that state is
-    /// told by its time, its values, and what the processes do and have pending.
+    /// In the state before a slot, and behind the last one, each value is as wide as its object, and nothing is left to do before time moves on: no node has work, and
+    /// each lane is empty. So that state is told by its time, its values, and what the processes do and have pending.
     ///
     /// It does nothing when it runs.
     pub fn rests_before(&self, slot: u32)
         requires { self.now.before + slot ≤ self.now.through }
         ensures rests { Rests N.design (state_through N.design N.plan (self.now.before + slot)) }
+        ensures widths { HaveWidths (good_machine N.design) (state_through N.design N.plan (self.now.before + slot)).values }
         ensures told { RestingStatesAreTold }
+        ensures few { LastIsFew N.design N.plan (self.now.before + slot) }
     {
         between_slots::updates_pend();
         // What the window keeps says so.

@@ -104,6 +104,7 @@ stands-between m s stage may =
     let next : begins_next m ≡ slot_after (state_kept m) (turn_of (state_kept m)) = ap (λ at. begins_at at (state_kept m)) stage in
     record {
       values = s.values;
+      widths = m.nets.objects.are.widths;
       nodes = s.nodes stage;
       count = table-count m.table s.table ∙ ap (λ (d : FlatDesign). length d.processes) s.design;
       quiet = s.quiet stage;

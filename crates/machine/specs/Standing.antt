@@ -1,11 +1,12 @@
 -- Where a machine stands in its first run, and what the run of a slot gives (slots and phases by IEEE 1364-2001, clause 5).
-use Rattle.std.specs.Prelude.{◌≡◌, ℕ, ◌≤◌, Bool, true, false, Option, Some, None, IsTrue, IsSomeAnd, nat_le, slice_get, List, length, map}
+use Rattle.std.specs.Prelude.{◌≡◌, ℕ, ◌<◌, ◌≤◌, Bool, true, false, Option, Some, None, IsTrue, IsSomeAnd, nat_le, slice_get, List, length, map}
 use Rattle.std.specs.Option.{option_map}
 use Rattle.std.proofs.Common.{refl, subst}
 use Rattle.vf_base.specs.Base.{reported_pair}
 use Rattle.four_value.specs.Values.{LogicValue}
 use Rattle.v_design.specs.PlainDesigns.{design_of}
-use Rattle.v_design.specs.Designs.{FlatDesign, FlatNode, FlatProcess, Machine}
+use Rattle.v_design.specs.Designs.{FlatDesign, FlatNode, FlatProcess, Machine, width_in}
+use Rattle.v_design.specs.Assignments.{value_at}
 use Rattle.v_design.specs.States.{State, NodeState, TurnKind, PostponedTurn, UpdatesTurn, TimeTurn, idle_node, idle_process, process_at, turn_of, time_turn, has_event, some_in}
 use Rattle.v_design.specs.Runs.{Move, FirstSlot, Leads, ends_by, only_if, first_run, slot_end, is_hyper, next_slot, next_slot_at, turn_in_slot}
 use Rattle.v_design.specs.Laws.{BeginsPhase}
@@ -105,10 +106,11 @@ pub record BeginsInFirstRun (machine : Machine) (begins : State) : Type 0 where
 abbrev pub idle_nodes : FlatDesign → List NodeState
 idle_nodes design = map (λ (node : FlatNode). idle_node) design.nodes
 
--- a state between two slots of a machine's first run, into which a machine may be put: no event and no turn within a slot is possible, each process may stand where it stands, and the slot to whose
--- time the turn leads begins as the laws ask and is one of the first run
+-- a state between two slots of a machine's first run, into which a machine may be put: each value is as wide as its object, no event and no turn within a slot is possible, each process may stand
+-- where it stands, and the slot to whose time the turn leads begins as the laws ask and is one of the first run
 pub record StandsBetween (machine : Machine) (state : State) : Type 0 where
   pub values : length state.values ≡ length machine.design.objects
+  pub widths : (object : ℕ) → object < length state.values → length (value_at state.values object) ≡ width_in machine.design object
   pub nodes : state.nodes ≡ idle_nodes machine.design
   pub count : length state.processes ≡ length machine.design.processes
   pub quiet : some_in has_event state.processes ≡ false

@@ -105,6 +105,13 @@ impl<'d> Machine<'d> {
         self.stage = Stage::Between;
     }
 
+    /// The present time, in steps: that of the slot that was run last, or the one at which the machine was put into a state.
+    pub fn time(&self) -> u64
+        ensures { result ≡ (state_kept self.now).time }
+    {
+        self.table.time()
+    }
+
     /// Where a process stands: in each code of the process it is a state that does what the process does.
     pub fn state_of(&self, process: ProcId) -> &ProcState
         requires standing { IsStanding self.now }

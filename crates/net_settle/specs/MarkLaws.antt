@@ -95,6 +95,32 @@ MarksReaders-all design object readers before later same sized marks k =
           ∙ or-left-false (marked_at before k) (node_reads_at design object k) (ap (reads object) (slice_get_past design.nodes k (omega (arith, marks.same_length))))
     ]
 
+-- a node that wasn't marked before, and isn't one of those that were marked, is not marked
+still-unmarked : (nodes : List ℕ) (before later : List Bool) (node : ℕ) → Marks nodes before later → (has nodes node ≡ true → ⊥) → marked_at before node ≡ false → marked_at later node ≡ false
+still-unmarked nodes before later node marks other unmarked =
+    elim (cases_lt node (length later)) [
+      | inl there ↦
+          elim (cases_Bool (has nodes node)) [
+            | inl is_one ↦ absurd (other is_one)
+            | inr is_none ↦ marks.kept node there is_none ∙ unmarked
+          ]
+      | inr missing ↦ get_or_past later node false missing
+    ]
+
+-- past the marks that stood and the nodes that were marked none is marked
+pub none-past : (nodes : List ℕ) (before later : List Bool) (least past end bound : ℕ) → Marks nodes before later → ((node : ℕ) → has nodes node ≡ true → node < bound) →
+    ((node : ℕ) → node < least → marked_at before node ≡ false) → ((node : ℕ) → past ≤ node → marked_at before node ≡ false) → ((node : ℕ) → end ≤ node → node < past → node < least) →
+    end ≤ bound → (node : ℕ) → bound ≤ node → marked_at later node ≡ false
+none-past nodes before later least past end bound marks higher below above between low node far =
+    still-unmarked nodes before later node marks (λ is_one. let near : node < bound = higher node is_one in omega arith)
+    (elim (cases_lt node past) [ inl near ↦ below node (between node (omega arith) near) | inr beyond ↦ above node beyond ])
+
+-- nor before them
+pub none-below : (nodes : List ℕ) (before later : List Bool) (least bound : ℕ) → Marks nodes before later → ((node : ℕ) → has nodes node ≡ true → bound ≤ node) →
+    ((node : ℕ) → node < least → marked_at before node ≡ false) → bound ≤ least → (node : ℕ) → node < bound → marked_at later node ≡ false
+none-below nodes before later least bound marks lower below low node near =
+    still-unmarked nodes before later node marks (λ is_one. let far : bound ≤ node = lower node is_one in omega arith) (below node (omega arith))
+
 and-true : (a b : Bool) → b ≡ true → a ≡ (a && b)
 and-true true b e = sym e
 and-true false b e = refl

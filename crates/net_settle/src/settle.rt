@@ -83,6 +83,17 @@ fn past_of(nodes: &[NodeId], past: usize, count: usize) -> usize
     highest
 }
 
+/// The end of the places at which marks may stand, so that looks stay short: the old end, or where no such place is left, a first one.
+fn end_of(least: usize, past: usize, first: usize) -> usize
+    requires in_order { least ≤ past }
+    requires first { first ≤ least }
+    ensures low { first ≤ result }
+    ensures high { result ≤ past }
+    ensures between { (node : ℕ) → result ≤ node → node < past → node < least }
+{
+    if least == past { first } else { past }
+}
+
 impl<'d> Settle<'d> {
     /// The marks of a design, of which every node is marked.
     pub fn new(alloc: Global, view: &View, graph: &'d Graph<'d>) -> Result<Settle<'d>, NoMemory>
@@ -125,7 +136,8 @@ impl<'d> Settle<'d> {
     {
         let readers = self.graph.readers(object);
         let least = least_of(readers, self.least);
-        let past = past_of(readers, self.past, self.marks.len());
+        let end = end_of(self.least, self.past, least);
+        let past = past_of(readers, end, self.marks.len());
         mark_nodes(readers, &mut self.marks);
         self.least = least;
         self.past = past;

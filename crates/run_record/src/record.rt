@@ -14,7 +14,7 @@ use std::mem;
 use v_design::{Due, Update};
 use vf_base::{NoMemory, ProcId, Seq};
 
-/// What the present run of a process appended and wrote so far, in order; nothing where it is in no run.
+/// What the present run of a process appended and wrote so far, in order; nothing where it is in no run. The memory is used again from run to run.
 #[derive(Drop)]
 struct RunSoFar {
     later: Vec<Due>,
@@ -44,6 +44,17 @@ fn push_some<T: Copy>(list: &mut Vec<T>, element: Option<T>) -> Result<(), NoMem
     }
 }
 
+/// Empties a list, whose memory is used again, into one that takes just as much as it needs.
+fn take_list<T: Copy>(alloc: Global, list: &mut Vec<T>) -> Result<Seq<T>, NoMemory>
+    ensures taken { IfOk result (λ taken. taken ≡ list.old.items) }
+    ensures empty { OnOk result (list.new.items ≡ []) }
+{
+    let mut taken = Vec::with_capacity(alloc, list.len())?;
+    taken.extend_from_slice(list)?;
+    list.clear();
+    Ok(Seq::from_vec(taken))
+}
+
 impl RunSoFar {
     /// A run of which nothing is kept yet.
     fn none(alloc: Global) -> RunSoFar
@@ -65,19 +76,25 @@ impl RunSoFar {
     }
 
     /// The run ends where its process stands in a state; of the process's next run nothing is kept yet.
-    fn end(&mut self, alloc: Global, phase: u32, process: ProcId, state: ProcState) -> RunEnd
-        ensures run { IsEndOf phase (process_number process) state (so_far self.old) result }
-        ensures next { so_far self.new ≡ nothing_so_far }
+    fn end(
+        &mut self,
+        alloc: Global,
+        phase: u32,
+        process: ProcId,
+        state: ProcState,
+    ) -> Result<RunEnd, NoMemory>
+        ensures run { IfOk result (λ run. IsEndOf phase (process_number process) state (so_far self.old) run) }
+        ensures next { OnOk result (so_far self.new ≡ nothing_so_far) }
     {
-        let later = mem::replace(&mut self.later, Vec::new(alloc));
-        let writes = mem::replace(&mut self.writes, Vec::new(alloc));
-        RunEnd {
+        let later = take_list(alloc, &mut self.later)?;
+        let writes = take_list(alloc, &mut self.writes)?;
+        Ok(RunEnd {
             phase,
             process,
             state,
-            later: Seq::from_vec(later),
-            writes: Seq::from_vec(writes),
-        }
+            later,
+            writes,
+        })
     }
 }
 
@@ -115,12 +132,13 @@ fn end_at(
     phase: u32,
     process: ProcId,
     state: ProcState,
-) -> RunEnd
+) -> Result<RunEnd, NoMemory>
     requires { process_number process < length runs.old.items }
-    ensures run { IsEndOf phase (process_number process) state (get_or (map so_far runs.old.items) (process_number process) nothing_so_far) result }
-    ensures next { map so_far runs.new.items ≡ set (map so_far runs.old.items) (process_number process) nothing_so_far }
+    ensures run { IfOk result (λ run. IsEndOf phase (process_number process) state (get_or (map so_far runs.old.items) (process_number process) nothing_so_far) run) }
+    ensures next { OnOk result (map so_far runs.new.items ≡ set (map so_far runs.old.items) (process_number process) nothing_so_far) }
 {
-    runs[process.0 as usize].end(alloc, phase, process, state)
+    let run = runs[process.0 as usize].end(alloc, phase, process, state)?;
+    Ok(run)
 }
 
 impl RunRecord {
@@ -197,7 +215,7 @@ impl RunRecord {
     {
         copy_laws::own_runs();
         go_on_at(&mut self.present, process, later, write)?;
-        let run = end_at(&mut self.present, self.alloc, phase, process, state);
+        let run = end_at(&mut self.present, self.alloc, phase, process, state)?;
         self.ended.push(run)?;
         Ok(())
     }

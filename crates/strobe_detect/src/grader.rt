@@ -56,6 +56,24 @@ impl<'w> Grader<'w> {
         }
     }
 
+    /// A grader that was shown strobes before, of which none had a hard detection, and this one, whose time is in steps, was the first with a possible one, if one was.
+    pub fn again(watched: &'w [WatchBit], possible: Option<u64>) -> Grader<'w>
+        ensures { result ≡ record { watched = map watched_bit watched.now; hard = None; possible = possible } }
+    {
+        Grader {
+            watched,
+            hard: None,
+            possible,
+        }
+    }
+
+    /// The time, in steps, of the first strobe with a possible detection, if there was one.
+    pub fn possible(&self) -> Option<u64>
+        ensures { result ≡ self.now.possible }
+    {
+        self.possible
+    }
+
     /// Shows the values of both machines at a strobe, whose time is in steps. The answer says whether a hard detection stands.
     pub fn strobe<A: Values, B: Values>(&mut self, time: u64, good: &A, faulty: &B) -> bool
         requires good { AllHold (IsWatched (A.values good.now)) self.old.watched }

@@ -4,7 +4,8 @@ use Rattle.v_design.specs.Plain.{due_of}
 use Rattle.copy_state.specs.Entries.{with_entry}
 use Rattle.copy_state.specs.Kept.{CopyKept}
 use Rattle.copy_between.specs.Differing.{IsDifference, IsKeptAt}
-use Rattle.copy_between.proofs.Gone.{kept-with, kept-without, none-differs, own-differs}
+use Rattle.copy_between.specs.DifferingLaws.{none-differs}
+use Rattle.copy_between.proofs.Gone.{kept-with, kept-without, own-differs}
 use Rattle.copy_between.proofs.updates.keep_updates.Goals as goal
 
 pub returns-then-same_updates-clause-kept : goal.returns-then-same_updates-clause-kept

@@ -8,5 +8,5 @@ pub returns : goal.returns
 returns c =
     end-called (record { steps = c.own_runs.ensures.steps; runs = c.own_runs.ensures.runs; ready = c.own_runs.ensures.ready; time = c.own_runs.ensures.time }) c.args.phase
     (process_number c.args.process) _ _ c.args.state
-    (runs_so_far c.args.self.now) _ _ c.args.self.now.ended.items _ c.end_at-run.result c.requires c.in_ok-go_on_at.ensures c.end_at-run.ensures.next c.end_at-run.ensures.run
+    (runs_so_far c.args.self.now) _ _ c.args.self.now.ended.items _ c.in_ok-run.run' c.requires c.in_ok-go_on_at.ensures c.in_ok-run.ensures.next c.in_ok-run.ensures.run
     c.in_ok-push.ensures.items
