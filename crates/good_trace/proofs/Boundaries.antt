@@ -86,7 +86,7 @@ first-before : (machine : Machine) (values : List LogicValue) (seen : List Seen)
 first-before machine values [] last follow = sym follow
 first-before machine values (s ∷ seen) last follow = follow.0
 
-values-of : (design : FlatDesign) (plan : TestPlan) (number : ℕ) → number ≤ length (good_slots design plan) → values_through design plan number ≡ (state_through design plan number).values
+pub values-of : (design : FlatDesign) (plan : TestPlan) (number : ℕ) → number ≤ length (good_slots design plan) → values_through design plan number ≡ (state_through design plan number).values
 values-of design plan zero low = refl
 values-of design plan (suc last) low = elim (slice_get_cases (good_slots design plan) last).1 [
   | inl found ↦

@@ -8,3 +8,4 @@ mod RunsKeeping
 mod Standing
 mod Starting
 mod Boundaries
+mod Unwritten

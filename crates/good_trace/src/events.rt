@@ -1,16 +1,16 @@
-// What the events of a window write and touch, by object.
+// What the events of a window write and touch, by object, and who acts in them, by node and by process.
 
 ghost use Rattle.std.specs.Prelude.{◌≡◌, ℕ, ◌<◌, ◌≤◌, [], IfOk, get_or, length};
 ghost use Rattle.std.specs.List.{between};
 ghost use Rattle.trace_window.specs.Writes.{latest};
-ghost use Rattle.good_trace.specs.Events.{slots_accesses, IsGathered, AreEvents};
+ghost use Rattle.good_trace.specs.Events.{slots_accesses, slots_events, IsGathered, AreEvents, AreActed};
 ghost use Rattle.good_trace.specs.Beginnings.{AreBeginnings, HasBeginnings};
 ghost use Rattle.good_trace.specs.Closing.{AreClosed};
 
 use causal_monitor::SlotLog;
 use four_value::Vec4;
 use std::alloc::Global;
-use trace_window::{Change, Changes, EventList, index_touches};
+use trace_window::{Change, Changes, EventList, Sizes};
 use vf_base::{NoMemory, ObjectId};
 use window_index::WindowIndex;
 
@@ -21,12 +21,15 @@ pub struct SlotBeginning {
     pub changes: usize,
 }
 
-/// How many events a window has, and for each object its changes and its touches; and where the events of each slot begin, with the end of the last one's behind.
+/// How many events a window has; for each object its changes and its touches, for each node its evaluations, and for each process its steps; and where the events of
+/// each slot begin, with the end of the last one's behind.
 #[derive(Drop)]
 pub struct Events {
     pub count: u32,
     pub changes: Changes,
     pub touches: WindowIndex,
+    pub evaluations: WindowIndex,
+    pub steps: WindowIndex,
     pub beginnings: Vec<SlotBeginning>,
 }
 
@@ -37,7 +40,7 @@ pub struct ClosedEvents {
     pub later: Vec<Vec4>,
 }
 
-/// What the events of some slots write and touch, in order, and where those of each slot begin.
+/// What the events of some slots write and touch, in order, and who acts in them, and where those of each slot begin.
 #[derive(Drop)]
 struct Gathered {
     list: EventList,
@@ -55,39 +58,49 @@ fn beginning_of(list: &EventList) -> SlotBeginning
     }
 }
 
-/// What the events of some slots write and touch, in order.
-fn gather(alloc: Global, slots: &[SlotLog]) -> Result<Gathered, NoMemory>
-    ensures list { IfOk result (λ gathered. IsGathered (slots_accesses slots.now) gathered.list) }
+/// What the events of some slots write and touch, in order, and who acts in them.
+fn gather(alloc: Global, sizes: Sizes, slots: &[SlotLog]) -> Result<Gathered, NoMemory>
+    requires { AreActed slots.now }
+    ensures list { IfOk result (λ gathered. IsGathered sizes (slots_accesses slots.now) (slots_events slots.now) gathered.list) }
     ensures beginnings { IfOk result (λ gathered. AreBeginnings slots.now gathered.beginnings.items) }
 {
     let mut list = EventList::new(alloc);
+    let mut own = EventList::new(alloc);
     let mut beginnings = Vec::new(alloc);
     'slots: for slot in slots {
         beginnings.push(beginning_of(&list))?;
-        list.note_slot(slot)?;
+        list.push_slot(sizes, slot, &mut own)?;
     }
     beginnings.push(beginning_of(&list))?;
     Ok(Gathered { list, beginnings })
 }
 
-/// The same by object, of so many objects.
-fn index_events(alloc: Global, objects: u32, slots: &[SlotLog]) -> Result<Events, NoMemory>
-    ensures events { IfOk result (λ events. AreEvents objects (slots_accesses slots.now) events) }
+/// The same by object, by node and by process, of so many.
+fn index_events(alloc: Global, sizes: Sizes, slots: &[SlotLog]) -> Result<Events, NoMemory>
+    requires { AreActed slots.now }
+    ensures events { IfOk result (λ events. AreEvents sizes (slots_accesses slots.now) (slots_events slots.now) events) }
     ensures beginnings { IfOk result (λ events. AreBeginnings slots.now events.beginnings.items) }
 {
-    let gathered = gather(alloc, slots)?;
+    let gathered = gather(alloc, sizes, slots)?;
     let Gathered { list, beginnings } = gathered;
     let EventList {
         moment,
-        changes,
-        touches,
+        changes: mut written,
+        touches: mut occurrences,
+        evaluations,
+        steps,
     } = list;
-    let touches = index_touches(alloc, objects, &touches)?;
-    let changes = Changes::new(alloc, objects, changes)?;
+    let touches = WindowIndex::build(alloc, sizes.objects, &occurrences)?;
+    let evaluations = WindowIndex::build(alloc, sizes.nodes, &evaluations)?;
+    let steps = WindowIndex::build(alloc, sizes.processes, &steps)?;
+    let none = Changes::new(alloc, sizes.objects)?;
+    let changes = none.refill(&mut written, &mut occurrences)?;
     Ok(Events {
         count: moment,
         changes,
         touches,
+        evaluations,
+        steps,
         beginnings,
     })
 }
@@ -117,21 +130,24 @@ pub(crate) fn changes_between(changes: &[Change], first: usize, end: usize) -> &
     &changes[first..end]
 }
 
-/// The events of some slots, of so many objects as begin with some values.
+/// The events of some slots of a design of these sizes, whose objects begin with some values.
 ///
 /// # Errors
 ///
 /// Want of memory, or no further number of a moment.
 pub(crate) fn close_events(
     alloc: Global,
+    sizes: Sizes,
     values: &[Vec4],
     slots: &[SlotLog],
 ) -> Result<ClosedEvents, NoMemory>
-    requires { length values.now ≤ 65536 }
-    ensures events { IfOk result (λ closed. AreClosed values.now (slots_accesses slots.now) closed.events closed.later.items) }
+    requires few { length values.now ≤ 65536 }
+    requires objects { sizes.objects ≡ length values.now }
+    requires acted { AreActed slots.now }
+    ensures events { IfOk result (λ closed. AreClosed sizes values.now (slots_accesses slots.now) (slots_events slots.now) closed.events closed.later.items) }
     ensures beginnings { IfOk result (λ closed. HasBeginnings slots.now closed.events) }
 {
-    let events = index_events(alloc, values.len() as u32, slots)?;
+    let events = index_events(alloc, sizes, slots)?;
     let later = values_behind(alloc, values, &events)?;
     Ok(ClosedEvents { events, later })
 }

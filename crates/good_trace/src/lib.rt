@@ -4,7 +4,8 @@
 //! the good first run, with the ends of its process runs, behind those before it, and tells whether the window is full now; `Trace::close_window` gives the slots
 //! since the last close as a `TraceWindow`. Its main contract: a window is the slots of the good first run from one number to another, at most 64 of them with at
 //! most 300,000 process and lane steps, and it tells whether slots come after it, the run is through, or its last slot has a race. All its events are
-//! numbered through by their moments: `value_at` is what an object holds before the event of a moment, and `next_touch` the next event that reads or writes it. Its
+//! numbered through by their moments: `value_at` is what an object holds before the event of a moment, `next_touch` is the next event that reads or writes it, and
+//! `next_change` the next one that writes it; `next_evaluation` is a node's next evaluation, and `next_step` a process's next step, or its lane's. Its
 //! phases are numbered through too, `phases_before` tells where those of a slot begin: `run` is the end of a process's run of a number in a phase, and
 //! `process_at_beginning` tells where a process stands before the window.
 //!

@@ -8,12 +8,14 @@ ghost use Rattle.v_design.specs.Sized.{IsSizedStatement};
 ghost use Rattle.v_design.specs.WellFormed.{IsPlanOf};
 ghost use Rattle.v_design.specs.declared.plan.Process.{Process};
 ghost use Rattle.run_ends.specs.RunEnds.{AreCodesOf};
+ghost use Rattle.good_trace.specs.Events.{AreSizes};
 ghost use Rattle.good_trace.specs.Setups.{AreCompiled};
 
 use net_graph::Graph;
 use process_code::{Code, compile};
 use std::alloc::Global;
 use std::marker::{Model, PhantomData};
+use trace_window::Sizes;
 use v_design::{Design, Plan, Process, World};
 use vf_base::NoMemory;
 
@@ -109,6 +111,18 @@ impl<'d, N: World> Setup<'d, N> {
         ensures fits { IsPlanOf N.design N.plan }
     {
         self.plan
+    }
+
+    /// How many objects, nodes and processes the design has.
+    pub(crate) fn sizes(&self) -> Sizes
+        ensures { AreSizes N.design result }
+    {
+        let design = self.design;
+        Sizes {
+            objects: design.objects.as_slice().len() as u32,
+            nodes: design.nodes.as_slice().len() as u32,
+            processes: design.processes.as_slice().len() as u32,
+        }
     }
 
     /// The code of each process, by the processes' numbers.

@@ -155,7 +155,8 @@ impl<'s, 'd, N: World> Trace<'s, 'd, N> {
             self.phases,
             time,
         )?;
-        let closed = close_events(self.alloc, &self.values, &self.slots)?;
+        let sizes = self.setup.sizes();
+        let closed = close_events(self.alloc, sizes, &self.values, &self.slots)?;
         let ClosedRuns {
             index,
             stand,

@@ -2,14 +2,15 @@
 
 ghost use Rattle.std.specs.Prelude.{◌≡◌, ℕ, ◌+◌, ◌<◌, ◌≤◌, Some, IfOk, length, map, slice_get};
 ghost use Rattle.std.specs.Option.{option_map};
-ghost use Rattle.vf_base.specs.Base.{object_number, process_number};
+ghost use Rattle.vf_base.specs.Base.{object_number, node_number, process_number};
 ghost use Rattle.v_design.specs.Assignments.{value_at};
 ghost use Rattle.v_design.specs.Designs.{good_machine};
 ghost use Rattle.v_design.specs.Laws.{HaveWidths};
 ghost use Rattle.v_design.specs.Plain.{due_of};
 ghost use Rattle.v_design.specs.Runs.{FirstSlot};
 ghost use Rattle.trace_window.specs.Moments.{window_events, window_values};
-ghost use Rattle.trace_window.specs.Touched.{touched_at, IsFirstFrom};
+ghost use Rattle.trace_window.specs.Acted.{evaluated_at, stepped_at};
+ghost use Rattle.trace_window.specs.Touched.{touched_at, written_at, IsFirstFrom};
 ghost use Rattle.trace_window.specs.Writes.{written_of};
 ghost use Rattle.v_design.specs.Grades.{Phase};
 ghost use Rattle.run_ends.specs.RunEnds.{ender_told};
@@ -17,7 +18,7 @@ ghost use Rattle.between_slots.specs.Between.{state_through, activity_through, w
 ghost use Rattle.between_slots.specs.Updates.{updates_through, Rests, LastIsFew, RestingStatesAreTold};
 ghost use Rattle.copy_laws.specs.Windows.{IsWindow, good_slots, window_steps};
 ghost use Rattle.good_trace.specs.RunsKept.{Stands, TellsRun};
-ghost use Rattle.good_trace.specs.SlotsTold.{AreWritesOf, slot_run_ends};
+ghost use Rattle.good_trace.specs.SlotsTold.{AreWritesOf, IsUnwritten, slot_run_ends};
 
 use crate::ending::GoodEnd;
 use crate::events::{Events, changes_between};
@@ -30,7 +31,7 @@ use std::alloc::Global;
 use std::marker::{Model, PhantomData};
 use trace_window::Change;
 use v_design::{Due, World};
-use vf_base::{NoMemory, ObjectId, ProcId, Seq};
+use vf_base::{NoMemory, NodeId, ObjectId, ProcId, Seq};
 use window_runs::{RunIndex, runs_between, standing_after};
 
 /// Slots of the good first run of the world `N` in a row, which contracts see as how many slots of the run stand before the window and before its end, and how it ends.
@@ -115,6 +116,33 @@ impl<N: World> TraceWindow<N> {
             (length (window_events N.design N.plan self.now.before self.now.through)) moment result }
     {
         self.events.touches.first_at_or_after(object.0, moment)
+    }
+
+    /// The first moment that isn't before another and at which an event writes an object, a net piece only where that changes; none where none does.
+    pub fn next_change(&self, object: ObjectId, moment: u32) -> Option<u32>
+        requires { object_number object < length N.design.objects }
+        ensures { IsFirstFrom (written_at (good_machine N.design) (window_events N.design N.plan self.now.before self.now.through) (object_number object))
+            (length (window_events N.design N.plan self.now.before self.now.through)) moment result }
+    {
+        self.events.changes.next(object, moment)
+    }
+
+    /// The first moment that isn't before another and at which a node is evaluated; none where it isn't.
+    pub fn next_evaluation(&self, node: NodeId, moment: u32) -> Option<u32>
+        requires { node_number node < length N.design.nodes }
+        ensures { IsFirstFrom (evaluated_at (window_events N.design N.plan self.now.before self.now.through) (node_number node))
+            (length (window_events N.design N.plan self.now.before self.now.through)) moment result }
+    {
+        self.events.evaluations.first_at_or_after(node.0, moment)
+    }
+
+    /// The first moment that isn't before another and at which a process or its lane takes a step; none where neither does.
+    pub fn next_step(&self, process: ProcId, moment: u32) -> Option<u32>
+        requires { process_number process < length N.design.processes }
+        ensures { IsFirstFrom (stepped_at (window_events N.design N.plan self.now.before self.now.through) (process_number process))
+            (length (window_events N.design N.plan self.now.before self.now.through)) moment result }
+    {
+        self.events.steps.first_at_or_after(process.0, moment)
     }
 
     /// How many phases the window's slots have. They are numbered through from 1 on.
@@ -239,11 +267,14 @@ impl<N: World> TraceWindow<N> {
         let _last = self.last;
     }
 
-    /// The changes of objects in the events of a slot, in order: each write of a variable, also where that keeps its value, and each change of a net piece.
+    /// The changes of objects in the events of a slot, in order: each write of a variable, also where that keeps its value, and each change of a net piece. So an object
+    /// without a change holds behind the slot what it held before.
     pub fn changes_in(&self, slot: u32) -> &[Change]
         requires { self.now.before + slot < self.now.through }
-        ensures { AreWritesOf (good_machine N.design) (window_events N.design N.plan (self.now.before + slot) (self.now.before + slot + 1))
+        ensures changes { AreWritesOf (good_machine N.design) (window_events N.design N.plan (self.now.before + slot) (self.now.before + slot + 1))
             (length (window_events N.design N.plan self.now.before (self.now.before + slot))) (map written_of result.now) }
+        ensures others { (object : ℕ) → object < length N.design.objects → IsUnwritten object result.now →
+            value_at (state_through N.design N.plan (self.now.before + slot + 1)).values object ≡ value_at (state_through N.design N.plan (self.now.before + slot)).values object }
     {
         let first = self.events.beginnings[slot as usize].changes;
         let end = self.events.beginnings[slot as usize + 1].changes;

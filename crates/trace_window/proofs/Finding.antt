@@ -10,7 +10,7 @@ use Rattle.window_index.specs.declared.occurrence.Occurrence.{Occurrence}
 use Rattle.window_index.specs.Moments.{moment_of, is_of, moments_of, IsIndexOf, IsLastBefore}
 use Rattle.trace_window.specs.declared.change.Change.{Change}
 use Rattle.trace_window.specs.Writes.{written_of, value_or, latest}
-use Rattle.trace_window.specs.Tables.{change_moment, at_moment, at_place, at_places, AreChanges}
+use Rattle.trace_window.specs.Tables.{occurrence_of, change_moment, at_moment, at_place, at_places, AreChanges}
 use Rattle.trace_window.specs.Rising.{RisesBy, rises-weaken, rises-by}
 use Rattle.trace_window.specs.ValueLaws.{ComeFrom, latest-later}
 
@@ -142,15 +142,15 @@ latest-at value object moment (c ∷ changes) (suc k) d own within less last =
 -- What the search answers
 
 -- the moments of an object in the index
-moments-at : (changes : List Change) (moments places : List (List ℕ)) (object : ℕ) → AreChanges changes moments places → object < length moments →
+moments-at : (objects : ℕ) (changes : List Change) (moments places : List (List ℕ)) (object : ℕ) → AreChanges objects changes moments places → object < objects →
     get_or moments object [] ≡ map change_moment (own_changes object changes)
-moments-at changes moments places object had low = had.moments_are.moments object low ∙ own-moments object changes
+moments-at objects changes moments places object had low = had.moments_are.moments object low ∙ own-moments object changes
 
-pub found-none : (value : LogicValue) (changes : List Change) (moments places : List (List ℕ)) (object moment : ℕ) → AreChanges changes moments places → object < length moments →
+pub found-none : (value : LogicValue) (objects : ℕ) (changes : List Change) (moments places : List (List ℕ)) (object moment : ℕ) → AreChanges objects changes moments places → object < objects →
     IsLastBefore (get_or moments object []) moment None →
     value ≡ latest value object moment (map written_of changes)
-found-none value changes moments places object moment had low none =
-    let at = moments-at changes moments places object had low in
+found-none value objects changes moments places object moment had low none =
+    let at = moments-at objects changes moments places object had low in
     let all = subst (λ l. IsLastBefore l moment None) at none in
     let long : length (map change_moment (own_changes object changes)) ≡ length (own_changes object changes) = length-map (own_changes object changes) change_moment in
     sym (latest-own value object moment changes ∙ latest-later value object moment (map written_of (own_changes object changes))
@@ -162,11 +162,11 @@ pub record IsFound (value : LogicValue) (changes : List Change) (places : List (
   pub place_low : get_or (get_or places object []) own 0 < length changes
   pub value_is : (d : Change) → (get_or changes (get_or (get_or places object []) own 0) d).value ≡ latest value object moment (map written_of changes)
 
-pub found-some : (value : LogicValue) (changes : List Change) (moments places : List (List ℕ)) (object moment own : ℕ) → AreChanges changes moments places → object < length moments →
+pub found-some : (value : LogicValue) (objects : ℕ) (changes : List Change) (moments places : List (List ℕ)) (object moment own : ℕ) → AreChanges objects changes moments places → object < objects →
     IsLastBefore (get_or moments object []) moment (Some own) →
     IsFound value changes places object moment own
-found-some value changes moments places object moment own had low some =
-    let at = moments-at changes moments places object had low in
+found-some value objects changes moments places object moment own had low some =
+    let at = moments-at objects changes moments places object had low in
     let last = subst (λ l. IsLastBefore l moment (Some own)) at some in
     let long : length (map change_moment (own_changes object changes)) ≡ length (own_changes object changes) = length-map (own_changes object changes) change_moment in
     let count : length (moments_of (at_places 0 changes) object) ≡ length (own_changes object changes) = own-count object 0 changes in
@@ -211,30 +211,6 @@ places-rise place (c ∷ changes) = (omega arith, rises-weaken moment_of place (
 pub places-ascend : (changes : List Change) → IsNonDecreasingBy moment_of (at_places 0 changes)
 places-ascend changes = rises-by moment_of 0 (at_places 0 changes) (places-rise 0 changes)
 
--- what is left out isn't asked for
-pub index-within : (count : ℕ) (occurrences : List Occurrence) (index : List (List ℕ)) → IsIndexOf count (filter (λ (o : Occurrence). nat_lt o.number count) occurrences) index →
-    IsIndexOf count occurrences index
-index-within count occurrences index had = record { numbers = had.numbers; moments = λ number low. had.moments number low ∙ within number low occurrences }
-  where
-    within : (number : ℕ) → number < count → (xs : List Occurrence) → moments_of (filter (λ (o : Occurrence). nat_lt o.number count) xs) number ≡ moments_of xs number
-    within number low [] = refl
-    within number low (x ∷ xs) = go (nat_lt x.number count) (nat_eq x.number number) refl refl (within number low xs)
-      where
-        go : (in_count own : Bool) → nat_lt x.number count ≡ in_count → nat_eq x.number number ≡ own →
-            moments_of (filter (λ (o : Occurrence). nat_lt o.number count) xs) number ≡ moments_of xs number →
-            moments_of (cond in_count (x ∷ filter (λ (o : Occurrence). nat_lt o.number count) xs) (filter (λ (o : Occurrence). nat_lt o.number count) xs)) number
-            ≡ map moment_of (cond own (x ∷ filter (is_of number) xs) (filter (is_of number) xs))
-        go true true a b rest =
-            ap (λ t. map moment_of (cond t (x ∷ filter (is_of number) (filter (λ (o : Occurrence). nat_lt o.number count) xs))
-            (filter (is_of number) (filter (λ (o : Occurrence). nat_lt o.number count) xs)))) b
-            ∙ ap (λ l. x.moment ∷ l) rest
-        go true false a b rest =
-            ap (λ t. map moment_of (cond t (x ∷ filter (is_of number) (filter (λ (o : Occurrence). nat_lt o.number count) xs))
-            (filter (is_of number) (filter (λ (o : Occurrence). nat_lt o.number count) xs)))) b
-            ∙ rest
-        go false true a b rest = let same : x.number ≡ number = eqb-true x.number number b in let past : count ≤ x.number = ltb-false x.number count a in absurd (omega arith)
-        go false false a b rest = rest
-
 -- one more
 pub at_moment-more : (changes : List Change) (i : ℕ) (c : Change) → i < length changes → c ≡ get_or changes i c →
     map at_moment (take (i + 1) changes) ≡ map at_moment (take i changes) ++ at_moment c ∷ []
@@ -246,13 +222,7 @@ at_places-more changes i c low read =
     ∙ ap (λ n. at_places 0 (take i changes) ++ at_place n c ∷ []) (let long : length (take i changes) ≡ i = length-take-le i changes (omega arith) in
     let e : 0 + length (take i changes) ≡ i = omega arith in e)
 
--- both indexes
-pub AreChanges-made : (changes : List Change) (count : ℕ) (list others : List Occurrence) (moments places : List (List ℕ)) → list ≡ map at_moment changes → others ≡ at_places 0 changes →
-    IsIndexOf count list moments →
-    IsIndexOf count others places → AreChanges changes moments places
-AreChanges-made changes count list others moments places same also first second =
-    let long : length moments ≡ count = first.numbers in
-    record {
-      moments_are = subst (λ n. IsIndexOf n (map at_moment changes) moments) (sym long) (subst (λ l. IsIndexOf count l moments) same first);
-      places_are = subst (λ n. IsIndexOf n (at_places 0 changes) places) (sym long) (subst (λ l. IsIndexOf count l places) also second);
-    }
+-- the changes as occurrences are the writes as such
+pub change-occurrences : (changes : List Change) → map at_moment changes ≡ map occurrence_of (map written_of changes)
+change-occurrences [] = refl
+change-occurrences (c ∷ changes) = ap (λ l. at_moment c ∷ l) (change-occurrences changes)

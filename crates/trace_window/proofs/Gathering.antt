@@ -1,6 +1,7 @@
 -- What is gathered of a window's events.
 use Rattle.std.proofs.Common.{◌≡◌, ℕ, zero, suc, ◌+◌, ◌<◌, ◌≤◌, true, false, List, [], ◌∷◌, ◌++◌, map, length, get_or, take, refl, sym, ap, subst, ◌∙◌, arith, append-nil, append_assoc}
 use Rattle.std.specs.Prelude.{Option, Some, None, IsSome}
+use Rattle.std.specs.List.{AllZip}
 use Rattle.std.proofs.lemmas.List.{take_more, take_all, map_push, length-map}
 use Rattle.std.proofs.lemmas.Option.{slice_get-get_or}
 use Rattle.vf_base.specs.declared.finding.AccessKind.{AccessKind}
@@ -8,7 +9,7 @@ use Rattle.vf_base.specs.declared.finding.AccessKind.TheVariants.{Read, Write, A
 use Rattle.vf_base.specs.Lists.{joined, AllHold}
 use Rattle.four_value.specs.Values.{LogicValue}
 use Rattle.v_design.specs.Trees.{Entry}
-use Rattle.v_design.specs.States.{found_or}
+use Rattle.v_design.specs.States.{Event, found_or}
 use Rattle.v_design.specs.Accesses.{AccessAct, Reading, Writing, Awaiting, Ending, Holding, Settling, ObjectAccess}
 use Rattle.v_design.specs.Logs.{LoggedEvent}
 use Rattle.vf_base.specs.Base.{object_number}
@@ -16,12 +17,12 @@ use Rattle.causal_monitor.specs.declared.noted.Noted.{Noted}
 use Rattle.causal_monitor.specs.Notes.{value_or_none, entry_on, act_of, HasParts, noted_access}
 use Rattle.causal_monitor.specs.Phases.{PhaseOfSlot, accesses_at}
 use Rattle.causal_monitor.specs.declared.noted.WaitEdge.{WaitEdge}
-use Rattle.trace_window.specs.declared.list.EventList.{EventList}
+use Rattle.causal_monitor.specs.declared.slot.Actor.{Actor}
+use Rattle.slot_record.specs.Records.{event_of}
 use Rattle.window_index.specs.declared.occurrence.Occurrence.{Occurrence}
 use Rattle.trace_window.specs.Kinds.{is_write, is_touch}
 use Rattle.trace_window.specs.Touched.{touch_before, touches_in}
 use Rattle.trace_window.specs.Writes.{Written, written_of, write_before, writes_in}
-use Rattle.trace_window.specs.Gathered.{Gathers}
 use Rattle.trace_window.specs.Listed.{phase_accesses}
 
 -- One access
@@ -137,16 +138,6 @@ grown-more start now next one taken more had grown all = grown ∙ ap (λ l. l +
 
 -- Events
 
--- one event
-pub Gathers-event : (accesses : List ObjectAccess) (old new : EventList) → new.moment ≡ old.moment + 1 →
-    map written_of new.changes.items ≡ map written_of old.changes.items ++ writes_in old.moment accesses →
-    new.touches.items ≡ old.touches.items ++ touches_in old.moment accesses → Gathers (accesses ∷ []) old new
-Gathers-event accesses old new next more touched = record {
-  moment = next;
-  changes = more ∙ ap (λ l. map written_of old.changes.items ++ l) (sym (append-nil (writes_in old.moment accesses)));
-  touches = touched ∙ ap (λ l. old.touches.items ++ l) (sym (append-nil (touches_in old.moment accesses)));
-}
-
 -- phases one after another
 joined-append : {A : Type 0} (xs ys : List (List A)) → joined (xs ++ ys) ≡ joined xs ++ joined ys
 joined-append [] ys = refl
@@ -171,3 +162,25 @@ phase_accesses-more phase event low =
 pub phase_accesses-all : (phase : PhaseOfSlot) (event : ℕ) → length phase.log.events ≤ event → take event (phase_accesses phase) ≡ phase_accesses phase
 phase_accesses-all phase event past = take_all event (phase_accesses phase)
     (let long : length (phase_accesses phase) ≡ length phase.log.events = length-map phase.log.events (λ (e : LoggedEvent). e.accesses) in omega arith)
+
+-- who acts in one event more
+pub actors-more : (actors : List Actor) (i : ℕ) (d : Actor) → i < length actors → map event_of (take (i + 1) actors) ≡ map event_of (take i actors) ++ event_of (get_or actors i d) ∷ []
+actors-more actors i d low = ap (map event_of) (take_more actors i d low) ∙ map_push event_of (take i actors) (get_or actors i d)
+
+-- the events of one phase more
+pub slot_events-more : (actors : List (List Actor)) (i : ℕ) (own : List Actor) → i < length actors → own ≡ get_or actors i own →
+    joined (map (λ (a : List Actor). map event_of a) (take (i + 1) actors)) ≡ joined (map (λ (a : List Actor). map event_of a) (take i actors)) ++ map event_of own
+slot_events-more actors i own low read =
+    ap (λ l. joined (map events l)) (take_more actors i own low ∙ ap (λ a. take i actors ++ a ∷ []) (sym read))
+    ∙ ap joined (map_push events (take i actors) own) ∙ joined-append (map events (take i actors)) (map event_of own ∷ [])
+    ∙ ap (λ l. joined (map events (take i actors)) ++ l) (append-nil (map event_of own))
+  where
+    events : List Actor → List Event
+    events a = map event_of a
+
+-- what holds of two lists place by place
+pub zip-at : {A B : Type 0} (R : A → B → Type 0) (xs : List A) (ys : List B) (i : ℕ) (x : A) (y : B) → AllZip R xs ys → i < length xs → x ≡ get_or xs i x → y ≡ get_or ys i y → R x y
+zip-at R [] ys i x y all low at here = absurd (omega arith)
+zip-at R (a ∷ xs) [] i x y all low at here = absurd all
+zip-at R (a ∷ xs) (b ∷ ys) zero x y all low at here = subst (λ z. R z y) (sym at) (subst (λ z. R a z) (sym here) all.0)
+zip-at R (a ∷ xs) (b ∷ ys) (suc i) x y all low at here = zip-at R xs ys i x y all.1 (omega arith) at here

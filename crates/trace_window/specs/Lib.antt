@@ -2,6 +2,8 @@ pub mod Moments
 pub mod Kinds
 pub mod Writes
 pub mod Touched
+pub mod Occurring
+pub mod Acted
 pub mod Gathered
 pub mod GatherLaws
 pub mod Tables
@@ -9,5 +11,8 @@ pub mod Listed
 pub mod WriteLaws
 pub mod ValueLaws
 pub mod LogLaws
+pub mod BelowLaws
+pub mod FirstLaws
 pub mod TouchLaws
+pub mod ActedLaws
 pub mod Rising

@@ -1,8 +1,8 @@
--- The accesses that a slot's log has are those of the slot's events (IEEE 1364-2001, clause 5).
-use Rattle.std.proofs.Common.{◌≡◌, ℕ, zero, suc, ◌+◌, ◌-◌, ◌<◌, ◌≤◌, List, [], ◌∷◌, ◌++◌, map, length, take, drop, refl, sym, ap, subst, ◌∙◌, arith, append-nil, append_assoc}
+-- The accesses and the events that a slot's log has are those of the slot's events (IEEE 1364-2001, clause 5).
+use Rattle.std.proofs.Common.{◌≡◌, ℕ, zero, suc, ◌+◌, ◌-◌, ◌<◌, ◌≤◌, List, [], ◌∷◌, ◌++◌, map, length, take, drop, refl, sym, ap, subst, ◌∙◌, arith, append-nil, append_assoc, length-append}
 use Rattle.std.specs.Prelude.{Some, slice_get}
 use Rattle.std.specs.List.{AllZip}
-use Rattle.std.proofs.lemmas.List.{length-drop, length-take-le}
+use Rattle.std.proofs.lemmas.List.{length-drop, length-take-le, length-map, map-append}
 use Rattle.std.proofs.lemmas.Option.{slice_get_within}
 use Rattle.vf_base.specs.Lists.{joined}
 use Rattle.v_design.specs.Designs.{FlatDesign, Machine, TestPlan, good_machine}
@@ -13,12 +13,15 @@ use Rattle.v_design.specs.PhaseLogs.{NotedEvent, note_of, noted_from, logged}
 use Rattle.v_design.specs.Runs.{FirstSlot}
 use Rattle.v_design.specs.Grades.{Phase, phases}
 use Rattle.causal_monitor.specs.Phases.{PhaseOfSlot}
+use Rattle.causal_monitor.specs.declared.slot.Actor.{Actor}
 use Rattle.causal_monitor.specs.declared.slot.SlotLog.{SlotLog}
 use Rattle.causal_monitor.specs.declared.slot.Turn.{Turn}
+use Rattle.slot_record.specs.Records.{event_of}
 use Rattle.slot_record.specs.SlotLogs.{IsSlotLog, logged_phases, logged_phase_of}
 use Rattle.copy_laws.specs.Windows.{good_slots, window_slots}
 use Rattle.trace_window.specs.Moments.{Seen, seen_from, phase_seen, slot_seen, slots_seen, window_events}
-use Rattle.trace_window.specs.Listed.{phase_accesses, log_accesses, AreAccessesOf, AreListed}
+use Rattle.trace_window.specs.Acted.{events_of}
+use Rattle.trace_window.specs.Listed.{phase_accesses, log_accesses, log_events, HasActors, IsActed, AreAccessesOf, AreListed}
 
 pub all_zip-append : {A B : Type 0} (R : A → B → Type 0) (xs : List A) (ys : List B) (more : List A) (others : List B) → AllZip R xs ys → AllZip R more others → AllZip R (xs ++ more) (ys ++ others)
 all_zip-append R [] [] more others h k = k
@@ -109,12 +112,69 @@ get-take [] (suc n) place low = refl
 get-take (x ∷ xs) (suc n) zero low = refl
 get-take (x ∷ xs) (suc n) (suc place) low = get-take xs n place (omega arith)
 
+-- Who acts
+
+-- in each event of a slot somebody acts
+seen-notes : (machine : Machine) (earlier : List NotedEvent) (state : State) (events : List Event) → length (noted_from machine earlier state events) ≡ length earlier + length events
+seen-notes machine earlier state [] = omega arith
+seen-notes machine earlier state (event ∷ events) =
+    let more = seen-notes machine (earlier ++ note_of machine earlier state event ∷ []) (after machine state event) events in
+    let long = length-append earlier (note_of machine earlier state event ∷ []) in
+    omega (arith, more, long)
+
+phase-acted : (machine : Machine) (number : ℕ) (phase : Phase) (actors : List Actor) → map event_of actors ≡ phase.events → HasActors (logged_phase_of machine number phase) actors
+phase-acted machine number phase actors are =
+    let noted = length-map (noted_from machine [] phase.begins phase.events) (logged machine) in
+    let count = seen-notes machine [] phase.begins phase.events in
+    let own = length-map actors event_of in
+    let same = ap (λ (l : List Event). length l) are in
+    omega (arith, noted, count, own, same)
+
+cons_same : {A : Type 0} (x y : A) (xs ys : List A) → x ∷ xs ≡ y ∷ ys → (x ≡ y) × (xs ≡ ys)
+cons_same x y xs ys e = (cc, cc)
+
+phases-acted : (machine : Machine) (number : ℕ) (all : List Phase) (actors : List (List Actor)) →
+    map (λ (own : List Actor). map event_of own) actors ≡ map (λ (phase : Phase). phase.events) all → AllZip HasActors (logged_phases machine number all) actors
+phases-acted machine number [] [] are = tt
+phases-acted machine number [] (own ∷ actors) are = cc
+phases-acted machine number (phase ∷ rest) [] are = cc
+phases-acted machine number (phase ∷ rest) (own ∷ actors) are =
+    let parts = cons_same (map event_of own) phase.events (map (λ (a : List Actor). map event_of a) actors) (map (λ (p : Phase). p.events) rest) are in
+    (phase-acted machine number phase own parts.0, phases-acted machine (number + 1) rest actors parts.1)
+
+pub slot-acted : (machine : Machine) (first : Turn) (all : List Phase) (log : SlotLog) → IsSlotLog machine first all log → IsActed log
+slot-acted machine first all log is = subst (λ (l : List PhaseOfSlot). AllZip HasActors l log.actors) (sym is.phases_are) (phases-acted machine 1 all log.actors is.actors_are)
+
+-- the events of a slot are those in which they act
+seen-events : (machine : Machine) (state : State) (events : List Event) → events_of (seen_from machine state events) ≡ events
+seen-events machine state [] = refl
+seen-events machine state (event ∷ events) = ap (λ l. event ∷ l) (seen-events machine (after machine state event) events)
+
+phases-events : (machine : Machine) (all : List Phase) → events_of (joined (map (phase_seen machine) all)) ≡ joined (map (λ (phase : Phase). phase.events) all)
+phases-events machine [] = refl
+phases-events machine (phase ∷ rest) =
+    map-append (λ (one : Seen). one.event) (phase_seen machine phase) (joined (map (phase_seen machine) rest))
+    ∙ (λ i. seen-events machine phase.begins phase.events i ++ phases-events machine rest i)
+
+slots-events : (machine : Machine) (slots : List FirstSlot) (logs : List SlotLog) → AllZip (IsLoggedSlot machine) slots logs →
+    events_of (slots_seen machine slots) ≡ joined (map log_events logs)
+slots-events machine [] [] h = refl
+slots-events machine [] (log ∷ logs) h = absurd h
+slots-events machine (slot ∷ slots) [] h = absurd h
+slots-events machine (slot ∷ slots) (log ∷ logs) h =
+    map-append (λ (one : Seen). one.event) (slot_seen machine slot) (slots_seen machine slots)
+    ∙ (λ i. (phases-events machine (phases machine slot) ∙ sym (ap joined h.0.is.actors_are)) i ++ slots-events machine slots logs h.1 i)
+
+-- Windows
+
 -- the logs of the slots of a window, whose slots are known by their numbers
-pub window-listed : (design : FlatDesign) (plan : TestPlan) (begins ends : ℕ) (logs : List SlotLog) → begins + length logs ≡ ends → ends ≤ length (good_slots design plan) →
-    ((place : ℕ) (slot : FirstSlot) (log : SlotLog) → slice_get (good_slots design plan) (begins + place) ≡ Some slot → slice_get logs place ≡ Some log → IsLoggedSlot (good_machine design) slot log) →
-    AreListed (good_machine design) (window_events design plan begins ends) (joined (map log_accesses logs))
-window-listed design plan begins ends logs held fits each = slots-listed (good_machine design) (window_slots design plan begins ends) logs
-    (all_zip-at (IsLoggedSlot (good_machine design)) (window_slots design plan begins ends) logs long at)
+abbrev pub AreLogs : FlatDesign → TestPlan → ℕ → List SlotLog → Type 0
+AreLogs design plan begins logs =
+    (place : ℕ) (slot : FirstSlot) (log : SlotLog) → slice_get (good_slots design plan) (begins + place) ≡ Some slot → slice_get logs place ≡ Some log → IsLoggedSlot (good_machine design) slot log
+
+window-logged : (design : FlatDesign) (plan : TestPlan) (begins ends : ℕ) (logs : List SlotLog) → begins + length logs ≡ ends → ends ≤ length (good_slots design plan) →
+    AreLogs design plan begins logs → AllZip (IsLoggedSlot (good_machine design)) (window_slots design plan begins ends) logs
+window-logged design plan begins ends logs held fits each = all_zip-at (IsLoggedSlot (good_machine design)) (window_slots design plan begins ends) logs long at
   where
     cut : length (take ends (good_slots design plan)) ≡ ends
     cut = length-take-le ends (good_slots design plan) fits
@@ -129,3 +189,15 @@ window-listed design plan begins ends logs held fits each = slots-listed (good_m
         let low : place < length logs = slice_get_within logs place log here in
         each place slot log
         (sym (get-take (good_slots design plan) ends (begins + place) (omega (arith, held, low))) ∙ sym (get-drop (take ends (good_slots design plan)) begins place) ∙ is) here
+
+-- the accesses of a window's events, by the logs of its slots
+pub window-listed : (design : FlatDesign) (plan : TestPlan) (begins ends : ℕ) (logs : List SlotLog) → begins + length logs ≡ ends → ends ≤ length (good_slots design plan) →
+    AreLogs design plan begins logs → AreListed (good_machine design) (window_events design plan begins ends) (joined (map log_accesses logs))
+window-listed design plan begins ends logs held fits each =
+    slots-listed (good_machine design) (window_slots design plan begins ends) logs (window-logged design plan begins ends logs held fits each)
+
+-- and the events themselves
+pub window-acted : (design : FlatDesign) (plan : TestPlan) (begins ends : ℕ) (logs : List SlotLog) → begins + length logs ≡ ends → ends ≤ length (good_slots design plan) →
+    AreLogs design plan begins logs → events_of (window_events design plan begins ends) ≡ joined (map log_events logs)
+window-acted design plan begins ends logs held fits each =
+    slots-events (good_machine design) (window_slots design plan begins ends) logs (window-logged design plan begins ends logs held fits each)

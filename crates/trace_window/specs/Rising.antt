@@ -1,10 +1,14 @@
 -- What is gathered event by event comes in ascending order of its moments (nothing of the language).
 use Rattle.std.proofs.Common.{◌≡◌, ℕ, zero, suc, ◌+◌, ◌<◌, ◌≤◌, List, [], ◌∷◌, ◌++◌, map, length, get_or, sym, subst, arith}
+use Rattle.std.specs.Prelude.{Option, Some, None}
 use Rattle.std.specs.List.Sorted.{IsNonDecreasingBy}
+use Rattle.v_design.specs.States.{Event}
 use Rattle.v_design.specs.Accesses.{AccessAct, Reading, Writing, Awaiting, Ending, Holding, Settling, ObjectAccess}
 use Rattle.window_index.specs.declared.occurrence.Occurrence.{Occurrence}
 use Rattle.window_index.specs.Moments.{moment_of}
 use Rattle.trace_window.specs.declared.change.Change.{Change}
+use Rattle.trace_window.specs.Acted.{node_evaluated, process_stepped, occurrence_at, evaluations_from, steps_from}
+use Rattle.trace_window.specs.Occurring.{occurrences_from}
 use Rattle.trace_window.specs.Writes.{Written, written_of, write_before, writes_in, writes_from}
 use Rattle.trace_window.specs.Touched.{touch_before, touches_in, touches_from}
 use Rattle.trace_window.specs.Tables.{change_moment}
@@ -77,5 +81,23 @@ touched-rise number (accesses ∷ lists) =
     touches-rise number accesses (touches_from (number + 1) lists) (rises-weaken moment_of number (number + 1) (touches_from (number + 1) lists) (omega arith) (touched-rise (number + 1) lists))
 
 -- the touches of a window
-pub touches-ascend : (touches : List Occurrence) (lists : List (List ObjectAccess)) → touches ≡ touches_from 0 lists → IsNonDecreasingBy moment_of touches
-touches-ascend touches lists are = rises-by moment_of 0 touches (subst (λ l. RisesBy moment_of 0 l) (sym are) (touched-rise 0 lists))
+pub all-touches-ascend : (lists : List (List ObjectAccess)) → IsNonDecreasingBy moment_of (touches_from 0 lists)
+all-touches-ascend lists = rises-by moment_of 0 (touches_from 0 lists) (touched-rise 0 lists)
+
+-- what occurs in some events in a row, each at its moment alone
+number-rises : (number : ℕ) (own : Option ℕ) (rest : List Occurrence) → RisesBy moment_of number rest → RisesBy moment_of number (occurrence_at number own ++ rest)
+number-rises number None rest h = h
+number-rises number (Some other) rest h = (omega arith, h)
+
+keyed-rise : (key : Event → Option ℕ) (number : ℕ) (events : List Event) → RisesBy moment_of number (occurrences_from (λ moment event. occurrence_at moment (key event)) number events)
+keyed-rise key number [] = tt
+keyed-rise key number (event ∷ events) =
+    number-rises number (key event) (occurrences_from (λ moment one. occurrence_at moment (key one)) (number + 1) events)
+    (rises-weaken moment_of number (number + 1) (occurrences_from (λ moment one. occurrence_at moment (key one)) (number + 1) events) (omega arith) (keyed-rise key (number + 1) events))
+
+-- the evaluations of a window, and its steps
+pub all-evaluations-ascend : (events : List Event) → IsNonDecreasingBy moment_of (evaluations_from 0 events)
+all-evaluations-ascend events = rises-by moment_of 0 (evaluations_from 0 events) (keyed-rise node_evaluated 0 events)
+
+pub all-steps-ascend : (events : List Event) → IsNonDecreasingBy moment_of (steps_from 0 events)
+all-steps-ascend events = rises-by moment_of 0 (steps_from 0 events) (keyed-rise process_stepped 0 events)

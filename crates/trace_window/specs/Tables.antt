@@ -1,5 +1,5 @@
 -- The changes of a window by object (nothing of the language).
-use Rattle.std.specs.Prelude.{ℕ, List, map, length}
+use Rattle.std.specs.Prelude.{ℕ, List, map}
 use Rattle.vf_base.specs.Base.{object_number}
 use Rattle.vf_base.specs.Lists.{map_numbered}
 use Rattle.window_index.specs.declared.occurrence.Occurrence.{Occurrence}
@@ -15,6 +15,10 @@ pub record ChangesKept : Type 0 where
 abbrev pub change_moment : Change → ℕ
 change_moment change = change.moment
 
+-- a write as an occurrence of its object
+abbrev pub occurrence_of : Written → Occurrence
+occurrence_of write = record { number = write.object; moment = write.moment }
+
 -- a change as an occurrence of its object, at its moment or at its place among all
 abbrev pub at_moment : Change → Occurrence
 at_moment change = record { number = object_number change.object; moment = change.moment }
@@ -26,7 +30,7 @@ at_place place change = record { number = object_number change.object; moment = 
 abbrev pub at_places : ℕ → List Change → List Occurrence
 at_places place changes = map_numbered at_place place changes
 
--- one index has the moments of the changes of each object, the other their places
-pub record AreChanges (changes : List Change) (moments places : List (List ℕ)) : Type 0 where
-  pub moments_are : IsIndexOf (length moments) (map at_moment changes) moments
-  pub places_are : IsIndexOf (length moments) (at_places 0 changes) places
+-- one index has the moments of the changes of each of so many objects, the other their places
+pub record AreChanges (objects : ℕ) (changes : List Change) (moments places : List (List ℕ)) : Type 0 where
+  pub moments_are : IsIndexOf objects (map at_moment changes) moments
+  pub places_are : IsIndexOf objects (at_places 0 changes) places

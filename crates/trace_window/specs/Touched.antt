@@ -1,4 +1,4 @@
--- Which objects some events read or write, numbered through (events and their accesses by IEEE 1364-2001, clause 5).
+-- Which objects some events read or write, and which they write, numbered through (events and their accesses by IEEE 1364-2001, clause 5).
 use Rattle.std.specs.Prelude.{◌≡◌, ℕ, ◌+◌, ◌<◌, ◌≤◌, Bool, true, false, ◌&&◌, List, [], ◌∷◌, ◌++◌, Option, Some, None, nat_eq, slice_get}
 use Rattle.std.specs.List.{list_any}
 use Rattle.v_design.specs.Designs.{Machine}
@@ -45,6 +45,27 @@ event_touches machine object seen = touches object (accesses_of machine 0 0 seen
 -- the same of the event of a number, if there is one
 abbrev pub touched_at : Machine → List Seen → ℕ → ℕ → Bool
 touched_at machine events object number = elim (slice_get events number) [ None ↦ false | Some seen ↦ event_touches machine object seen ]
+
+-- whether an access writes its object
+abbrev pub is_writing : AccessAct → Bool
+is_writing Reading = false
+is_writing (Writing old new) = true
+is_writing (Awaiting entry) = false
+is_writing (Ending entry) = false
+is_writing (Holding entry) = false
+is_writing Settling = false
+
+-- whether some accesses write an object
+abbrev pub writes : ℕ → List ObjectAccess → Bool
+writes object accesses = list_any (λ (access : ObjectAccess). is_writing access.act && nat_eq access.object object) accesses
+
+-- whether an event writes an object, a net piece only where that changes
+abbrev pub event_writes : Machine → ℕ → Seen → Bool
+event_writes machine object seen = writes object (accesses_of machine 0 0 seen.before seen.event)
+
+-- the same of the event of a number, if there is one
+abbrev pub written_at : Machine → List Seen → ℕ → ℕ → Bool
+written_at machine events object number = elim (slice_get events number) [ None ↦ false | Some seen ↦ event_writes machine object seen ]
 
 -- the first of so many numbers that isn't before a moment and passes a test; none where none does
 abbrev pub IsFirstFrom : (ℕ → Bool) → ℕ → ℕ → Option ℕ → Type 0

@@ -13,6 +13,7 @@ use Rattle.process_code.specs.declared.state.RunEnd.{RunEnd}
 use Rattle.copy_laws.specs.Windows.{WindowEnd, IsWindow}
 use Rattle.between_slots.specs.Between.{window_phases, RunsLead}
 use Rattle.between_slots.specs.Updates.{UpdatesArePending}
+use Rattle.trace_window.specs.declared.sizes.Sizes.{Sizes}
 use Rattle.window_runs.specs.declared.index.RunIndex.{RunIndex}
 use Rattle.window_runs.specs.RunLaws.{EndsStand, EndsLead, EndsPart, EndsAppend}
 use Rattle.window_runs.specs.RunsByProcess.{run_phase, IsRunIndexOf}
@@ -20,39 +21,39 @@ use Rattle.window_runs.specs.Standing.{AreStatesAfter}
 use Rattle.window_runs.specs.Through.{AreUpdatesAfter}
 use Rattle.good_trace.specs.declared.events.Events.{Events}
 use Rattle.good_trace.specs.Slots.{end_of}
-use Rattle.good_trace.specs.Events.{slots_accesses}
+use Rattle.good_trace.specs.Events.{slots_accesses, slots_events, AreActed, AreSizes}
 use Rattle.good_trace.specs.Beginnings.{HasBeginnings}
 use Rattle.good_trace.specs.Closing.{AreClosed}
 use Rattle.good_trace.specs.Traces.{IsTrace, IsTraceWindow}
 use Rattle.good_trace.specs.RunsKept.{AreUpdatesAt, AreRunsKept, HasRuns}
 use Rattle.good_trace.proofs.Keeping.{IsTrace-none, IsTraceWindow-closed, window-is}
-use Rattle.good_trace.proofs.Following.{AreWindowEvents-closed, ends-within, later-is}
+use Rattle.good_trace.proofs.Following.{AreWindowEvents-closed, AreActed-held, ends-within, later-is}
 use Rattle.good_trace.proofs.RunsKeeping.{AreRunsKept-none, AreStatesAt-closed}
 use Rattle.good_trace.proofs.Boundaries.{AreUpdatesAt-closed}
 use Rattle.good_trace.proofs.trace.Trace.close_window.Goals as goal
 
 -- the slots since the last close as a window, with what its events write and touch
-closed : (design : FlatDesign) (plan : TestPlan) (pushed before steps : ℕ) (values read given : List LogicValue) (slots taken out : List SlotLog) (events : Events)
-    (later : List LogicValue) (ending : WindowEnd) →
+closed : (design : FlatDesign) (plan : TestPlan) (pushed before steps : ℕ) (values read given : List LogicValue) (slots taken out : List SlotLog) (sizes : Sizes)
+    (events : Events) (later : List LogicValue) (ending : WindowEnd) → AreSizes design sizes →
     IsTrace design plan pushed before steps values slots → IsWindow design plan before pushed ending → read ≡ values → taken ≡ slots →
-    AreClosed read (slots_accesses taken) events later → given ≡ values → out ≡ slots → IsTraceWindow design plan before pushed ending given events out
-closed design plan pushed before steps values read given slots taken out events later ending had window reads takes are gives outs =
-    let own : AreClosed values (slots_accesses slots) events later = subst (λ v. AreClosed v (slots_accesses slots) events later) reads
-    (subst (λ (s : List SlotLog). AreClosed read (slots_accesses s) events later) takes are) in
-    let inside = AreWindowEvents-closed design plan pushed before steps values slots ending (length values) events had window refl own.events_are in
+    AreClosed sizes read (slots_accesses taken) (slots_events taken) events later → given ≡ values → out ≡ slots → IsTraceWindow design plan before pushed ending given events out
+closed design plan pushed before steps values read given slots taken out sizes events later ending sized had window reads takes are gives outs =
+    let own : AreClosed sizes values (slots_accesses slots) (slots_events slots) events later = subst (λ v. AreClosed sizes v (slots_accesses slots) (slots_events slots) events later) reads
+    (subst (λ (s : List SlotLog). AreClosed sizes read (slots_accesses s) (slots_events s) events later) takes are) in
+    let inside = AreWindowEvents-closed design plan pushed before steps values slots ending sizes events had window sized own.events_are in
     subst (λ v. IsTraceWindow design plan before pushed ending v events out) (sym gives)
     (subst (λ (s : List SlotLog). IsTraceWindow design plan before pushed ending values events s) (sym outs)
     (IsTraceWindow-closed design plan pushed before steps values events slots ending had inside window))
 
 -- and what the trace goes on from
-goes-on : (design : FlatDesign) (plan : TestPlan) (pushed before steps : ℕ) (values read kept : List LogicValue) (slots taken none : List SlotLog) (events : Events)
-    (later : List LogicValue) (ending : WindowEnd) →
+goes-on : (design : FlatDesign) (plan : TestPlan) (pushed before steps : ℕ) (values read kept : List LogicValue) (slots taken none : List SlotLog) (sizes : Sizes)
+    (events : Events) (later : List LogicValue) (ending : WindowEnd) → AreSizes design sizes →
     IsTrace design plan pushed before steps values slots → IsWindow design plan before pushed ending → read ≡ values → taken ≡ slots →
-    AreClosed read (slots_accesses taken) events later → kept ≡ later → none ≡ [] → IsTrace design plan pushed pushed 0 kept none
-goes-on design plan pushed before steps values read kept slots taken none events later ending had window reads takes are keeps empty =
-    let own : AreClosed values (slots_accesses slots) events later = subst (λ v. AreClosed v (slots_accesses slots) events later) reads
-    (subst (λ (s : List SlotLog). AreClosed read (slots_accesses s) events later) takes are) in
-    let inside = AreWindowEvents-closed design plan pushed before steps values slots ending (length values) events had window refl own.events_are in
+    AreClosed sizes read (slots_accesses taken) (slots_events taken) events later → kept ≡ later → none ≡ [] → IsTrace design plan pushed pushed 0 kept none
+goes-on design plan pushed before steps values read kept slots taken none sizes events later ending sized had window reads takes are keeps empty =
+    let own : AreClosed sizes values (slots_accesses slots) (slots_events slots) events later = subst (λ v. AreClosed sizes v (slots_accesses slots) (slots_events slots) events later) reads
+    (subst (λ (s : List SlotLog). AreClosed sizes read (slots_accesses s) (slots_events s) events later) takes are) in
+    let inside = AreWindowEvents-closed design plan pushed before steps values slots ending sizes events had window sized own.events_are in
     subst (λ v. IsTrace design plan pushed pushed 0 v none) (sym keeps)
     (subst (λ (s : List SlotLog). IsTrace design plan pushed pushed 0 later s) (sym empty)
     (IsTrace-none design plan pushed later had.rules (later-is design plan before pushed values events ending later window inside own.later_count own.later_are)
@@ -105,6 +106,10 @@ close_runs-requires-clause-rise g c =
     (c.ends_go_on.ensures.ascend t.setup.now.codes (good_machine g.N.World.design) (window_phases g.N.World.design g.N.World.plan t.closed t.pushed) t.runs.items
     c.self.invariant.runs_kept.runs_are).0
 
+pub close_events-requires-clause-acted : goal.close_events-requires-clause-acted
+close_events-requires-clause-acted g c =
+    subst AreActed (sym c.deref-6.ensures.value) (AreActed-held g.N.World.design g.N.World.plan c.self.inside.closed c.self.inside.slots.items c.self.invariant.slots_kept.slots_are)
+
 pub invariant_of-result : goal.invariant_of-result
 invariant_of-result g c =
     let t = c.self.inside in
@@ -112,7 +117,7 @@ invariant_of-result g c =
     record {
       window =
           closed g.N.World.design g.N.World.plan t.pushed t.closed t.steps t.values.items c.deref-5.result.now c.replace-values.result.items
-          t.slots.items c.deref-6.result.now c.replace-slots.result.items c.in_ok-closed.closed.events c.in_ok-closed.closed.later.items (end_of c.args.last) c.self.invariant.slots_kept
+          t.slots.items c.deref-6.result.now c.replace-slots.result.items c.sizes-sizes.result c.in_ok-closed.closed.events c.in_ok-closed.closed.later.items (end_of c.args.last) c.sizes-sizes.ensures c.self.invariant.slots_kept
           window c.deref-5.ensures.value c.deref-6.ensures.value c.in_ok-closed.ensures.events (ap (λ (v : Vec Vec4 Global). v.items) c.replace-values.ensures.value)
           (ap (λ (v : Vec SlotLog Global). v.items) c.replace-slots.ensures.value);
       has_beginnings =
@@ -135,7 +140,7 @@ invariant_of-self g c =
     record {
       slots_kept =
           goes-on g.N.World.design g.N.World.plan t.pushed t.closed t.steps t.values.items c.deref-5.result.now c.replace-values.new.dest.items
-          t.slots.items c.deref-6.result.now c.replace-slots.new.dest.items c.in_ok-closed.closed.events c.in_ok-closed.closed.later.items (end_of c.args.last) c.self.invariant.slots_kept
+          t.slots.items c.deref-6.result.now c.replace-slots.new.dest.items c.sizes-sizes.result c.in_ok-closed.closed.events c.in_ok-closed.closed.later.items (end_of c.args.last) c.sizes-sizes.ensures c.self.invariant.slots_kept
           window c.deref-5.ensures.value c.deref-6.ensures.value c.in_ok-closed.ensures.events (ap (λ (v : Vec Vec4 Global). v.items) c.replace-values.ensures.after)
           (ap (λ (v : Vec SlotLog Global). v.items) c.replace-slots.ensures.after ∙ c.spare_of-spare.ensures.slots);
       runs_kept =

@@ -1,6 +1,8 @@
-use Rattle.std.proofs.Common.{◌+◌, ◌<◌, List, length, map, ap, sym, subst, ◌∙◌, arith}
+use Rattle.std.proofs.Common.{◌≡◌, ◌+◌, ◌<◌, List, length, map, ap, sym, subst, ◌∙◌, arith}
 use Rattle.std.proofs.lemmas.List.{length-map}
+use Rattle.v_design.specs.Assignments.{value_at}
 use Rattle.v_design.specs.Designs.{good_machine}
+use Rattle.between_slots.specs.Between.{state_through}
 use Rattle.trace_window.specs.declared.change.Change.{Change}
 use Rattle.trace_window.specs.Moments.{window_events}
 use Rattle.trace_window.specs.Writes.{Written, written_of}
@@ -9,6 +11,7 @@ use Rattle.good_trace.specs.SlotsTold.{AreWritesOf}
 use Rattle.good_trace.specs.Traces.{WindowKept}
 use Rattle.good_trace.proofs.Following.{ends-within}
 use Rattle.good_trace.proofs.Boundaries.{changes-bounds, changes-told}
+use Rattle.good_trace.proofs.Unwritten.{unwritten-stays}
 use Rattle.good_trace.proofs.window.TraceWindow.changes_in.Goals as goal
 
 pub changes_between-requires-clause-order : goal.changes_between-requires-clause-order
@@ -30,8 +33,8 @@ changes_between-requires-clause-within g c =
     let mapped = length-map c.all.result.now written_of in
     omega (arith, within, long, mapped)
 
-pub returns : goal.returns
-returns g c =
+pub returns-clause-changes : goal.returns-clause-changes
+returns-clause-changes g c =
     let w = c.self.inside in
     let own = c.self.invariant in
     let fits : w.begins + c.args.slot < w.ends = subst (λ (k : WindowKept). k.before + c.args.slot < k.through) (sym c.self.view_is) c.requires in
@@ -47,3 +50,23 @@ returns g c =
     (changes-told g.N.World.design g.N.World.plan w.begins c.args.slot w.ends w.slots.items c.all.result.now w.events.beginnings.items c.index.result.now c.index-2.result.now
     own.window.stands.slots_are own.window.stands.held within.1 own.has_beginnings.beginnings (omega (arith, fits, own.window.stands.held)) c.index.ensures c.index-2.ensures
     (c.all.ensures ∙ own.has_beginnings.writes)))
+
+pub returns-clause-others : goal.returns-clause-others
+returns-clause-others g c = λ object within none.
+    let w = c.self.inside in
+    let own = c.self.invariant in
+    let fits : w.begins + c.args.slot < w.ends = subst (λ (k : WindowKept). k.before + c.args.slot < k.through) (sym c.self.view_is) c.requires in
+    let ends = ends-within g.N.World.design g.N.World.plan w.begins w.ends (end_of w.last) own.window.stands.window in
+    let told = changes-told g.N.World.design g.N.World.plan w.begins c.args.slot w.ends w.slots.items c.all.result.now w.events.beginnings.items c.index.result.now c.index-2.result.now
+    own.window.stands.slots_are own.window.stands.held ends.1 own.has_beginnings.beginnings (omega (arith, fits, own.window.stands.held)) c.index.ensures c.index-2.ensures
+    (c.all.ensures ∙ own.has_beginnings.writes) in
+    subst
+    (λ (k : WindowKept).
+    value_at (state_through g.N.World.design g.N.World.plan (k.before + c.args.slot + 1)).values object
+    ≡ value_at (state_through g.N.World.design g.N.World.plan (k.before + c.args.slot)).values object) c.self.view_is
+    (unwritten-stays g.N.World.design g.N.World.plan w.begins (w.begins + c.args.slot) (length (window_events g.N.World.design g.N.World.plan w.begins (w.begins + c.args.slot))) w.values.items
+    c.changes_between.result.now own.window.events_are.rules (omega arith) (omega (arith, fits, ends.1)) own.window.events_are.values_are own.window.events_are.values_count
+    (subst
+    (λ (l : List Change).
+    AreWritesOf (good_machine g.N.World.design) (window_events g.N.World.design g.N.World.plan (w.begins + c.args.slot) (w.begins + c.args.slot + 1))
+    (length (window_events g.N.World.design g.N.World.plan w.begins (w.begins + c.args.slot))) (map written_of l)) (sym c.changes_between.ensures) told) object within none)
