@@ -8,8 +8,8 @@ use Rattle.v_design.specs.Trees.{Entry}
 use Rattle.v_design.specs.Designs.{FlatNode, Machine}
 use Rattle.v_design.specs.Processes.{Activity, Ready, Waiting, Asleep, Postponed, Done}
 use Rattle.v_design.specs.States.{State, NodeState, ProcessState, LaterUpdate, Event, TurnKind, PostponedTurn, UpdatesTurn, TimeTurn, process_at, found_or, idle_process, idle_node, has_event, has_work}
-use Rattle.v_design.specs.States.{some_in, is_due, least_of, wake_time, due_time, next_time_of, time_turn_at, turn_by, turn_of, time_turn, start}
-use Rattle.v_design.specs.Runs.{Move, FirstSlot, first_event, turn_in_slot, event_or_turn, turned_by, made, all_made, is_counted, less_one_if, slot_moves, most_steps, most_moves, first_run, slot_end}
+use Rattle.v_design.specs.States.{after, awake_at, some_in, is_due, least_of, wake_time, due_time, next_time_of, time_turn_at, turn_by, turn_of, time_turn, start}
+use Rattle.v_design.specs.Runs.{Move, Happens, FirstSlot, first_event, turn_in_slot, event_or_turn, turned_by, made, all_made, is_counted, less_one_if, slot_moves, most_steps, most_moves, first_run, slot_end}
 use Rattle.v_design.specs.Runs.{is_hyper, next_slot, next_slot_at, only_if}
 use Rattle.v_design.specs.Grades.{SlotOutcome, Fine, Hyper, phases, first_race, race_or_fine, slot_outcome}
 use Rattle.v_design.specs.Laws.{BeginsPhase}
@@ -53,7 +53,8 @@ turn-time machine most left state rest (Some UpdatesTurn) t = rest (suc left) (t
 
 move-time : EventsTakeNoTime → (machine : Machine) (most left : ℕ) (state : State) → TakeNoTime machine most → (found : Option Event) →
     (all_made machine state (moves_from most left machine state (event_or_turn found (turn_of state)))).time ≡ state.time
-move-time law machine most left state rest (Some event) = rest _ _ ∙ law machine state (event ∷ [])
+move-time law machine most left state rest (Some event) =
+    rest (less_one_if (is_counted (Happens event)) (suc left)) (after machine state event) ∙ law machine state (event ∷ [])
 move-time law machine most left state rest None = turn-time machine most left state rest (turn_of state) refl
 
 moves-time : EventsTakeNoTime → (machine : Machine) (most : ℕ) → TakeNoTime machine most
@@ -252,7 +253,7 @@ slot-stands laws machine rules end time number slot low here fine by_then run = 
   values = begun.fits.values;
   widths = λ object inside. begun-widths machine (time_turn 0 (slot_end machine slot)) begun object;
   nodes = idle-all machine.design.nodes (slot_end machine slot).nodes begun.fits.nodes quiet.1;
-  count = sym (length-map (slot_end machine slot).processes _) ∙ begun.fits.processes;
+  count = sym (length-map (slot_end machine slot).processes (λ (process : ProcessState). record process { activity = awake_at 0 process.activity })) ∙ begun.fits.processes;
   quiet = quiet.0;
   no_turn = rests.no_turn;
   processes = λ n. record {

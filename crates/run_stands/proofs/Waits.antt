@@ -1,5 +1,5 @@
 -- In a run each process waits, and may wait yet, for entries of its body alone.
-use Rattle.std.proofs.Common.{◌≡◌, ℕ, zero, suc, List, [], ◌∷◌, map, Bool, true, false, refl, sym, ap, subst, ◌⊎◌, inl, inr}
+use Rattle.std.proofs.Common.{◌≡◌, ℕ, zero, suc, List, [], ◌∷◌, map, Bool, true, false, refl, sym, ap, subst, ◌⊎◌, inl, inr, filter, not, ◌++◌}
 use Rattle.std.specs.Prelude.{Option, Some, None, slice_get, nat_le, if◌then◌else◌}
 use Rattle.four_value.specs.Values.{LogicValue}
 use Rattle.vf_base.specs.Lists.{AllHold, change_at}
@@ -10,6 +10,7 @@ use Rattle.v_design.specs.Processes.{Activity, Ready, Waiting, Asleep, Postponed
 use Rattle.v_design.specs.States.{State, ProcessState, Event, Step, LaneStep, Evaluation, NetUpdate, TurnKind, PostponedTurn, UpdatesTurn, TimeTurn, process_at, found_or, idle_process, source_at}
 use Rattle.v_design.specs.States.{start, entry_matches, some_entry, ready_if, woken, woken_process, with_value, with_values, written_if, value_written, with_process, with_operand, next_activity}
 use Rattle.v_design.specs.States.{write_of, activity_step, step_of, after_step, first_update, after_lane_step, with_node, evaluated, nets_updated, after, resumed, awake_at, turn_of, turned}
+use Rattle.v_design.specs.States.{LaterUpdate, is_due, node_at}
 use Rattle.v_design.specs.Runs.{Move, Happens, Turns, turned_by, made, all_made}
 use Rattle.process_table.specs.Waited.{waited_entries, tasks_entries, activity_entries, body_of}
 use Rattle.process_table.specs.WaitedLaws.{hold-right, opened-waits, step-waits}
@@ -121,7 +122,7 @@ after-waits P machine bodies state (Step process) h =
 after-waits P machine bodies state (LaneStep process) h =
     written-waits P machine (first_update (process_at state process).lane) (with_process process after_lane_step state) (one-waits P process after_lane_step state h (h process))
 after-waits P machine bodies state (Evaluation number) h = evaluated-waits P machine number (slice_get machine.design.nodes number) state h
-after-waits P machine bodies state (NetUpdate number) h = updated-waits P machine number (slice_get machine.design.nodes number) (found_or _ (slice_get state.nodes number)).pending state h
+after-waits P machine bodies state (NetUpdate number) h = updated-waits P machine number (slice_get machine.design.nodes number) (node_at state number).pending state h
 
 -- A turn
 
@@ -150,9 +151,16 @@ mapped-waits P f state idle each h n =
     subst (λ (s : ProcessState). AllHold (P n) (activity_entries s.activity)) (sym (found-mapped f state.processes n idle)) (each n (process_at state n) (h n))
 
 pub turned-waits : (P : ℕ → Entry → Type 0) (turn : TurnKind) (state : State) → WaitsHold P state → WaitsHold P (turned turn state)
-turned-waits P PostponedTurn state h = mapped-waits P _ state refl (λ n process i. resumed-waits (P n) process.activity i) h
-turned-waits P UpdatesTurn state h = mapped-waits P _ state refl (λ n process i. i) h
-turned-waits P (TimeTurn time) state h = mapped-waits P _ state refl (λ n process i. awake-waits (P n) time process.activity i) h
+turned-waits P PostponedTurn state h =
+    mapped-waits P (λ (process : ProcessState). record process { activity = resumed process.activity }) state refl (λ n process i. resumed-waits (P n) process.activity i) h
+turned-waits P UpdatesTurn state h =
+    mapped-waits P
+    (λ (process : ProcessState). record process {
+      later = filter (λ later. not (is_due state.time later)) process.later;
+      lane = process.lane ++ map (λ (later : LaterUpdate). later.update) (filter (is_due state.time) process.later);
+    }) state refl (λ n process i. i) h
+turned-waits P (TimeTurn time) state h =
+    mapped-waits P (λ (process : ProcessState). record process { activity = awake_at time process.activity }) state refl (λ n process i. awake-waits (P n) time process.activity i) h
 
 -- Moves
 
