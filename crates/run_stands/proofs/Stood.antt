@@ -1,5 +1,5 @@
 -- The state of a first run between two of its slots.
-use Rattle.std.proofs.Common.{◌≡◌, ℕ, zero, suc, ◌<◌, ◌≤◌, List, [], ◌∷◌, map, length, min, Bool, true, false, not, ◌&&◌, ◌||◌, refl, sym, ap, subst, ◌∙◌, inl, inr, arith}
+use Rattle.std.proofs.Common.{◌≡◌, ℕ, zero, suc, ◌+◌, ◌<◌, ◌≤◌, List, [], ◌∷◌, map, length, min, Bool, true, false, not, ◌&&◌, ◌||◌, refl, sym, ap, subst, ◌∙◌, inl, inr, arith}
 use Rattle.std.specs.Prelude.{Option, Some, None, is_some, slice_get, nat_le}
 use Rattle.std.proofs.lemmas.Bool.{cases_lt, le-leb, leb-false}
 use Rattle.std.proofs.lemmas.List.{length-map}
@@ -8,7 +8,7 @@ use Rattle.v_design.specs.Trees.{Entry}
 use Rattle.v_design.specs.Designs.{FlatNode, Machine}
 use Rattle.v_design.specs.Processes.{Activity, Ready, Waiting, Asleep, Postponed, Done}
 use Rattle.v_design.specs.States.{State, NodeState, ProcessState, LaterUpdate, Event, TurnKind, PostponedTurn, UpdatesTurn, TimeTurn, process_at, found_or, idle_process, idle_node, has_event, has_work}
-use Rattle.v_design.specs.States.{after, awake_at, some_in, is_due, least_of, wake_time, due_time, next_time_of, time_turn_at, turn_by, turn_of, time_turn, start}
+use Rattle.v_design.specs.States.{after, awake_at, is_postponed, some_in, is_due, least_of, wake_time, due_time, next_time_of, time_turn_at, turn_by, turn_of, time_turn, start}
 use Rattle.v_design.specs.Runs.{Move, Happens, FirstSlot, first_event, turn_in_slot, event_or_turn, turned_by, made, all_made, is_counted, less_one_if, slot_moves, most_steps, most_moves, first_run, slot_end}
 use Rattle.v_design.specs.Runs.{is_hyper, next_slot, next_slot_at, only_if}
 use Rattle.v_design.specs.Grades.{SlotOutcome, Fine, Hyper, phases, first_race, race_or_fine, slot_outcome}
