@@ -1,16 +1,16 @@
 -- Numbers before a limit that pass no test.
-use Rattle.std.proofs.Common.{◌≡◌, ℕ, zero, suc, ◌<◌, ◌≤◌, List, [], ◌∷◌, map, length, Bool, true, false, ◌||◌, refl, sym, ap, subst, ◌∙◌, ◌⊎◌, inl, inr, arith}
+use Rattle.std.proofs.Common.{◌≡◌, ℕ, suc, ◌<◌, ◌≤◌, List, [], ◌∷◌, map, length, Bool, true, false, refl, sym, ap, subst, ◌∙◌, ◌⊎◌, inl, inr, arith}
 use Rattle.std.specs.Prelude.{Option, Some, None, is_some, nat_eq, slice_get}
 use Rattle.std.proofs.lemmas.Bool.{eqb-true, or_cases, cases_lt}
 use Rattle.four_value.specs.Values.{LogicValue}
 use Rattle.vf_base.specs.Base.{node_number}
 use Rattle.vf_base.specs.Lists.{has}
 use Rattle.vf_base.specs.declared.ids.NodeId.{NodeId}
-use Rattle.v_design.specs.Designs.{FlatDesign, FlatNode}
+use Rattle.v_design.specs.Designs.{FlatDesign}
 use Rattle.net_graph.specs.Tables.{readers_of}
 use Rattle.net_settle.specs.MarkLaws.{has-readers_of}
 use Rattle.net_settle.specs.Marked.{reads}
-use Rattle.copy_laws.specs.Differences.{own_of, Ascend}
+use Rattle.copy_laws.specs.Differences.{Ascend}
 use Rattle.copy_state.specs.Entries.{first_from}
 use Rattle.trace_window.specs.Moments.{Seen}
 use Rattle.trace_window.specs.Touched.{IsFirstFrom}

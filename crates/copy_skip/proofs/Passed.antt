@@ -1,11 +1,10 @@
 -- Slots whose events come before a moment up to which all leave a copy alone.
-use Rattle.std.proofs.Common.{◌≡◌, ℕ, zero, suc, ◌+◌, ◌<◌, ◌≤◌, List, [], ◌∷◌, ◌++◌, map, length, take, drop, Bool, true, false, refl, sym, ap, subst, ◌∙◌, arith, append_assoc, length-append, append-nil}
+use Rattle.std.proofs.Common.{◌≡◌, ℕ, zero, suc, ◌+◌, ◌<◌, ◌≤◌, List, [], ◌∷◌, ◌++◌, length, take, drop, Bool, true, false, refl, sym, ap, subst, ◌∙◌, arith, append_assoc, length-append, append-nil}
 use Rattle.std.specs.Prelude.{Option, Some, None, is_some, nat_eq, slice_get}
 use Rattle.std.proofs.lemmas.Bool.{eq-eqb, eqb-true}
 use Rattle.std.proofs.lemmas.Option.{slice_get_within}
-use Rattle.four_value.specs.Values.{LogicValue}
-use Rattle.vf_base.specs.Lists.{AllHold, joined, has}
-use Rattle.v_design.specs.Designs.{FlatDesign, FlatNode, FaultSite, VariableBit, OutputBit, GateTerminal, Machine, StuckAt, TestPlan, good_machine}
+use Rattle.vf_base.specs.Lists.{AllHold}
+use Rattle.v_design.specs.Designs.{FlatDesign, FaultSite, VariableBit, OutputBit, GateTerminal, Machine, StuckAt, TestPlan, good_machine}
 use Rattle.v_design.specs.Runs.{FirstSlot}
 use Rattle.v_design.specs.States.{Evaluation}
 use Rattle.between_slots.specs.WindowLaws.{window_slots-part}

@@ -6,7 +6,7 @@ use Rattle.std.proofs.lemmas.List.{get_or_past}
 use Rattle.four_value.specs.Values.{LogicValue}
 use Rattle.vf_base.specs.Lists.{AllHold, has, joined, map_numbered}
 use Rattle.v_design.specs.Assignments.{value_at}
-use Rattle.v_design.specs.Designs.{FlatDesign, FlatNode, FlatObject, FaultSite, VariableBit, OutputBit, GateTerminal, width_in}
+use Rattle.v_design.specs.Designs.{FlatDesign, FlatNode, FaultSite, VariableBit, OutputBit, GateTerminal, width_in}
 use Rattle.v_design.specs.Expressions.{up_from}
 use Rattle.v_design.specs.Paths.{net_pieces}
 use Rattle.v_design.specs.Sites.{is_variable, bits_if, variable_sites, output_sites, terminal_count, terminal_sites, sites_of}

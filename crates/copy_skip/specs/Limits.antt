@@ -1,5 +1,5 @@
 -- Moments of a window before which no event touches a copy (events and slots by IEEE 1364-2001, clause 5).
-use Rattle.std.specs.Prelude.{◌≡◌, ℕ, ◌<◌, ◌≤◌, Bool, true, false, List, Option, Some, is_some, length, slice_get}
+use Rattle.std.specs.Prelude.{◌≡◌, ℕ, ◌<◌, ◌≤◌, Bool, true, false, List, Some, is_some, length, slice_get}
 use Rattle.four_value.specs.Values.{LogicValue}
 use Rattle.vf_base.specs.Lists.{has}
 use Rattle.v_design.specs.Designs.{FlatDesign, FlatNode, FaultSite, VariableBit, OutputBit, GateTerminal, good_machine}
