@@ -1,3 +1,0 @@
-mod Passed
-mod Limited
-mod There
