@@ -1,18 +1,16 @@
 -- An event that leaves a copy alone touches nothing that differs.
-use Rattle.std.proofs.Common.{◌≡◌, ℕ, List, [], ◌∷◌, ◌++◌, Bool, true, false, ◌&&◌, ◌||◌, refl, sym, ap, subst, ◌∙◌}
-use Rattle.std.specs.Prelude.{Option, Some, None, is_some, nat_eq, slice_get}
+use Rattle.std.proofs.Common.{◌≡◌, ℕ, List, [], ◌∷◌, ◌++◌, Bool, true, false, ◌&&◌, ◌||◌, refl, sym, ap, ◌∙◌}
+use Rattle.std.specs.Prelude.{Some, is_some, nat_eq, slice_get}
 use Rattle.std.proofs.lemmas.Bool.{eq-eqb}
-use Rattle.four_value.specs.Values.{LogicValue}
-use Rattle.vf_base.specs.Lists.{has, AllHold}
-use Rattle.v_design.specs.Designs.{FlatDesign, FlatNode, StuckAt, good_machine, faulty_machine, forced_variable}
-use Rattle.v_design.specs.Assignments.{ValueUpdate, node_outputs}
+use Rattle.vf_base.specs.Lists.{AllHold}
+use Rattle.v_design.specs.Designs.{FlatDesign, FlatNode, StuckAt, good_machine}
+use Rattle.v_design.specs.Assignments.{ValueUpdate}
 use Rattle.v_design.specs.Processes.{Action, ReadsObject, WritesObject, AppendsUpdate, TouchesNothing}
 use Rattle.v_design.specs.States.{State, Event, Step, LaneStep, Evaluation, NetUpdate, process_at, step_of, first_update, value_written}
-use Rattle.v_design.specs.Accesses.{ObjectAccess, action_accesses, await_accesses, lane_accesses, accesses_of}
+use Rattle.v_design.specs.Accesses.{ObjectAccess, action_accesses, await_accesses, lane_accesses}
 use Rattle.copy_laws.specs.Differences.{Differences, own_of, apart_of}
-use Rattle.copy_laws.specs.Touches.{site_is_object, site_is_node, IsFree, WriteIsFree, UpdateIsFree, ActionIsFree, EventIsFree, OtherSitesAreFree}
-use Rattle.trace_window.specs.Moments.{Seen}
-use Rattle.trace_window.specs.Touched.{touches, event_touches}
+use Rattle.copy_laws.specs.Touches.{site_is_object, IsFree, WriteIsFree, UpdateIsFree, ActionIsFree, EventIsFree, OtherSitesAreFree}
+use Rattle.trace_window.specs.Touched.{touches}
 use Rattle.quiet_index.specs.Indexed.{LeavesAlone}
 
 -- some objects don't differ

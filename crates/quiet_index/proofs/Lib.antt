@@ -1,3 +1,4 @@
 mod Alone
 mod Settled
 mod Told
+mod Passed

@@ -1,11 +1,11 @@
 -- A net differs between two slots only where its node is the fault's or reads what differs.
-use Rattle.std.proofs.Common.{◌≡◌, ◌≢◌, ℕ, List, [], ◌∷◌, map, Bool, true, false, refl, sym, ap, subst, ◌∙◌}
+use Rattle.std.proofs.Common.{◌≡◌, ◌≢◌, ℕ, List, [], ◌∷◌, map, Bool, true, false, refl, sym, ap, ◌∙◌}
 use Rattle.std.specs.Prelude.{Option, Some, None, is_some, nat_eq, slice_get}
 use Rattle.std.proofs.lemmas.Bool.{eqb-true}
 use Rattle.four_value.specs.Values.{LogicValue}
 use Rattle.vf_base.specs.Lists.{has, AllHold}
 use Rattle.v_design.specs.Designs.{FlatDesign, FlatNode, StuckAt, good_machine, faulty_machine}
-use Rattle.v_design.specs.Assignments.{AreSettled, value_at, node_outputs}
+use Rattle.v_design.specs.Assignments.{AreSettled, value_at}
 use Rattle.v_design.specs.States.{State, found_or}
 use Rattle.v_design.specs.WellFormed.{KeepsRules}
 use Rattle.order_laws.specs.NodesRest.{HasWidths, NodesRestOnInputs}

@@ -1,24 +1,24 @@
 -- What an index tells of the slots of the good machine, so that nothing in them touches what differs.
-use Rattle.std.proofs.Common.{◌≡◌, ℕ, zero, suc, ◌+◌, ◌<◌, ◌≤◌, List, [], ◌∷◌, Bool, true, false, refl, sym, ap, subst, ◌∙◌}
+use Rattle.std.proofs.Common.{◌≡◌, ℕ, zero, suc, ◌+◌, List, [], ◌∷◌, Bool, true, false, refl, sym, ap, subst, ◌∙◌}
 use Rattle.std.specs.Prelude.{Option, Some, None, is_some, slice_get}
 use Rattle.four_value.specs.Values.{LogicValue}
 use Rattle.vf_base.specs.Lists.{AllHold}
-use Rattle.v_design.specs.Designs.{FlatDesign, FlatNode, Machine, StuckAt, TestPlan, good_machine, faulty_machine}
-use Rattle.v_design.specs.States.{State, Event, NetUpdate, TurnKind, PostponedTurn, UpdatesTurn, TimeTurn, node_at, possible, after, turn_of, turned, time_turn}
+use Rattle.v_design.specs.Designs.{FlatDesign, FlatNode, Machine, StuckAt, good_machine, faulty_machine}
+use Rattle.v_design.specs.States.{State, Event, TurnKind, PostponedTurn, UpdatesTurn, TimeTurn, node_at, possible, after, turn_of, turned, time_turn}
 use Rattle.v_design.specs.Runs.{Move, Happens, Turns, FirstSlot, first_event, turn_in_slot, event_or_turn, turned_by, made, is_counted, less_one_if, slot_moves, most_steps, most_moves, first_run}
-use Rattle.v_design.specs.Grades.{SlotOutcome, Fine, Race, Hyper, phases, first_race, race_or_fine, slot_outcome}
+use Rattle.v_design.specs.Grades.{SlotOutcome, Fine, Hyper, phases, first_race, race_or_fine, slot_outcome}
 use Rattle.v_design.specs.Laws.{BeginsPhase}
-use Rattle.v_design.specs.Runs.{is_hyper, slot_end}
+use Rattle.v_design.specs.Runs.{is_hyper}
 use Rattle.v_design.specs.WellFormed.{KeepsRules}
 use Rattle.order_laws.specs.NodesRest.{NodesRestOnInputs}
 use Rattle.order_laws.specs.Settling.{FirstEvents}
 use Rattle.machine_laws.specs.SlotLoop.{slot_from}
-use Rattle.copy_laws.specs.Differences.{Differences, own_of, apart_of, StandsFor, KeepsNothingEqual}
+use Rattle.copy_laws.specs.Differences.{Differences, StandsFor, KeepsNothingEqual}
 use Rattle.copy_laws.specs.Touches.{OtherSitesAreFree}
-use Rattle.copy_laws.specs.Windows.{good_slots, state_at}
+use Rattle.copy_laws.specs.Windows.{state_at}
 use Rattle.grade_laws.specs.Ahead.{StopsAfter}
-use Rattle.beside_laws.specs.Stands.{RunsStand, StandsAfterSlot}
-use Rattle.trace_window.specs.Moments.{Seen, slot_seen}
+use Rattle.beside_laws.specs.Stands.{RunsStand}
+use Rattle.trace_window.specs.Moments.{slot_seen}
 use Rattle.v_design.specs.Grades.{first_stop}
 use Rattle.quiet_slots.specs.FirstSlots.{RestsAfterSlot, FirstSlotsStand}
 use Rattle.quiet_slots.specs.Pending.{PendingFrom, Before, Now, pending-from, begun-widths, begun-idle}

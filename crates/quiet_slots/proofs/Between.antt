@@ -1,22 +1,21 @@
 -- Both machines between two slots: their next slots, and the copy there.
-use Rattle.std.proofs.Common.{◌≡◌, ◌≢◌, ℕ, zero, suc, ◌<◌, ◌≤◌, List, [], ◌∷◌, length, Bool, true, false, ◌||◌, refl, sym, ap, subst, ◌∙◌, arith}
+use Rattle.std.proofs.Common.{◌≡◌, ◌≢◌, ℕ, suc, ◌≤◌, List, [], ◌∷◌, length, Bool, true, false, ◌||◌, refl, sym, ap, subst, ◌∙◌, arith}
 use Rattle.std.specs.Prelude.{Option, Some, None, is_some, nat_eq, slice_get}
 use Rattle.std.proofs.lemmas.Bool.{eq-eqb}
 use Rattle.four_value.specs.Values.{LogicValue}
 use Rattle.vf_base.specs.Lists.{AllHold}
 use Rattle.v_design.specs.Assignments.{value_at}
-use Rattle.v_design.specs.Designs.{FlatDesign, StuckAt, good_machine, faulty_machine}
+use Rattle.v_design.specs.Designs.{FlatDesign}
 use Rattle.v_design.specs.Processes.{Activity}
-use Rattle.v_design.specs.States.{State, NodeState, ProcessState, LaterUpdate, TimeTurn, node_at, process_at, found_or, idle_node, is_ready, is_any, wake_time, due_time, next_time_of, time_turn_at}
-use Rattle.v_design.specs.States.{turn_of, turned, time_turn}
+use Rattle.v_design.specs.States.{State, NodeState, ProcessState, LaterUpdate, TimeTurn, process_at, found_or, idle_node, is_ready, is_any, next_time_of}
+use Rattle.v_design.specs.States.{turn_of, time_turn}
 use Rattle.copy_laws.specs.Beside.{Keeps}
 use Rattle.copy_laws.specs.Differences.{Differences, own_of, apart_of, StandsFor, KeepsNothingEqual}
 use Rattle.copy_laws.specs.Moves.{IsWithin, MayJump}
 use Rattle.copy_laws.specs.Rest.{with_own, within_of, WithinAreDifferences}
 use Rattle.copy_laws.specs.Turns.{ComesAfter, SleepsOn, SleepsPast, TurnsPass}
-use Rattle.quiet_slots.specs.FirstSlots.{RestsAfterSlot}
-use Rattle.quiet_slots.proofs.Lockstep.{StillSleeps, Kept, kept-own, kept-none, own-is, same-is, sleeps-on, kept-sleep, turned-keeps, keeps-then}
-use Rattle.quiet_slots.proofs.Rests.{NoneTurns, none-turns, turn-next, none-earlier, next-after, each-after}
+use Rattle.quiet_slots.proofs.Lockstep.{Kept, kept-own, kept-none, own-is, same-is, sleeps-on, kept-sleep, turned-keeps, keeps-then}
+use Rattle.quiet_slots.proofs.Rests.{NoneTurns, turn-next, none-earlier, next-after, each-after}
 
 -- At any time
 

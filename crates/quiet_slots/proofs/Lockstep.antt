@@ -1,10 +1,10 @@
 -- The good machine and the faulty one event by event and turn by turn through a slot in which nothing touches what differs.
-use Rattle.std.proofs.Common.{◌≡◌, ℕ, ◌+◌, ◌<◌, ◌≤◌, List, [], ◌∷◌, ◌++◌, length, Bool, true, false, ◌||◌, refl, sym, ap, subst, ◌∙◌}
-use Rattle.std.specs.Prelude.{Option, Some, None, is_some, slice_get}
+use Rattle.std.proofs.Common.{◌≡◌, ℕ, ◌+◌, ◌≤◌, List, [], ◌∷◌, ◌++◌, Bool, true, false, refl, sym, ap, subst, ◌∙◌}
+use Rattle.std.specs.Prelude.{Option, Some, None, is_some}
 use Rattle.vf_base.specs.Lists.{AllHold}
 use Rattle.v_design.specs.Assignments.{value_at}
-use Rattle.v_design.specs.Designs.{FlatDesign, FlatNode, Machine, StuckAt, good_machine, faulty_machine}
-use Rattle.v_design.specs.States.{State, ProcessState, Event, TurnKind, PostponedTurn, UpdatesTurn, TimeTurn, after, process_at, found_or, is_ready, is_any, is_postponed, is_due, some_in, wake_time}
+use Rattle.v_design.specs.Designs.{FlatDesign, Machine, StuckAt, good_machine, faulty_machine}
+use Rattle.v_design.specs.States.{State, ProcessState, Event, TurnKind, PostponedTurn, UpdatesTurn, TimeTurn, after, process_at, found_or, is_ready, is_any, is_postponed, wake_time}
 use Rattle.v_design.specs.States.{due_time, turn_of, turned}
 use Rattle.v_design.specs.Accesses.{held_by, held_accesses}
 use Rattle.v_design.specs.PhaseLogs.{phase_race}
@@ -16,14 +16,14 @@ use Rattle.machine_laws.specs.SlotLoop.{Moment, ComesTo, EventsGoOn, TurnsGoOn, 
 use Rattle.copy_laws.specs.Beside.{Apart, AreBeside, AreFirst, Keeps, EventPasses, GoOnBeside, FirstEventsAreOne, UntouchedEventsPass}
 use Rattle.copy_laws.specs.Touches as touches
 use Rattle.copy_laws.specs.Touches.{EventIsFree, FreeEventsPass}
-use Rattle.copy_laws.specs.QuietPhases.{AccessesAlike, DoesAlike, AllDoAlike, UntouchedAccessesAreAlike, UntouchedEventsDoAlike, AlikePhasesLogAlike}
+use Rattle.copy_laws.specs.QuietPhases.{DoesAlike, AllDoAlike, UntouchedAccessesAreAlike, UntouchedEventsDoAlike, AlikePhasesLogAlike}
 use Rattle.copy_laws.specs.Moves.{Within, IsWithin, MayJump, apart_within, WithinIsBeside, WithinStays}
-use Rattle.copy_laws.specs.Turns.{ComesAfter, SleepsPast, SleepsOn, KeptSleepOn, TurnsPass}
+use Rattle.copy_laws.specs.Turns.{SleepsPast, SleepsOn, KeptSleepOn, TurnsPass}
 use Rattle.copy_laws.specs.Differences.{Differences, own_of, apart_of}
 use Rattle.copy_laws.specs.Rest.{with_own, within_of}
 use Rattle.quiet_slots.proofs.FirstSlots.{idle-at}
 use Rattle.quiet_slots.proofs.Rests.{after-lower, after-due}
-use Rattle.quiet_slots.proofs.Untouched.{SameApart, event-free, nets-elsewhere, held-alike}
+use Rattle.quiet_slots.proofs.Untouched.{event-free, nets-elsewhere, held-alike}
 use Rattle.quiet_slots.proofs.Wide.{IsWide, after-wide, turned-wide}
 
 -- the laws on which a walk stands

@@ -24,7 +24,7 @@ use Rattle.quiet_slots.specs.FirstSlots.{RestsAfterSlot, FirstSlotsStand}
 use Rattle.quiet_slots.specs.Quiet.{IsFreeBeside, SleepsInBoth, GoesWithGood, QuietSlotsPass}
 use Rattle.quiet_slots.proofs.Between.{GoOnTo, goes-on-to, jump-there, next-late, stands-so, nothing-equal}
 use Rattle.quiet_slots.proofs.Lockstep.{WalkLaws, Kept}
-use Rattle.quiet_slots.proofs.Rests.{NoneTurns, none-turns, turn-next}
+use Rattle.quiet_slots.proofs.Rests.{none-turns, turn-next}
 use Rattle.quiet_slots.proofs.Slots.{PassesSlot, slot-passes}
 use Rattle.quiet_slots.proofs.Stands.{Stand, stand-rests, stand-slot, stand-more, stand-later, stand-fine, stand-passes, stand-again, next-later, turned-later, quiet-ready, quiet-lane, empty-lane}
 use Rattle.quiet_slots.proofs.Stands.{through-stop}

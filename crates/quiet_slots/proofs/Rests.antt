@@ -1,9 +1,9 @@
 -- Processes of which nothing is left to do before a time, and the turn that their state leads to.
-use Rattle.std.proofs.Common.{◌≡◌, ℕ, zero, suc, ◌<◌, ◌≤◌, List, [], ◌∷◌, min, Bool, true, false, not, ◌&&◌, ◌||◌, refl, sym, ap, subst, ◌∙◌, arith}
+use Rattle.std.proofs.Common.{◌≡◌, ℕ, zero, suc, ◌<◌, ◌≤◌, List, [], ◌∷◌, min, Bool, true, false, ◌||◌, refl, sym, ap, ◌∙◌, arith}
 use Rattle.std.specs.Prelude.{Option, Some, None, slice_get, nat_le}
 use Rattle.std.proofs.lemmas.Bool.{leb-true, le-leb, lt-leb}
-use Rattle.v_design.specs.States.{State, ProcessState, LaterUpdate, TurnKind, PostponedTurn, UpdatesTurn, TimeTurn, process_at, found_or, idle_process, is_ready, is_any, has_event, has_work}
-use Rattle.v_design.specs.States.{is_postponed, is_due, some_in, is_quiescent, least_of, wake_time, due_time, next_time_of, time_turn_at, turn_by, turn_of}
+use Rattle.v_design.specs.States.{State, ProcessState, LaterUpdate, TimeTurn, process_at, found_or, idle_process}
+use Rattle.v_design.specs.States.{is_postponed, is_due, some_in, least_of, wake_time, due_time, next_time_of, time_turn_at, turn_by, turn_of}
 use Rattle.v_design.specs.Runs.{turn_in_slot}
 use Rattle.copy_laws.specs.Turns.{ComesAfter, SleepsPast}
 

@@ -1,5 +1,5 @@
 -- What the strobes see.
-use Rattle.std.proofs.Common.{◌≡◌, List, [], ◌∷◌, map, refl, sym, ap, ◌∙◌}
+use Rattle.std.proofs.Common.{◌≡◌, List, [], ◌∷◌, refl, sym, ◌∙◌}
 use Rattle.std.specs.Prelude.{None}
 use Rattle.four_value.specs.Values.{bit_at}
 use Rattle.vf_base.specs.Base.{WatchedBit}

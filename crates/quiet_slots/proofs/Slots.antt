@@ -1,22 +1,22 @@
 -- A slot of the good machine in which nothing touches what differs is a fine slot of the faulty machine.
-use Rattle.std.proofs.Common.{◌≡◌, ℕ, ◌+◌, ◌≤◌, List, [], ◌∷◌, ◌++◌, map, Bool, true, false, refl, sym, ap, subst, ◌∙◌, arith, append-nil, append_assoc}
+use Rattle.std.proofs.Common.{◌≡◌, ℕ, ◌+◌, ◌≤◌, List, [], ◌∷◌, Bool, true, false, refl, sym, ap, subst, ◌∙◌, arith}
 use Rattle.std.specs.Prelude.{Option, Some, None}
 use Rattle.vf_base.specs.Base.{ReportedPair}
-use Rattle.vf_base.specs.Lists.{AllHold, joined}
+use Rattle.vf_base.specs.Lists.{AllHold}
 use Rattle.v_design.specs.Designs.{FlatDesign, Machine, StuckAt, good_machine, faulty_machine}
-use Rattle.v_design.specs.States.{State, Event, TurnKind, after, turn_of}
+use Rattle.v_design.specs.States.{State}
 use Rattle.v_design.specs.Logs.{PhaseAccess}
 use Rattle.v_design.specs.PhaseLogs.{phase_race}
-use Rattle.v_design.specs.Runs.{Move, Happens, Turns, FirstSlot, happened, made, counted_steps, most_steps, most_moves, first_moves, slot_end, is_hyper}
-use Rattle.v_design.specs.Grades.{Phase, SlotOutcome, Fine, Race, Hyper, cut, phases, race_of, first_race, race_or_fine, slot_outcome}
+use Rattle.v_design.specs.Runs.{FirstSlot, counted_steps, most_steps, most_moves, first_moves, slot_end, is_hyper}
+use Rattle.v_design.specs.Grades.{Phase, SlotOutcome, Fine, Hyper, phases, race_of, first_race, race_or_fine, slot_outcome}
 use Rattle.v_design.specs.Laws.{BeginsPhase}
 use Rattle.v_design.specs.WellFormed.{KeepsRules}
-use Rattle.machine_laws.specs.SlotLoop.{Moment, slot_from, first_moment, phases_so_far}
+use Rattle.machine_laws.specs.SlotLoop.{slot_from, first_moment, phases_so_far}
 use Rattle.copy_laws.specs.Beside.{Keeps}
 use Rattle.copy_laws.specs.Moves.{IsWithin, MayJump}
 use Rattle.copy_laws.specs.Differences.{Differences, apart_of}
 use Rattle.copy_laws.specs.Rest.{within_of}
-use Rattle.trace_window.specs.Moments.{Seen, seen_from, phase_seen, slot_seen}
+use Rattle.trace_window.specs.Moments.{slot_seen}
 use Rattle.quiet_slots.specs.FirstSlots.{RestsAfterSlot}
 use Rattle.quiet_slots.specs.Quiet.{IsFreeBeside}
 use Rattle.quiet_slots.specs.SlotMoves.{slot-seen}

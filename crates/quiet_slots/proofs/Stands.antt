@@ -5,8 +5,8 @@ use Rattle.std.proofs.lemmas.Bool.{le-leb}
 use Rattle.vf_base.specs.Lists.{AllHold}
 use Rattle.v_design.specs.Assignments.{ValueUpdate}
 use Rattle.v_design.specs.Designs.{Machine}
-use Rattle.v_design.specs.States.{State, TurnKind, TimeTurn, process_at, has_event, has_work, is_ready, is_any, some_in, is_quiescent, next_time_of, time_turn_at, turn_of, time_turn}
-use Rattle.v_design.specs.Runs.{FirstSlot, first_run, slot_end, is_hyper, next_slot_at, next_slot, only_if}
+use Rattle.v_design.specs.States.{State, TimeTurn, process_at, has_event, has_work, is_ready, is_any, some_in, is_quiescent, next_time_of, time_turn_at, turn_of, time_turn}
+use Rattle.v_design.specs.Runs.{FirstSlot, first_run, slot_end, next_slot_at, next_slot, only_if}
 use Rattle.v_design.specs.Grades.{SlotOutcome, Fine, Race, Hyper, slot_outcome, Stop, first_stop}
 use Rattle.v_design.specs.OwnSteps.{slots_through_stop}
 use Rattle.v_design.specs.WellFormed.{KeepsRules}
@@ -167,10 +167,10 @@ through-stop machine until (first ∷ slots) rise stops (suc number) slot here l
     earlier = all-at (λ (later : FirstSlot). first.begins.time < later.begins.time) slots number slot rise.0 here
 
     go : (outcome : SlotOutcome) → StopsAfter until (elim outcome as (λ _. Option Stop) [
-          | Fine ↦ first_stop machine slots
-          | Race pair ↦ Some (record { time = first.begins.time; outcome = Race pair })
-          | Hyper ↦ Some (record { time = first.begins.time; outcome = Hyper })
-        ]) →
+      | Fine ↦ first_stop machine slots
+      | Race pair ↦ Some (record { time = first.begins.time; outcome = Race pair })
+      | Hyper ↦ Some (record { time = first.begins.time; outcome = Hyper })
+    ]) →
         (StopsAfter until (first_stop machine slots) → slice_get (slots_through_stop machine slots) number ≡ Some slot) →
         slice_get (elim outcome as (λ _. List FirstSlot) [ Fine ↦ slots_through_stop machine slots | Race pair ↦ [] | Hyper ↦ [] ]) number ≡ Some slot
     go Fine s rest = rest s

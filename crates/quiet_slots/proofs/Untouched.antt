@@ -1,6 +1,6 @@
 -- An event that touches no difference, whatever the faulty machine's state is but for what its kept processes wait for.
-use Rattle.std.proofs.Common.{◌≡◌, ℕ, zero, suc, ◌+◌, List, [], ◌∷◌, ◌++◌, map, length, filter, Bool, true, false, ◌||◌, refl, sym, ap, subst, ◌∙◌, ◌⊎◌, inl, inr, arith}
-use Rattle.std.specs.Prelude.{Option, Some, None, is_some, nat_eq, slice_get}
+use Rattle.std.proofs.Common.{◌≡◌, ℕ, suc, ◌+◌, List, [], ◌∷◌, length, Bool, true, false, ◌||◌, refl, sym, ap, subst, ◌∙◌, inl, inr, arith}
+use Rattle.std.specs.Prelude.{Option, Some, None, nat_eq, slice_get}
 use Rattle.std.proofs.lemmas.Bool.{cases_eq, eq-eqb, ne_eqb}
 use Rattle.vf_base.specs.Lists.{AllHold, has, joined, map_numbered}
 use Rattle.v_design.specs.Trees.{Entry}
@@ -10,8 +10,8 @@ use Rattle.v_design.specs.Processes.{Action, ReadsObject, WritesObject, AppendsU
 use Rattle.v_design.specs.States.{State, ProcessState, Event, Step, LaneStep, Evaluation, NetUpdate, process_at, found_or, idle_process, first_update, some_entry, step_of}
 use Rattle.v_design.specs.Accesses.{ObjectAccess, waiting_entries, held_by, held_accesses}
 use Rattle.copy_laws.specs.Beside.{Apart}
-use Rattle.copy_laws.specs.QuietPhases.{WaitElsewhere, NetsAreNotAwaited}
-use Rattle.copy_laws.specs.Touches.{IsFree, WriteIsFree, UpdateIsFree, ActionIsFree, EventIsFree, awaits}
+use Rattle.copy_laws.specs.QuietPhases.{NetsAreNotAwaited}
+use Rattle.copy_laws.specs.Touches.{IsFree, UpdateIsFree, ActionIsFree, EventIsFree}
 
 -- Another faulty state in which the kept processes are the same
 

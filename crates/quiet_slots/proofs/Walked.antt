@@ -1,20 +1,20 @@
 -- A slot of the faulty machine beside a slot of the good one in which nothing touches what differs.
-use Rattle.std.proofs.Common.{◌≡◌, ℕ, zero, suc, ◌+◌, ◌<◌, ◌≤◌, List, [], ◌∷◌, ◌++◌, map, Bool, true, false, not, ◌&&◌, ◌||◌, refl, sym, ap, subst, ◌∙◌, arith, append-nil, append_assoc}
+use Rattle.std.proofs.Common.{◌≡◌, ℕ, zero, suc, ◌+◌, ◌≤◌, List, [], ◌∷◌, Bool, true, false, not, ◌&&◌, refl, sym, ap, subst, ◌∙◌, arith}
 use Rattle.std.specs.Prelude.{Option, Some, None, is_some, cond}
 use Rattle.std.proofs.lemmas.List.Sums.{sum_by-append}
-use Rattle.vf_base.specs.Lists.{AllHold, first_place, earlier_place, joined}
-use Rattle.v_design.specs.Designs.{FlatDesign, Machine, StuckAt, good_machine, faulty_machine}
+use Rattle.vf_base.specs.Lists.{AllHold, first_place, earlier_place}
+use Rattle.v_design.specs.Designs.{FlatDesign, StuckAt, good_machine, faulty_machine}
 use Rattle.v_design.specs.States.{State, NodeState, ProcessState, Event, Step, LaneStep, Evaluation, NetUpdate, TurnKind, PostponedTurn, UpdatesTurn, TimeTurn, after, process_at, is_ready, is_any}
-use Rattle.v_design.specs.States.{has_event, has_work, some_in, is_quiescent, is_postponed, is_due, turn_of, turned, due_time}
+use Rattle.v_design.specs.States.{has_event, has_work, some_in, is_quiescent, is_postponed, is_due, turn_of, due_time}
 use Rattle.v_design.specs.PhaseLogs.{phase_race}
-use Rattle.v_design.specs.Runs.{Move, Happens, Turns, work_of, least_work, or_event, named_event, first_event, happened, turn_in_slot, event_or_turn, turned_by, made, all_made, is_counted, counted_steps}
+use Rattle.v_design.specs.Runs.{Move, Happens, Turns, work_of, least_work, or_event, named_event, first_event, turn_in_slot, event_or_turn, turned_by, made, all_made, is_counted, counted_steps}
 use Rattle.v_design.specs.Runs.{less_one_if, slot_moves, most_steps}
 use Rattle.v_design.specs.Grades.{Phase, cut}
 use Rattle.v_design.specs.WellFormed.{KeepsRules}
 use Rattle.machine_laws.specs.SlotLoop.{Moment, EndsAt, steps_of, after_event, after_turn, phases_so_far}
 use Rattle.copy_laws.specs.Beside.{AreBeside, Keeps}
 use Rattle.copy_laws.specs.Touches.{EventIsFree}
-use Rattle.copy_laws.specs.Moves.{IsWithin, MayJump}
+use Rattle.copy_laws.specs.Moves.{IsWithin}
 use Rattle.copy_laws.specs.Differences.{Differences, apart_of}
 use Rattle.copy_laws.specs.Rest.{within_of}
 use Rattle.trace_window.specs.Moments.{Seen}

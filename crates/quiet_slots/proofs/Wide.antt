@@ -1,18 +1,16 @@
 -- Each value is as wide as its object, at each moment of a slot.
-use Rattle.std.proofs.Common.{◌≡◌, ℕ, zero, suc, ◌<◌, List, [], ◌∷◌, length, get_or, map, Bool, true, false, ◌||◌, ◌&&◌, not, refl, sym, ap, subst, ◌∙◌, ◌⊎◌, inl, inr, arith}
-use Rattle.std.specs.Prelude.{Option, Some, None, is_some, slice_get}
-use Rattle.std.proofs.lemmas.List.{get_or-map, length-map}
+use Rattle.std.proofs.Common.{◌≡◌, ℕ, zero, suc, List, [], ◌∷◌, length, false, not, refl, sym, ap, subst, ◌∙◌, inl, inr, arith}
+use Rattle.std.specs.Prelude.{Option, Some, None, slice_get}
 use Rattle.four_value.specs.Values.{LogicValue, with_part, same_value}
 use Rattle.four_value.specs.ValueLaws.{length-with_part}
-use Rattle.vf_base.specs.Lists.{change_at, zip_with}
-use Rattle.v_design.specs.Designs.{FlatDesign, FlatNode, FlatObject, Machine, width_in, forced_variable}
+use Rattle.vf_base.specs.Lists.{change_at}
+use Rattle.v_design.specs.Designs.{FlatDesign, FlatNode, Machine, width_in}
 use Rattle.v_design.specs.Assignments.{ValueUpdate, value_at, node_outputs}
-use Rattle.v_design.specs.States.{State, NodeState, Event, Step, LaneStep, Evaluation, NetUpdate, TurnKind, PostponedTurn, UpdatesTurn, TimeTurn, node_at, found_or, idle_node, marked_by, has_work}
-use Rattle.v_design.specs.States.{some_in, with_value, value_written, written_if, with_process, with_node, after_step, after_lane_step, step_of, write_of, first_update, process_at, evaluated}
+use Rattle.v_design.specs.States.{State, NodeState, Event, Step, LaneStep, Evaluation, NetUpdate, TurnKind, PostponedTurn, UpdatesTurn, TimeTurn, node_at}
+use Rattle.v_design.specs.States.{with_value, value_written, written_if, with_process, with_node, after_step, after_lane_step, step_of, write_of, first_update, process_at, evaluated}
 use Rattle.v_design.specs.States.{with_values, nets_updated, after, turned}
 use Rattle.v_design.specs.Laws.{BeginsPhase}
 use Rattle.v_design.specs.WellFormed.{KeepsRules}
-use Rattle.node_eval.specs.ValuesOf.{AreValuesOf}
 use Rattle.net_state.specs.Held.{HaveWidths}
 use Rattle.quiet_slots.specs.Pending.{begun-widths, begun-idle, still-pending, changed-or}
 use Rattle.net_state.specs.OutputLaws.{outputs-wide, length-forced_variable}

@@ -1,0 +1,4 @@
+mod Bodies
+mod Waits
+mod Reached
+mod Stood
