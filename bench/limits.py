@@ -4,7 +4,7 @@
 PROGRAM is the built program, by itself the one that ./run builds. First come the edges: for each limit a text that reaches it, which has to be accepted, and one that is
 past it by one, which has to be refused with the message of that limit; each with its processor time and the most memory that it held. Then short texts that spell much.
 Then the growth: the processor time over texts of three sizes, from which that of an empty module is taken off. A quantity whose time grows by more than a factor of 9 from
-n to 4n (a linear one grows by 4, a quadratic one by 16) is wrong, where the last time is over a tenth of a second; the last five rows, whose texts spell n times n parts or ask for
+n to 4n (a linear one grows by 4, a quadratic one by 16) is wrong, where the last time is over a tenth of a second; the last three rows, whose texts spell n times n parts or ask for
 n pieces of work of length n, aren't judged. --divide K divides the sizes of the growth by K, for a slow build or machine; --only NAME takes the rows whose name has NAME in it.
 A run that takes over 10 minutes of processor time is ended. The status is 1 where a row was wrong.
 """
@@ -134,6 +134,11 @@ GROWTH = [
     ("words of a memory, check", 16384, lambda n: checked(top(f"reg [7:0] m [1:{n}];"))),
     ("parameters, each of the next, check", 5000, lambda n: checked(parameters_backwards(n, "N + 1"))),
     ("parameters, each twice of the next, check", 5000, lambda n: checked(parameters_backwards(n, "N + N"))),
+    ("names of one range of as many operands, check", 2048, lambda n: checked(top("localparam a = 0;", f"wire [{balanced_sum(['a'] * n)}:0] " + ", ".join(numbered(n, "wI")) + ";"))),
+    ("ports of one range of as many operands, twice, check", 1024, lambda n: checked(
+        "module m(" + ", ".join(numbered(n, "iI")) + ");\nlocalparam a = 0;\n" + "".join(f"{kind} [{balanced_sum(['a'] * n)}:0] " + ", ".join(numbered(n, "iI")) + ";\n" for kind in ("input", "wire"))
+        + "endmodule\n" + top(*numbered(n, "wire wI;"), "m a(" + ", ".join(numbered(n, "wI")) + ");"))),
+    ("parameters of one range of as many operands, check", 2048, lambda n: checked(top("localparam a = 0;", f"localparam [{balanced_sum(['a'] * n)}:0] " + ", ".join(numbered(n, "pI = 1")) + ";"))),
     ("gates, each of the next, check", 6144, lambda n: checked(gates_backwards(n))),
     ("gates, each of the next, faults", 6144, lambda n: (["faults", "design", "top"], gates_backwards(n), "")),
     ("gates of one name, check", 8192, lambda n: checked(top("reg a;", *numbered(n, "wire wI; buf(wI, a);")))),
@@ -159,12 +164,9 @@ GROWTH = [
     ("updates of a slot, grade", 8000, lambda n: graded(top("reg q;", f"initial repeat ({n}) q <= 1;"), PLAN)),
     ("slots, grade", 4000, lambda n: graded(top("reg q = 0;", "always #1 q = ~q;"), PLAN.replace("end 20", f"end {n}"))),
 ]
-# As GROWTH, of texts in which a module of n parts has n instances, a gate of n inputs as many faults, or a range of n operands as many names (it is worked out for each), so that what
-# they spell or ask for grows by 16: told, and not judged.
+# As GROWTH, of texts in which a module of n parts has n instances or a gate of n inputs as many faults, so that what they spell or ask for grows by 16: told, and not judged.
 PRODUCTS = [
     ("inputs of a gate, grade", 256, lambda n: graded(top("wire q;", *numbered(n, "reg rI = 1;"), "and(q, " + ", ".join(numbered(n, "rI")) + ");"), PLAN.replace("fault q 0", "faults all"))),
-    ("names of one range of as many operands, check", 256, lambda n: checked(top("localparam a = 0;", f"wire [{balanced_sum(['a'] * n)}:0] " + ", ".join(numbered(n, "wI")) + ";"))),
-    ("parameters of one range of as many operands, check", 256, lambda n: checked(top("localparam a = 0;", f"localparam [{balanced_sum(['a'] * n)}:0] " + ", ".join(numbered(n, "pI = 1")) + ";"))),
     ("statements of each of as many instances, check", 128, lambda n: checked(top(*numbered(n, "m iI();")) + "module m;\nreg q;\ninitial begin\n" + "q = 1;\n" * n + "end\nendmodule\n")),
     ("parameters of each of as many instances, check", 128, lambda n: checked(top(*numbered(n, "m iI();")) + "module m;\n" + "\n".join(numbered(n, "parameter pI = 1;")) + "\nendmodule\n")),
 ]

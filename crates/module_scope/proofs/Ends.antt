@@ -1,10 +1,6 @@
 -- The scope that the code answers, or the fault.
-use Rattle.std.proofs.Common.{◌≡◌, ℕ, ◌+◌, List, [], ◌++◌, map, flat_map, Option, Some, None, Result, Ok, Err, option_map, refl, sym, ap, ◌∙◌}
+use Rattle.std.proofs.Common.{◌≡◌, ◌+◌, List, [], ◌++◌, flat_map, Option, None, refl, sym, ap, ◌∙◌}
 use Rattle.v_tree.specs.Trees.{Identifier, SourceModule}
-use Rattle.v_tree.specs.Views.{module_of}
-use Rattle.v_tree.specs.declared.item.Module.{Module}
-use Rattle.v_names.specs.declared.found.Found.{Found}
-use Rattle.v_names.specs.FaultViews.{fault_of}
 use Rattle.v_names.specs.Faults.{Fault, first_fault, or_fault}
 use Rattle.v_names.specs.Scopes.{Scope}
 use Rattle.v_names.specs.Names.{Declaration, GivenParameter, given_of, declarations_of, first_declarations, scope_after, parameter_count, scope_of, twice_faults, parameters_faults, heads_faults}

@@ -1,5 +1,5 @@
 -- What gates declare, one at a time.
-use Rattle.std.proofs.Common.{◌≡◌, List, [], ◌∷◌, ◌++◌, map, Option, Some, None, refl, ap}
+use Rattle.std.proofs.Common.{◌≡◌, List, [], ◌∷◌, ◌++◌, map, Option, Some, None, refl}
 use Rattle.v_tree.specs.Trees.{NamedPlace, SourceGate, SourceTarget, SourceExpression}
 use Rattle.v_tree.specs.Views.{gate_of}
 use Rattle.v_tree.specs.declared.item.Gate.{Gate}

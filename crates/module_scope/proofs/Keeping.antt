@@ -1,10 +1,10 @@
 -- One name more in a map of names.
-use Rattle.std.proofs.Common.{◌≡◌, ℕ, Bool, true, false, ◌||◌, cond, List, [], ◌∷◌, filter, Option, Some, None, option_map, is_some, refl, sym, ap, ap₂, ◌∙◌}
+use Rattle.std.proofs.Common.{◌≡◌, ℕ, Bool, true, false, ◌||◌, cond, List, [], ◌∷◌, Option, Some, None, option_map, is_some, refl, sym, ap, ap₂, ◌∙◌}
 use Rattle.v_tree.specs.Trees.{Identifier, same_name}
 use Rattle.v_names.specs.declared.constant.Constant.{Constant}
 use Rattle.v_names.specs.Scopes.{SignedValue}
 use Rattle.v_names.specs.SizeViews.{signed_value}
-use Rattle.v_names.specs.Names.{Declaration, GivenParameter, given_of, given_if, is_plain, of_name, plain_of_name}
+use Rattle.v_names.specs.Names.{Declaration, GivenParameter, given_of, given_if, is_plain, plain_of_name}
 use Rattle.module_scope.specs.Kept.{kept}
 use Rattle.module_scope.specs.Givens.{given_seen, given_first}
 use Rattle.module_scope.specs.Declarations.{or_first}

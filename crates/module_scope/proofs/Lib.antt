@@ -9,3 +9,5 @@ pub mod Ends
 pub mod Keeping
 pub mod Gates
 pub mod ByName
+pub mod Grouping
+pub mod RangesKept

@@ -1,6 +1,6 @@
 -- Declarations of a name, from the first on.
-use Rattle.std.proofs.Common.{◌≡◌, ℕ, ◌+◌, ◌<◌, Bool, true, false, not, ◌||◌, ◌&&◌, List, [], ◌∷◌, ◌++◌, map, filter, drop, get_or, length, Option, Some, None, option_map, is_some, refl, sym, ap}
-use Rattle.std.proofs.Common.{ap₂, ◌∙◌, append_assoc, add-one, append-nil, suc, zero, ◌≤◌, subst, arith}
+use Rattle.std.proofs.Common.{◌≡◌, ℕ, ◌+◌, ◌<◌, Bool, true, false, not, ◌||◌, List, [], ◌∷◌, ◌++◌, map, drop, get_or, length, Option, Some, None, is_some, refl, sym, ap}
+use Rattle.std.proofs.Common.{ap₂, ◌∙◌, append_assoc, append-nil, ◌≤◌, subst}
 use Rattle.v_tree.specs.Trees.{Identifier, same_name}
 use Rattle.v_names.specs.Names.{Declared, DeclaredParameter, DeclaredPort, DeclaredNet, DeclaredReg, DeclaredMemory, DeclaredGate, DeclaredInstance, Declaration, is_plain, of_name, plain_of_name}
 use Rattle.v_names.specs.Names.{joined_declared, joined_declaration, first_of_name, first_declarations}

@@ -1,16 +1,15 @@
 -- Earlier declarations of a name, one more at a time.
-use Rattle.std.proofs.Common.{◌≡◌, ℕ, Bool, true, false, not, ◌||◌, cond, List, [], ◌∷◌, ◌++◌, map, filter, drop, get_or, length, ◌+◌, ◌<◌, ◌≤◌, Option, Some, None, is_some, refl, sym, ap, ap₂}
+use Rattle.std.proofs.Common.{◌≡◌, ℕ, Bool, true, false, not, ◌||◌, cond, List, [], ◌∷◌, map, filter, drop, get_or, length, ◌+◌, ◌<◌, ◌≤◌, Option, Some, is_some, refl, sym, ap, ap₂}
 use Rattle.std.proofs.Common.{subst, ◌∙◌}
 use Rattle.v_tree.specs.Trees.{Identifier, NamedPlace, same_name}
 use Rattle.v_names.specs.Faults.{Fault, DeclaredTwice, fault_if}
-use Rattle.v_names.specs.Scopes.{Scope, looked_up}
-use Rattle.v_names.specs.Constants.{known_faults}
+use Rattle.v_names.specs.Scopes.{Scope}
 use Rattle.v_names.specs.Names.{Declaration, of_name, may_follow, twice_faults, head_faults}
 use Rattle.v_names.specs.Readings.{is_empty}
 use Rattle.name_checks.specs.Noted.{noted, noted_append}
 use Rattle.module_scope.proofs.Maps.{same-equal}
 use Rattle.name_checks.specs.Rows.{drop-step, drop-past}
-use Rattle.module_scope.specs.Earlier.{EarlierOnes, JustOne, Several, earlier_ones, earlier_with, may_follow_earlier, twice_fault_of, head_fault_of}
+use Rattle.module_scope.specs.Earlier.{EarlierOnes, earlier_ones, earlier_with, may_follow_earlier, twice_fault_of, head_fault_of}
 
 -- what is known of the earlier declarations, and what was noted and is to be noted is what is wrong with all
 pub record AreNoted (known : Identifier → Option EarlierOnes) (scope : Scope) (first whole : Option Fault) (rest : List Declaration) : Type 0 where

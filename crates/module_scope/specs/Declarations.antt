@@ -16,11 +16,11 @@ first_seen None = None
 first_seen (Some value) = Some (expression_of value.now)
 
 abbrev pub declared_seen : Declared → plain.Declared
-declared_seen (declared.Param is_local signed bounds value) = plain.DeclaredParameter is_local signed (bounds_seen bounds) (expression_of value.now)
-declared_seen (declared.Port direction is_reg signed bounds first) = plain.DeclaredPort direction is_reg signed (bounds_seen bounds) (first_seen first)
-declared_seen (declared.Net signed bounds) = plain.DeclaredNet signed (bounds_seen bounds)
-declared_seen (declared.Reg signed bounds first) = plain.DeclaredReg signed (bounds_seen bounds) (first_seen first)
-declared_seen (declared.Memory signed bounds addresses) = plain.DeclaredMemory signed (bounds_seen bounds) (range_of addresses.now)
+declared_seen (declared.Param is_local signed bounds value) = plain.DeclaredParameter is_local signed (bounds_seen bounds.bounds) (expression_of value.now)
+declared_seen (declared.Port direction is_reg signed bounds first) = plain.DeclaredPort direction is_reg signed (bounds_seen bounds.bounds) (first_seen first)
+declared_seen (declared.Net signed bounds) = plain.DeclaredNet signed (bounds_seen bounds.bounds)
+declared_seen (declared.Reg signed bounds first) = plain.DeclaredReg signed (bounds_seen bounds.bounds) (first_seen first)
+declared_seen (declared.Memory signed bounds addresses) = plain.DeclaredMemory signed (bounds_seen bounds.bounds) (range_of addresses.now)
 declared_seen declared.Gate = plain.DeclaredGate
 declared_seen declared.Instance = plain.DeclaredInstance
 

@@ -1,11 +1,13 @@
 -- The earlier declarations of a name: none, one, or more.
-use Rattle.std.specs.Prelude.{Bool, true, false, not, List, [], ◌∷◌, ◌++◌, Option, Some, None}
-use Rattle.v_tree.specs.Trees.{NamedPlace}
+use Rattle.std.specs.Prelude.{◌≡◌, Bool, true, false, not, List, [], ◌∷◌, ◌++◌, Option, Some, None}
+use Rattle.v_tree.specs.Trees.{Identifier, NamedPlace}
+use Rattle.name_checks.specs.declared.bounds.Bounds.{Bounds}
 use Rattle.v_names.specs.Faults.{Fault, DeclaredTwice, fault_if}
 use Rattle.v_names.specs.Scopes.{Scope, looked_up}
 use Rattle.v_names.specs.Constants.{known_faults}
 use Rattle.v_names.specs.Names.{Declaration, may_follow}
 use Rattle.module_scope.specs.Declarations.{declaration_seen}
+use Rattle.module_scope.specs.Groups.{IsGrouped}
 use Rattle.module_scope.specs.declared.twice.Earlier.{Earlier}
 use Rattle.module_scope.specs.declared.twice.Earlier.TheVariants as code
 
@@ -16,6 +18,14 @@ pub data EarlierOnes : Type 0 where
 abbrev pub earlier_seen : Earlier → EarlierOnes
 earlier_seen (code.Once d) = JustOne (declaration_seen d)
 earlier_seen code.More = Several
+
+-- the one declaration is of a group of these bounds
+abbrev pub IsEarlierGrouped : List Bounds → Earlier → Type 0
+IsEarlierGrouped groups (code.Once d) = IsGrouped groups d.declared
+IsEarlierGrouped groups code.More = Unit {0}
+
+pub record EarlierGrouped (groups : List Bounds) (earlier : Identifier → Option Earlier) : Type 0 where
+  pub grouped : (name : Identifier) (e : Earlier) → earlier name ≡ Some e → IsEarlierGrouped groups e
 
 -- none, one or more of a list
 abbrev pub earlier_ones : List Declaration → Option EarlierOnes

@@ -1,5 +1,5 @@
 -- The parameters that an instance sets, as plain data.
-use Rattle.std.specs.Prelude.{ℕ, List, [], ◌∷◌, map, Option, Some, None}
+use Rattle.std.specs.Prelude.{ℕ, List, map, Option, Some, None}
 use Rattle.v_tree.specs.Trees.{Identifier, same_name}
 use Rattle.v_names.specs.declared.constant.Constant.{Constant}
 use Rattle.v_names.specs.Scopes.{SignedValue}

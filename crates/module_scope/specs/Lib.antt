@@ -6,3 +6,5 @@ pub mod Settled
 pub mod Givens
 pub mod NameFaults
 pub mod Below
+pub mod Groups
+pub mod Ranges

@@ -27,7 +27,7 @@ pub fn declared_names<'m>(
     ensures apart { IfOk result (λ list. AreApart (declarations_seen list.items)) }
 {
     let all = declarations_of(alloc, module)?;
-    let list = names_once(alloc, &all)?;
+    let list = names_once(alloc, &all.list)?;
     Ok(list)
 }
 
@@ -55,7 +55,8 @@ pub fn scope_of_module<'m>(
     ensures { IfOk result (λ scope. scope ≡ scope_of (module_of «module».now) (map given_parameter given.now)) }
 {
     let values = given_values(alloc, given)?;
-    let declared = declared_names(alloc, module)?;
-    let scope = settle::scope_of(alloc, &declared, &values)?;
+    let all = declarations_of(alloc, module)?;
+    let declared = names_once(alloc, &all.list)?;
+    let scope = settle::scope_of(alloc, &declared, &all.groups, &values)?;
     Ok(scope)
 }

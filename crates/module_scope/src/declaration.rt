@@ -1,10 +1,11 @@
 // The declarations of a module.
 
-ghost use Rattle.std.specs.Prelude.{◌≡◌, [], ◌∷◌, ◌++◌, OnOk, IfOk, map, flat_map};
+ghost use Rattle.std.specs.Prelude.{◌≡◌, List, [], ◌∷◌, ◌++◌, Some, OnOk, IfOk, map, flat_map};
 ghost use Rattle.v_tree.specs.Views.{module_of, content_of, parameter_of, name_of, range_in, parameters_of, ports_of, wire_of, reg_of, gate_of, instance_of, item_of, heads_of};
 ghost use Rattle.v_names.specs.Names.{declarations_of, bounds_of, parameter_declarations, port_declarations, reg_declared, reg_declarations, gate_declarations, item_declarations, head_declarations};
 ghost use Rattle.module_scope.specs.Declarations.{declaration_seen, param_declared, name_declared, declarations_seen, declared_seen, wire_declarations, instance_declarations};
 ghost use Rattle.name_checks.specs.BoundViews.{bounds_seen};
+ghost use Rattle.module_scope.specs.Groups.{group_bounds, IsGroup, AreGrouped, AddsGrouped, DeclaredIn, BoundsIn, InAnyCase};
 
 use name_checks::{Bounds, bounds_of};
 use std::alloc::Global;
@@ -14,36 +15,43 @@ use v_tree::{
 };
 use vf_base::{NoMemory, Place, Text};
 
+/// The bounds of names that are declared together, with the number of their group.
+#[derive(Clone, Copy)]
+pub struct GroupBounds<'m> {
+    pub bounds: Bounds<'m>,
+    pub group: usize,
+}
+
 /// What a name is declared as.
 #[derive(Clone, Copy)]
 pub enum Declared<'m> {
     Param {
         is_local: bool,
         signed: bool,
-        bounds: Bounds<'m>,
+        bounds: GroupBounds<'m>,
         value: &'m Expr,
     },
     Port {
         direction: Direction,
         is_reg: bool,
         signed: bool,
-        bounds: Bounds<'m>,
+        bounds: GroupBounds<'m>,
         /// Its first content.
         first: Option<&'m Expr>,
     },
     Net {
         signed: bool,
-        bounds: Bounds<'m>,
+        bounds: GroupBounds<'m>,
     },
     Reg {
         signed: bool,
-        bounds: Bounds<'m>,
+        bounds: GroupBounds<'m>,
         /// Its first content.
         first: Option<&'m Expr>,
     },
     Memory {
         signed: bool,
-        bounds: Bounds<'m>,
+        bounds: GroupBounds<'m>,
         addresses: &'m Range,
     },
     Gate,
@@ -58,9 +66,31 @@ pub struct Declaration<'m> {
     pub declared: Declared<'m>,
 }
 
+/// What a module declares, in text order, with the bounds of each group of names that are declared together.
+#[derive(Drop)]
+pub struct Declarations<'m> {
+    pub list: Vec<Declaration<'m>>,
+    pub groups: Vec<Bounds<'m>>,
+}
+
+/// The bounds of one more group.
+fn new_group<'m>(
+    bounds: Bounds<'m>,
+    groups: &mut Vec<Bounds<'m>>,
+) -> Result<GroupBounds<'m>, NoMemory>
+    ensures bounds { IfOk result (λ group. bounds_seen group.bounds ≡ bounds_seen bounds.entry) }
+    ensures group { IfOk result (λ group. IsGroup groups.new.items group) }
+    ensures grouped { OnOk result ((list : List Declaration) → AreGrouped groups.old.items list → AreGrouped groups.new.items list) }
+{
+    let group = groups.len();
+    groups.push(bounds)?;
+    Ok(GroupBounds { bounds, group })
+}
+
 /// Adds a declaration.
 fn push<'m>(declaration: Declaration<'m>, list: &mut Vec<Declaration<'m>>) -> Result<(), NoMemory>
-    ensures { OnOk result (declarations_seen list.new.items ≡ declarations_seen list.old.items ++ declaration_seen declaration.entry ∷ []) }
+    ensures list { OnOk result (declarations_seen list.new.items ≡ declarations_seen list.old.items ++ declaration_seen declaration.entry ∷ []) }
+    ensures grouped { OnOk result (AddsGrouped (DeclaredIn declaration.entry.declared) list.old.items list.new.items) }
 {
     list.push(declaration)?;
     Ok(())
@@ -69,12 +99,13 @@ fn push<'m>(declaration: Declaration<'m>, list: &mut Vec<Declaration<'m>>) -> Re
 /// Adds parameters, which are declared together.
 fn push_each_param<'m>(
     group: &'m Params,
-    bounds: Bounds<'m>,
+    bounds: GroupBounds<'m>,
     params: &'m [Param],
     list: &mut Vec<Declaration<'m>>,
 ) -> Result<(), NoMemory>
-    ensures { OnOk result (declarations_seen list.new.items ≡ declarations_seen list.old.items ++ map (param_declared group.now.is_local group.now.signed
-        (bounds_seen bounds.entry)) (map parameter_of params.now)) }
+    ensures list { OnOk result (declarations_seen list.new.items ≡ declarations_seen list.old.items ++ map (param_declared group.now.is_local group.now.signed
+        (bounds_seen bounds.entry.bounds)) (map parameter_of params.now)) }
+    ensures grouped { OnOk result (AddsGrouped (BoundsIn bounds.entry) list.old.items list.new.items) }
 {
     'params: for param in params {
         let declared = Declared::Param {
@@ -96,10 +127,16 @@ fn push_each_param<'m>(
 }
 
 /// Adds parameters that are declared together.
-fn push_params<'m>(group: &'m Params, list: &mut Vec<Declaration<'m>>) -> Result<(), NoMemory>
-    ensures { OnOk result (declarations_seen list.new.items ≡ declarations_seen list.old.items ++ parameter_declarations (parameters_of group.now)) }
+fn push_params<'m>(
+    group: &'m Params,
+    groups: &mut Vec<Bounds<'m>>,
+    list: &mut Vec<Declaration<'m>>,
+) -> Result<(), NoMemory>
+    requires { AreGrouped groups.old.items list.old.items }
+    ensures list { OnOk result (declarations_seen list.new.items ≡ declarations_seen list.old.items ++ parameter_declarations (parameters_of group.now)) }
+    ensures grouped { OnOk result (AreGrouped groups.new.items list.new.items) }
 {
-    let bounds = bounds_of(&group.range);
+    let bounds = new_group(bounds_of(&group.range), groups)?;
     push_each_param(group, bounds, group.params.as_slice(), list)?;
     Ok(())
 }
@@ -110,7 +147,8 @@ fn push_names<'m>(
     names: &'m [Name],
     list: &mut Vec<Declaration<'m>>,
 ) -> Result<(), NoMemory>
-    ensures { OnOk result (declarations_seen list.new.items ≡ declarations_seen list.old.items ++ map (name_declared (declared_seen declared.entry)) (map name_of names.now)) }
+    ensures list { OnOk result (declarations_seen list.new.items ≡ declarations_seen list.old.items ++ map (name_declared (declared_seen declared.entry)) (map name_of names.now)) }
+    ensures grouped { OnOk result (AddsGrouped (DeclaredIn declared.entry) list.old.items list.new.items) }
 {
     'names: for name in names {
         push(
@@ -126,10 +164,16 @@ fn push_names<'m>(
 }
 
 /// Adds ports that are declared together.
-fn push_ports<'m>(group: &'m Ports, list: &mut Vec<Declaration<'m>>) -> Result<(), NoMemory>
-    ensures { OnOk result (declarations_seen list.new.items ≡ declarations_seen list.old.items ++ port_declarations (ports_of group.now)) }
+fn push_ports<'m>(
+    group: &'m Ports,
+    groups: &mut Vec<Bounds<'m>>,
+    list: &mut Vec<Declaration<'m>>,
+) -> Result<(), NoMemory>
+    requires { AreGrouped groups.old.items list.old.items }
+    ensures list { OnOk result (declarations_seen list.new.items ≡ declarations_seen list.old.items ++ port_declarations (ports_of group.now)) }
+    ensures grouped { OnOk result (AreGrouped groups.new.items list.new.items) }
 {
-    let bounds = bounds_of(&group.range);
+    let bounds = new_group(bounds_of(&group.range), groups)?;
     let declared = Declared::Port {
         direction: group.direction,
         is_reg: group.is_reg,
@@ -144,11 +188,12 @@ fn push_ports<'m>(group: &'m Ports, list: &mut Vec<Declaration<'m>>) -> Result<(
 /// Adds nets that are declared together.
 fn push_wires<'m>(
     signed: bool,
-    bounds: Bounds<'m>,
+    bounds: GroupBounds<'m>,
     wires: &'m [Wire],
     list: &mut Vec<Declaration<'m>>,
 ) -> Result<(), NoMemory>
-    ensures { OnOk result (declarations_seen list.new.items ≡ declarations_seen list.old.items ++ wire_declarations signed (bounds_seen bounds.entry) (map wire_of wires.now)) }
+    ensures list { OnOk result (declarations_seen list.new.items ≡ declarations_seen list.old.items ++ wire_declarations signed (bounds_seen bounds.entry.bounds) (map wire_of wires.now)) }
+    ensures grouped { OnOk result (AddsGrouped (BoundsIn bounds.entry) list.old.items list.new.items) }
 {
     'wires: for wire in wires {
         let declared = Declared::Net { signed, bounds };
@@ -165,8 +210,9 @@ fn push_wires<'m>(
 }
 
 /// What a variable is declared as, by what stands behind its name.
-fn reg_declared<'m>(signed: bool, bounds: Bounds<'m>, content: &'m Content) -> Declared<'m>
-    ensures { declared_seen result ≡ reg_declared signed (bounds_seen bounds.entry) (content_of content.now) }
+fn reg_declared<'m>(signed: bool, bounds: GroupBounds<'m>, content: &'m Content) -> Declared<'m>
+    ensures declared { declared_seen result ≡ reg_declared signed (bounds_seen bounds.entry.bounds) (content_of content.now) }
+    ensures bounds { group_bounds result ≡ Some bounds.entry }
 {
     match content {
         Content::Nothing => Declared::Reg {
@@ -190,11 +236,12 @@ fn reg_declared<'m>(signed: bool, bounds: Bounds<'m>, content: &'m Content) -> D
 /// Adds variables that are declared together.
 fn push_regs<'m>(
     signed: bool,
-    bounds: Bounds<'m>,
+    bounds: GroupBounds<'m>,
     regs: &'m [Reg],
     list: &mut Vec<Declaration<'m>>,
 ) -> Result<(), NoMemory>
-    ensures { OnOk result (declarations_seen list.new.items ≡ declarations_seen list.old.items ++ reg_declarations signed (bounds_seen bounds.entry) (map reg_of regs.now)) }
+    ensures list { OnOk result (declarations_seen list.new.items ≡ declarations_seen list.old.items ++ reg_declarations signed (bounds_seen bounds.entry.bounds) (map reg_of regs.now)) }
+    ensures grouped { OnOk result (AddsGrouped (BoundsIn bounds.entry) list.old.items list.new.items) }
 {
     'regs: for reg in regs {
         let declared = reg_declared(signed, bounds, &reg.content);
@@ -212,7 +259,8 @@ fn push_regs<'m>(
 
 /// Adds the name of a gate, if it has one.
 fn push_gate<'m>(gate: &'m Gate, list: &mut Vec<Declaration<'m>>) -> Result<(), NoMemory>
-    ensures { OnOk result (declarations_seen list.new.items ≡ declarations_seen list.old.items ++ gate_declarations (gate_of gate.now ∷ [])) }
+    ensures list { OnOk result (declarations_seen list.new.items ≡ declarations_seen list.old.items ++ gate_declarations (gate_of gate.now ∷ [])) }
+    ensures grouped { OnOk result (AddsGrouped InAnyCase list.old.items list.new.items) }
 {
     match &gate.name {
         None => Ok(()),
@@ -232,7 +280,8 @@ fn push_gate<'m>(gate: &'m Gate, list: &mut Vec<Declaration<'m>>) -> Result<(), 
 
 /// Adds the names of gates.
 fn push_gates<'m>(gates: &'m [Gate], list: &mut Vec<Declaration<'m>>) -> Result<(), NoMemory>
-    ensures { OnOk result (declarations_seen list.new.items ≡ declarations_seen list.old.items ++ gate_declarations (map gate_of gates.now)) }
+    ensures list { OnOk result (declarations_seen list.new.items ≡ declarations_seen list.old.items ++ gate_declarations (map gate_of gates.now)) }
+    ensures grouped { OnOk result (AddsGrouped InAnyCase list.old.items list.new.items) }
 {
     'gates: for gate in gates {
         push_gate(gate, list)?;
@@ -245,7 +294,8 @@ fn push_instances<'m>(
     instances: &'m [Instance],
     list: &mut Vec<Declaration<'m>>,
 ) -> Result<(), NoMemory>
-    ensures { OnOk result (declarations_seen list.new.items ≡ declarations_seen list.old.items ++ instance_declarations (map instance_of instances.now)) }
+    ensures list { OnOk result (declarations_seen list.new.items ≡ declarations_seen list.old.items ++ instance_declarations (map instance_of instances.now)) }
+    ensures grouped { OnOk result (AddsGrouped InAnyCase list.old.items list.new.items) }
 {
     'instances: for instance in instances {
         push(
@@ -261,16 +311,22 @@ fn push_instances<'m>(
 }
 
 /// Adds what an item declares.
-fn push_item<'m>(item: &'m Item, list: &mut Vec<Declaration<'m>>) -> Result<(), NoMemory>
-    ensures { OnOk result (declarations_seen list.new.items ≡ declarations_seen list.old.items ++ item_declarations (item_of item.now)) }
+fn push_item<'m>(
+    item: &'m Item,
+    groups: &mut Vec<Bounds<'m>>,
+    list: &mut Vec<Declaration<'m>>,
+) -> Result<(), NoMemory>
+    requires { AreGrouped groups.old.items list.old.items }
+    ensures list { OnOk result (declarations_seen list.new.items ≡ declarations_seen list.old.items ++ item_declarations (item_of item.now)) }
+    ensures grouped { OnOk result (AreGrouped groups.new.items list.new.items) }
 {
     match item {
         Item::Params(group) => {
-            push_params(group, list)?;
+            push_params(group, groups, list)?;
             Ok(())
         }
         Item::Ports(group) => {
-            push_ports(group, list)?;
+            push_ports(group, groups, list)?;
             Ok(())
         }
         Item::Wire {
@@ -279,7 +335,8 @@ fn push_item<'m>(item: &'m Item, list: &mut Vec<Declaration<'m>>) -> Result<(), 
             wires,
             ..
         } => {
-            push_wires(*signed, bounds_of(range), wires.as_slice(), list)?;
+            let bounds = new_group(bounds_of(range), groups)?;
+            push_wires(*signed, bounds, wires.as_slice(), list)?;
             Ok(())
         }
         Item::Reg {
@@ -288,11 +345,13 @@ fn push_item<'m>(item: &'m Item, list: &mut Vec<Declaration<'m>>) -> Result<(), 
             regs,
             ..
         } => {
-            push_regs(*signed, bounds_of(range), regs.as_slice(), list)?;
+            let bounds = new_group(bounds_of(range), groups)?;
+            push_regs(*signed, bounds, regs.as_slice(), list)?;
             Ok(())
         }
         Item::Integer { regs, .. } => {
-            push_regs(true, Bounds::Integer, regs.as_slice(), list)?;
+            let bounds = new_group(Bounds::Integer, groups)?;
+            push_regs(true, bounds, regs.as_slice(), list)?;
             Ok(())
         }
         Item::Assign { .. } => Ok(()),
@@ -310,64 +369,81 @@ fn push_item<'m>(item: &'m Item, list: &mut Vec<Declaration<'m>>) -> Result<(), 
 }
 
 /// Adds what the items declare.
-fn push_items<'m>(items: &'m [Item], list: &mut Vec<Declaration<'m>>) -> Result<(), NoMemory>
-    ensures { OnOk result (declarations_seen list.new.items ≡ declarations_seen list.old.items ++ flat_map item_declarations (map item_of items.now)) }
+fn push_items<'m>(
+    items: &'m [Item],
+    groups: &mut Vec<Bounds<'m>>,
+    list: &mut Vec<Declaration<'m>>,
+) -> Result<(), NoMemory>
+    requires { AreGrouped groups.old.items list.old.items }
+    ensures list { OnOk result (declarations_seen list.new.items ≡ declarations_seen list.old.items ++ flat_map item_declarations (map item_of items.now)) }
+    ensures grouped { OnOk result (AreGrouped groups.new.items list.new.items) }
 {
     'items: for item in items {
-        push_item(item, list)?;
+        push_item(item, groups, list)?;
     }
     Ok(())
 }
 
 /// Adds the parameters of groups.
 fn push_param_groups<'m>(
-    groups: &'m [Params],
+    params: &'m [Params],
+    groups: &mut Vec<Bounds<'m>>,
     list: &mut Vec<Declaration<'m>>,
 ) -> Result<(), NoMemory>
-    ensures { OnOk result (declarations_seen list.new.items ≡ declarations_seen list.old.items ++ flat_map parameter_declarations (map parameters_of groups.now)) }
+    requires { AreGrouped groups.old.items list.old.items }
+    ensures list { OnOk result (declarations_seen list.new.items ≡ declarations_seen list.old.items ++ flat_map parameter_declarations (map parameters_of params.now)) }
+    ensures grouped { OnOk result (AreGrouped groups.new.items list.new.items) }
 {
-    'groups: for group in groups {
-        push_params(group, list)?;
+    'groups: for group in params {
+        push_params(group, groups, list)?;
     }
     Ok(())
 }
 
 /// Adds the ports of groups.
 fn push_port_groups<'m>(
-    groups: &'m [Ports],
+    ports: &'m [Ports],
+    groups: &mut Vec<Bounds<'m>>,
     list: &mut Vec<Declaration<'m>>,
 ) -> Result<(), NoMemory>
-    ensures { OnOk result (declarations_seen list.new.items ≡ declarations_seen list.old.items ++ flat_map port_declarations (map ports_of groups.now)) }
+    requires { AreGrouped groups.old.items list.old.items }
+    ensures list { OnOk result (declarations_seen list.new.items ≡ declarations_seen list.old.items ++ flat_map port_declarations (map ports_of ports.now)) }
+    ensures grouped { OnOk result (AreGrouped groups.new.items list.new.items) }
 {
-    'groups: for group in groups {
-        push_ports(group, list)?;
+    'groups: for group in ports {
+        push_ports(group, groups, list)?;
     }
     Ok(())
 }
 
 /// Adds what the list of ports declares.
-fn push_heads<'m>(heads: &'m Heads, list: &mut Vec<Declaration<'m>>) -> Result<(), NoMemory>
-    ensures { OnOk result (declarations_seen list.new.items ≡ declarations_seen list.old.items ++ head_declarations (heads_of heads.now)) }
+fn push_heads<'m>(
+    heads: &'m Heads,
+    groups: &mut Vec<Bounds<'m>>,
+    list: &mut Vec<Declaration<'m>>,
+) -> Result<(), NoMemory>
+    requires { AreGrouped groups.old.items list.old.items }
+    ensures list { OnOk result (declarations_seen list.new.items ≡ declarations_seen list.old.items ++ head_declarations (heads_of heads.now)) }
+    ensures grouped { OnOk result (AreGrouped groups.new.items list.new.items) }
 {
     match heads {
         Heads::Plain(_) => Ok(()),
-        Heads::Declared(groups) => {
-            push_port_groups(groups.as_slice(), list)?;
+        Heads::Declared(ports) => {
+            push_port_groups(ports.as_slice(), groups, list)?;
             Ok(())
         }
     }
 }
 
-/// What a module declares, in text order.
-pub fn declarations_of<'m>(
-    alloc: Global,
-    module: &'m Module,
-) -> Result<Vec<Declaration<'m>>, NoMemory>
-    ensures { IfOk result (λ list. declarations_seen list.items ≡ declarations_of (module_of «module».now)) }
+/// What a module declares.
+pub fn declarations_of<'m>(alloc: Global, module: &'m Module) -> Result<Declarations<'m>, NoMemory>
+    ensures list { IfOk result (λ declared. declarations_seen declared.list.items ≡ declarations_of (module_of «module».now)) }
+    ensures grouped { IfOk result (λ declared. AreGrouped declared.groups.items declared.list.items) }
 {
+    let mut groups = Vec::new(alloc);
     let mut list = Vec::new(alloc);
-    push_param_groups(module.params.as_slice(), &mut list)?;
-    push_heads(&module.ports, &mut list)?;
-    push_items(module.items.as_slice(), &mut list)?;
-    Ok(list)
+    push_param_groups(module.params.as_slice(), &mut groups, &mut list)?;
+    push_heads(&module.ports, &mut groups, &mut list)?;
+    push_items(module.items.as_slice(), &mut groups, &mut list)?;
+    Ok(Declarations { list, groups })
 }

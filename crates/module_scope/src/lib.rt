@@ -4,6 +4,8 @@
 //! (IEEE 1364-2001, clause 12.3.3); where a constant must stand, each name must be a parameter's, and the value must be one of its place
 //! (clauses 3.3, 3.10, 4.2 and 9.7). Of several faults the first one in the text is answered, of two at one place the one whose kind comes
 //! first.
+//!
+//! A range is evaluated once for all names that are declared with it.
 #![tactic(auto, using(name_checks::specs::Noted::noted_append))]
 
 mod by_name;
@@ -14,6 +16,7 @@ mod module_scope;
 mod name_map;
 mod once;
 mod order;
+mod ranges;
 mod settle;
 mod twice;
 

@@ -1,17 +1,19 @@
 // What the declarations of a module mean by the values of its parameters.
 
-ghost use Rattle.std.specs.Prelude.{◌≡◌, ◌||◌, IfOk, option_map};
+ghost use Rattle.std.specs.Prelude.{◌≡◌, ◌||◌, OnOk, IfOk, option_map};
 ghost use Rattle.v_tree.specs.Views.{expression_of};
-ghost use Rattle.v_names.specs.Names.{kept_bound, bounds_wait, parameter_entry, parameter_of, vector_entry, memory_entry};
+ghost use Rattle.v_names.specs.Names.{kept_bound, parameter_entry, vector_entry, memory_entry};
 ghost use Rattle.v_names.specs.ScopeViews.{entry_of};
 ghost use Rattle.v_names.specs.SizeViews.{signed_value};
 ghost use Rattle.module_scope.specs.Declarations.{declared_seen};
-ghost use Rattle.name_checks.specs.BoundViews.{bounds_seen};
 ghost use Rattle.name_checks.specs.RangeViews.{range_seen};
-ghost use Rattle.module_scope.specs.Meanings.{meaning_with};
+ghost use Rattle.module_scope.specs.Meanings.{meaning_with, meaning_by, parameter_by};
+ghost use Rattle.module_scope.specs.Groups.{IsGrouped};
+ghost use Rattle.module_scope.specs.Ranges.{kept_range, AreRanges};
 
 use crate::declaration::Declared;
-use name_checks::{BitRange, Bounds, bound_number, context_width, range_of, width_of};
+use crate::ranges::{GroupRange, GroupRanges, range_of_declared};
+use name_checks::{BitRange, Bounds, bound_number, context_width, width_of};
 use std::alloc::Global;
 use v_names::{Constant, Entry, Scope, constant_of, is_waiting};
 use v_tree::Expr;
@@ -72,41 +74,68 @@ fn parameter_entry(signed: bool, range: BitRange, constant: Option<Constant>) ->
     }
 }
 
-/// Whether a bound names a parameter that has no value yet.
-fn bounds_wait(scope: &Scope<'_>, bounds: Bounds<'_>) -> bool
-    ensures { result ≡ bounds_wait scope.now (bounds_seen bounds.entry) }
-{
-    match bounds {
-        Bounds::Unbounded => false,
-        Bounds::Integer => false,
-        Bounds::Ranged(range) => is_waiting(&range.high, scope) || is_waiting(&range.low, scope),
-    }
-}
-
-/// A parameter's value: what the instance gives, else that of its expression; none yet where it names a parameter that has none.
-fn parameter_of(
+/// A parameter's value by its range: what the instance gives, else that of its expression; none yet where it names a parameter that has none.
+fn parameter_by(
     alloc: Global,
     scope: &Scope<'_>,
     signed: bool,
-    bounds: Bounds<'_>,
+    range: GroupRange,
     value: &Expr,
     given: Option<Constant>,
 ) -> Result<Entry, NoMemory>
-    ensures { IfOk result (λ entry. entry_of entry ≡ parameter_of scope.now signed (bounds_seen bounds.entry) (expression_of value.now) (option_map signed_value given)) }
+    ensures { IfOk result (λ entry. entry_of entry ≡ parameter_by scope.now signed range.waits (range_seen range.range) (expression_of value.now) (option_map signed_value given)) }
 {
-    if bounds_wait(scope, bounds) {
+    if range.waits {
         return Ok(Entry::WaitingParam);
     }
-    let range = range_of(alloc, scope, bounds)?;
     match given {
-        Some(constant) => Ok(parameter_entry(signed, range, Some(constant))),
+        Some(constant) => Ok(parameter_entry(signed, range.range, Some(constant))),
         None => {
             if is_waiting(value, scope) {
                 return Ok(Entry::WaitingParam);
             }
-            let constant = constant_of(alloc, value, scope, context_width(range))?;
-            Ok(parameter_entry(signed, range, constant))
+            let constant = constant_of(alloc, value, scope, context_width(range.range))?;
+            Ok(parameter_entry(signed, range.range, constant))
         }
+    }
+}
+
+/// What a declared name means by its range and the parameters of a scope, where an instance gives it a value or none.
+fn meaning_by(
+    alloc: Global,
+    scope: &Scope<'_>,
+    given: Option<Constant>,
+    declared: Declared<'_>,
+    range: GroupRange,
+) -> Result<Entry, NoMemory>
+    ensures { IfOk result (λ entry. entry_of entry ≡ meaning_by scope.now (option_map signed_value given) (declared_seen declared.entry) range.waits (range_seen range.range)) }
+{
+    match declared {
+        Declared::Param { signed, value, .. } => {
+            let entry = parameter_by(alloc, scope, signed, range, value, given)?;
+            Ok(entry)
+        }
+        Declared::Port { is_reg, signed, .. } => Ok(vector_entry(is_reg, range.range, signed)),
+        Declared::Net { signed, .. } => Ok(vector_entry(false, range.range, signed)),
+        Declared::Reg { signed, .. } => Ok(vector_entry(true, range.range, signed)),
+        Declared::Memory {
+            signed,
+            addresses,
+            ..
+        } => {
+            let first = bound_number(alloc, scope, &addresses.high)?;
+            let last = bound_number(alloc, scope, &addresses.low)?;
+            Ok(Entry::Memory {
+                ranged: range.range.ranged,
+                high: kept_bound(range.range.high),
+                low: kept_bound(range.range.low),
+                first: kept_bound(first),
+                last: kept_bound(last),
+                signed,
+            })
+        }
+        Declared::Gate => Ok(Entry::Gate),
+        Declared::Instance => Ok(Entry::Instance),
     }
 }
 
@@ -116,54 +145,15 @@ pub fn meaning_of(
     scope: &Scope<'_>,
     given: Option<Constant>,
     declared: Declared<'_>,
+    groups: &[Bounds<'_>],
+    ranges: &mut GroupRanges,
 ) -> Result<Entry, NoMemory>
-    ensures { IfOk result (λ entry. entry_of entry ≡ meaning_with scope.now (option_map signed_value given) (declared_seen declared.entry)) }
+    requires grouped { IsGrouped groups.now declared }
+    requires ranges { AreRanges scope.now groups.now (kept_range ranges.old) }
+    ensures meaning { IfOk result (λ entry. entry_of entry ≡ meaning_with scope.now (option_map signed_value given) (declared_seen declared.entry)) }
+    ensures ranges { OnOk result (AreRanges scope.now groups.now (kept_range ranges.new)) }
 {
-    match declared {
-        Declared::Param {
-            signed,
-            bounds,
-            value,
-            ..
-        } => {
-            let entry = parameter_of(alloc, scope, signed, bounds, value, given)?;
-            Ok(entry)
-        }
-        Declared::Port {
-            is_reg,
-            signed,
-            bounds,
-            ..
-        } => {
-            let range = range_of(alloc, scope, bounds)?;
-            Ok(vector_entry(is_reg, range, signed))
-        }
-        Declared::Net { signed, bounds } => {
-            let range = range_of(alloc, scope, bounds)?;
-            Ok(vector_entry(false, range, signed))
-        }
-        Declared::Reg { signed, bounds, .. } => {
-            let range = range_of(alloc, scope, bounds)?;
-            Ok(vector_entry(true, range, signed))
-        }
-        Declared::Memory {
-            signed,
-            bounds,
-            addresses,
-        } => {
-            let range = range_of(alloc, scope, bounds)?;
-            let first = bound_number(alloc, scope, &addresses.high)?;
-            let last = bound_number(alloc, scope, &addresses.low)?;
-            Ok(Entry::Memory {
-                ranged: range.ranged,
-                high: kept_bound(range.high),
-                low: kept_bound(range.low),
-                first: kept_bound(first),
-                last: kept_bound(last),
-                signed,
-            })
-        }
-        Declared::Gate => Ok(Entry::Gate),
-        Declared::Instance => Ok(Entry::Instance),
-    }
+    let range = range_of_declared(alloc, scope, declared, groups, ranges)?;
+    let entry = meaning_by(alloc, scope, given, declared, range)?;
+    Ok(entry)
 }

@@ -6,6 +6,7 @@ ghost use Rattle.v_names.specs.Faults.{first_fault};
 ghost use Rattle.v_names.specs.FaultViews.{fault_of};
 ghost use Rattle.v_names.specs.Names.{names, twice_faults, parameters_faults, heads_faults, item_name_faults};
 ghost use Rattle.module_scope.specs.Declarations.{declarations_seen};
+ghost use Rattle.module_scope.specs.Groups.{AreGrouped};
 ghost use Rattle.module_scope.specs.Givens.{given_parameter};
 ghost use Rattle.module_scope.specs.NameFaults.{IsNameFault};
 
@@ -14,7 +15,7 @@ use crate::given::{Given, given_values};
 use crate::once::names_once;
 use crate::settle::scope_of;
 use crate::twice::{note_all_twice, note_ports};
-use name_checks::{FirstFault, note_items, note_parameter_groups};
+use name_checks::{Bounds, FirstFault, note_items, note_parameter_groups};
 use std::alloc::Global;
 use thiserror::Error;
 use v_names::{Found, Scope};
@@ -48,13 +49,15 @@ fn module_fault(
     scope: &Scope<'_>,
     module: &Module,
     declarations: &[Declaration<'_>],
+    groups: &[Bounds<'_>],
 ) -> Result<Option<Found>, NoMemory>
+    requires { AreGrouped groups.now declarations.now }
     ensures { IfOk result (λ found. option_map fault_of found ≡ first_fault (twice_faults scope.now [] (declarations_seen declarations.now) ++ (flat_map
         (parameters_faults scope.now) (map parameters_of «module».now.params) ++ (heads_faults scope.now (heads_of «module».now.ports) ++ flat_map
         (item_name_faults scope.now) (map item_of «module».now.items))))) }
 {
     let mut first = FirstFault::new();
-    note_all_twice(alloc, scope, declarations, &mut first)?;
+    note_all_twice(alloc, scope, declarations, groups, &mut first)?;
     note_parameter_groups(alloc, scope, module.params.as_slice(), &mut first)?;
     note_ports(alloc, scope, &module.ports, &mut first)?;
     note_items(alloc, scope, module.items.as_slice(), &mut first)?;
@@ -72,9 +75,15 @@ pub fn names<'m>(alloc: Global, module: &'m Module, given: &[Given]) -> Result<S
 {
     let values = given_values(alloc, given)?;
     let declarations = declarations_of(alloc, module)?;
-    let declared = names_once(alloc, &declarations)?;
-    let scope = scope_of(alloc, &declared, &values)?;
-    let found = module_fault(alloc, &scope, module, &declarations)?;
+    let declared = names_once(alloc, &declarations.list)?;
+    let scope = scope_of(alloc, &declared, &declarations.groups, &values)?;
+    let found = module_fault(
+        alloc,
+        &scope,
+        module,
+        &declarations.list,
+        &declarations.groups,
+    )?;
     match found {
         None => Ok(scope),
         Some(found) => Err(NameFault::Found(found)),

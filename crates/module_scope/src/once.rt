@@ -4,9 +4,11 @@ ghost use Rattle.std.specs.Prelude.{◌≡◌, ◌||◌, ℕ, List, [], ◌∷�
 ghost use Rattle.v_tree.specs.Trees.{same_name};
 ghost use Rattle.v_names.specs.Names.{is_plain, is_port, plain_of_name, first_declarations};
 ghost use Rattle.module_scope.specs.Kept.{kept};
+ghost use Rattle.name_checks.specs.declared.bounds.Bounds.{Bounds};
+ghost use Rattle.module_scope.specs.Groups.{group_bounds, AreGrouped, AddsGrouped, DeclaredIn};
 ghost use Rattle.module_scope.specs.Declarations.{declared_seen, declaration_seen, declarations_seen, joined_with, joined_by, or_first, first_in, unless_there};
 
-use crate::declaration::{Declaration, Declared};
+use crate::declaration::{Declaration, Declared, GroupBounds};
 use crate::name_map::NameMap;
 use name_checks::Bounds;
 use std::alloc::Global;
@@ -19,7 +21,10 @@ pub fn is_plain(declared: Declared<'_>) -> bool
     match declared {
         Declared::Net { .. } => true,
         Declared::Reg {
-            bounds: Bounds::Integer,
+            bounds: GroupBounds {
+                bounds: Bounds::Integer,
+                ..
+            },
             ..
         } => false,
         Declared::Reg { .. } => true,
@@ -39,7 +44,8 @@ pub fn is_port(declared: Declared<'_>) -> bool
 
 /// What a declaration is with a second one of its name: a port is a variable or signed if either says so, and takes the first content.
 fn joined_declared<'m>(declared: Declared<'m>, again: Declared<'m>) -> Declared<'m>
-    ensures { declared_seen result ≡ joined_with (declared_seen declared.entry) (declared_seen again.entry) }
+    ensures joined { declared_seen result ≡ joined_with (declared_seen declared.entry) (declared_seen again.entry) }
+    ensures bounds { group_bounds result ≡ group_bounds declared.entry }
 {
     match (declared, again) {
         (
@@ -86,7 +92,8 @@ fn joined_declared<'m>(declared: Declared<'m>, again: Declared<'m>) -> Declared<
 
 /// A declaration with what a second one of its name adds.
 fn joined<'m>(declaration: Declaration<'m>, again: Option<Declaration<'m>>) -> Declaration<'m>
-    ensures { declaration_seen result ≡ joined_by (declaration_seen declaration.entry) (option_map declaration_seen again.entry) }
+    ensures joined { declaration_seen result ≡ joined_by (declaration_seen declaration.entry) (option_map declaration_seen again.entry) }
+    ensures bounds { group_bounds result.declared ≡ group_bounds declaration.entry.declared }
 {
     match again {
         None => declaration,
@@ -142,6 +149,7 @@ fn push_once<'m>(
     ensures seen { OnOk result ((name : List ℕ) → is_some (kept seen.new name) ≡ (same_name declaration.entry.name.now name || is_some (kept seen.old name))) }
     ensures pushed { OnOk result (declarations_seen list.new.items ≡ declarations_seen list.old.items ++ unless_there (is_some
         (kept seen.old declaration.entry.name.now)) (joined_by (declaration_seen declaration.entry) (option_map declaration_seen (kept plains.now declaration.entry.name.now)))) }
+    ensures grouped { OnOk result (AddsGrouped (DeclaredIn declaration.entry.declared) list.old.items list.new.items) }
 {
     match seen.get(declaration.name.as_bytes()) {
         Some(_) => Ok(()),
@@ -158,7 +166,8 @@ pub fn names_once<'m>(
     alloc: Global,
     all: &[Declaration<'m>],
 ) -> Result<Vec<Declaration<'m>>, NoMemory>
-    ensures { IfOk result (λ list. declarations_seen list.items ≡ first_declarations (declarations_seen all.now) [] (declarations_seen all.now)) }
+    ensures once { IfOk result (λ list. declarations_seen list.items ≡ first_declarations (declarations_seen all.now) [] (declarations_seen all.now)) }
+    ensures grouped { IfOk result (λ list. (groups : List Bounds) → AreGrouped groups all.now → AreGrouped groups list.items) }
 {
     let plains = plain_declarations(alloc, all)?;
     let mut seen = NameMap::new(alloc);

@@ -195,7 +195,7 @@ fn needs_of_value(
 /// The bounds of a parameter.
 fn parameter_bounds(declared: Declared<'_>) -> Bounds<'_> {
     match declared {
-        Declared::Param { bounds, .. } => bounds,
+        Declared::Param { bounds, .. } => bounds.bounds,
         _ => Bounds::Unbounded,
     }
 }

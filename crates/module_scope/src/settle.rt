@@ -11,12 +11,16 @@ ghost use Rattle.v_names.specs.Names.{waiting_entry, waiting_scope, meanings, sc
 ghost use Rattle.v_names.specs.SizeViews.{signed_value};
 ghost use Rattle.module_scope.specs.Declarations.{declared_seen, declaration_seen, declarations_seen};
 ghost use Rattle.module_scope.specs.Givens.{given_seen};
+ghost use Rattle.module_scope.specs.Groups.{IsGrouped, AreGrouped};
+ghost use Rattle.module_scope.specs.Ranges.{kept_range, AreRanges};
 ghost use Rattle.module_scope.specs.Settled.{waiting_left, AreApart, AreStill, IsPassed, IsSettled, IsTurn};
 
 use crate::declaration::{Declaration, Declared};
 use crate::meaning::meaning_of;
 use crate::name_map::NameMap;
 use crate::order::waiting_order;
+use crate::ranges::GroupRanges;
+use name_checks::Bounds;
 use std::alloc::Global;
 use v_names::{Constant, Entry, Scope};
 use vf_base::{NoMemory, Text};
@@ -72,17 +76,23 @@ fn settle<'m>(
     scope: &mut Scope<'m>,
     declaration: Declaration<'m>,
     given: Option<Constant>,
+    groups: &[Bounds<'m>],
+    ranges: &mut GroupRanges,
 ) -> Result<bool, NoMemory>
-    ensures { IfOk result (λ changed. IsTurn (option_map signed_value given) (declaration_seen declaration.entry) scope.old scope.new changed) }
+    requires grouped { IsGrouped groups.now declaration.declared }
+    requires ranges { AreRanges scope.old groups.now (kept_range ranges.old) }
+    ensures turn { IfOk result (λ changed. IsTurn (option_map signed_value given) (declaration_seen declaration.entry) scope.old scope.new changed) }
+    ensures ranges { OnOk result (AreRanges scope.new groups.now (kept_range ranges.new)) }
 {
     if !is_waiting_name(scope, declaration.name) {
         return Ok(false);
     }
-    let entry = meaning_of(alloc, scope, given, declaration.declared)?;
+    let entry = meaning_of(alloc, scope, given, declaration.declared, groups, ranges)?;
     if is_waiting_entry(&entry) {
         return Ok(false);
     }
     scope.put(declaration.name.as_bytes(), entry)?;
+    ranges.forget_waiting();
     Ok(true)
 }
 
@@ -99,10 +109,15 @@ fn pass<'m>(
     scope: &mut Scope<'m>,
     declared: &[Declaration<'m>],
     given: &NameMap<'_, Constant>,
+    groups: &[Bounds<'m>],
+    ranges: &mut GroupRanges,
 ) -> Result<bool, NoMemory>
     requires apart { AreApart (declarations_seen declared.now) }
     requires settled { IsSettled (given_seen given.now) (declarations_seen declared.now) scope.old }
-    ensures { IfOk result (λ changed. IsPassed (given_seen given.now) (declarations_seen declared.now) scope.old scope.new changed) }
+    requires grouped { AreGrouped groups.now declared.now }
+    requires ranges { AreRanges scope.old groups.now (kept_range ranges.old) }
+    ensures passed { IfOk result (λ changed. IsPassed (given_seen given.now) (declarations_seen declared.now) scope.old scope.new changed) }
+    ensures ranges { OnOk result (AreRanges scope.new groups.now (kept_range ranges.new)) }
 {
     let mut changed = false;
     'declared: for declaration in declared {
@@ -111,6 +126,8 @@ fn pass<'m>(
             scope,
             *declaration,
             given.get(declaration.name.as_bytes()),
+            groups,
+            ranges,
         )?;
         changed = either(changed, now);
     }
@@ -123,19 +140,24 @@ fn settle_at<'m>(
     scope: &mut Scope<'m>,
     declared: &[Declaration<'m>],
     given: &NameMap<'_, Constant>,
+    groups: &[Bounds<'m>],
     place: usize,
+    ranges: &mut GroupRanges,
 ) -> Result<(), NoMemory>
     requires apart { AreApart (declarations_seen declared.now) }
     requires settled { IsSettled (given_seen given.now) (declarations_seen declared.now) scope.old }
+    requires grouped { AreGrouped groups.now declared.now }
+    requires ranges { AreRanges scope.old groups.now (kept_range ranges.old) }
     ensures settled { OnOk result (IsSettled (given_seen given.now) (declarations_seen declared.now) scope.new) }
     ensures fewer { OnOk result (waiting_left scope.new (declarations_seen declared.now) ≤ waiting_left scope.old (declarations_seen declared.now)) }
+    ensures ranges { OnOk result (AreRanges scope.new groups.now (kept_range ranges.new)) }
 {
     if place >= declared.len() {
         return Ok(());
     }
     let declaration = declared[place];
     let value = given.get(declaration.name.as_bytes());
-    settle(alloc, scope, declaration, value)?;
+    settle(alloc, scope, declaration, value, groups, ranges)?;
     Ok(())
 }
 
@@ -145,15 +167,20 @@ fn settle_waiting<'m>(
     scope: &mut Scope<'m>,
     declared: &[Declaration<'m>],
     given: &NameMap<'_, Constant>,
+    groups: &[Bounds<'m>],
+    ranges: &mut GroupRanges,
 ) -> Result<(), NoMemory>
     requires apart { AreApart (declarations_seen declared.now) }
     requires settled { IsSettled (given_seen given.now) (declarations_seen declared.now) scope.old }
+    requires grouped { AreGrouped groups.now declared.now }
+    requires ranges { AreRanges scope.old groups.now (kept_range ranges.old) }
     ensures settled { OnOk result (IsSettled (given_seen given.now) (declarations_seen declared.now) scope.new) }
     ensures fewer { OnOk result (waiting_left scope.new (declarations_seen declared.now) ≤ waiting_left scope.old (declarations_seen declared.now)) }
+    ensures ranges { OnOk result (AreRanges scope.new groups.now (kept_range ranges.new)) }
 {
     let order = waiting_order(alloc, scope, declared, given)?;
     'order: for place in &order {
-        settle_at(alloc, scope, declared, given, *place)?;
+        settle_at(alloc, scope, declared, given, groups, *place, ranges)?;
     }
     Ok(())
 }
@@ -164,18 +191,23 @@ fn settle_all<'m>(
     scope: &mut Scope<'m>,
     declared: &[Declaration<'m>],
     given: &NameMap<'_, Constant>,
+    groups: &[Bounds<'m>],
+    ranges: &mut GroupRanges,
 ) -> Result<(), NoMemory>
     requires apart { AreApart (declarations_seen declared.now) }
     requires settled { IsSettled (given_seen given.now) (declarations_seen declared.now) scope.old }
+    requires grouped { AreGrouped groups.now declared.now }
+    requires ranges { AreRanges scope.old groups.now (kept_range ranges.old) }
     ensures settled { OnOk result (IsSettled (given_seen given.now) (declarations_seen declared.now) scope.new) }
     ensures still { OnOk result (AreStill (given_seen given.now) scope.new (declarations_seen declared.now)) }
+    ensures ranges { OnOk result (AreRanges scope.new groups.now (kept_range ranges.new)) }
 {
     'passes: loop {
-        let changed = pass(alloc, scope, declared, given)?;
+        let changed = pass(alloc, scope, declared, given, groups, ranges)?;
         if !changed {
             return Ok(());
         }
-        settle_waiting(alloc, scope, declared, given)?;
+        settle_waiting(alloc, scope, declared, given, groups, ranges)?;
     }
 }
 
@@ -185,30 +217,37 @@ fn meanings<'m>(
     settled: &Scope<'m>,
     declared: &[Declaration<'m>],
     given: &NameMap<'_, Constant>,
+    groups: &[Bounds<'m>],
+    ranges: &mut GroupRanges,
 ) -> Result<Scope<'m>, NoMemory>
-    requires { AreApart (declarations_seen declared.now) }
+    requires apart { AreApart (declarations_seen declared.now) }
+    requires grouped { AreGrouped groups.now declared.now }
+    requires ranges { AreRanges settled.now groups.now (kept_range ranges.old) }
     ensures { IfOk result (λ scope. scope ≡ meanings settled.now (given_seen given.now) (declarations_seen declared.now)) }
 {
     let mut scope = Scope::new(alloc);
     'declared: for declaration in declared {
         let value = given.get(declaration.name.as_bytes());
-        let entry = meaning_of(alloc, settled, value, declaration.declared)?;
+        let entry = meaning_of(alloc, settled, value, declaration.declared, groups, ranges)?;
         scope.declare(declaration.name.as_bytes(), entry)?;
     }
     Ok(scope)
 }
 
-/// The scope of declared names, each once, by the values that an instance gives some parameters.
+/// The scope of declared names, each once, by the bounds of their groups and the values that an instance gives some parameters.
 pub fn scope_of<'m>(
     alloc: Global,
     declared: &[Declaration<'m>],
+    groups: &[Bounds<'m>],
     given: &NameMap<'_, Constant>,
 ) -> Result<Scope<'m>, NoMemory>
-    requires { AreApart (declarations_seen declared.now) }
+    requires apart { AreApart (declarations_seen declared.now) }
+    requires grouped { AreGrouped groups.now declared.now }
     ensures { IfOk result (λ scope. scope ≡ scope_after (parameter_count (declarations_seen declared.now) + 1) (given_seen given.now) (declarations_seen declared.now)) }
 {
     let mut settled = waiting_scope(alloc, declared)?;
-    settle_all(alloc, &mut settled, declared, given)?;
-    let scope = meanings(alloc, &settled, declared, given)?;
+    let mut ranges = GroupRanges::new(alloc, groups.len())?;
+    settle_all(alloc, &mut settled, declared, given, groups, &mut ranges)?;
+    let scope = meanings(alloc, &settled, declared, given, groups, &mut ranges)?;
     Ok(scope)
 }

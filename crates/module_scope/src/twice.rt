@@ -1,19 +1,24 @@
 // Names that are declared twice, and the list of ports.
 
-ghost use Rattle.std.specs.Prelude.{◌≡◌, ◌||◌, ℕ, List, [], ◌∷◌, OnOk, IfOk, option_map, map, is_some, cond, Some};
+ghost use Rattle.std.specs.Prelude.{◌≡◌, ◌||◌, ℕ, List, [], ◌∷◌, OnOk, IfOk, not, option_map, map, is_some, cond, Some, IfSome};
+ghost use Rattle.vf_base.specs.Base.{source_place};
 ghost use Rattle.v_tree.specs.Trees.{same_name};
+ghost use Rattle.v_names.specs.Faults.{DeclaredTwice, fault_if};
 ghost use Rattle.v_tree.specs.Views.{heads_of, name_of};
-ghost use Rattle.v_names.specs.Names.{declared_bounds, may_follow, twice_faults, head_faults, heads_faults};
+ghost use Rattle.v_names.specs.Names.{may_follow, twice_faults, head_faults, heads_faults};
 ghost use Rattle.name_checks.specs.Noted.{noted};
+ghost use Rattle.name_checks.specs.declared.bounds.Bounds.{Bounds};
 ghost use Rattle.module_scope.specs.Kept.{kept};
-ghost use Rattle.module_scope.specs.Declarations.{declared_seen, declaration_seen, declarations_seen};
-ghost use Rattle.name_checks.specs.BoundViews.{bounds_seen};
-ghost use Rattle.module_scope.specs.Earlier.{earlier_seen, may_follow_earlier, earlier_with, twice_fault_of, head_fault_of};
+ghost use Rattle.module_scope.specs.Declarations.{declaration_seen, declarations_seen};
+ghost use Rattle.module_scope.specs.Groups.{IsGrouped, AreGrouped};
+ghost use Rattle.module_scope.specs.Ranges.{kept_range, AreRanges};
+ghost use Rattle.module_scope.specs.Earlier.{IsEarlierGrouped, EarlierGrouped, earlier_seen, may_follow_earlier, earlier_with, twice_fault_of, head_fault_of};
 
-use crate::declaration::{Declaration, Declared};
+use crate::declaration::Declaration;
 use crate::name_map::NameMap;
 use crate::once::{is_plain, is_port};
-use name_checks::{Bounds, FirstFault, is_same_range, note_known, note_port_groups, range_of};
+use crate::ranges::{GroupRanges, range_of_declared};
+use name_checks::{Bounds, FirstFault, is_same_range, note_known, note_port_groups};
 use std::alloc::Global;
 use v_names::{Found, Reason, Scope};
 use v_tree::{Heads, Name};
@@ -28,29 +33,20 @@ pub enum Earlier<'m> {
     More,
 }
 
-/// The declared bounds of what is declared.
-fn bounds_of_declared<'m>(declared: Declared<'m>) -> Bounds<'m>
-    ensures { bounds_seen result ≡ declared_bounds (declared_seen declared.entry) }
-{
-    match declared {
-        Declared::Param { bounds, .. } => bounds,
-        Declared::Port { bounds, .. } => bounds,
-        Declared::Net { bounds, .. } => bounds,
-        Declared::Reg { bounds, .. } => bounds,
-        Declared::Memory { bounds, .. } => bounds,
-        Declared::Gate => Bounds::Unbounded,
-        Declared::Instance => Bounds::Unbounded,
-    }
-}
-
 /// Whether a declaration declares a port once more, as a `reg` or a `wire` of the same range.
 fn is_port_again(
     alloc: Global,
     scope: &Scope<'_>,
     port: Declaration<'_>,
     again: Declaration<'_>,
+    groups: &[Bounds<'_>],
+    ranges: &mut GroupRanges,
 ) -> Result<bool, NoMemory>
-    ensures { IfOk result (λ same. same ≡ may_follow scope.now (declaration_seen port.entry ∷ []) (declaration_seen again.entry)) }
+    requires port { IsGrouped groups.now port.declared }
+    requires again { IsGrouped groups.now again.declared }
+    requires ranges { AreRanges scope.now groups.now (kept_range ranges.old) }
+    ensures same { IfOk result (λ same. same ≡ may_follow scope.now (declaration_seen port.entry ∷ []) (declaration_seen again.entry)) }
+    ensures ranges { OnOk result (AreRanges scope.now groups.now (kept_range ranges.new)) }
 {
     if !is_port(port.declared) {
         return Ok(false);
@@ -58,9 +54,9 @@ fn is_port_again(
     if !is_plain(again.declared) {
         return Ok(false);
     }
-    let one = range_of(alloc, scope, bounds_of_declared(port.declared))?;
-    let other = range_of(alloc, scope, bounds_of_declared(again.declared))?;
-    Ok(is_same_range(one, other))
+    let one = range_of_declared(alloc, scope, port.declared, groups, ranges)?;
+    let other = range_of_declared(alloc, scope, again.declared, groups, ranges)?;
+    Ok(is_same_range(one.range, other.range))
 }
 
 /// Whether a declaration may follow the earlier ones of its name.
@@ -69,14 +65,20 @@ fn may_follow(
     scope: &Scope<'_>,
     earlier: Option<Earlier<'_>>,
     declaration: Declaration<'_>,
+    groups: &[Bounds<'_>],
+    ranges: &mut GroupRanges,
 ) -> Result<bool, NoMemory>
-    ensures { IfOk result (λ may. may ≡ may_follow_earlier scope.now (option_map earlier_seen earlier.entry) (declaration_seen declaration.entry)) }
+    requires grouped { IsGrouped groups.now declaration.declared }
+    requires earlier { IfSome earlier (IsEarlierGrouped groups.now) }
+    requires ranges { AreRanges scope.now groups.now (kept_range ranges.old) }
+    ensures may { IfOk result (λ may. may ≡ may_follow_earlier scope.now (option_map earlier_seen earlier.entry) (declaration_seen declaration.entry)) }
+    ensures ranges { OnOk result (AreRanges scope.now groups.now (kept_range ranges.new)) }
 {
     match earlier {
         None => Ok(true),
         Some(Earlier::More) => Ok(false),
         Some(Earlier::Once(port)) => {
-            let may = is_port_again(alloc, scope, port, declaration)?;
+            let may = is_port_again(alloc, scope, port, declaration, groups, ranges)?;
             Ok(may)
         }
     }
@@ -84,11 +86,24 @@ fn may_follow(
 
 /// The earlier declarations of a name after one more.
 fn with_one_more<'m>(earlier: Option<Earlier<'m>>, declaration: Declaration<'m>) -> Earlier<'m>
-    ensures { earlier_seen result ≡ earlier_with (option_map earlier_seen earlier.entry) (declaration_seen declaration.entry) }
+    ensures earlier { earlier_seen result ≡ earlier_with (option_map earlier_seen earlier.entry) (declaration_seen declaration.entry) }
+    ensures grouped { (groups : List Bounds) → IsGrouped groups declaration.entry.declared → IsEarlierGrouped groups result }
 {
     match earlier {
         None => Earlier::Once(declaration),
         Some(_) => Earlier::More,
+    }
+}
+
+/// Notes a declaration at a place that may not stand there.
+fn note_unless(may: bool, place: Place, first: &mut FirstFault)
+    ensures { first.new ≡ noted first.old (fault_if (not may) (source_place place) DeclaredTwice) }
+{
+    if !may {
+        first.note(Found {
+            place,
+            reason: Reason::DeclaredTwice,
+        });
     }
 }
 
@@ -97,25 +112,25 @@ fn note_twice<'m>(
     alloc: Global,
     scope: &Scope<'_>,
     declaration: Declaration<'m>,
+    groups: &[Bounds<'m>],
     earlier: &mut NameMap<'m, Earlier<'m>>,
+    ranges: &mut GroupRanges,
     first: &mut FirstFault,
 ) -> Result<(), NoMemory>
+    requires grouped { IsGrouped groups.now declaration.declared }
+    requires earlier { EarlierGrouped groups.now (kept earlier.old) }
+    requires ranges { AreRanges scope.now groups.now (kept_range ranges.old) }
     ensures noted { OnOk result (first.new ≡ noted first.old (twice_fault_of scope.now (option_map earlier_seen (kept earlier.old declaration.entry.name.now)) (declaration_seen declaration.entry))) }
     ensures earlier { OnOk result ((name : List ℕ) → option_map earlier_seen (kept earlier.new name) ≡ cond (same_name declaration.entry.name.now name) (Some
         (earlier_with (option_map earlier_seen (kept earlier.old declaration.entry.name.now)) (declaration_seen declaration.entry))) (option_map earlier_seen (kept earlier.old name))) }
+    ensures grouped { OnOk result (EarlierGrouped groups.now (kept earlier.new)) }
+    ensures ranges { OnOk result (AreRanges scope.now groups.now (kept_range ranges.new)) }
 {
-    let before = earlier.get(declaration.name.as_bytes());
-    let may = may_follow(alloc, scope, before, declaration)?;
-    earlier.put(
-        declaration.name.as_bytes(),
-        with_one_more(before, declaration),
-    )?;
-    if !may {
-        first.note(Found {
-            place: declaration.place,
-            reason: Reason::DeclaredTwice,
-        });
-    }
+    let name = declaration.name.as_bytes();
+    let before = earlier.get(name);
+    let may = may_follow(alloc, scope, before, declaration, groups, ranges)?;
+    earlier.put(name, with_one_more(before, declaration))?;
+    note_unless(may, declaration.place, first);
     Ok(())
 }
 
@@ -124,13 +139,24 @@ pub fn note_all_twice<'m>(
     alloc: Global,
     scope: &Scope<'_>,
     all: &[Declaration<'m>],
+    groups: &[Bounds<'m>],
     first: &mut FirstFault,
 ) -> Result<(), NoMemory>
+    requires { AreGrouped groups.now all.now }
     ensures { OnOk result (first.new ≡ noted first.old (twice_faults scope.now [] (declarations_seen all.now))) }
 {
     let mut earlier = NameMap::new(alloc);
+    let mut ranges = GroupRanges::new(alloc, groups.len())?;
     'all: for declaration in all {
-        note_twice(alloc, scope, *declaration, &mut earlier, first)?;
+        note_twice(
+            alloc,
+            scope,
+            *declaration,
+            groups,
+            &mut earlier,
+            &mut ranges,
+            first,
+        )?;
     }
     Ok(())
 }

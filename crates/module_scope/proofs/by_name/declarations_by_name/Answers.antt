@@ -1,4 +1,4 @@
-use Rattle.std.proofs.Common.{ℕ, List, cond, map, Some, ap, ◌∙◌}
+use Rattle.std.proofs.Common.{ℕ, List, cond, Some, ap, ◌∙◌}
 use Rattle.v_tree.specs.Trees.{same_name}
 use Rattle.module_scope.specs.Kept.{kept}
 use Rattle.module_scope.specs.Declarations.{declaration_seen}

@@ -1,4 +1,4 @@
-use Rattle.std.proofs.Common.{List, [], ◌++◌, map, flat_map, ap, ap₂, ◌∙◌}
+use Rattle.std.proofs.Common.{List, [], ◌++◌, map, flat_map, ap₂, ◌∙◌}
 use Rattle.v_tree.specs.Views.{parameters_of, heads_of, item_of}
 use Rattle.v_tree.specs.declared.item.Params.{Params}
 use Rattle.v_tree.specs.declared.item.Item.{Item}

@@ -1,4 +1,4 @@
-use Rattle.std.proofs.Common.{◌≡◌, ℕ, List, Some, cond, true, option_map, refl, ap, sym, ◌∙◌, rules}
+use Rattle.std.proofs.Common.{◌≡◌, ℕ, List, Some, cond, true, option_map, ap, sym, ◌∙◌, rules}
 use Rattle.v_tree.specs.Trees.{same_name}
 use Rattle.v_names.specs.Names.{is_plain}
 use Rattle.module_scope.specs.Kept.{kept}

@@ -3,10 +3,15 @@ use Rattle.module_scope.specs.Givens.{given_seen}
 use Rattle.module_scope.specs.Declarations.{declarations_seen}
 use Rattle.module_scope.proofs.Settling.{settled-start}
 use Rattle.module_scope.proofs.Complete.{settled-scope}
+use Rattle.module_scope.specs.Ranges.{kept_range}
+use Rattle.module_scope.proofs.RangesKept.{no-ranges}
 use Rattle.module_scope.proofs.settle.scope_of.Goals as goal
 
 pub settle_all-requires-clause-settled : goal.settle_all-requires-clause-settled
-settle_all-requires-clause-settled c = settled-start (given_seen c.args.given.now) (declarations_seen c.args.declared.now) c.in_ok-settled.settled c.requires c.in_ok-settled.ensures
+settle_all-requires-clause-settled c = settled-start (given_seen c.args.given.now) (declarations_seen c.args.declared.now) c.in_ok-settled.settled c.requires.apart c.in_ok-settled.ensures
+
+pub settle_all-requires-clause-ranges : goal.settle_all-requires-clause-ranges
+settle_all-requires-clause-ranges c = no-ranges c.in_ok-settled.settled c.args.groups.now (kept_range c.in_ok-ranges.ranges) c.in_ok-ranges.ensures
 
 pub returns : goal.returns
 returns c =

@@ -1,5 +1,5 @@
 use Rattle.std.proofs.Common.{List, [], ◌∷◌, ◌++◌, ℕ, ap, ◌∙◌}
-use Rattle.v_names.specs.Scopes.{ScopeName, ScopeEntry, looked_up}
+use Rattle.v_names.specs.Scopes.{ScopeName, looked_up}
 use Rattle.v_names.specs.ScopeViews.{entry_of}
 use Rattle.v_names.specs.Names.{Declaration, waiting_entry}
 use Rattle.module_scope.specs.Declarations.{declaration_seen}
