@@ -2,12 +2,11 @@
 use Rattle.std.proofs.Common.{◌≡◌, ℕ, zero, suc, ◌+◌, ◌-◌, ◌<◌, ◌≤◌, Bool, true, false, cond, ◌&&◌, List, [], ◌∷◌, ◌++◌, map, length, get_or, take, refl, sym, ap, subst, ◌∙◌, arith}
 use Rattle.std.specs.Prelude.{Some, None, filter, nat_eq, nat_lt}
 use Rattle.std.specs.List.Sorted.{IsNonDecreasingBy}
-use Rattle.std.proofs.lemmas.Bool.{eqb-true, lt-ltb, ltb-false}
+use Rattle.std.proofs.lemmas.Bool.{lt-ltb}
 use Rattle.std.proofs.lemmas.List.{length-map, length-take-le, get_or-map, map_push, take_more}
 use Rattle.vf_base.specs.Base.{object_number}
 use Rattle.four_value.specs.Values.{LogicValue}
-use Rattle.window_index.specs.declared.occurrence.Occurrence.{Occurrence}
-use Rattle.window_index.specs.Moments.{moment_of, is_of, moments_of, IsIndexOf, IsLastBefore}
+use Rattle.window_index.specs.Moments.{moment_of, is_of, moments_of, IsLastBefore}
 use Rattle.trace_window.specs.declared.change.Change.{Change}
 use Rattle.trace_window.specs.Writes.{written_of, value_or, latest}
 use Rattle.trace_window.specs.Tables.{occurrence_of, change_moment, at_moment, at_place, at_places, AreChanges}

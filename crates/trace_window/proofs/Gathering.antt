@@ -22,7 +22,7 @@ use Rattle.slot_record.specs.Records.{event_of}
 use Rattle.window_index.specs.declared.occurrence.Occurrence.{Occurrence}
 use Rattle.trace_window.specs.Kinds.{is_write, is_touch}
 use Rattle.trace_window.specs.Touched.{touch_before, touches_in}
-use Rattle.trace_window.specs.Writes.{Written, written_of, write_before, writes_in}
+use Rattle.trace_window.specs.Writes.{Written, write_before, writes_in}
 use Rattle.trace_window.specs.Listed.{phase_accesses}
 
 -- One access

@@ -1,6 +1,6 @@
 -- The indexes of evaluations and of steps answer the first event from a moment on that evaluates a node, and that is a step of a process or of its lane (IEEE 1364-2001, clause 5).
-use Rattle.std.proofs.Common.{◌≡◌, ℕ, zero, suc, ◌<◌, Bool, true, false, List, [], ◌∷◌, map, length, refl, sym, ap, ◌∙◌, inl, inr, arith}
-use Rattle.std.specs.Prelude.{Option, Some, None, nat_eq, Contains, slice_get}
+use Rattle.std.proofs.Common.{◌≡◌, ℕ, zero, suc, ◌<◌, Bool, true, false, List, [], ◌∷◌, length, refl, inl, inr, arith}
+use Rattle.std.specs.Prelude.{Option, Some, None, Contains, slice_get}
 use Rattle.std.proofs.lemmas.List.{length-map}
 use Rattle.v_design.specs.States.{Event}
 use Rattle.window_index.specs.Moments.{moments_of, IsFirstAtOrAfter}

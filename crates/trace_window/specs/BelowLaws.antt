@@ -39,4 +39,3 @@ index-below count occurrences index had = record { numbers = had.numbers; moment
             ∙ rest
         go false true a b rest = let same : x.number ≡ number = eqb-true x.number number b in let past : count ≤ x.number = ltb-false x.number count a in absurd (omega arith)
         go false false a b rest = rest
-

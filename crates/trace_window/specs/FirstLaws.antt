@@ -96,9 +96,12 @@ first-occurrence each occurs has xs number moment None all = λ place low within
     absent place (inl e) low =
         let there = (moments-are each occurs has number 0 xs).1 place e in
         let before : 0 + place < moment = All-contains (λ other. other < moment) (moments_of (occurrences_from each 0 xs) number) (0 + place) all there in absurd (omega arith)
-first-occurrence each occurs has xs number moment (Some first) found =
-    (found.1, within, (let same : first ≡ first - 0 = omega arith in ap (λ n. occurs_at occurs xs number n) same ∙ is.2),
-    (λ place from below. absent place (cases_Bool (occurs_at occurs xs number place)) from below))
+first-occurrence each occurs has xs number moment (Some first) found = (
+  found.1,
+  within,
+  (let same : first ≡ first - 0 = omega arith in ap (λ n. occurs_at occurs xs number n) same ∙ is.2),
+  (λ place from below. absent place (cases_Bool (occurs_at occurs xs number place)) from below),
+)
   where
     is : (0 ≤ first) × (first < 0 + length xs) × (occurs_at occurs xs number (first - 0) ≡ true)
     is = (moments-are each occurs has number 0 xs).0 first found.0

@@ -1,5 +1,5 @@
 -- Occurrences of numbers in some things in a row, each of which has a moment (nothing of the language).
-use Rattle.std.specs.Prelude.{◌≡◌, ℕ, ◌+◌, Bool, true, false, List, [], ◌∷◌, ◌++◌, Option, Some, None, Contains, filter, nat_lt, slice_get}
+use Rattle.std.specs.Prelude.{◌≡◌, ℕ, ◌+◌, Bool, true, false, List, [], ◌∷◌, ◌++◌, Some, None, Contains, filter, nat_lt, slice_get}
 use Rattle.window_index.specs.declared.occurrence.Occurrence.{Occurrence}
 use Rattle.window_index.specs.Moments.{moments_of}
 

@@ -1,5 +1,5 @@
 -- What an object holds before a moment is what the writes before it leave (IEEE 1364-2001, clause 5).
-use Rattle.std.proofs.Common.{◌≡◌, ℕ, zero, suc, ◌+◌, ◌-◌, ◌<◌, ◌≤◌, Bool, true, false, cond, ◌&&◌, List, [], ◌∷◌, ◌++◌, map, length, take, drop, refl, sym, ap, subst, ◌∙◌, arith}
+use Rattle.std.proofs.Common.{◌≡◌, ℕ, zero, suc, ◌+◌, ◌<◌, ◌≤◌, Bool, true, false, cond, ◌&&◌, List, [], ◌∷◌, ◌++◌, map, length, take, drop, refl, sym, ap, subst, ◌∙◌, arith}
 use Rattle.std.specs.Prelude.{Option, Some, None, nat_eq, nat_le}
 use Rattle.std.proofs.lemmas.Bool.{lt-ltb, le-ltb}
 use Rattle.std.proofs.lemmas.List.{length-take-le}
@@ -10,7 +10,7 @@ use Rattle.v_design.specs.Assignments.{value_at, first_values}
 use Rattle.v_design.specs.States.{State, Event, TurnKind, PostponedTurn, UpdatesTurn, TimeTurn, start, after, turn_of, time_turn}
 use Rattle.v_design.specs.Accesses.{AccessAct, Reading, Writing, Awaiting, Ending, Holding, Settling, ObjectAccess}
 use Rattle.v_design.specs.Runs.{Move, Happens, Turns, FirstSlot, happened, made, all_made, turned_by, first_moves, first_slots, first_run, next_slot, next_slot_at, only_if, slot_end, is_hyper}
-use Rattle.v_design.specs.Grades.{cut, phases, SlotOutcome, Fine, Race, Hyper, slot_outcome}
+use Rattle.v_design.specs.Grades.{cut, SlotOutcome, Fine, Race, Hyper, slot_outcome}
 use Rattle.v_design.specs.OwnSteps.{slots_through_stop}
 use Rattle.v_design.specs.WellFormed.{KeepsRules}
 use Rattle.copy_laws.specs.Windows.{good_slots}

@@ -160,12 +160,7 @@ impl EventList {
     }
 
     /// Puts an event at the end, in which somebody acts.
-    fn note_event(
-        &mut self,
-        sizes: Sizes,
-        accesses: &[Noted],
-        actor: Actor,
-    ) -> Result<(), NoMemory>
+    fn note_event(&mut self, sizes: Sizes, accesses: &[Noted], actor: Actor) -> Result<(), NoMemory>
         requires { AllHold IsNoted accesses.now }
         ensures { OnOk result (Gathers sizes (map noted_access accesses.now ∷ []) (event_of actor ∷ []) self.old self.new) }
     {
@@ -182,12 +177,7 @@ impl EventList {
     }
 
     /// Puts the events of a phase at the end, in which these act.
-    fn note_phase(
-        &mut self,
-        sizes: Sizes,
-        log: &PhaseLog,
-        actors: &[Actor],
-    ) -> Result<(), NoMemory>
+    fn note_phase(&mut self, sizes: Sizes, log: &PhaseLog, actors: &[Actor]) -> Result<(), NoMemory>
         requires { HasActors log.now actors.now }
         ensures { OnOk result (Gathers sizes (phase_accesses log.now) (map event_of actors.now) self.old self.new) }
     {
