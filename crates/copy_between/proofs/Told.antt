@@ -53,11 +53,11 @@ module _ (codes : List Code) (design : FlatDesign) (good own : State) (old new :
       let found_is = own-activities codes process new.states in
       elim (cases_lt process (length design.processes)) [
         | inl low ↦ elim (slice_get_cases codes process).1 [
-            | inl code ↦
-                two-same before before after after _ _ refl refl (found_is ∙ ap (λ (c : Option Code). option_map (done_by c) (own_of new.states process)) code.2)
-                ((kept.states.each process low).does code.0 (codes_are.each process code.0 code.2))
-            | inr none ↦ absurd (omega (arith, none.0, low, codes_are.count))
-          ]
+          | inl code ↦
+              two-same before before after after _ _ refl refl (found_is ∙ ap (λ (c : Option Code). option_map (done_by c) (own_of new.states process)) code.2)
+              ((kept.states.each process low).does code.0 (codes_are.each process code.0 code.2))
+          | inr none ↦ absurd (omega (arith, none.0, low, codes_are.count))
+        ]
         | inr past ↦
             subst (IsDifference before after)
             (sym (found_is ∙ ap (option_map (done_by (slice_get codes process))) (kept.states.others process past ∙ within.states process past)))
