@@ -8,7 +8,7 @@ use vf_base::NoMemory;
 
 /// The kinds of gates that are drawn.
 #[derive(Clone, Copy, PartialEq, Eq, Debug)]
-pub(crate) enum Kind {
+pub enum Kind {
     And,
     Nand,
     Or,
@@ -19,14 +19,17 @@ pub(crate) enum Kind {
 
 /// A register of one bit, with the gate that gives its next value.
 #[derive(Clone, Copy, PartialEq, Eq, Debug)]
-pub(crate) struct Stage {
-    pub(crate) number: u32,
-    pub(crate) kind: Kind,
-    /// The registers that the gate reads, in the order of its terminals.
-    pub(crate) left: u32,
-    pub(crate) right: u32,
+pub struct Stage {
+    /// Its place among the stages, from 0.
+    pub number: u32,
+    /// The kind of its gate.
+    pub kind: Kind,
+    /// The number of the register that the gate reads first.
+    pub left: u32,
+    /// The number of the register that the gate reads second.
+    pub right: u32,
     /// The register's first value, 0 or 1.
-    pub(crate) first: u32,
+    pub first: u32,
 }
 
 /// The kind that a draw stands for.

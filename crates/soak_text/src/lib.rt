@@ -11,4 +11,5 @@ mod draws;
 mod plan;
 
 pub use design::design_text;
+pub use draws::{Kind, Stage};
 pub use plan::plan_text;

@@ -1,0 +1,9 @@
+pub mod Once
+pub mod Apart
+pub mod Meant
+pub mod Items
+pub mod Walked
+pub mod Parts
+pub mod Driven
+pub mod Held
+pub mod Accepted

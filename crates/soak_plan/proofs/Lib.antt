@@ -1,0 +1,4 @@
+pub mod Read
+pub mod Watched
+pub mod Counted
+pub mod Whole

@@ -1,0 +1,2 @@
+pub mod SoakUnits
+pub mod Stages
