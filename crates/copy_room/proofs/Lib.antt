@@ -1,0 +1,5 @@
+mod Placing
+mod Standing
+mod Puts
+mod Entered
+mod Keeping
