@@ -1,6 +1,7 @@
 -- A machine that is put into a state of its first run stands there (slots by IEEE 1364-2001, clause 5).
 use Rattle.std.proofs.Common.{◌≡◌, ℕ, refl, sym, ap, subst, ◌∙◌, arith}
 use Rattle.std.specs.Prelude.{Option, Some, None}
+use Rattle.std.specs.Option.{option_map}
 use Rattle.std.proofs.lemmas.Bool.{le-leb}
 use Rattle.v_design.specs.Designs.{FlatDesign, StuckAt, TestPlan, faulty_machine}
 use Rattle.v_design.specs.States.{State, TurnKind, PostponedTurn, UpdatesTurn, TimeTurn, start, turn_of}
@@ -43,21 +44,23 @@ machine-begins law design plan fault m rules same standing turn next =
     record {
       same_machine = same;
       standing = standing;
+      stage = ap (option_map (λ (s : State). s.time)) next;
       run =
           subst (λ (n : Option State). HasRun machine plan.end None n (state_kept m)) (sym within)
           (subst (λ (s : State). HasRun machine plan.end None (Some (start machine)) s) (sym state) (law.begins machine plan.end rules));
     }
 
 machine-again : RunsStand → (design : FlatDesign) (plan : TestPlan) (fault : StuckAt) (time : ℕ) (m : Simulated) → KeepsRules design → StopsAfter time (faulty_stop design plan fault) →
-    machine_kept m ≡ faulty_machine design fault → IsStanding m → state_kept m ≡ state_at (faulty_machine design fault) plan.end time →
+    machine_kept m ≡ faulty_machine design fault → IsStanding m → state_kept m ≡ state_at (faulty_machine design fault) plan.end time → m.stage ≡ at.Between →
     begins_next m ≡ slot_after (state_kept m) (turn_of (state_kept m)) → IsRunningAt design plan fault (Some time) m
-machine-again law design plan fault time m rules stops same standing state next =
+machine-again law design plan fault time m rules stops same standing state stage next =
     let machine = faulty_machine design fault in
     let here : HasRun machine plan.end (Some time) (next_slot_at plan.end (state_kept m) (turn_of (state_kept m))) (state_kept m) =
     subst (λ (s : State). HasRun machine plan.end (Some time) (next_slot_at plan.end s (turn_of s)) s) (sym state) (law.again machine plan.end time rules stops) in
     record {
       same_machine = same;
       standing = standing;
+      stage = stage;
       run =
           subst (λ (n : Option State). HasRun machine plan.end (Some time) n (state_kept m))
           (after-within plan.end (state_kept m) (turn_of (state_kept m)) ∙ ap (begun_within plan.end) (sym next)) here;

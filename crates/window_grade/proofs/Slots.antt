@@ -12,12 +12,14 @@ use Rattle.v_design.specs.Plain.{grade_of}
 use Rattle.causal_monitor.specs.declared.slot.Turn.{Turn}
 use Rattle.causal_monitor.specs.declared.slot.SlotLog.{SlotLog}
 use Rattle.machine_laws.specs.SlotLoop.{slot_from}
+use Rattle.between_slots.specs.FewLaws.{fine-few}
 use Rattle.machine.specs.Standing.{IsStanding, RunsSlot, machine_kept, state_kept, begins_next, begun_within, outcome_of, next-is-following}
 use Rattle.machine.specs.declared.end.SlotEnd.{SlotEnd}
+use Rattle.machine.specs.declared.parts.Stage.TheVariants.{Between}
 use Rattle.machine.specs.declared.parts.Machine.{Machine as Simulated}
 use Rattle.fault_grade.specs.Reached.{next_of}
 use Rattle.beside_laws.specs.Stands.{HasRun, RunsGoOn}
-use Rattle.window_grade.specs.Running.{IsRunningAt, StopsWith, EndsSo, RunsSlotAt, IsOnWayTo}
+use Rattle.window_grade.specs.Running.{IsAtStage, IsRunningAt, StaysOn, StopsWith, EndsSo, RunsSlotAt, IsOnWayTo}
 
 -- The slot that is next
 
@@ -52,6 +54,11 @@ pub left-falls : (until time : ℕ) (next : Option ℕ) → time ≤ until → (
 left-falls until time None h rises = omega (arith, h)
 left-falls until time (Some later) h rises = let r : time < later = rises later refl in omega (arith, h, r)
 
+-- A machine that is run on
+
+pub stays-more : (old mid new : Simulated) → StaysOn old mid → StaysOn mid new → StaysOn old new
+stays-more old mid new one more = record { same_machine = more.same_machine ∙ one.same_machine; standing = more.standing; notes = more.notes ∙ one.notes }
+
 -- A slot
 
 ending-fine : (time : ℕ) (outcome : SlotOutcome) (ended : End) → outcome ≡ Fine → faulty_ending time outcome ≡ Some (grade_of ended) → ⊥
@@ -76,6 +83,7 @@ slot-leads law time old new begins first end None log is at same runs standing s
     record {
       same_machine = same ∙ running.same_machine;
       standing = standing;
+      stage = ran.between (fine-few machine (slot_from machine begins) (sym ran.outcome ∙ so));
       run =
           subst (λ t. HasRun machine plan.end (Some t) (begun_within plan.end (begins_next new)) (state_kept new)) at
           (subst (λ (s : State). HasRun machine plan.end (Some begins.time) (begun_within plan.end (begins_next new)) s) (sym ran.state)
@@ -108,12 +116,18 @@ slot-rises law design plan fault time m at early later e =
 
 -- Between slots
 
+-- a machine that passes a time without a slot isn't at its start
+passed-stage : (until : ℕ) (now : Option ℕ) (m : Simulated) → IsAtStage now m → ((later : ℕ) → next_of m ≡ Some later → until < later) → m.stage ≡ Between
+passed-stage until None m first past = absurd (let late : until < 0 = past 0 first in omega (arith, late))
+passed-stage until (Some now) m between past = between
+
 -- no slot up to a time is next
 pub run-passed : RunsGoOn → (design : FlatDesign) (plan : TestPlan) (fault : StuckAt) (until : ℕ) (m : Simulated) → IsOnWayTo design plan fault until m →
     ((later : ℕ) → next_of m ≡ Some later → until < later) → IsRunningAt design plan fault (Some until) m
 run-passed law design plan fault until m way past = record {
   same_machine = way.at.same_machine;
   standing = way.at.standing;
+  stage = passed-stage until way.now m way.at.stage past;
   run = law.passes (faulty_machine design fault) plan.end way.now (begun_within plan.end (begins_next m)) (state_kept m) until way.at.run way.since
       (λ begins e. past begins.time (ap (option_map (λ (s : State). s.time)) (within-is plan.end (begins_next m) begins e)));
 }

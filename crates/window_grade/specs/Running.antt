@@ -5,15 +5,23 @@ use Rattle.v_design.specs.Designs.{FlatDesign, StuckAt, TestPlan, faulty_machine
 use Rattle.v_design.specs.Grades.{Fine, Stop, faulty_ending}
 use Rattle.v_design.specs.Plain.{grade_of}
 use Rattle.grade_laws.specs.Grading.{faulty_stop}
-use Rattle.machine.specs.Standing.{IsStanding, machine_kept, state_kept, begins_next, begun_within, outcome_of}
+use Rattle.machine.specs.Standing.{IsStanding, machine_kept, state_kept, notes_runs, begins_next, begun_within, outcome_of}
 use Rattle.machine.specs.declared.end.SlotEnd.{SlotEnd}
+use Rattle.machine.specs.declared.parts.Stage.TheVariants.{Between}
 use Rattle.machine.specs.declared.parts.Machine.{Machine as Simulated}
+use Rattle.fault_grade.specs.Reached.{next_of}
 use Rattle.beside_laws.specs.Stands.{IsSince, HasRun}
+
+-- a machine that ran no slot yet has one at time 0, and one that ran some stands between two slots
+abbrev pub IsAtStage : Option ℕ → Simulated → Type 0
+IsAtStage None m = next_of m ≡ Some 0
+IsAtStage (Some now) m = m.stage ≡ Between
 
 -- the faulty machine ran the slots of its first run up to a time, all fine, or none yet; it stands there
 pub record IsRunningAt (design : FlatDesign) (plan : TestPlan) (fault : StuckAt) (now : Option ℕ) (m : Simulated) : Type 0 where
   pub same_machine : machine_kept m ≡ faulty_machine design fault
   pub standing : IsStanding m
+  pub stage : IsAtStage now m
   pub run : HasRun (faulty_machine design fault) plan.end now (begun_within plan.end (begins_next m)) (state_kept m)
 
 -- the first run of the faulty machine stops at a time or before it, and this ends the grading so
@@ -22,6 +30,12 @@ pub record StopsWith (design : FlatDesign) (plan : TestPlan) (fault : StuckAt) (
   pub stop_is : faulty_stop design plan fault ≡ Some stop
   pub by_then : stop.time ≤ time
   pub ends : faulty_ending stop.time stop.outcome ≡ Some (grade_of end)
+
+-- a machine was run on: it is the same machine, stands somewhere in its run, and notes the ends of its process runs or not as before
+pub record StaysOn (old new : Simulated) : Type 0 where
+  pub same_machine : machine_kept new ≡ machine_kept old
+  pub standing : IsStanding new
+  pub notes : notes_runs new ≡ notes_runs old
 
 -- A slot
 

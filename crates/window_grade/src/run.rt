@@ -3,7 +3,7 @@
 ghost use Rattle.std.specs.Prelude.{◌≡◌, ◌≤◌, ◌^◌, Some, IfOk};
 ghost use Rattle.machine.specs.Standing.{IsStanding};
 ghost use Rattle.fault_grade.specs.Reached.{next_of};
-ghost use Rattle.window_grade.specs.Running.{EndsSo, RunsSlotAt, CanRunTo, RunLeads};
+ghost use Rattle.window_grade.specs.Running.{EndsSo, StaysOn, RunsSlotAt, CanRunTo, RunLeads};
 ghost use Rattle.window_grade.specs.Standing.{MachinesStand};
 
 use causal_monitor::SlotLog;
@@ -41,7 +41,8 @@ fn run_slot<L: Ledger>(
     requires standing { IsStanding machine.old }
     requires next { next_of machine.old ≡ Some time }
     requires limit { time ≤ 2 ^ 63 }
-    ensures { IfOk result (λ end. RunsSlotAt time machine.old end machine.new) }
+    ensures run { IfOk result (λ end. RunsSlotAt time machine.old end machine.new) }
+    ensures stays { IfOk result (λ _. StaysOn machine.old machine.new) }
 {
     beside_laws::runs_go_on();
     let end = machine.slot(log, steps)?;
@@ -61,7 +62,8 @@ pub fn run_to<L: Ledger>(
     steps: &mut Steps<L>,
 ) -> Result<Option<End>, NoMemory>
     requires { CanRunTo until machine.old }
-    ensures { IfOk result (λ end. (of : CanRunTo until machine.old) → RunLeads of.design of.plan of.fault until end machine.new) }
+    ensures run { IfOk result (λ end. (of : CanRunTo until machine.old) → RunLeads of.design of.plan of.fault until end machine.new) }
+    ensures stays { IfOk result (λ _. StaysOn machine.old machine.new) }
 {
     beside_laws::runs_go_on();
     let mut next = machine.next_time();

@@ -1,13 +1,14 @@
 -- The machine went on, and the slot that is next is known.
 use Rattle.std.proofs.Common.{◌≡◌}
 use Rattle.fault_grade.specs.Reached.{next_of}
-use Rattle.window_grade.specs.Running.{CanRunTo, IsOnWayTo}
+use Rattle.window_grade.specs.Running.{StaysOn, CanRunTo, IsOnWayTo}
 use Rattle.window_grade.proofs.Slots.{time_left}
 use Rattle.window_grade.proofs.run.run_to.Given as goal
 
 abbrev pub invariant-slots : goal.invariant-slots
 invariant-slots g l = record {
   next_is : l.next ≡ next_of l.machine;
+  stays : (of : CanRunTo l.until l.fn.machine) → StaysOn l.fn.machine l.machine;
   way : (of : CanRunTo l.until l.fn.machine) → IsOnWayTo of.design of.plan of.fault l.until l.machine;
 }
 

@@ -1,47 +1,60 @@
 -- The faulty machine from strobe to strobe, and to the window's end.
-use Rattle.std.proofs.Common.{◌+◌, drop, map, subst}
+use Rattle.std.proofs.Common.{◌+◌, drop, map, refl, subst}
 use Rattle.kept_samples.specs.Plain.{sample_of}
 use Rattle.window_grade.specs.Grading.{GradingLeads}
+use Rattle.window_grade.proofs.Slots.{stays-more}
 use Rattle.window_grade.proofs.Passing.{window-leads}
 use Rattle.window_grade.proofs.Through.{way-begins, can-pass, way-on, way-ends, none-left, can-run-on}
 use Rattle.window_grade.proofs.strobes.grade_through.Goals as goal
 
 pub strobes-init : goal.strobes-init
-strobes-init g c = way-begins c.args.samples.now c.args.until c.args.machine.now c.args.grader.now
+strobes-init g c = record {
+  way = way-begins c.args.samples.now c.args.until c.args.machine.now c.args.grader.now;
+  stays = λ of. record { same_machine = refl; standing = of.at.at.standing; notes = refl };
+}
 
 pub pass_strobe-requires : goal.pass_strobe-requires
 pass_strobe-requires g c =
     let of = c.requires in
-    can-pass of.design of.plan of.fault of.later c.args.until c.strobes.sample-index c.args.samples.now c.strobes.machine c.strobes.grader (c.strobes.invariant of) c.sample-item.result
+    can-pass of.design of.plan of.fault of.later c.args.until c.strobes.sample-index c.args.samples.now c.strobes.machine c.strobes.grader (c.strobes.invariant.way of) c.sample-item.result
     c.strobes-test.true c.sample-item.is
 
-pub returns-in-Some : goal.returns-in-Some
-returns-in-Some g c = λ of.
-    way-ends of.design of.plan of.fault of.later c.args.until c.strobes.sample-index c.args.samples.now c.strobes.machine c.strobes.grader (c.strobes.invariant of) c.sample-item.result
+pub returns-in-Some-clause-stays : goal.returns-in-Some-clause-stays
+returns-in-Some-clause-stays g c = stays-more _ _ _ (c.strobes.invariant.stays c.requires) c.in_ok-end.ensures.stays
+
+pub returns-in-Some-clause-grading : goal.returns-in-Some-clause-grading
+returns-in-Some-clause-grading g c = λ of.
+    way-ends of.design of.plan of.fault of.later c.args.until c.strobes.sample-index c.args.samples.now c.strobes.machine c.strobes.grader (c.strobes.invariant.way of) c.sample-item.result
     c.strobes-test.true c.sample-item.is c.pass_strobe.new.machine c.pass_strobe.new.grader c.in-Some.end
     (subst (λ end. GradingLeads of.design of.plan of.fault c.sample-item.result.time (map sample_of (drop (c.strobes.sample-index + 1) c.args.samples.now)) of.later end c.pass_strobe.new.machine
     c.pass_strobe.new.grader) c.in-Some.is
-    (c.in_ok-end.ensures (can-pass of.design of.plan of.fault of.later c.args.until c.strobes.sample-index c.args.samples.now c.strobes.machine c.strobes.grader (c.strobes.invariant of)
+    (c.in_ok-end.ensures.grading (can-pass of.design of.plan of.fault of.later c.args.until c.strobes.sample-index c.args.samples.now c.strobes.machine c.strobes.grader (c.strobes.invariant.way of)
     c.sample-item.result c.strobes-test.true c.sample-item.is)))
 
 pub strobes-preserved : goal.strobes-preserved
-strobes-preserved g c = λ of.
-    way-on of.design of.plan of.fault of.later c.args.until c.strobes.sample-index c.args.samples.now c.strobes.machine c.strobes.grader (c.strobes.invariant of) c.sample-item.result
-    c.strobes-test.true c.sample-item.is c.pass_strobe.new.machine c.pass_strobe.new.grader
-    (subst (λ end. GradingLeads of.design of.plan of.fault c.sample-item.result.time (map sample_of (drop (c.strobes.sample-index + 1) c.args.samples.now)) of.later end c.pass_strobe.new.machine
-    c.pass_strobe.new.grader) c.in_default.is
-    (c.in_ok-end.ensures (can-pass of.design of.plan of.fault of.later c.args.until c.strobes.sample-index c.args.samples.now c.strobes.machine c.strobes.grader (c.strobes.invariant of)
-    c.sample-item.result c.strobes-test.true c.sample-item.is)))
+strobes-preserved g c = record {
+  stays = λ of. stays-more _ _ _ (c.strobes.invariant.stays of) c.in_ok-end.ensures.stays;
+  way = λ of.
+      way-on of.design of.plan of.fault of.later c.args.until c.strobes.sample-index c.args.samples.now c.strobes.machine c.strobes.grader (c.strobes.invariant.way of) c.sample-item.result
+      c.strobes-test.true c.sample-item.is c.pass_strobe.new.machine c.pass_strobe.new.grader
+      (subst (λ end. GradingLeads of.design of.plan of.fault c.sample-item.result.time (map sample_of (drop (c.strobes.sample-index + 1) c.args.samples.now)) of.later end c.pass_strobe.new.machine
+      c.pass_strobe.new.grader) c.in_default.is
+      (c.in_ok-end.ensures.grading (can-pass of.design of.plan of.fault of.later c.args.until c.strobes.sample-index c.args.samples.now c.strobes.machine c.strobes.grader (c.strobes.invariant.way of)
+      c.sample-item.result c.strobes-test.true c.sample-item.is)));
+}
 
 pub run_to-requires : goal.run_to-requires
 run_to-requires g c =
     let of = c.requires in
-    can-run-on of.design of.plan of.fault of.later c.args.until c.strobes.sample-index c.args.samples.now c.strobes.machine c.strobes.grader (c.strobes.invariant of) of.within of.early
+    can-run-on of.design of.plan of.fault of.later c.args.until c.strobes.sample-index c.args.samples.now c.strobes.machine c.strobes.grader (c.strobes.invariant.way of) of.within of.early
 
-pub returns : goal.returns
-returns g c = λ of.
-    let left = none-left of.design of.plan of.fault of.later c.args.until c.strobes.sample-index c.args.samples.now c.strobes.machine c.strobes.grader (c.strobes.invariant of) c.strobes-test.false in
+pub returns-clause-stays : goal.returns-clause-stays
+returns-clause-stays g c = stays-more _ _ _ (c.strobes.invariant.stays c.requires) c.in_ok-end-2.ensures.stays
+
+pub returns-clause-grading : goal.returns-clause-grading
+returns-clause-grading g c = λ of.
+    let left = none-left of.design of.plan of.fault of.later c.args.until c.strobes.sample-index c.args.samples.now c.strobes.machine c.strobes.grader (c.strobes.invariant.way of) c.strobes-test.false in
     window-leads c.runs_go_on.ensures c.gradings_go_on.ensures c.gradings_end.ensures of.design of.plan of.fault left.now c.strobes.machine c.run_to.new.machine of.later c.strobes.grader c.args.until
     left.at of.after of.goes_on c.in_ok-end-2.end
-    (c.in_ok-end-2.ensures
-    (can-run-on of.design of.plan of.fault of.later c.args.until c.strobes.sample-index c.args.samples.now c.strobes.machine c.strobes.grader (c.strobes.invariant of) of.within of.early))
+    (c.in_ok-end-2.ensures.run
+    (can-run-on of.design of.plan of.fault of.later c.args.until c.strobes.sample-index c.args.samples.now c.strobes.machine c.strobes.grader (c.strobes.invariant.way of) of.within of.early))

@@ -11,11 +11,11 @@ use Rattle.window_grade.proofs.strobes.pass_strobe.Goals as goal
 pub run_to-requires : goal.run_to-requires
 run_to-requires g c = can-run (sample_of c.args.sample.now) c.args.machine.now c.args.grader.now c.requires
 
-pub returns-in-Some : goal.returns-in-Some
-returns-in-Some g c = λ of.
+pub returns-in-Some-clause-grading : goal.returns-in-Some-clause-grading
+returns-in-Some-clause-grading g c = λ of.
     pass-stopped (sample_of c.args.sample.now) c.args.machine.now c.args.grader.now of c.in-Some.end
     (subst (λ end. RunLeads of.design of.plan of.fault c.args.sample.now.time end c.run_to.new.machine) c.in-Some.is
-    (c.in_ok-end.ensures (can-run (sample_of c.args.sample.now) c.args.machine.now c.args.grader.now of)))
+    (c.in_ok-end.ensures.run (can-run (sample_of c.args.sample.now) c.args.machine.now c.args.grader.now of)))
     c.gradings_end.ensures
 
 pub strobe_kept-hard-requires : goal.strobe_kept-hard-requires
@@ -25,25 +25,25 @@ strobe_kept-hard-requires g c =
       kept = ap length c.as_slice.ensures ∙ sized (sample_of c.args.sample.now) c.args.machine.now c.args.grader.now of;
       faulty = watched-there of.design of.plan of.fault (Some c.args.sample.now.time) c.run_to.new.machine c.args.grader.now
           (subst (λ end. RunLeads of.design of.plan of.fault c.args.sample.now.time end c.run_to.new.machine) c.in_default.is
-          (c.in_ok-end.ensures (can-run (sample_of c.args.sample.now) c.args.machine.now c.args.grader.now of)))
+          (c.in_ok-end.ensures.run (can-run (sample_of c.args.sample.now) c.args.machine.now c.args.grader.now of)))
           of.at.grading.watched of.at.watched;
     }
 
-pub returns-then-hard : goal.returns-then-hard
-returns-then-hard g c = λ of.
+pub returns-then-hard-clause-grading : goal.returns-then-hard-clause-grading
+returns-then-hard-clause-grading g c = λ of.
     pass-hard (sample_of c.args.sample.now) c.args.machine.now c.args.grader.now of c.runs_go_on.ensures c.runs_stand.ensures c.run_to.new.machine
     (subst (λ end. RunLeads of.design of.plan of.fault c.args.sample.now.time end c.run_to.new.machine) c.in_default.is
-    (c.in_ok-end.ensures (can-run (sample_of c.args.sample.now) c.args.machine.now c.args.grader.now of)))
+    (c.in_ok-end.ensures.run (can-run (sample_of c.args.sample.now) c.args.machine.now c.args.grader.now of)))
     c.strobe_kept-hard.new.self
     (c.strobe_kept-hard.ensures.state ∙ ap (λ bits. shown_at c.args.sample.now.time bits (samples c.args.grader.now.watched (state_kept c.run_to.new.machine).values) c.args.grader.now)
     c.as_slice.ensures)
     c.gradings_end.ensures (c.strobe_kept-hard.ensures.stands.0 c.if-hard.true)
 
-pub returns : goal.returns
-returns g c = λ of.
+pub returns-clause-grading : goal.returns-clause-grading
+returns-clause-grading g c = λ of.
     pass-on (sample_of c.args.sample.now) c.args.machine.now c.args.grader.now of c.runs_go_on.ensures c.runs_stand.ensures c.run_to.new.machine
     (subst (λ end. RunLeads of.design of.plan of.fault c.args.sample.now.time end c.run_to.new.machine) c.in_default.is
-    (c.in_ok-end.ensures (can-run (sample_of c.args.sample.now) c.args.machine.now c.args.grader.now of)))
+    (c.in_ok-end.ensures.run (can-run (sample_of c.args.sample.now) c.args.machine.now c.args.grader.now of)))
     c.strobe_kept-hard.new.self
     (c.strobe_kept-hard.ensures.state ∙ ap (λ bits. shown_at c.args.sample.now.time bits (samples c.args.grader.now.watched (state_kept c.run_to.new.machine).values) c.args.grader.now)
     c.as_slice.ensures)
