@@ -1,0 +1,4 @@
+pub mod Scanned
+pub mod Lines
+pub mod Named
+pub mod Spelled
