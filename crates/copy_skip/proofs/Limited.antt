@@ -1,11 +1,12 @@
 -- Numbers before a limit that pass no test.
-use Rattle.std.proofs.Common.{◌≡◌, ℕ, suc, ◌<◌, ◌≤◌, List, [], ◌∷◌, map, length, Bool, true, false, refl, sym, ap, subst, ◌∙◌, ◌⊎◌, inl, inr, arith}
+use Rattle.std.proofs.Common.{◌≡◌, ℕ, suc, ◌-◌, ◌<◌, ◌≤◌, List, [], ◌∷◌, map, length, Bool, true, false, refl, sym, ap, subst, ◌∙◌, ◌⊎◌, inl, inr, arith}
 use Rattle.std.specs.Prelude.{Option, Some, None, is_some, nat_eq, slice_get}
 use Rattle.std.proofs.lemmas.Bool.{eqb-true, or_cases, cases_lt}
 use Rattle.four_value.specs.Values.{LogicValue}
-use Rattle.vf_base.specs.Base.{node_number}
+use Rattle.vf_base.specs.Base.{node_number, object_number}
 use Rattle.vf_base.specs.Lists.{has}
 use Rattle.vf_base.specs.declared.ids.NodeId.{NodeId}
+use Rattle.vf_base.specs.declared.ids.ObjectId.{ObjectId}
 use Rattle.v_design.specs.Designs.{FlatDesign}
 use Rattle.net_graph.specs.Tables.{readers_of}
 use Rattle.net_settle.specs.MarkLaws.{has-readers_of}
@@ -97,3 +98,8 @@ alone-all design events values from below first limit none alone object low own 
   | inl less ↦ alone object less own
   | inr more ↦ absurd (let no : true ≡ false = sym own ∙ ap is_some (none-from from values none object more) in cc)
 ]
+
+-- how many objects are left from the next one on
+abbrev pub objects_left : ℕ → Option ObjectId → ℕ
+objects_left count None = 0
+objects_left count (Some object) = suc count - object_number object
