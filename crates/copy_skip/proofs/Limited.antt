@@ -1,6 +1,6 @@
 -- Numbers before a limit that pass no test.
 use Rattle.std.proofs.Common.{◌≡◌, ℕ, suc, ◌-◌, ◌<◌, ◌≤◌, List, [], ◌∷◌, map, length, Bool, true, false, refl, sym, ap, subst, ◌∙◌, ◌⊎◌, inl, inr, arith}
-use Rattle.std.specs.Prelude.{Option, Some, None, is_some, nat_eq, slice_get}
+use Rattle.std.specs.Prelude.{Option, Some, None, is_some, nat_eq, slice_get, option_map}
 use Rattle.std.proofs.lemmas.Bool.{eqb-true, or_cases, cases_lt}
 use Rattle.four_value.specs.Values.{LogicValue}
 use Rattle.vf_base.specs.Base.{node_number, object_number}
@@ -15,7 +15,7 @@ use Rattle.copy_laws.specs.Differences.{Ascend}
 use Rattle.copy_state.specs.Entries.{first_from}
 use Rattle.trace_window.specs.Moments.{Seen}
 use Rattle.trace_window.specs.Touched.{IsFirstFrom}
-use Rattle.copy_skip.specs.Entries.{next-kept, none-from}
+use Rattle.copy_skip.specs.Entries.{next-kept, none-from, none-empty}
 use Rattle.copy_skip.specs.Limits.{NoneBetween, NoneEvaluates, NoneReads, IsLeftAlone, AreLeftAlone}
 
 -- none passes before a limit that isn't behind the first one that does
@@ -103,3 +103,17 @@ alone-all design events values from below first limit none alone object low own 
 abbrev pub objects_left : ℕ → Option ObjectId → ℕ
 objects_left count None = 0
 objects_left count (Some object) = suc count - object_number object
+
+-- a list of which no number is the first is empty
+pub empty-by : {A B : Type 0} (number : B → ℕ) (found : Option B) (entries : List (ℕ × A)) → option_map number found ≡ first_from 0 entries → is_some found ≡ false → entries ≡ []
+empty-by number None entries e none = none-empty entries (sym e)
+empty-by number (Some x) entries e none = cc
+
+-- fewer are left behind the next one
+pub left-falls : (count : ℕ) (old : Option ObjectId) (object : ObjectId) (new : Option ObjectId) → old ≡ Some object → object_number object < count →
+    ((later : ObjectId) → new ≡ Some later → object_number object < object_number later) → objects_left count new < objects_left count old
+left-falls count old object new is low later = subst (λ o. objects_left count new < objects_left count o) (sym is) (go new later)
+  where
+    go : (next : Option ObjectId) → ((more : ObjectId) → next ≡ Some more → object_number object < object_number more) → objects_left count next < suc count - object_number object
+    go None h = omega (arith, low)
+    go (Some more) h = let less : object_number object < object_number more = h more refl in omega (arith, low, less)

@@ -27,10 +27,11 @@ fn slot_through<N: World>(window: &TraceWindow<N>, slot: u32, limit: u32) -> u32
     ensures within { window.now.before + result ≤ window.now.through }
     ensures before { slot < result → length (window_events N.design N.plan window.now.before (window.now.before + result)) ≤ limit }
 {
-    let slots = window.slots();
+    let count = window.slots();
     let mut through = slot;
-    'slots: while through < slots {
-        if limit < window.first_moment(through + 1) {
+    'slots: while through < count {
+        let end = window.first_moment(through + 1);
+        if limit < end {
             return through;
         }
         through += 1;
