@@ -13,10 +13,10 @@ returns-in-None-clause-stays g c = stays-same c.args.strobes.now c.args.machine.
 
 pub grade_through-requires : goal.grade_through-requires
 grade_through-requires g c =
-    subst (λ samples. CanGrade samples c.in-Some.until c.args.machine.now c.args.grader.now) (sym c.as_slice-samples.ensures)
+    subst (λ samples. CanGrade samples c.in-Some.until c.args.machine.now c.args.grader.now) (sym c.as_slice-samples.ensures.value)
     (can-grade c.args.strobes.now c.args.machine.now c.args.grader.now c.in-Some.until c.requires c.in-Some.is)
 
 pub returns-in_ok-end-in-Some-clause-comes : goal.returns-in_ok-end-in-Some-clause-comes
 returns-in_ok-end-in-Some-clause-comes g c = λ of.
-    comes-some c.args.strobes.now c.args.machine.now c.args.grader.now of c.in-Some.until c.in-Some.is c.as_slice-samples.result.now c.as_slice-samples.ensures c.in_ok-end.end c.grade_through.new.machine
+    comes-some c.args.strobes.now c.args.machine.now c.args.grader.now of c.in-Some.until c.in-Some.is c.as_slice-samples.result.now c.as_slice-samples.ensures.value c.in_ok-end.end c.grade_through.new.machine
     c.grade_through.new.grader c.in_ok-end.ensures.grading
