@@ -6,9 +6,9 @@
 //! ended, with its grade, or the copy that is kept is the faulty machine's state there, and keeps nothing that is the good machine's.
 #![tactic(auto)]
 
+mod begin;
 mod fault;
 mod grade;
-mod begin;
 mod resume;
 mod settle;
 

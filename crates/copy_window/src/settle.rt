@@ -30,7 +30,7 @@ fn keep_open<N: World>(
     grader: &Grader<'_>,
     own: &mut ShardFault,
 ) -> Result<(), NoMemory>
-    requires { StaysOpen N.design N.plan window.now.through (passed_behind strobes.now) machine.now grader.now own.old }
+    requires stays { StaysOpen N.design N.plan window.now.through (passed_behind strobes.now) machine.now grader.now own.old }
     ensures fault { OnOk result (IsShardFault N.design N.plan window.now.through (passed_behind strobes.now) own.new) }
     ensures place { OnOk result (own.new.copy.fault ≡ own.old.copy.fault) }
 {
@@ -58,7 +58,7 @@ pub(crate) fn settle<N: World, L: Ledger>(
     own: &mut ShardFault,
     steps: &mut Steps<L>,
 ) -> Result<(), NoMemory>
-    requires { CanSettle N.design N.plan window.now.before window.now.through strobes.now machine.old grader.old own.old }
+    requires fault { CanSettle N.design N.plan window.now.before window.now.through strobes.now machine.old grader.old own.old }
     ensures fault { OnOk result (IsShardFault N.design N.plan window.now.through (passed_behind strobes.now) own.new) }
     ensures place { OnOk result (own.new.copy.fault ≡ own.old.copy.fault) }
     ensures stays { OnOk result (StaysOn machine.old machine.new) }

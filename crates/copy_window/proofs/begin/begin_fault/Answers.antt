@@ -13,9 +13,9 @@ use Rattle.copy_window.proofs.begin.begin_fault.Goals as goal
 fresh : List WatchedBit → GraderState
 fresh watched = record { watched = watched; hard = None; possible = None }
 
-pub settle-requires : goal.settle-requires
+pub settle-requires-clause-fault : goal.settle-requires-clause-fault
 unfolding fresh
-settle-requires g c =
+settle-requires-clause-fault g c κs within =
     starts c.machines_stand.ensures c.gradings_go_on.ensures g.N.World.design g.N.World.plan c.args.window.now.before c.args.window.now.through c.args.strobes.now (fault_of c.args.fault)
     c.args.own.now c.in_ok-machine.machine c.new-grader.result c.requires
     (has-rules g.N.World.design g.N.World.plan c.design-design.result.now c.plan-plan.result.now c.design-design.ensures.world c.plan-plan.ensures.world c.plan-plan.ensures.fits)

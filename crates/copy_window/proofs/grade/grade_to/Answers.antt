@@ -18,5 +18,5 @@ grade_through-requires g c =
 
 pub returns-in_ok-end-in-Some-clause-comes : goal.returns-in_ok-end-in-Some-clause-comes
 returns-in_ok-end-in-Some-clause-comes g c = λ of.
-    comes-some c.args.strobes.now c.args.machine.now c.args.grader.now of c.in-Some.until c.in-Some.is c.as_slice-samples.result.now c.as_slice-samples.ensures.value c.in_ok-end.end c.grade_through.new.machine
-    c.grade_through.new.grader c.in_ok-end.ensures.grading
+    comes-some c.args.strobes.now c.args.machine.now c.args.grader.now of c.in-Some.until c.in-Some.is c.as_slice-samples.result.now c.as_slice-samples.ensures.value c.in_ok-end-in-Some.end c.grade_through.new.machine
+    c.grade_through.new.grader c.in_ok-end-in-Some.ensures.grading

@@ -17,8 +17,8 @@ enter-requires-clause-copy g c κs within =
     (more-slots g.N.World.design g.N.World.plan c.args.window.now.before c.args.window.now.through c.args.window.now.ending c.begins-first.ensures.window) c.args.setup.now.codes
     (subst (AreCodesOf g.N.World.design) c.codes-codes.ensures.codes c.codes-codes.ensures.world)
 
-pub settle-requires : goal.settle-requires
-settle-requires g c =
+pub settle-requires-clause-fault : goal.settle-requires-clause-fault
+settle-requires-clause-fault g c κs within =
     goes-again c.machines_stand.ensures c.gradings_go_on.ensures c.faults_go_on.ensures g.N.World.design g.N.World.plan c.args.window.now.before c.args.window.now.through c.args.strobes.now
     (fault_of c.args.fault) c.args.own.now c.enter.new.room c.again-grader.result c.requires.fault
     (more-slots g.N.World.design g.N.World.plan c.args.window.now.before c.args.window.now.through c.args.window.now.ending c.begins-first.ensures.window)

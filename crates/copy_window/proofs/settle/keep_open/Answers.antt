@@ -9,24 +9,24 @@ use Rattle.copy_window.proofs.Keeping.{keeps-open}
 use Rattle.copy_window.proofs.settle.keep_open.Goals as goal
 
 pub stands_between-requires-clause-standing : goal.stands_between-requires-clause-standing
-stands_between-requires-clause-standing g c = c.requires.goes.at.at.standing
+stands_between-requires-clause-standing g c = c.requires.stays.goes.at.at.standing
 
 pub stands_between-requires-clause-between : goal.stands_between-requires-clause-between
-stands_between-requires-clause-between g c = c.requires.goes.at.at.stage
+stands_between-requires-clause-between g c = c.requires.stays.goes.at.at.stage
 
 pub leave-requires-clause-standing : goal.leave-requires-clause-standing
-leave-requires-clause-standing g c κs within = c.requires.goes.at.at.standing
+leave-requires-clause-standing g c κs within = c.requires.stays.goes.at.at.standing
 
 pub leave-requires-clause-between : goal.leave-requires-clause-between
-leave-requires-clause-between g c κs within = c.requires.goes.at.at.stage
+leave-requires-clause-between g c κs within = c.requires.stays.goes.at.at.stage
 
 pub leave-requires-clause-design : goal.leave-requires-clause-design
-leave-requires-clause-design g c κs within = ap (λ (m : Machine). m.design) c.requires.goes.at.at.same_machine
+leave-requires-clause-design g c κs within = ap (λ (m : Machine). m.design) c.requires.stays.goes.at.at.same_machine
 
 pub returns-clause-fault : goal.returns-clause-fault
 returns-clause-fault g c =
     keeps-open c.runs_go_on.ensures c.faults_go_on.ensures c.codes_are_one.ensures.read c.codes-codes.result.now g.N.World.design g.N.World.plan c.args.window.now.through
-    (passed_behind c.args.strobes.now) c.args.machine.now c.args.grader.now c.args.own.now _ c.codes-codes.ensures.world c.requires
+    (passed_behind c.args.strobes.now) c.args.machine.now c.args.grader.now c.args.own.now _ c.codes-codes.ensures.world c.requires.stays
     (record {
       copy =
           subst (λ n. IsCopyOf c.codes-codes.result.now (state_through g.N.World.design g.N.World.plan n) (state_kept c.args.machine.now) c.leave.new.copy) c.slots-count.ensures
