@@ -1,0 +1,56 @@
+-- A fault whose faulty machine is at its start, or was put into its state, may be graded through a window (slots by IEEE 1364-2001, clause 5).
+use Rattle.std.proofs.Common.{◌≡◌, ℕ, ◌<◌, length, ap, ◌∙◌}
+use Rattle.std.specs.Prelude.{Some, None}
+use Rattle.v_design.specs.Designs.{FlatDesign, Machine, StuckAt, TestPlan, faulty_machine}
+use Rattle.v_design.specs.States.{State, start}
+use Rattle.strobe_detect.specs.Graders.{GraderState}
+use Rattle.copy_laws.specs.Windows.{good_slots, state_at}
+use Rattle.causal_monitor.specs.declared.slot.Turn.TheVariants.{Start}
+use Rattle.machine.specs.Standing.{IsStanding, machine_kept, begins_next, first_turn}
+use Rattle.machine.specs.declared.parts.Machine.{Machine as Simulated}
+use Rattle.copy_room.specs.Rooms.{HasEntered, IsRoom}
+use Rattle.beside_laws.specs.Gradings.{GradingsGoOn}
+use Rattle.beside_laws.specs.Shards.{FaultsGoOn}
+use Rattle.window_grade.specs.Running.{StaysOn}
+use Rattle.window_grade.specs.Standing.{MachinesStand}
+use Rattle.window_strobes.specs.declared.strobes.WindowStrobes.{WindowStrobes}
+use Rattle.copy_window.specs.Passing.{CanBegin, CanResume, CanSettle}
+use Rattle.copy_window.specs.ShardFaults.{grader_by}
+use Rattle.copy_window.specs.declared.fault.ShardFault.{ShardFault}
+use Rattle.copy_window.proofs.Starting.{HasRules, begins, resumes, time}
+
+-- from the start of its faulty machine
+pub starts : MachinesStand → GradingsGoOn → (design : FlatDesign) (plan : TestPlan) (before through : ℕ) (strobes : WindowStrobes) (fault : StuckAt) (own : ShardFault) (m : Simulated)
+    (grader : GraderState) → CanBegin design plan before through strobes fault own → HasRules design plan → machine_kept m ≡ faulty_machine design fault → IsStanding m →
+    first_turn m.stage ≡ Start → begins_next m ≡ Some (start (faulty_machine design fault)) → grader ≡ record { watched = plan.watched; hard = None; possible = None } →
+    CanSettle design plan before through strobes m grader own
+starts stand law design plan before through strobes fault own m grader of rules same standing turn next is = record {
+  fault = fault;
+  listed = of.listed;
+  none = of.none;
+  within = of.within;
+  are = of.are;
+  at = begins design plan fault before through strobes of.are law m grader rules of.at_start (stand.begins design plan fault m rules.design_rules same standing turn next) is;
+}
+
+-- from its copy on
+pub goes-again : MachinesStand → GradingsGoOn → FaultsGoOn → (design : FlatDesign) (plan : TestPlan) (before through : ℕ) (strobes : WindowStrobes) (fault : StuckAt) (own : ShardFault)
+    (m : Simulated) (grader : GraderState) (of : CanResume design plan before through strobes fault own) (more : before < length (good_slots design plan)) → HasRules design plan →
+    HasEntered design fault (state_at (faulty_machine design fault) plan.end (time design plan fault before through strobes own of more)) m → grader ≡ grader_by plan own →
+    CanSettle design plan before through strobes m grader own
+goes-again stand law faults design plan before through strobes fault own m grader of more rules entered is = record {
+  fault = fault;
+  listed = of.listed;
+  none = of.none;
+  within = of.stands.within;
+  are = of.are;
+  at = resumes design plan fault before through strobes own of more rules m grader entered is stand law faults;
+}
+
+-- a room that was run on behind that is a room again
+pub is-room : (design : FlatDesign) (fault : StuckAt) (faulty : State) (old new : Simulated) → HasEntered design fault faulty old → StaysOn old new → IsRoom design new
+is-room design fault faulty old new entered stays = record {
+  standing = stays.standing;
+  design_is = ap (λ (m : Machine). m.design) (stays.same_machine ∙ entered.machine_is);
+  no_notes = stays.notes ∙ entered.no_notes;
+}

@@ -1,0 +1,22 @@
+-- To the time to which the window leads.
+use Rattle.std.proofs.Common.{sym, subst}
+use Rattle.window_grade.specs.Grading.{CanGrade}
+use Rattle.copy_window.proofs.Windows.{can-grade}
+use Rattle.copy_window.proofs.Gradings.{comes-none, comes-some, stays-same}
+use Rattle.copy_window.proofs.grade.grade_to.Goals as goal
+
+pub returns-in-None-clause-comes : goal.returns-in-None-clause-comes
+returns-in-None-clause-comes g c = λ of. comes-none c.args.strobes.now c.args.machine.now c.args.grader.now of c.in-None.is
+
+pub returns-in-None-clause-stays : goal.returns-in-None-clause-stays
+returns-in-None-clause-stays g c = stays-same c.args.strobes.now c.args.machine.now c.args.grader.now c.requires
+
+pub grade_through-requires : goal.grade_through-requires
+grade_through-requires g c =
+    subst (λ samples. CanGrade samples c.in-Some.until c.args.machine.now c.args.grader.now) (sym c.as_slice-samples.ensures.value)
+    (can-grade c.args.strobes.now c.args.machine.now c.args.grader.now c.in-Some.until c.requires c.in-Some.is)
+
+pub returns-in_ok-end-in-Some-clause-comes : goal.returns-in_ok-end-in-Some-clause-comes
+returns-in_ok-end-in-Some-clause-comes g c = λ of.
+    comes-some c.args.strobes.now c.args.machine.now c.args.grader.now of c.in-Some.until c.in-Some.is c.as_slice-samples.result.now c.as_slice-samples.ensures.value c.in_ok-end-in-Some.end c.grade_through.new.machine
+    c.grade_through.new.grader c.in_ok-end-in-Some.ensures.grading

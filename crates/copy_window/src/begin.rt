@@ -1,0 +1,58 @@
+// A fault from the start of its faulty machine.
+
+ghost use Rattle.std.specs.Prelude.{◌≡◌, OnOk};
+ghost use Rattle.v_design.specs.Plain.{fault_of};
+ghost use Rattle.window_strobes.specs.Strobes.{passed_behind};
+ghost use Rattle.copy_window.specs.Passing.{CanBegin};
+ghost use Rattle.copy_window.specs.ShardFaults.{IsShardFault};
+
+use crate::fault::ShardFault;
+use crate::settle::settle;
+use causal_monitor::SlotLog;
+use good_trace::{Setup, TraceWindow};
+use machine::Machine;
+use std::alloc::Global;
+use std::sync::ledger::Ledger;
+use strobe_detect::Grader;
+use v_design::{Fault, World};
+use vf_base::{NoMemory, Steps};
+use window_grade::machines_stand;
+use window_strobes::WindowStrobes;
+
+/// Grades a fault through the first window of the good first run. `log` is room for the log of a slot.
+///
+/// # Errors
+///
+/// Want of memory.
+pub fn begin_fault<N: World, L: Ledger>(
+    alloc: Global,
+    setup: &Setup<'_, N>,
+    window: &TraceWindow<N>,
+    strobes: &WindowStrobes,
+    fault: Fault,
+    log: &mut SlotLog,
+    own: &mut ShardFault,
+    steps: &mut Steps<L>,
+) -> Result<(), NoMemory>
+    requires { CanBegin N.design N.plan window.now.before window.now.through strobes.now (fault_of fault) own.old }
+    ensures fault { OnOk result (IsShardFault N.design N.plan window.now.through (passed_behind strobes.now) own.new) }
+    ensures place { OnOk result (own.new.copy.fault ≡ own.old.copy.fault) }
+{
+    beside_laws::gradings_go_on();
+    machines_stand();
+    let design = setup.design();
+    let plan = setup.plan();
+    let mut machine = Machine::new(alloc, design, setup.graph(), Some(fault))?;
+    let mut grader = Grader::new(plan.watched.as_slice());
+    settle(
+        alloc,
+        setup,
+        window,
+        strobes,
+        &mut machine,
+        &mut grader,
+        log,
+        own,
+        steps,
+    )
+}

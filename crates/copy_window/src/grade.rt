@@ -1,0 +1,87 @@
+// The grading of a fault through a window.
+
+ghost use Rattle.std.specs.Prelude.{◌≡◌, IfOk};
+ghost use Rattle.v_design.specs.Grades.{Judged};
+ghost use Rattle.v_design.specs.Plain.{grade_of};
+ghost use Rattle.strobe_detect.specs.Verdicts.{verdict_view};
+ghost use Rattle.good_trace.specs.Slots.{end_of};
+ghost use Rattle.window_grade.specs.Running.{StaysOn};
+ghost use Rattle.window_strobes.specs.Strobes.{strobes_left};
+ghost use Rattle.copy_window.specs.Passing.{CanGradeWindow, ComesToTime, EndsBehind, PassesWindow};
+
+use causal_monitor::SlotLog;
+use good_trace::GoodEnd;
+use machine::Machine;
+use std::sync::ledger::Ledger;
+use strobe_detect::{Grade, Grader};
+use vf_base::{End, NoMemory, Side, Steps};
+use window_grade::grade_through;
+use window_strobes::WindowStrobes;
+
+/// How the strobes' verdict ends a grading.
+fn end_by_strobes(verdict: Grade) -> End
+    ensures { grade_of result ≡ Judged (verdict_view verdict) }
+{
+    match verdict {
+        Grade::Detected(time) => End::Detected(time),
+        Grade::Possible(time) => End::Possible(time),
+        Grade::Undetected => End::Undetected,
+    }
+}
+
+/// How a grading ends behind a window, if it does, that hasn't ended before.
+fn end_behind(ending: GoodEnd, grader: &Grader<'_>) -> Option<End>
+    ensures { EndsBehind (end_of ending) grader.now result }
+{
+    match ending {
+        GoodEnd::Open => None,
+        GoodEnd::Through => Some(end_by_strobes(grader.verdict())),
+        GoodEnd::Raced(pair) => Some(End::Race(Side::Good, pair)),
+    }
+}
+
+/// Runs a faulty machine to the time to which a window leads, if there is one. The answer is the grading's end, where it comes by then.
+fn grade_to<L: Ledger>(
+    log: &mut SlotLog,
+    machine: &mut Machine<'_>,
+    grader: &mut Grader<'_>,
+    strobes: &WindowStrobes,
+    steps: &mut Steps<L>,
+) -> Result<Option<End>, NoMemory>
+    requires { CanGradeWindow strobes.now machine.old grader.old }
+    ensures comes { IfOk result (λ end. (of : CanGradeWindow strobes.now machine.old grader.old) →
+        ComesToTime of.design of.plan of.fault of.before (strobes_left of.plan strobes.now) strobes.now.until end machine.new grader.new) }
+    ensures stays { IfOk result (λ _. StaysOn machine.old machine.new) }
+{
+    match strobes.until {
+        None => Ok(None),
+        Some(until) => {
+            let samples = strobes.samples.as_slice();
+            let end = grade_through(log, machine, grader, samples, until, steps)?;
+            Ok(end)
+        }
+    }
+}
+
+/// Runs a faulty machine through a window. The answer is the grading's end, if it comes in the window.
+pub(crate) fn grade_window<L: Ledger>(
+    log: &mut SlotLog,
+    machine: &mut Machine<'_>,
+    grader: &mut Grader<'_>,
+    strobes: &WindowStrobes,
+    steps: &mut Steps<L>,
+) -> Result<Option<End>, NoMemory>
+    requires { CanGradeWindow strobes.now machine.old grader.old }
+    ensures passes { IfOk result (λ end. (of : CanGradeWindow strobes.now machine.old grader.old) →
+        PassesWindow of.design of.plan of.fault of.through (strobes_left of.plan strobes.now) end machine.new grader.new) }
+    ensures stays { IfOk result (λ _. StaysOn machine.old machine.new) }
+{
+    beside_laws::runs_stand();
+    beside_laws::gradings_end();
+    beside_laws::faults_go_on();
+    let end = grade_to(log, machine, grader, strobes, steps)?;
+    if end.is_some() {
+        return Ok(end);
+    }
+    Ok(end_behind(strobes.ending, grader))
+}

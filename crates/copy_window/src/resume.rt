@@ -1,0 +1,81 @@
+// A fault from its copy on.
+
+ghost use Rattle.std.specs.Prelude.{◌≡◌, IfOk, OnOk};
+ghost use Rattle.v_design.specs.Plain.{fault_of};
+ghost use Rattle.copy_room.specs.Rooms.{IsRoom};
+ghost use Rattle.window_strobes.specs.Strobes.{passed_behind};
+ghost use Rattle.copy_window.specs.Passing.{CanResume};
+ghost use Rattle.copy_window.specs.ShardFaults.{IsShardFault};
+
+use crate::fault::ShardFault;
+use crate::settle::settle;
+use causal_monitor::SlotLog;
+use copy_room::enter;
+use good_trace::{Setup, TraceWindow};
+use machine::Machine;
+use std::alloc::Global;
+use std::sync::ledger::Ledger;
+use strobe_detect::Grader;
+use v_design::{Fault, World};
+use vf_base::{NoMemory, Steps};
+use window_grade::machines_stand;
+use window_strobes::WindowStrobes;
+
+/// A machine into which the states of the faults' machines are put.
+///
+/// # Errors
+///
+/// Want of memory.
+pub fn new_room<'d, N: World>(alloc: Global, setup: &Setup<'d, N>) -> Result<Machine<'d>, NoMemory>
+    ensures { IfOk result (IsRoom N.design) }
+{
+    let room = Machine::new(alloc, setup.design(), setup.graph(), None)?;
+    Ok(room)
+}
+
+/// Grades a fault through a window before which its faulty machine ran some slots. `room` is a machine of the design, and `log` room for the log of a slot.
+///
+/// # Errors
+///
+/// Want of memory.
+pub fn resume_fault<N: World, L: Ledger>(
+    alloc: Global,
+    setup: &Setup<'_, N>,
+    window: &TraceWindow<N>,
+    strobes: &WindowStrobes,
+    fault: Fault,
+    room: &mut Machine<'_>,
+    log: &mut SlotLog,
+    own: &mut ShardFault,
+    steps: &mut Steps<L>,
+) -> Result<(), NoMemory>
+    requires room { IsRoom N.design room.old }
+    requires fault { CanResume N.design N.plan window.now.before window.now.through strobes.now (fault_of fault) own.old }
+    ensures fault { OnOk result (IsShardFault N.design N.plan window.now.through (passed_behind strobes.now) own.new) }
+    ensures place { OnOk result (own.new.copy.fault ≡ own.old.copy.fault) }
+    ensures room { OnOk result (IsRoom N.design room.new) }
+{
+    beside_laws::faults_go_on();
+    beside_laws::gradings_go_on();
+    machines_stand();
+    let _first = window.begins();
+    let codes = setup.codes();
+    let design = setup.design();
+    let plan = setup.plan();
+    enter(
+        alloc, room, log, setup, window, 0, &own.copy, fault, own.time,
+    )?;
+    let mut grader = Grader::again(plan.watched.as_slice(), own.possible);
+    settle(
+        alloc,
+        setup,
+        window,
+        strobes,
+        room,
+        &mut grader,
+        log,
+        own,
+        steps,
+    )?;
+    Ok(())
+}

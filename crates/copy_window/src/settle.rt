@@ -1,0 +1,72 @@
+// A fault behind a window.
+
+ghost use Rattle.std.specs.Prelude.{◌≡◌, OnOk};
+ghost use Rattle.window_grade.specs.Running.{StaysOn};
+ghost use Rattle.window_strobes.specs.Strobes.{passed_behind};
+ghost use Rattle.copy_window.specs.Passing.{CanSettle, StaysOpen};
+ghost use Rattle.copy_window.specs.ShardFaults.{IsShardFault};
+
+use crate::fault::ShardFault;
+use crate::grade::grade_window;
+use causal_monitor::SlotLog;
+use copy_room::leave;
+use good_trace::{Setup, TraceWindow};
+use machine::Machine;
+use process_code::codes_are_one;
+use std::alloc::Global;
+use std::sync::ledger::Ledger;
+use strobe_detect::Grader;
+use v_design::World;
+use vf_base::{NoMemory, Steps};
+use window_strobes::WindowStrobes;
+
+/// Keeps of a fault whose grading goes on behind a window what its faulty machine and its grader have there.
+fn keep_open<N: World>(
+    alloc: Global,
+    setup: &Setup<'_, N>,
+    window: &TraceWindow<N>,
+    strobes: &WindowStrobes,
+    machine: &Machine<'_>,
+    grader: &Grader<'_>,
+    own: &mut ShardFault,
+) -> Result<(), NoMemory>
+    requires stays { StaysOpen N.design N.plan window.now.through (passed_behind strobes.now) machine.now grader.now own.old }
+    ensures fault { OnOk result (IsShardFault N.design N.plan window.now.through (passed_behind strobes.now) own.new) }
+    ensures place { OnOk result (own.new.copy.fault ≡ own.old.copy.fault) }
+{
+    beside_laws::runs_go_on();
+    beside_laws::faults_go_on();
+    codes_are_one();
+    machine.stands_between();
+    let codes = setup.codes();
+    let count = window.slots();
+    leave(alloc, &mut own.copy, machine, setup, window, count)?;
+    own.time = machine.time();
+    own.possible = grader.possible();
+    Ok(())
+}
+
+/// Grades a fault through a window by its faulty machine, and keeps what there is to keep of it behind the window.
+pub(crate) fn settle<N: World, L: Ledger>(
+    alloc: Global,
+    setup: &Setup<'_, N>,
+    window: &TraceWindow<N>,
+    strobes: &WindowStrobes,
+    machine: &mut Machine<'_>,
+    grader: &mut Grader<'_>,
+    log: &mut SlotLog,
+    own: &mut ShardFault,
+    steps: &mut Steps<L>,
+) -> Result<(), NoMemory>
+    requires fault { CanSettle N.design N.plan window.now.before window.now.through strobes.now machine.old grader.old own.old }
+    ensures fault { OnOk result (IsShardFault N.design N.plan window.now.through (passed_behind strobes.now) own.new) }
+    ensures place { OnOk result (own.new.copy.fault ≡ own.old.copy.fault) }
+    ensures stays { OnOk result (StaysOn machine.old machine.new) }
+{
+    let end = grade_window(log, machine, grader, strobes, steps)?;
+    if end.is_some() {
+        own.end = end;
+        return Ok(());
+    }
+    keep_open(alloc, setup, window, strobes, machine, grader, own)
+}
