@@ -1,7 +1,7 @@
 use Rattle.std.proofs.Common.{◌≡◌, ℕ, zero, suc, List, [], ◌∷◌, ◌++◌, get_or, refl, ◌∙◌, arith}
 use Rattle.std.proofs.lemmas.List.{length_push}
 use Rattle.v_design.specs.declared.plan.Due.{Due}
-use Rattle.good_trace.proofs.updates.no_updates.Goals as goal
+use Rattle.good_trace.proofs.between.no_updates.Goals as goal
 
 -- a list of lists without elements, with one more
 nothing-more : (xs : List (List Due)) (x : List Due) → x ≡ [] → ((process : ℕ) → get_or xs process [] ≡ []) → (process : ℕ) → get_or (xs ++ x ∷ []) process [] ≡ []

@@ -1,5 +1,5 @@
 use Rattle.std.proofs.Common.{◌≡◌, ℕ, [], get_or, length}
-use Rattle.good_trace.proofs.updates.no_updates.Given as goal
+use Rattle.good_trace.proofs.between.no_updates.Given as goal
 
 abbrev pub invariant-processes : goal.invariant-processes
 invariant-processes l = record {

@@ -2,7 +2,7 @@ use Rattle.std.proofs.Common.{◌+◌, length, take, refl, sym, subst}
 use Rattle.std.proofs.lemmas.Option.{slice_get_read}
 use Rattle.good_trace.specs.Starting.{AreFirstStates}
 use Rattle.good_trace.proofs.Starting.{AreFirstStates-more}
-use Rattle.good_trace.proofs.states.first_states.Goals as goal
+use Rattle.good_trace.proofs.between.first_states.Goals as goal
 
 pub new-requires : goal.new-requires
 new-requires c =
