@@ -1,104 +1,27 @@
 -- What a trace and its window keep once the window is closed.
-use Rattle.std.proofs.Common.{◌≡◌, ℕ, ◌≤◌, ◌<◌, List, map, length, sym, ap, subst, ◌∙◌, arith}
-use Rattle.std.specs.Prelude.{All}
-use Rattle.v_design.specs.Accesses.{ObjectAccess}
+use Rattle.std.proofs.Common.{◌≡◌, ℕ, ◌≤◌, List, sym, subst, ◌∙◌, arith}
 use Rattle.v_design.specs.Designs.{FlatDesign, TestPlan}
-use Rattle.v_design.specs.States.{Event}
 use Rattle.process_code.specs.declared.code.Code.{Code}
-use Rattle.process_code.specs.declared.state.RunEnd.{RunEnd}
 use Rattle.copy_laws.specs.Windows.{WindowEnd, IsWindow, window_steps}
-use Rattle.run_ends.specs.RunEnds.{AreCodesOf}
 use Rattle.between_slots.specs.Between.{RunsLead}
 use Rattle.between_slots.specs.Updates.{UpdatesArePending}
-use Rattle.trace_window.specs.declared.list.EventList.{EventList}
 use Rattle.trace_window.specs.declared.sizes.Sizes.{Sizes}
 use Rattle.trace_window.specs.Acted.{events_of}
-use Rattle.trace_window.specs.Gathered.{BeginsAt, IsSameList}
+use Rattle.trace_window.specs.Gathered.{BeginsAt}
 use Rattle.trace_window.specs.Moments.{window_events}
-use Rattle.trace_window.specs.Writes.{written_of}
 use Rattle.window_runs.specs.RunLaws.{EndsStand, EndsLead, EndsPart, EndsAppend}
-use Rattle.window_runs.specs.RunsByProcess.{run_process}
 use Rattle.good_trace.specs.declared.between.BetweenSlots.{BetweenSlots}
 use Rattle.good_trace.specs.declared.closing.Closed.{Closed}
 use Rattle.good_trace.specs.declared.pushed.PushedSlots.{PushedSlots}
 use Rattle.good_trace.specs.declared.pushed.SlotTable.{SlotTable}
-use Rattle.good_trace.specs.Beginnings.{AreTimes, AreBeginnings}
-use Rattle.good_trace.specs.Closing.{FitsBetween, IsClosed}
-use Rattle.good_trace.specs.Events.{sizes_of, IsGathered, GathersSome}
-use Rattle.good_trace.specs.Pushes.{HasNoSlot, HasSameSlots}
+use Rattle.good_trace.specs.Closing.{IsClosed}
+use Rattle.good_trace.specs.Events.{sizes_of}
+use Rattle.good_trace.specs.Pushes.{HasNoSlot}
 use Rattle.good_trace.specs.RunsKept.{AreRunsKept, KeepsTrace, KeepsWindow}
-use Rattle.good_trace.specs.Traces.{IsTrace}
 use Rattle.good_trace.proofs.Boundaries.{AreUpdatesAt-closed}
 use Rattle.good_trace.proofs.Following.{ends-within, later-is}
 use Rattle.good_trace.proofs.Keeping.{IsTrace-none}
 use Rattle.good_trace.proofs.RunsKeeping.{AreRunsKept-none, AreStatesAt-closed}
-
--- Before it is closed
-
--- a list that has what another has
-IsGathered-same : (sizes : Sizes) (accesses : List (List ObjectAccess)) (acted : List Event) (old new : EventList) → IsSameList old new → IsGathered sizes accesses acted old →
-    IsGathered sizes accesses acted new
-IsGathered-same sizes accesses acted old new same had = record {
-  as_many = had.as_many;
-  moment = same.moment ∙ had.moment;
-  changes = ap (λ l. map written_of l) same.changes ∙ had.changes;
-  touches = same.touches ∙ had.touches;
-  evaluations = same.evaluations ∙ had.evaluations;
-  steps = same.steps ∙ had.steps;
-}
-
--- the same slots are kept
-pub keeps-same : (codes : List Code) (design : FlatDesign) (plan : TestPlan) (pushed closed steps phases : ℕ) (before : BetweenSlots) (old new : PushedSlots) →
-    KeepsTrace codes design plan pushed closed steps phases before old → HasSameSlots old new → KeepsTrace codes design plan pushed closed steps phases before new
-keeps-same codes design plan pushed closed steps phases before old new had same =
-    let own = had.slots_kept in
-    record {
-      slots_kept = record {
-        rules = own.rules;
-        values_are = own.values_are;
-        values_count = own.values_count;
-        run_fits = own.run_fits;
-        times_are = subst (AreTimes design plan closed pushed) (sym same.times) own.times_are;
-        accesses = own.accesses;
-        events_are = record {
-          listed = own.events_are.listed;
-          gathered =
-              IsGathered-same (sizes_of design) own.accesses (events_of (window_events design plan closed pushed)) old.list new.list same.list own.events_are.gathered;
-        };
-        beginnings_are = subst (AreBeginnings design plan closed pushed own.accesses) (sym same.beginnings) own.beginnings_are;
-        counted = own.counted;
-        few_slots = subst (λ (l : List ℕ). length l ≤ 64) (sym same.times) own.few_slots;
-        few_steps = own.few_steps;
-      };
-      runs_kept = subst (AreRunsKept codes design plan pushed closed phases before.states.items) (sym same.runs) had.runs_kept;
-      updates_kept = had.updates_kept;
-    }
-
--- what stands before its slots has a part for each part of the design
-pub fits-before : (codes : List Code) (design : FlatDesign) (plan : TestPlan) (pushed closed steps phases : ℕ) (before : BetweenSlots) (slots : PushedSlots) (sizes : Sizes) →
-    sizes ≡ sizes_of design → KeepsTrace codes design plan pushed closed steps phases before slots → FitsBetween sizes before
-fits-before codes design plan pushed closed steps phases before slots sizes sized had = subst (λ s. FitsBetween s before) (sym sized) (record {
-  values = had.slots_kept.values_count;
-  states = had.runs_kept.states_are.count;
-  updates = had.updates_kept.count;
-})
-
--- its events are gathered
-pub gathers-some : (design : FlatDesign) (plan : TestPlan) (pushed closed steps : ℕ) (before : BetweenSlots) (slots : PushedSlots) (sizes : Sizes) → sizes ≡ sizes_of design →
-    IsTrace design plan pushed closed steps before.values.items slots → GathersSome sizes slots.list
-gathers-some design plan pushed closed steps before slots sizes sized had = subst (λ s. GathersSome s slots.list) (sym sized) (record {
-  accesses = had.accesses;
-  acted = events_of (window_events design plan closed pushed);
-  gathered = had.events_are.gathered;
-})
-
--- its runs are of processes of the design
-pub runs-within : (codes : List Code) (design : FlatDesign) (sizes : Sizes) (runs : List RunEnd) → sizes ≡ sizes_of design → AreCodesOf design codes →
-    All (λ (run : RunEnd). run_process run < length codes) runs → All (λ (run : RunEnd). run_process run < sizes.processes) runs
-runs-within codes design sizes runs sized are all =
-    subst (λ n. All (λ (run : RunEnd). run_process run < n) runs) (are.count ∙ sym (ap (λ (s : Sizes). s.processes) sized)) all
-
--- Once it is closed
 
 -- the window
 pub window-kept : (codes : List Code) (design : FlatDesign) (plan : TestPlan) (pushed closed steps phases : ℕ) (before given : BetweenSlots) (slots : PushedSlots) (out : SlotTable) (sizes : Sizes)

@@ -1,7 +1,7 @@
 -- What the events of a window lead to.
-use Rattle.std.proofs.Common.{◌≡◌, ◌≢◌, ℕ, suc, ◌+◌, ◌-◌, ◌<◌, ◌≤◌, List, [], map, length, get_or, set, below_more, sym, ap, subst, ◌∙◌, arith, get_or-set_other, get_or-set_same}
+use Rattle.std.proofs.Common.{◌≡◌, ℕ, suc, ◌+◌, ◌-◌, ◌<◌, ◌≤◌, List, [], map, length, get_or, sym, ap, subst, ◌∙◌, arith}
 use Rattle.std.specs.Prelude.{Option}
-use Rattle.std.proofs.lemmas.List.{ext_get_or, get_or_read}
+use Rattle.std.proofs.lemmas.List.{ext_get_or}
 use Rattle.std.proofs.lemmas.Option.{slice_get_within}
 use Rattle.four_value.specs.Values.{LogicValue}
 use Rattle.v_design.specs.Designs.{FlatDesign, TestPlan, good_machine}
@@ -15,7 +15,7 @@ use Rattle.trace_window.specs.Tables.{occurrence_of}
 use Rattle.trace_window.specs.Touched.{touched_at, written_at, IsFirstFrom}
 use Rattle.trace_window.specs.TouchLaws.{listed-length, first-touch, first-write}
 use Rattle.trace_window.specs.ValueLaws.{ValuesFollow, window-follow, follow-count, values_before-end, values-are}
-use Rattle.trace_window.specs.Writes.{Written, latest, writes_from}
+use Rattle.trace_window.specs.Writes.{latest, writes_from}
 use Rattle.good_trace.specs.declared.events.Events.{Events}
 use Rattle.good_trace.specs.Events.{AreWindowEvents}
 
@@ -99,13 +99,3 @@ pub step-is : (design : FlatDesign) (plan : TestPlan) (before through : ℕ) (va
 step-is design plan before through values events process moment answer are low first =
     first-step (window_events design plan before through) process moment answer
     (subst (λ l. IsFirstAtOrAfter l moment answer) (are.events_are.steps_are.moments process low) first)
-
--- one object more has its value behind the last event
-pub later-more : (values later : List LogicValue) (number moment : ℕ) (writes : List Written) (first v : LogicValue) → length later ≡ length values → number < length values →
-    first ≡ get_or values number first →
-    ((object : ℕ) → object < number → get_or later object [] ≡ latest (get_or values object []) object moment writes) → v ≡ latest first number moment writes →
-    (object : ℕ) → object < number + 1 → get_or (set later number v) object [] ≡ latest (get_or values object []) object moment writes
-later-more values later number moment writes first v long low read had is =
-    below_more (λ object. get_or (set later number v) object [] ≡ latest (get_or values object []) object moment writes) number
-    (λ object below. let ne : object ≢ number = omega arith in get_or-set_other later number object v [] ne ∙ had object below)
-    (get_or-set_same later number v [] (omega (arith, long, low)) ∙ is ∙ ap (λ x. latest x number moment writes) (get_or_read values number first low read []))

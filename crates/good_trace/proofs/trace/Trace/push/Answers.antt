@@ -3,7 +3,6 @@ use Rattle.v_design.specs.Designs.{good_machine}
 use Rattle.v_design.specs.Grades.{phases}
 use Rattle.trace_window.specs.LogLaws.{slot-acted}
 use Rattle.good_trace.specs.Slots.{first_turn}
-use Rattle.good_trace.proofs.ClosedWindows.{keeps-same}
 use Rattle.good_trace.proofs.Keeping.{next-is, steps_logged-at, push-fits, push-keeps, full-is}
 use Rattle.good_trace.proofs.RunsKeeping.{numbers-fit}
 use Rattle.good_trace.proofs.trace.Trace.push.Goals as goal
@@ -19,11 +18,6 @@ number_from-requires g c =
 pub push-requires : goal.push-requires
 push-requires g c =
     slot-acted (good_machine g.N.World.design) (first_turn c.args.self.now.pushed) (phases (good_machine g.N.World.design) c.requires.next.slot) c.args.log.now c.requires.next.logged
-
-pub invariant_of-self : goal.invariant_of-self
-invariant_of-self g c =
-    let t = c.self.inside in
-    keeps-same t.setup.now.codes g.N.World.design g.N.World.plan t.pushed t.closed t.steps t.phases t.before t.slots c.push.new.self c.self.invariant c.in_err-push.ensures.stays
 
 pub overflow_add-self : goal.overflow_add-self
 overflow_add-self g c =
@@ -50,7 +44,7 @@ pub returns-clause-full : goal.returns-clause-full
 returns-clause-full g c =
     let t = c.self.inside in
     c.is_full.ensures
-    ∙ full-is g.N.World.design g.N.World.plan (t.pushed + 1) t.closed (t.steps + c.count_steps-steps.result) t.before.values.items c.push.new.self c.len.result
+    ∙ full-is g.N.World.design g.N.World.plan (t.pushed + 1) t.closed (t.steps + c.count_steps-steps.result) t.before.values.items c.push.new.self c.len-2.result
     (push-keeps c.ends_go_on.ensures.join t.setup.now.codes g.N.World.design g.N.World.plan t.pushed t.closed t.steps c.count_steps-steps.result t.phases c.in_ok-phases.phases t.before t.slots
     c.push.new.self c.sizes-sizes.result c.args.self.now c.args.log.now c.args.runs.items c.number_from.new.runs.items c.self.invariant c.self.view_is c.requires.next c.requires.room
     c.count_steps-steps.ensures c.in_ok-phases.ensures.count c.number_from.ensures c.sizes-sizes.ensures c.in_ok-push.ensures.pushes).slots_kept (search rules)
