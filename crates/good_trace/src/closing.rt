@@ -68,12 +68,7 @@ pub(crate) fn close_slots(
         time,
         &mut later.updates,
     )?;
-    let events = close_events(
-        sizes,
-        used_events,
-        &mut slots.list,
-        &mut slots.own.touches,
-    )?;
+    let events = close_events(sizes, used_events, &mut slots.list, &mut slots.own)?;
     put_values_behind(&before.values, &events, &mut later.values);
     Ok(Closed {
         events,

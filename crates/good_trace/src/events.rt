@@ -12,7 +12,7 @@ use four_value::Vec4;
 use std::alloc::Global;
 use trace_window::{Change, Changes, EventList, Sizes};
 use vf_base::{NoMemory, ObjectId};
-use window_index::{Occurrence, WindowIndex};
+use window_index::WindowIndex;
 
 /// How many events a window has; for each object its changes and its touches, for each node its evaluations, and for each process its steps.
 #[derive(Drop)]
@@ -41,7 +41,7 @@ pub(crate) fn no_events(alloc: Global, sizes: Sizes) -> Result<Events, NoMemory>
     })
 }
 
-/// The events of a list by object, by node and by process, in the memory of others. None are left in the list; the memory of `occurrences` is used.
+/// The events of a list by object, by node and by process, in the memory of others. None are left in the list; the memory of `own` is used.
 ///
 /// # Errors
 ///
@@ -50,7 +50,7 @@ pub(crate) fn close_events(
     sizes: Sizes,
     used: Events,
     list: &mut EventList,
-    occurrences: &mut Vec<Occurrence>,
+    own: &mut EventList,
 ) -> Result<Events, NoMemory>
     requires sizes { HasSizes sizes used }
     requires gathered { GathersSome sizes list.old }
@@ -59,7 +59,7 @@ pub(crate) fn close_events(
     ensures stays { OnErr result (IsSameList list.old list.new) }
 {
     let Events {
-        changes: own,
+        changes: used_changes,
         mut touches,
         mut evaluations,
         mut steps,
@@ -69,7 +69,11 @@ pub(crate) fn close_events(
     evaluations.refill(&list.evaluations)?;
     steps.refill(&list.steps)?;
     // This takes the changes out of the list, so nothing that may fail comes behind it.
-    let changes = own.refill(&mut list.changes, occurrences)?;
+    let changes = used_changes.refill(
+        &mut list.changes,
+        &mut own.touches,
+        &mut own.evaluations,
+    )?;
     let count = list.moment;
     list.restart(0);
     Ok(Events {

@@ -70,10 +70,7 @@ pub(crate) fn empty_table(alloc: Global) -> Result<SlotTable, NoMemory>
 }
 
 /// The table of no slots, in the memory of another one, the ends of whose runs are put in the place of those that are spent.
-pub(crate) fn clear_table(
-    table: SlotTable,
-    spent: &mut Vec<RunEnd>,
-) -> Result<SlotTable, NoMemory>
+pub(crate) fn clear_table(table: SlotTable, spent: &mut Vec<RunEnd>) -> Result<SlotTable, NoMemory>
     ensures { IfOk result (λ table. HasNoSlot table) }
 {
     let SlotTable {

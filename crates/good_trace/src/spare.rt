@@ -48,10 +48,7 @@ fn new_spare(alloc: Global, sizes: Sizes, values: &[Vec4]) -> Result<Spare, NoMe
 }
 
 /// The memory of a window, but for that of the ends of its runs, which are put in the place of those that are spent.
-fn take_apart<N: World>(
-    window: TraceWindow<N>,
-    spent: &mut Vec<RunEnd>,
-) -> Result<Spare, NoMemory>
+fn take_apart<N: World>(window: TraceWindow<N>, spent: &mut Vec<RunEnd>) -> Result<Spare, NoMemory>
     ensures { IfOk result (λ spare. FitsSpare (sizes_of N.design) spare) }
 {
     let TraceWindow {

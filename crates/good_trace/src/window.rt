@@ -211,7 +211,10 @@ impl<N: World> TraceWindow<N> {
         between_slots::runs_lead();
         let phases = self.phases_before(slot);
         let first = &self.before.states[process.0 as usize];
-        standing_after(first, self.index.last_through(&self.slots.runs, process, phases))
+        standing_after(
+            first,
+            self.index.last_through(&self.slots.runs, process, phases),
+        )
     }
 
     /// The nonblocking updates that a process has pending before a slot, in the order of its statements; behind the last slot those at the window's end.
