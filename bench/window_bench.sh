@@ -1,7 +1,8 @@
 #!/bin/sh
 # Tells what the windows of the good first run cost: bench/window_bench.sh [NUMBER SIZE END], the design of `soak NUMBER SIZE` up to a time (without any: 5 250 6400).
 # The program is built without proofs, of the module that `rt try` makes, by the toolchain's clang with -O3; checks of indexes and sums stay in it, so shares count here, not
-# sums. Instructions are counted by valgrind, and those of reading the texts and of the first slot are left out. RT_TOP=FOLDER takes the crates of another checkout.
+# sums. Instructions are counted by valgrind; those of reading the texts and of the first 65 slots, up to time 320, are left out. Memory is what is resident in the end, in MB,
+# and `kept` is a run that keeps its windows. RT_TOP=FOLDER takes the crates of another checkout.
 set -eu
 number=${1:-5} size=${2:-250} end=${3:-6400}
 bench=$(cd "$(dirname "$0")" && pwd)
@@ -28,20 +29,19 @@ wait "$trial" || [ -e "$work/module.bc" ] || { cat "$work/said" >&2; exit 1; }
 "$kit/toolchain/bin/clang" -O3 -c "$work/module.bc" -o "$work/module.o"
 cc "$work/module.o" "$kit/c/libos_c.a" "$kit/c/liblibc_c.a" -o "$work/program" -lm -lpthread
 
-# instructions WHAT END, in millions
+# instructions WHAT END
 instructions() {
-    valgrind --tool=callgrind --callgrind-out-file=/dev/null "$work/program" "$1" "$number" "$size" "$2" 2>&1 | awk '/Collected/ { printf "%.1f", $4 / 1e6 }'
+    valgrind --tool=callgrind --callgrind-out-file=/dev/null "$work/program" "$1" "$number" "$size" "$2" 2>&1 | awk '/Collected/ { print $4 }'
 }
 
-# resident WHAT END, in MB
+# resident WHAT END
 resident() {
     python3 -c 'import resource, subprocess, sys
 subprocess.run(sys.argv[1:], stdout=subprocess.DEVNULL, check=True)
 print(round(resource.getrusage(resource.RUSAGE_CHILDREN).ru_maxrss / 1024, 1))' "$work/program" "$1" "$number" "$size" "$2"
 }
 
-none=$(instructions machine 0)
 for what in machine noted windows; do
-    echo "$what: $(echo "$(instructions $what "$end") $none" | awk '{ print $1 - $2 }') million instructions, $(resident $what "$end") MB resident"
+    echo "$what: $((($(instructions $what "$end") - $(instructions $what 320)) / 1000000)) million instructions, $(resident $what "$end") MB"
 done
-echo "kept: $(resident kept "$end") MB resident, up to half the time $(resident kept $((end / 2)))"
+echo "kept: $(resident kept "$end") MB, up to half the time $(resident kept $((end / 2))) MB"
