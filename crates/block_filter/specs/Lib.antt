@@ -1,0 +1,4 @@
+pub mod Likes
+pub mod Blocks
+pub mod Suffice
+pub mod FreeObjects
