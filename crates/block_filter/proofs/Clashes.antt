@@ -1,16 +1,15 @@
 -- Accesses that clash have likes that clash; and two accesses conflict unless one orders the other.
-use Rattle.std.proofs.Common.{◌≡◌, ℕ, zero, suc, List, [], ◌∷◌, Bool, true, false, not, ◌&&◌, ◌||◌, refl, sym, ap, subst, ◌∙◌, ◌⊎◌, inl, inr}
-use Rattle.std.specs.Prelude.{Option, Some, None, nat_eq}
+use Rattle.std.proofs.Common.{◌≡◌, ℕ, List, [], ◌∷◌, Bool, true, false, not, ◌&&◌, refl, sym, ap, subst, ◌∙◌, ◌⊎◌, inl, inr}
+use Rattle.std.specs.Prelude.{None, nat_eq}
 use Rattle.std.proofs.lemmas.Bool.{eqb-true, eq-eqb, and_parts}
 use Rattle.v_design.specs.Trees.{Entry}
 use Rattle.v_design.specs.Designs.{FlatDesign}
 use Rattle.v_design.specs.Accesses.{AccessAct, Reading, Writing, Awaiting, Ending, Holding, Settling, ObjectAccess}
-use Rattle.v_design.specs.Logs.{LoggedPhase, PhaseAccess, is_write, acts_clash, orders_others, events_ordered, access_orders, conflict, least_pair, least_pair_from, log_accesses}
+use Rattle.v_design.specs.Logs.{LoggedPhase, PhaseAccess, is_write, acts_clash, orders_others, events_ordered, access_orders, conflict, least_pair, log_accesses}
 use Rattle.block_filter.specs.Likes.{act_matches, WritesAlike, IsLike}
 use Rattle.block_filter.specs.Suffice.{IsAwaited}
 use Rattle.order_laws.proofs.Conflicts.{In}
 use Rattle.order_laws.proofs.FreeLogs.{Before, Before-in, none-free, free-none, clash-symmetric}
-use Rattle.order_laws.proofs.PathLaws.{decided, true-false}
 
 -- Likes of acts
 

@@ -1,24 +1,24 @@
 -- The accesses of a log, from what its events access: those that count, and the settlings of wild net pieces. Both logs have the same wild net pieces, suspect ones aside.
-use Rattle.std.proofs.Common.{◌≡◌, ℕ, zero, suc, ◌+◌, ◌<◌, ◌≤◌, List, [], ◌∷◌, ◌++◌, map, length, Bool, true, false, not, ◌&&◌, ◌||◌, refl}
-use Rattle.std.proofs.Common.{sym, ap, subst, ◌∙◌, ◌⊎◌, inl, inr, arith, filter, sum_by}
-use Rattle.std.specs.Prelude.{Option, Some, None, slice_get, nat_lt}
+use Rattle.std.proofs.Common.{◌≡◌, ℕ, zero, suc, ◌+◌, ◌<◌, List, [], ◌∷◌, ◌++◌, map, length, Bool, true, false, ◌&&◌, refl}
+use Rattle.std.proofs.Common.{sym, ap, subst, ◌∙◌, ◌⊎◌, inl, inr, arith, filter}
+use Rattle.std.specs.Prelude.{Some, None, slice_get, nat_lt}
 use Rattle.std.proofs.lemmas.Bool.{ltb-true, and_parts}
 use Rattle.vf_base.specs.Lists.{has, joined, map_numbered}
 use Rattle.v_design.specs.Designs.{FlatDesign}
 use Rattle.v_design.specs.States.{found_or}
 use Rattle.v_design.specs.Paths.{paths, net_pieces, class_of_paths, is_wild_class, is_wild}
 use Rattle.v_design.specs.Accesses.{Settling, ObjectAccess}
-use Rattle.v_design.specs.Logs.{LoggedEvent, LoggedPhase, PhaseAccess, change_of, changes_of, phase_changes, is_write, counts, settles_of, counted_accesses, event_accesses, log_accesses}
+use Rattle.v_design.specs.Logs.{LoggedEvent, LoggedPhase, PhaseAccess, change_of, changes_of, phase_changes, counts, settles_of, counted_accesses, event_accesses, log_accesses}
 use Rattle.block_filter.specs.Likes.{Marks}
 use Rattle.block_filter.specs.Blocks.{ReachesSuspects}
 use Rattle.order_laws.proofs.Conflicts.{In, In-left, In-map}
 use Rattle.order_laws.proofs.FreeLogs.{In-append}
 use Rattle.order_laws.proofs.FreeWithoutNodes.{tagged, carried, In-map-back, has-in}
 use Rattle.order_laws.proofs.SwappedLogs.{accesses_at}
-use Rattle.order_laws.proofs.Ordered.{counted_at, in_log, counts_in, settles_in, settling}
+use Rattle.order_laws.proofs.Ordered.{in_log, counts_in, settles_in, settling}
 use Rattle.order_laws.proofs.PathLaws.{decided, true-false, reached, reached-append, sum-nothing}
-use Rattle.block_filter.proofs.Places.{get-map, in-filter-back, in-joined_back, in-joined_at, joined-append, at-in}
-use Rattle.block_filter.proofs.Parts.{Part, good_log, faulty_log, AllReachSuspects, AlikePart, UnlikePart, IsPart, AreParts, there_below}
+use Rattle.block_filter.proofs.Places.{get-map, in-filter-back, in-joined_back, joined-append, at-in}
+use Rattle.block_filter.proofs.Parts.{Part, good_log, faulty_log, AllReachSuspects, IsPart, AreParts}
 
 -- Accesses that count
 

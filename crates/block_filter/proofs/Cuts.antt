@@ -1,19 +1,17 @@
 -- The logs of two phases that are cut into blocks, part by part, and the law.
 use Rattle.std.proofs.Common.{◌≡◌, ℕ, zero, suc, ◌+◌, ◌<◌, ◌≤◌, List, [], ◌∷◌, ◌++◌, map, length, Bool, true, false, ◌||◌, refl, sym, ap, subst, ◌∙◌, ◌⊎◌, inl, inr, arith, append-nil}
 use Rattle.std.specs.Prelude.{Option, Some, None, slice_get, is_some}
-use Rattle.std.proofs.lemmas.Option.{slice_get_within}
-use Rattle.std.proofs.lemmas.Bool.{cases_Bool}
 use Rattle.vf_base.specs.Lists.{joined, last_place}
 use Rattle.v_design.specs.Designs.{FlatDesign, Machine, StuckAt, good_machine, faulty_machine}
 use Rattle.v_design.specs.States.{State, Event, Step, LaneStep, Evaluation, NetUpdate, is_process_event, found_or}
 use Rattle.v_design.specs.Runs.{happened}
-use Rattle.v_design.specs.Accesses.{ObjectAccess, Holding, held_accesses, accesses_of}
-use Rattle.v_design.specs.Logs.{LoggedEvent, LoggedPhase, PhaseAccess, changes_of, phase_changes, is_write, log_accesses, conflict, least_pair}
+use Rattle.v_design.specs.Accesses.{ObjectAccess, held_accesses, accesses_of}
+use Rattle.v_design.specs.Logs.{LoggedEvent, LoggedPhase, PhaseAccess, changes_of, phase_changes, is_write, log_accesses, least_pair}
 use Rattle.v_design.specs.PhaseLogs.{NotedEvent, may_cause, logged, log_of}
-use Rattle.block_filter.specs.Likes.{Marks, IsLike, IsSeen, GoesAlike}
+use Rattle.block_filter.specs.Likes.{Marks, IsSeen, GoesAlike}
 use Rattle.block_filter.specs.Blocks.{BlockPair, Alike, Unlike, good_events, faulty_events, good_phase, faulty_phase, IsStretch, all_accesses, ReachesSuspects}
 use Rattle.block_filter.specs.Blocks.{IsMet, IsBlock, AreUnlike, IsBlockPair, AreBlocks}
-use Rattle.block_filter.specs.Suffice.{ObjectIsFree, HoldsAlike, IsAwaited, WaitsAreAwaited, unlike_flags, AreLeft, BlocksSuffice}
+use Rattle.block_filter.specs.Suffice.{IsAwaited, unlike_flags, BlocksSuffice}
 use Rattle.order_laws.proofs.Conflicts.{In, append-assoc}
 use Rattle.order_laws.proofs.Notes.{new_notes, noted_events-new, new_notes-append}
 use Rattle.order_laws.proofs.CleanNets.{same-changes}
@@ -22,11 +20,11 @@ use Rattle.order_laws.proofs.SwappedRuns.{last_true, map-append, length-map}
 use Rattle.order_laws.proofs.RunStates.{first_of, state_at, some_below}
 use Rattle.block_filter.proofs.Places.{one-there, from_is_in, to_is_in, in-joined_at, in-joined_back, all-in, map-one, or_earlier, some_found}
 use Rattle.block_filter.proofs.Reaches.{cause_in, cause-there, GoBack}
-use Rattle.block_filter.proofs.Parts.{Part, good_log, faulty_log, InPart, Beside, CausesBeside, StaysWithin, HasLikeIn, HasLikeAt, AlikePart}
+use Rattle.block_filter.proofs.Parts.{Part, good_log, faulty_log, Beside, CausesBeside, StaysWithin, HasLikeIn, HasLikeAt, AlikePart}
 use Rattle.block_filter.proofs.Parts.{UnlikePart, AllReachSuspects, IsPart, AreParts, causes-more, flags}
 use Rattle.block_filter.proofs.Clashes.{IsClear, free-clear}
 use Rattle.block_filter.proofs.Pairs.{whole, AreLogs, faulty_none}
-use Rattle.block_filter.proofs.Entries.{entries, length-entries, log_entries, go_back, may_causes, last_cause, last_among, last-below, last-before, is_some-later, IsEntry, entry_at, entry_back}
+use Rattle.block_filter.proofs.Entries.{entries, length-entries, log_entries, go_back, last_cause, last_among, last-below, last-before, is_some-later, IsEntry, entry_at, entry_back}
 use Rattle.block_filter.proofs.Entries.{node_caused, inner_caused, any_writer, like-same, held-holds, tests-alike, alike-first, alike-at}
 
 -- Parts of phases
@@ -208,7 +206,7 @@ block-reaches machine marks earlier state first events b k x ex changed i =
     (in-joined_at (λ (event : LoggedEvent). changes_of machine.design event.accesses) (entries machine [] state (first ∷ events)) k z.0 changed z.1 (subst (λ cs. In changed cs) same i)))
 
 -- an access of some events behind earlier ones stands among those of the events by themselves
-local-access : (machine : Machine) (earlier : List NotedEvent) (state : State) (events : List Event) (k : ℕ) (x : LoggedEvent) (access : ObjectAccess) →
+pub local-access : (machine : Machine) (earlier : List NotedEvent) (state : State) (events : List Event) (k : ℕ) (x : LoggedEvent) (access : ObjectAccess) →
     slice_get (entries machine earlier state events) k ≡ Some x → In access x.accesses →
     (other : ObjectAccess) × In other (all_accesses (log_of machine state events)) × (other.act ≡ access.act) × (other.object ≡ access.object)
 local-access machine earlier state events k x access ex i =

@@ -1,5 +1,5 @@
 -- The entries of a phase's log by places: an event's cause, in its stretch or before it, and its accesses, whatever write it follows.
-use Rattle.std.proofs.Common.{◌≡◌, ℕ, zero, suc, ◌+◌, ◌<◌, ◌≤◌, List, [], ◌∷◌, ◌++◌, map, length, Bool, true, false, not, ◌||◌, refl, sym, ap, subst, ◌∙◌, ◌⊎◌, inl, inr, arith, filter}
+use Rattle.std.proofs.Common.{◌≡◌, ℕ, zero, suc, ◌<◌, ◌≤◌, List, [], ◌∷◌, ◌++◌, map, length, Bool, true, false, not, ◌||◌, refl, sym, ap, subst, ◌∙◌, inl, inr, arith, filter}
 use Rattle.std.specs.Prelude.{Option, Some, None, slice_get, is_some}
 use Rattle.std.proofs.lemmas.Option.{slice_get_within}
 use Rattle.vf_base.specs.Lists.{AllHold, has, joined, map_numbered, last_place}
@@ -8,12 +8,12 @@ use Rattle.v_design.specs.Trees.{Entry}
 use Rattle.v_design.specs.Designs.{FlatDesign, FlatNode, Machine, StuckAt, good_machine, faulty_machine}
 use Rattle.v_design.specs.Assignments.{value_at}
 use Rattle.v_design.specs.Paths.{net_pieces}
-use Rattle.v_design.specs.States.{State, ProcessState, Event, Step, LaneStep, Evaluation, NetUpdate, after, found_or, is_process_event}
+use Rattle.v_design.specs.States.{State, Event, Step, LaneStep, Evaluation, NetUpdate, after, found_or, is_process_event}
 use Rattle.v_design.specs.Runs.{happened}
 use Rattle.v_design.specs.Accesses.{Writing, Holding, ObjectAccess, waiting_entries, waiting_line, net_write, net_ended_by, net_accesses, accesses_of, held_by, held_accesses}
-use Rattle.v_design.specs.Logs.{LoggedEvent, LoggedPhase, is_write}
-use Rattle.v_design.specs.PhaseLogs.{NotedEvent, may_cause, is_step_of, changes_one, changes_input, cause_of, note_of, noted_events, logged, log_of}
-use Rattle.block_filter.specs.Likes.{Marks, act_matches, WritesAlike, IsLike, GoesAlike, AllGoAlike}
+use Rattle.v_design.specs.Logs.{LoggedEvent, is_write}
+use Rattle.v_design.specs.PhaseLogs.{NotedEvent, may_cause, is_step_of, changes_one, changes_input, note_of, noted_events, logged, log_of}
+use Rattle.block_filter.specs.Likes.{Marks, act_matches, IsLike, GoesAlike, AllGoAlike}
 use Rattle.block_filter.specs.Blocks.{HasCause, HasCauseIfNode, AllLaterHold, may_cause_later}
 use Rattle.order_laws.proofs.Conflicts.{In, In-left, In-right}
 use Rattle.order_laws.proofs.FreeLogs.{In-append}

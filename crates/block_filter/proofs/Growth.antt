@@ -1,5 +1,5 @@
 -- What does alike goes alike; blocks go on by one more, and are blocks with more objects marked.
-use Rattle.std.proofs.Common.{◌≡◌, ℕ, List, [], ◌∷◌, ◌++◌, true, refl, sym, ap, subst, ◌∙◌, ◌⊎◌, inl, inr}
+use Rattle.std.proofs.Common.{◌≡◌, List, [], ◌∷◌, refl, sym, ap, subst, ◌⊎◌, inl, inr}
 use Rattle.vf_base.specs.Lists.{AllHold}
 use Rattle.v_design.specs.Designs.{FlatDesign, Machine, StuckAt, good_machine, faulty_machine}
 use Rattle.v_design.specs.States.{State, Event, after}
@@ -7,10 +7,9 @@ use Rattle.v_design.specs.Runs.{happened}
 use Rattle.v_design.specs.Accesses.{ObjectAccess, accesses_of}
 use Rattle.v_design.specs.Logs.{changes_of, phase_changes}
 use Rattle.v_design.specs.PhaseLogs.{log_of}
-use Rattle.copy_laws.specs.QuietPhases.{DoesAlike}
-use Rattle.block_filter.specs.Likes.{Marks, AreWider, WritesAlike, IsLike, HasLikeAmong, IsSeen, GoesAlike, AllGoAlike, AlikeEventsGoAlike, AlikeStretchesGoAlike}
+use Rattle.block_filter.specs.Likes.{Marks, AreWider, WritesAlike, HasLikeAmong, IsSeen, AllGoAlike, AlikeEventsGoAlike, AlikeStretchesGoAlike}
 use Rattle.block_filter.specs.Blocks.{BlockPair, Alike, Unlike, good_events, faulty_events, good_phase, faulty_phase, all_accesses, ReachesSuspects, IsMet}
-use Rattle.block_filter.specs.Blocks.{IsBlock, IsBlockPair, AreBlocks, BlocksGoOn, BlocksWiden}
+use Rattle.block_filter.specs.Blocks.{IsBlock, IsBlockPair, BlocksGoOn, BlocksWiden}
 use Rattle.order_laws.proofs.ToFront.{happened-append}
 use Rattle.block_filter.proofs.Places.{to_is_in, all-from_in, all-more}
 

@@ -1,5 +1,5 @@
 -- The faulty log has no conflict: each pair of its accesses is of a suspect object, is left, or has its like in the good log and is ordered as there.
-use Rattle.std.proofs.Common.{◌≡◌, ℕ, ◌+◌, ◌<◌, ◌≤◌, List, [], ◌∷◌, ◌++◌, map, length, Bool, true, false, not, ◌&&◌, refl, sym, ap, subst, ◌∙◌, ◌⊎◌, inl, inr, arith}
+use Rattle.std.proofs.Common.{◌≡◌, ℕ, ◌<◌, ◌≤◌, List, length, Bool, true, false, not, ◌&&◌, refl, sym, ap, subst, ◌∙◌, ◌⊎◌, inl, inr, arith}
 use Rattle.std.specs.Prelude.{Option, Some, None, slice_get}
 use Rattle.std.proofs.lemmas.Bool.{and_parts, cases_lt, cases_Bool}
 use Rattle.vf_base.specs.Lists.{has}
@@ -17,7 +17,7 @@ use Rattle.order_laws.proofs.Ordered.{settling, in_joined}
 use Rattle.order_laws.proofs.PathLaws.{true-false}
 use Rattle.block_filter.proofs.Places.{in-joined_back, at-in}
 use Rattle.block_filter.proofs.Reaches.{Reaches, orders-reaches, GoBack, reaches-orders, orders-self, reaches-back}
-use Rattle.block_filter.proofs.Parts.{Part, good_log, faulty_log, Beside, InKind, kind-beside, beside-within, one-beside, earlier-good, AreParts, follow-steps, HasLikeBeside, IsLiked, liked}
+use Rattle.block_filter.proofs.Parts.{Part, good_log, faulty_log, Beside, InKind, kind-beside, beside-within, one-beside, earlier-good, AreParts, follow-steps, HasLikeBeside, liked}
 use Rattle.block_filter.proofs.Parts.{ChangesBeside, changed, flags, flagged}
 use Rattle.block_filter.proofs.Clashes.{like-write, like-orders, self-clash, self-orders, likes-clash, IsClear, clear-turned, clear-pair, clear-none, orders-parts, parts-orders}
 use Rattle.block_filter.proofs.Counted.{counted-back, IsSettling, IsOfEvent, log-back, held-in, counted-in, settled-in, wild-alike}

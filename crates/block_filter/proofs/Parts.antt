@@ -11,7 +11,7 @@ use Rattle.block_filter.specs.Blocks.{ReachesSuspects}
 use Rattle.order_laws.proofs.Conflicts.{In}
 use Rattle.order_laws.proofs.PathLaws.{true-false}
 use Rattle.block_filter.proofs.Places.{get-left, get-right, get-parts}
-use Rattle.block_filter.proofs.Reaches.{cause_in, cause-left, cause-within, cause-right, Steps, Reaches, join-steps, one-step, reaches-left}
+use Rattle.block_filter.proofs.Reaches.{cause_in, cause-within, cause-right, Steps, Reaches, join-steps, one-step, reaches-left}
 
 -- a block in the logs of both machines, and whether it has events of each machine's own
 pub record Part : Type 0 where

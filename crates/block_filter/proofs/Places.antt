@@ -1,5 +1,5 @@
 -- Places in joined lists, and the last place that passes a test.
-use Rattle.std.proofs.Common.{◌≡◌, ℕ, zero, suc, ◌+◌, ◌<◌, ◌≤◌, List, [], ◌∷◌, ◌++◌, map, length, Bool, true, false, ◌&&◌, ◌||◌, refl, sym, ap, subst, ◌∙◌, ◌⊎◌, inl, inr, arith, filter}
+use Rattle.std.proofs.Common.{◌≡◌, ℕ, zero, suc, ◌+◌, List, [], ◌∷◌, ◌++◌, map, length, Bool, true, false, ◌||◌, refl, sym, ap, subst, ◌∙◌, ◌⊎◌, inl, inr, arith, filter}
 use Rattle.std.specs.Prelude.{Option, Some, None, slice_get, is_some, cond, option_map}
 use Rattle.std.proofs.lemmas.Option.{slice_get-map}
 use Rattle.vf_base.specs.Lists.{AllHold, joined, last_place, later_place}

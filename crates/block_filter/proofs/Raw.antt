@@ -1,5 +1,5 @@
 -- What the accesses of a machine's log are: held entries, what its events access, and settlings of wild net pieces.
-use Rattle.std.proofs.Common.{◌≡◌, ℕ, List, [], ◌∷◌, ◌++◌, map, Bool, true, false, ◌&&◌, refl, sym, ap, subst, ◌∙◌, ◌⊎◌, inl, inr, filter}
+use Rattle.std.proofs.Common.{◌≡◌, ℕ, List, [], ◌∷◌, map, Bool, true, false, ◌&&◌, sym, ap, subst, ◌∙◌, ◌⊎◌, inl, inr, filter}
 use Rattle.std.specs.Prelude.{Option, Some, None, slice_get}
 use Rattle.vf_base.specs.Lists.{AllHold, has, joined, map_numbered}
 use Rattle.four_value.specs.Values.{LogicValue, same_value}
@@ -12,7 +12,7 @@ use Rattle.v_design.specs.States.{State, Event, Step, LaneStep, Evaluation, NetU
 use Rattle.v_design.specs.Accesses.{AccessAct, Writing, Awaiting, Ending, Holding, Settling, ObjectAccess, waiting_entries, waiting_line}
 use Rattle.v_design.specs.Accesses.{without_first, ended_of, ended_by, update_accesses, await_accesses}
 use Rattle.v_design.specs.Accesses.{action_accesses, lane_accesses, net_write, some_change_matches, net_ended_by, net_accesses, accesses_of, held_accesses}
-use Rattle.v_design.specs.Logs.{LoggedEvent, LoggedPhase, PhaseAccess, phase_changes, counts, log_accesses, orders_others}
+use Rattle.v_design.specs.Logs.{LoggedEvent, PhaseAccess, phase_changes, counts, log_accesses, orders_others}
 use Rattle.v_design.specs.PhaseLogs.{NotedEvent, log_of}
 use Rattle.block_filter.specs.Blocks.{all_accesses}
 use Rattle.block_filter.specs.FreeObjects.{is_wild_net}
@@ -23,7 +23,7 @@ use Rattle.order_laws.proofs.ProperLogs.{In-joined-back}
 use Rattle.order_laws.proofs.RunStates.{state_at}
 use Rattle.block_filter.proofs.Places.{in-joined_back, all-in}
 use Rattle.block_filter.proofs.Counted.{IsSettling, IsOfEvent, counted-back, log-back}
-use Rattle.block_filter.proofs.Entries.{entries, log_entries, IsEntry, entry_back, held-holds}
+use Rattle.block_filter.proofs.Entries.{entries, log_entries, entry_back, held-holds}
 use Rattle.block_filter.proofs.Cuts.{local-access}
 
 -- What an event accesses orders later events

@@ -1,18 +1,16 @@
 -- Objects of which no two accesses conflict, by what events access by themselves.
-use Rattle.std.proofs.Common.{◌≡◌, ℕ, zero, suc, ◌+◌, ◌<◌, ◌≤◌, List, [], ◌∷◌, ◌++◌, map, length, Bool, true, false, not, ◌&&◌, ◌||◌, refl, sym, ap, subst, ◌∙◌, ◌⊎◌, inl, inr, arith}
+use Rattle.std.proofs.Common.{◌≡◌, ℕ, zero, suc, ◌+◌, ◌<◌, ◌≤◌, List, [], ◌∷◌, ◌++◌, length, Bool, true, false, not, ◌&&◌, ◌||◌, refl, sym, ap, subst, ◌∙◌, ◌⊎◌, inl, inr, arith}
 use Rattle.std.specs.Prelude.{Option, Some, None, slice_get, nat_eq}
-use Rattle.std.proofs.lemmas.Bool.{eq-eqb, eqb-true, cases_lt, cases_order}
+use Rattle.std.proofs.lemmas.Bool.{eq-eqb, eqb-true, cases_order}
 use Rattle.std.proofs.lemmas.Option.{slice_get_within}
-use Rattle.vf_base.specs.Lists.{AllHold, has, last_place}
+use Rattle.vf_base.specs.Lists.{AllHold, last_place}
 use Rattle.v_design.specs.Trees.{Entry}
-use Rattle.v_design.specs.Designs.{FlatDesign, Machine}
-use Rattle.v_design.specs.Paths.{net_pieces, is_wild}
+use Rattle.v_design.specs.Designs.{Machine}
 use Rattle.v_design.specs.States.{State, Event, Step, LaneStep, Evaluation, NetUpdate, after, some_in}
 use Rattle.v_design.specs.Runs.{happened}
-use Rattle.v_design.specs.Accesses.{AccessAct, Reading, Writing, Awaiting, Ending, Holding, Settling, ObjectAccess, held_accesses, accesses_of}
-use Rattle.v_design.specs.Logs.{LoggedEvent, LoggedPhase, PhaseAccess, phase_changes, is_write, counts, acts_clash, orders_others, orders, events_ordered, access_orders, log_accesses}
+use Rattle.v_design.specs.Accesses.{AccessAct, Reading, Writing, Awaiting, Ending, Holding, Settling, ObjectAccess, held_accesses}
+use Rattle.v_design.specs.Logs.{LoggedEvent, LoggedPhase, PhaseAccess, is_write, acts_clash, orders_others, orders, events_ordered, access_orders, log_accesses}
 use Rattle.v_design.specs.PhaseLogs.{NotedEvent, may_cause, ends_wait, is_step_of, noted_events, logged, log_of}
-use Rattle.block_filter.specs.Blocks.{all_accesses}
 use Rattle.block_filter.specs.Suffice.{ObjectIsFree}
 use Rattle.block_filter.specs.FreeObjects.{is_wild_net, IsUnused, IsUnwritten, is_reading, IsUnread, IsOfRun, UnwrittenObjectsAreFree}
 use Rattle.block_filter.specs.FreeObjects.{SoleEventsAreFree, SoleRunsAreFree, UnreadNetsAreFree, LaterReadsAreFree}
@@ -22,10 +20,10 @@ use Rattle.order_laws.proofs.PathLaws.{true-false, or-either, or-second}
 use Rattle.order_laws.proofs.Notes.{new_notes, noted_events-new, length-new_notes}
 use Rattle.order_laws.proofs.RunStates.{first_of, state_at, note_stands, noted, bare, cause_before, IsCause, cause_found, none_caused}
 use Rattle.order_laws.proofs.ToFront.{happened-append}
-use Rattle.block_filter.proofs.Places.{get-left, get-right, get-parts, all-in, all-at, from_is_in, one-there, or_earlier}
-use Rattle.block_filter.proofs.Reaches.{cause_in, cause-there, Reaches, join-steps, one-step, reaches-orders, orders-self}
-use Rattle.block_filter.proofs.Clashes.{IsClear, clear-free, parts-orders}
-use Rattle.block_filter.proofs.Entries.{entries, length-entries, log_entries, entries-append, go_back, last_cause, last_noted, entry_at, entry_back, any_writer}
+use Rattle.block_filter.proofs.Places.{get-left, get-right, get-parts, all-in, all-at, from_is_in, or_earlier}
+use Rattle.block_filter.proofs.Reaches.{cause_in, cause-there, Reaches, one-step, reaches-orders, orders-self}
+use Rattle.block_filter.proofs.Clashes.{clear-free, parts-orders}
+use Rattle.block_filter.proofs.Entries.{entries, length-entries, log_entries, entries-append, go_back, last_noted, entry_at, entry_back, any_writer}
 use Rattle.block_filter.proofs.Raw.{IsAccess, IsHeld, IsRaw, Settles, access-is, tested}
 
 -- Acts

@@ -1,5 +1,5 @@
 -- When a phase of the faulty machine has no race because the good machine's has none: what is left to look at, once both are cut into blocks (conflicts by IEEE 1364-2001, clause 5).
-use Rattle.std.specs.Prelude.{◌≡◌, ℕ, ◌≤◌, Bool, true, false, List, ◌∷◌, map, Option, Some, None, slice_get}
+use Rattle.std.specs.Prelude.{◌≡◌, ℕ, ◌≤◌, Bool, true, false, List, ◌∷◌, map, Some, None, slice_get}
 use Rattle.vf_base.specs.Lists.{joined}
 use Rattle.v_design.specs.Trees.{Entry}
 use Rattle.v_design.specs.Designs.{FlatDesign, StuckAt, good_machine, faulty_machine}
