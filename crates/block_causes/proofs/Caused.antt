@@ -1,19 +1,18 @@
 -- The causes of a stretch stand in it: what has work, or was made ready, was so by an event of the stretch.
-use Rattle.std.proofs.Common.{◌≡◌, ℕ, zero, suc, ◌+◌, ◌<◌, List, [], ◌∷◌, ◌++◌, map, length, Bool, true, false, not, ◌&&◌, ◌||◌, refl, sym, ap, subst, ◌∙◌, ◌⊎◌, inl, inr, arith}
-use Rattle.std.specs.Prelude.{◌≢◌, Option, Some, None, slice_get, nat_eq, is_some, IsTrue}
+use Rattle.std.proofs.Common.{◌≡◌, ℕ, zero, suc, ◌+◌, ◌<◌, List, [], ◌∷◌, ◌++◌, length, Bool, true, false, ◌&&◌, ◌||◌, refl, sym, ap, subst, ◌∙◌, ◌⊎◌, inl, inr, arith}
+use Rattle.std.specs.Prelude.{Some, None, slice_get, is_some}
 use Rattle.std.proofs.lemmas.Bool.{eq-eqb, cases_Bool, and_parts}
-use Rattle.vf_base.specs.Lists.{AllHold, last_place}
+use Rattle.vf_base.specs.Lists.{AllHold}
 use Rattle.v_design.specs.Designs.{FlatNode, Machine}
 use Rattle.v_design.specs.States.{State, NodeState, Event, Step, LaneStep, Evaluation, NetUpdate, after, possible, process_at, node_at}
 use Rattle.v_design.specs.States.{found_or, idle_node, is_ready, has_work, some_in, is_process_event}
 use Rattle.v_design.specs.Runs.{least_work, work_of, happened, all_possible}
-use Rattle.v_design.specs.Accesses.{is_waiting}
-use Rattle.v_design.specs.PhaseLogs.{NotedEvent, is_step_of, ends_wait, changes_one, changes_input, may_cause, note_of, noted_events}
+use Rattle.v_design.specs.PhaseLogs.{NotedEvent, is_step_of, ends_wait, changes_one, changes_input, may_cause, note_of}
 use Rattle.v_design.specs.WellFormed.{KeepsRules}
-use Rattle.v_design.specs.Laws.{IsStateOf, BeginsPhase}
+use Rattle.v_design.specs.Laws.{IsStateOf}
 use Rattle.block_filter.specs.Blocks.{HasCause, HasCauseIfNode, AllLaterHold}
 use Rattle.block_causes.specs.Caused.{IsFromRest, IsFollowing, StretchesAreCaused, BlocksAreCaused}
-use Rattle.order_laws.proofs.PathLaws.{true-false, or-either, or-neither, or-second}
+use Rattle.order_laws.proofs.PathLaws.{true-false, or-second}
 use Rattle.order_laws.proofs.NetStates.{all_idle}
 use Rattle.order_laws.proofs.Notes.{new_notes, noted_events-new}
 use Rattle.order_laws.proofs.RunStates.{some_below}
@@ -21,7 +20,6 @@ use Rattle.order_laws.proofs.SettledNets.{Follows, Everywhere, follows-begins, f
 use Rattle.order_laws.proofs.NodeRests.{rest_on_inputs}
 use Rattle.order_laws.proofs.WritersStay.{AreClear, NotNet, writers_clear}
 use Rattle.order_laws.proofs.PhasesGoOn.{clear-run, state-run}
-use Rattle.order_laws.proofs.ToFront.{happened-append}
 use Rattle.block_filter.proofs.Places.{is_some-last}
 use Rattle.block_causes.proofs.Worked.{node_rests, process_waited}
 

@@ -1,21 +1,21 @@
 -- What an event leaves as it is: a node without work whose inputs stay, and a process that isn't ready and whose wait doesn't end.
-use Rattle.std.proofs.Common.{◌≡◌, ℕ, zero, suc, ◌<◌, List, [], ◌∷◌, ◌++◌, map, length, Bool, true, false, not, ◌&&◌, ◌||◌, refl, sym, ap, subst, ◌∙◌, ◌⊎◌, inl, inr, arith}
+use Rattle.std.proofs.Common.{◌≡◌, ℕ, List, [], ◌∷◌, map, length, Bool, true, false, not, ◌&&◌, ◌||◌, refl, sym, ap, subst, ◌∙◌}
 use Rattle.std.specs.Prelude.{◌≢◌, Option, Some, None, slice_get, nat_eq, is_some}
-use Rattle.std.proofs.lemmas.Bool.{eqb-true, cases_Bool, cases_eq}
-use Rattle.vf_base.specs.Lists.{has, change_at}
+use Rattle.std.proofs.lemmas.Bool.{eqb-true}
+use Rattle.vf_base.specs.Lists.{has}
 use Rattle.four_value.specs.Values.{LogicValue, same_value}
 use Rattle.v_design.specs.Trees.{Entry}
 use Rattle.v_design.specs.Designs.{FlatNode, Machine}
 use Rattle.v_design.specs.Assignments.{ValueUpdate, value_at, node_outputs, object_width}
 use Rattle.v_design.specs.Processes.{Activity, Ready, Waiting, Asleep, Postponed, Done}
-use Rattle.v_design.specs.States.{State, ProcessState, Event, Step, LaneStep, Evaluation, NetUpdate, after, possible, process_at}
+use Rattle.v_design.specs.States.{State, Event, Step, LaneStep, Evaluation, NetUpdate, after, possible, process_at}
 use Rattle.v_design.specs.States.{node_at, is_ready, has_work, value_written, with_value, with_values}
 use Rattle.v_design.specs.States.{with_node, with_process, written_if, write_of, first_update, after_step, after_lane_step, step_of, evaluated, nets_updated}
 use Rattle.v_design.specs.Accesses.{is_waiting}
 use Rattle.v_design.specs.PhaseLogs.{changes_one}
 use Rattle.v_design.specs.WellFormed.{KeepsRules}
 use Rattle.order_laws.proofs.PathLaws.{true-false, or-neither, or-second, has-self}
-use Rattle.order_laws.proofs.NetStates.{other_number, value-other, values-other, node-untouched, node-other}
+use Rattle.order_laws.proofs.NetStates.{value-other, values-other, node-untouched, node-other}
 use Rattle.order_laws.proofs.SettledNets.{Fit, Follows, Everywhere, Distinct, distinct, first_or, rest_list, put-width}
 use Rattle.order_laws.proofs.Rules.{node_rules}
 use Rattle.order_laws.proofs.Woken.{woken_by, put-new, length-written, woken_after}
@@ -25,7 +25,7 @@ use Rattle.order_laws.proofs.Woken.{woken_by, put-new, length-written, woken_aft
 unchanged-input : (before next : State) (objects : List ℕ) (x : ℕ) → changes_one before next objects ≡ false → has objects x ≡ true →
     same_value (value_at before.values x) (value_at next.values x) ≡ true
 unchanged-input before next [] x e h = cc
-unchanged-input before next (object ∷ objects) x e h = go (nat_eq object x) refl h
+unchanged-input before next (object ∷ objects) x e h = go (nat_eq object x) refl h (λ i. unchanged-input before next objects x parts.1 i)
   where
     parts : (not (same_value (value_at before.values object) (value_at next.values object)) ≡ false) × (changes_one before next objects ≡ false)
     parts = or-neither (not (same_value (value_at before.values object) (value_at next.values object))) (changes_one before next objects) e
@@ -34,11 +34,12 @@ unchanged-input before next (object ∷ objects) x e h = go (nat_eq object x) re
     not-false true f = refl
     not-false false f = cc
 
-    go : (b : Bool) → nat_eq object x ≡ b → (b || has objects x) ≡ true → same_value (value_at before.values x) (value_at next.values x) ≡ true
-    go true same i =
+    go : (b : Bool) → nat_eq object x ≡ b → (b || has objects x) ≡ true →
+        (has objects x ≡ true → same_value (value_at before.values x) (value_at next.values x) ≡ true) → same_value (value_at before.values x) (value_at next.values x) ≡ true
+    go true same i rest =
         subst (λ y. same_value (value_at before.values y) (value_at next.values y) ≡ true) (eqb-true object x same)
         (not-false (same_value (value_at before.values object) (value_at next.values object)) parts.0)
-    go false other i = unchanged-input before next objects x parts.1 i
+    go false other i rest = rest i
 
 unmarked : (same reads : Bool) → (reads ≡ true → same ≡ true) → (not same && reads) ≡ false
 unmarked true reads h = refl
