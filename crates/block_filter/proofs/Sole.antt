@@ -92,7 +92,7 @@ held-clash object one other entry e o = ap (λ act. acts_clash object act other)
     go Settling o = cc
 
 -- a test of an object's accesses that fails, at one of them
-of-object : (object other : ℕ) (b : Bool) → other ≡ object → (nat_eq other object && b) ≡ false → b ≡ false
+pub of-object : (object other : ℕ) (b : Bool) → other ≡ object → (nat_eq other object && b) ≡ false → b ≡ false
 of-object object other b same e = ap (λ c. c && b) (sym (eq-eqb other object same)) ∙ e
 
 other-object : {A : Type 0} (object other : ℕ) → other ≡ object → nat_eq other object ≡ false → A
@@ -191,13 +191,13 @@ unread_nets_are_free machine state events net wild u h first second i j same oth
 -- All events that access an object are ordered
 
 -- any two events that access it are
-abbrev AreOrdered : Machine → State → List Event → ℕ → Type 0
+abbrev pub AreOrdered : Machine → State → List Event → ℕ → Type 0
 AreOrdered machine state events object =
     (n m : ℕ) (x y : LoggedEvent) (a b : ObjectAccess) → slice_get (entries machine [] state events) n ≡ Some x → In a x.accesses → a.object ≡ object →
     slice_get (entries machine [] state events) m ≡ Some y → In b y.accesses → b.object ≡ object →
     (orders (log_of machine state events) n m ≡ true) ⊎ (orders (log_of machine state events) m n ≡ true)
 
-ordered-free : (machine : Machine) (state : State) (events : List Event) (object : ℕ) → is_wild_net machine.design (log_of machine state events) object ≡ false →
+pub ordered-free : (machine : Machine) (state : State) (events : List Event) (object : ℕ) → is_wild_net machine.design (log_of machine state events) object ≡ false →
     AreOrdered machine state events object → ObjectIsFree machine.design (log_of machine state events) object
 ordered-free machine state events object tame order first second i j same other =
     clear-free (log_of machine state events) first second

@@ -1,14 +1,16 @@
 -- When no two accesses of an object conflict in a phase, by what a caller can count: accesses that write nothing, those of one event or of one run of a process, wild net pieces that nothing reads
 -- (conflicts by IEEE 1364-2001, clause 5).
-use Rattle.std.specs.Prelude.{◌≡◌, ◌&&◌, ℕ, ◌≤◌, Bool, true, false, List, [], ◌∷◌, ◌++◌, length, Some, nat_eq}
+use Rattle.std.specs.Prelude.{◌≡◌, ◌&&◌, ℕ, ◌≤◌, Bool, true, false, List, [], ◌∷◌, ◌++◌, length, Some, nat_eq, not, IsTrue}
 use Rattle.vf_base.specs.Lists.{AllHold, has}
 use Rattle.v_design.specs.Paths.{net_pieces, is_wild}
 use Rattle.v_design.specs.Designs.{FlatDesign, Machine}
 use Rattle.v_design.specs.States.{State, Event, some_in}
-use Rattle.v_design.specs.Runs.{happened}
+use Rattle.v_design.specs.Runs.{happened, all_possible}
 use Rattle.v_design.specs.Accesses.{AccessAct, Reading, Writing, Awaiting, Ending, Holding, Settling, ObjectAccess, held_accesses}
 use Rattle.v_design.specs.Logs.{LoggedPhase, PhaseAccess, is_write, phase_changes, log_accesses, conflict}
 use Rattle.v_design.specs.PhaseLogs.{NotedEvent, ends_wait, is_step_of, noted_events, logged, log_of}
+use Rattle.v_design.specs.WellFormed.{KeepsRules}
+use Rattle.v_design.specs.Laws.{BeginsPhase}
 use Rattle.copy_laws.specs.Filter.{IsIn}
 use Rattle.block_filter.specs.Blocks.{all_accesses}
 use Rattle.block_filter.specs.Suffice.{ObjectIsFree}
@@ -39,6 +41,11 @@ is_reading Settling = false
 abbrev pub IsUnread : Machine → State → List Event → ℕ → Type 0
 IsUnread machine state events object =
     AllHold (λ (access : ObjectAccess). (nat_eq access.object object && is_reading access.act) ≡ false) (all_accesses (log_of machine state events))
+
+-- they access it by writes alone
+abbrev pub IsOnlyWritten : Machine → State → List Event → ℕ → Type 0
+IsOnlyWritten machine state events object =
+    AllHold (λ (access : ObjectAccess). (nat_eq access.object object && not (is_write access.act)) ≡ false) (all_accesses (log_of machine state events))
 
 -- an event that accesses an object is a step of a process, and no event ends a wait of it
 pub record IsOfRun (machine : Machine) (object process : ℕ) (noted : NotedEvent) : Type 0 where
@@ -72,6 +79,13 @@ SoleRunsAreFree =
 abbrev pub UnreadNetsAreFree : Type 0
 UnreadNetsAreFree =
     (machine : Machine) (state : State) (events : List Event) (net : ℕ) → is_wild_net machine.design (log_of machine state events) net ≡ true → IsUnread machine state events net →
+    AllHold (λ (access : ObjectAccess). nat_eq access.object net ≡ false) (held_accesses machine state) → ObjectIsFree machine.design (log_of machine state events) net
+
+-- a net piece, wild or not, is free in a run of possible events from a phase's beginning that access it by writes alone, where nothing holds an entry on it
+abbrev pub WrittenNetsAreFree : Type 0
+WrittenNetsAreFree =
+    (machine : Machine) (state : State) (events : List Event) (net : ℕ) → KeepsRules machine.design → BeginsPhase machine state → IsTrue (all_possible machine state events) →
+    has (net_pieces machine.design) net ≡ true → IsOnlyWritten machine state events net →
     AllHold (λ (access : ObjectAccess). nat_eq access.object net ≡ false) (held_accesses machine state) → ObjectIsFree machine.design (log_of machine state events) net
 
 -- two accesses of an object that isn't a wild net piece don't conflict where nothing writes the object from some event on, and neither is of an earlier event

@@ -8,7 +8,7 @@
 #![tactic(auto)]
 
 ghost use Rattle.block_filter.specs.Blocks.{BlocksGoOn, BlocksWiden};
-ghost use Rattle.block_filter.specs.FreeObjects.{UnwrittenObjectsAreFree, SoleEventsAreFree, SoleRunsAreFree, UnreadNetsAreFree, LaterReadsAreFree};
+ghost use Rattle.block_filter.specs.FreeObjects.{UnwrittenObjectsAreFree, SoleEventsAreFree, SoleRunsAreFree, UnreadNetsAreFree, WrittenNetsAreFree, LaterReadsAreFree};
 ghost use Rattle.block_filter.specs.Likes.{AlikeEventsGoAlike, AlikeStretchesGoAlike};
 ghost use Rattle.block_filter.specs.Suffice.{BlocksSuffice};
 
@@ -31,6 +31,7 @@ pub fn free_objects()
     ensures unwritten { UnwrittenObjectsAreFree }
     ensures event { SoleEventsAreFree }
     ensures run { SoleRunsAreFree }
-    ensures net { UnreadNetsAreFree }
+    ensures unread { UnreadNetsAreFree }
+    ensures written { WrittenNetsAreFree }
     ensures later { LaterReadsAreFree }
 {}

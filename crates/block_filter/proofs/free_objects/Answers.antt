@@ -1,5 +1,6 @@
--- The laws are proved in `Sole`.
+-- The laws are proved in `Sole` and `NetWrites`.
 use Rattle.block_filter.proofs.Sole.{unwritten_objects_are_free, sole_events_are_free, sole_runs_are_free, unread_nets_are_free, later_reads_are_free}
+use Rattle.block_filter.proofs.NetWrites.{written_nets_are_free}
 use Rattle.block_filter.proofs.free_objects.Goals as goal
 
 pub returns-clause-unwritten : goal.returns-clause-unwritten
@@ -11,8 +12,11 @@ returns-clause-event c = sole_events_are_free
 pub returns-clause-run : goal.returns-clause-run
 returns-clause-run c = sole_runs_are_free
 
-pub returns-clause-net : goal.returns-clause-net
-returns-clause-net c = unread_nets_are_free
+pub returns-clause-unread : goal.returns-clause-unread
+returns-clause-unread c = unread_nets_are_free
+
+pub returns-clause-written : goal.returns-clause-written
+returns-clause-written c = written_nets_are_free
 
 pub returns-clause-later : goal.returns-clause-later
 returns-clause-later c = later_reads_are_free
