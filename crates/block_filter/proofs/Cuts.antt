@@ -5,27 +5,27 @@ use Rattle.vf_base.specs.Lists.{joined, last_place}
 use Rattle.v_design.specs.Designs.{FlatDesign, Machine, StuckAt, good_machine, faulty_machine}
 use Rattle.v_design.specs.States.{State, Event, Step, LaneStep, Evaluation, NetUpdate, is_process_event, found_or}
 use Rattle.v_design.specs.Runs.{happened}
-use Rattle.v_design.specs.Accesses.{ObjectAccess, held_accesses, accesses_of}
+use Rattle.v_design.specs.Accesses.{AccessAct, Reading, Writing, Awaiting, Ending, Holding, Settling, ObjectAccess, held_accesses, accesses_of}
 use Rattle.v_design.specs.Logs.{LoggedEvent, LoggedPhase, PhaseAccess, changes_of, phase_changes, is_write, log_accesses, least_pair}
 use Rattle.v_design.specs.PhaseLogs.{NotedEvent, may_cause, logged, log_of}
 use Rattle.block_filter.specs.Likes.{Marks, IsSeen, GoesAlike}
 use Rattle.block_filter.specs.Blocks.{BlockPair, Alike, Unlike, good_events, faulty_events, good_phase, faulty_phase, IsStretch, all_accesses, ReachesSuspects}
 use Rattle.block_filter.specs.Blocks.{IsMet, IsBlock, AreUnlike, IsBlockPair, AreBlocks}
-use Rattle.block_filter.specs.Suffice.{IsAwaited, unlike_flags, BlocksSuffice}
+use Rattle.block_filter.specs.Suffice.{IsAwaited, unlike_flags, BlocksSuffice, AllAreAwaited}
 use Rattle.order_laws.proofs.Conflicts.{In, append-assoc}
 use Rattle.order_laws.proofs.Notes.{new_notes, noted_events-new, new_notes-append}
 use Rattle.order_laws.proofs.CleanNets.{same-changes}
 use Rattle.order_laws.proofs.PathLaws.{true-false}
 use Rattle.order_laws.proofs.SwappedRuns.{last_true, map-append, length-map}
 use Rattle.order_laws.proofs.RunStates.{first_of, state_at, some_below}
-use Rattle.block_filter.proofs.Places.{one-there, from_is_in, to_is_in, in-joined_at, in-joined_back, all-in, map-one, or_earlier, some_found}
+use Rattle.block_filter.proofs.Places.{one-there, from_is_in, to_is_in, in-joined_at, all-in, map-one, or_earlier, some_found}
 use Rattle.block_filter.proofs.Reaches.{cause_in, cause-there, GoBack}
 use Rattle.block_filter.proofs.Parts.{Part, good_log, faulty_log, Beside, CausesBeside, StaysWithin, HasLikeIn, HasLikeAt, AlikePart}
 use Rattle.block_filter.proofs.Parts.{UnlikePart, AllReachSuspects, IsPart, AreParts, causes-more, flags}
 use Rattle.block_filter.proofs.Clashes.{IsClear, free-clear}
 use Rattle.block_filter.proofs.Pairs.{whole, AreLogs, faulty_none}
 use Rattle.block_filter.proofs.Entries.{entries, length-entries, log_entries, go_back, last_cause, last_among, last-below, last-before, is_some-later, IsEntry, entry_at, entry_back}
-use Rattle.block_filter.proofs.Entries.{node_caused, inner_caused, any_writer, like-same, held-holds, tests-alike, alike-first, alike-at}
+use Rattle.block_filter.proofs.Entries.{node_caused, inner_caused, any_writer, local-access, StandsAt, phase-access, like-same, held-holds, tests-alike, alike-first, alike-at}
 
 -- Parts of phases
 
@@ -204,49 +204,6 @@ block-reaches machine marks earlier state first events b k x ex changed i =
     all-in (ReachesSuspects machine.design marks) (phase_changes machine.design (log_of machine state (first ∷ events))) changed b.reaches
     (subst (λ es. In changed (joined (map (λ (event : LoggedEvent). changes_of machine.design event.accesses) es))) (sym (log_entries machine state (first ∷ events)))
     (in-joined_at (λ (event : LoggedEvent). changes_of machine.design event.accesses) (entries machine [] state (first ∷ events)) k z.0 changed z.1 (subst (λ cs. In changed cs) same i)))
-
--- an access of some events behind earlier ones stands among those of the events by themselves
-pub local-access : (machine : Machine) (earlier : List NotedEvent) (state : State) (events : List Event) (k : ℕ) (x : LoggedEvent) (access : ObjectAccess) →
-    slice_get (entries machine earlier state events) k ≡ Some x → In access x.accesses →
-    (other : ObjectAccess) × In other (all_accesses (log_of machine state events)) × (other.act ≡ access.act) × (other.object ≡ access.object)
-local-access machine earlier state events k x access ex i =
-    let p = entry_back machine earlier state events k x ex in
-    let z = entry_at machine [] state events k p.0 p.1 in
-    let o = any_writer machine p.2.writer p.2.line z.2.writer z.2.line (state_at machine state events k) p.0 access (subst (λ xs. In access xs) p.2.accesses i) in (
-      o.0,
-      subst (λ es. In o.0 (joined (map (λ (event : LoggedEvent). event.accesses) es))) (sym (log_entries machine state events))
-          (in-joined_at (λ (event : LoggedEvent). event.accesses) (entries machine [] state events) k z.0 o.0 z.1 (subst (λ xs. In o.0 xs) (sym z.2.accesses) o.1)),
-      o.2,
-      o.3,
-    )
-
--- and the other way round
-pub record StandsAt (events : List LoggedEvent) (access : ObjectAccess) : Type 0 where
-  pub place : ℕ
-  pub event : LoggedEvent
-  pub stands : slice_get events place ≡ Some event
-  pub other : ObjectAccess
-  pub among : In other event.accesses
-  pub same_act : other.act ≡ access.act
-  pub same_object : other.object ≡ access.object
-
-phase-access : (machine : Machine) (earlier : List NotedEvent) (state : State) (events : List Event) (access : ObjectAccess) → In access (all_accesses (log_of machine state events)) →
-    StandsAt (entries machine earlier state events) access
-phase-access machine earlier state events access i =
-    let r = in-joined_back (λ (event : LoggedEvent). event.accesses) (entries machine [] state events) access
-    (subst (λ es. In access (joined (map (λ (event : LoggedEvent). event.accesses) es))) (log_entries machine state events) i) in
-    let p = entry_back machine [] state events r.0 r.1 r.2 in
-    let z = entry_at machine earlier state events r.0 p.0 p.1 in
-    let o = any_writer machine p.2.writer p.2.line z.2.writer z.2.line (state_at machine state events r.0) p.0 access (subst (λ xs. In access xs) p.2.accesses r.3) in
-    record {
-      place = r.0;
-      event = z.0;
-      stands = z.1;
-      other = o.0;
-      among = subst (λ xs. In o.0 xs) (sym z.2.accesses) o.1;
-      same_act = o.2;
-      same_object = o.3;
-    }
 
 module _ (design : FlatDesign) (fault : StuckAt) (marks : Marks) (parts : List Part) (ones others : List NotedEvent) (s : AreNoted design fault marks parts ones others) (good faulty : State)
     (first : Event) (mine yours : List Event) (a : AreUnlike design fault marks good faulty first mine yours) where
@@ -467,3 +424,14 @@ blocks_suffice design fault marks good faulty blocks b held awaited none suspect
           first.access.object ≡ second.access.object → (one other : ℕ) → first.event ≡ Some one → second.event ≡ Some other → slice_get (flags c.parts) one ≡ Some true → one ≤ other →
           IsClear l first second) faulty-log left-clear;
     }
+
+pub all_are_awaited : AllAreAwaited
+all_are_awaited design marks log every access i tame = go access.access.act
+  where
+    go : (act : AccessAct) → IsAwaited marks.awaited act
+    go Reading = tt
+    go (Writing old new) = tt
+    go (Awaiting entry) = every entry
+    go (Ending entry) = every entry
+    go (Holding entry) = tt
+    go Settling = tt

@@ -14,7 +14,7 @@ use Rattle.v_design.specs.Accesses.{Writing, Holding, ObjectAccess, waiting_entr
 use Rattle.v_design.specs.Logs.{LoggedEvent, is_write}
 use Rattle.v_design.specs.PhaseLogs.{NotedEvent, may_cause, is_step_of, changes_one, changes_input, note_of, noted_events, logged, log_of}
 use Rattle.block_filter.specs.Likes.{Marks, act_matches, IsLike, GoesAlike, AllGoAlike}
-use Rattle.block_filter.specs.Blocks.{HasCause, HasCauseIfNode, AllLaterHold, may_cause_later}
+use Rattle.block_filter.specs.Blocks.{all_accesses, HasCause, HasCauseIfNode, AllLaterHold, may_cause_later}
 use Rattle.order_laws.proofs.Conflicts.{In, In-left, In-right}
 use Rattle.order_laws.proofs.FreeLogs.{In-append}
 use Rattle.order_laws.proofs.FreeWithoutNodes.{In-map-back}
@@ -199,6 +199,49 @@ any_writer machine w l w' l' state (LaneStep process) access i = (access, i, ref
 any_writer machine w l w' l' state (Evaluation node) access i = absurd i
 any_writer machine w l w' l' state (NetUpdate node) access i =
     net_writer machine.design w l w' l' (slice_get machine.design.nodes node) state (after machine state (NetUpdate node)) access i
+
+-- an access of some events behind earlier ones stands among those of the events by themselves
+pub local-access : (machine : Machine) (earlier : List NotedEvent) (state : State) (events : List Event) (k : ℕ) (x : LoggedEvent) (access : ObjectAccess) →
+    slice_get (entries machine earlier state events) k ≡ Some x → In access x.accesses →
+    (other : ObjectAccess) × In other (all_accesses (log_of machine state events)) × (other.act ≡ access.act) × (other.object ≡ access.object)
+local-access machine earlier state events k x access ex i =
+    let p = entry_back machine earlier state events k x ex in
+    let z = entry_at machine [] state events k p.0 p.1 in
+    let o = any_writer machine p.2.writer p.2.line z.2.writer z.2.line (state_at machine state events k) p.0 access (subst (λ xs. In access xs) p.2.accesses i) in (
+      o.0,
+      subst (λ es. In o.0 (joined (map (λ (event : LoggedEvent). event.accesses) es))) (sym (log_entries machine state events))
+          (in-joined_at (λ (event : LoggedEvent). event.accesses) (entries machine [] state events) k z.0 o.0 z.1 (subst (λ xs. In o.0 xs) (sym z.2.accesses) o.1)),
+      o.2,
+      o.3,
+    )
+
+-- and the other way round
+pub record StandsAt (events : List LoggedEvent) (access : ObjectAccess) : Type 0 where
+  pub place : ℕ
+  pub event : LoggedEvent
+  pub stands : slice_get events place ≡ Some event
+  pub other : ObjectAccess
+  pub among : In other event.accesses
+  pub same_act : other.act ≡ access.act
+  pub same_object : other.object ≡ access.object
+
+pub phase-access : (machine : Machine) (earlier : List NotedEvent) (state : State) (events : List Event) (access : ObjectAccess) → In access (all_accesses (log_of machine state events)) →
+    StandsAt (entries machine earlier state events) access
+phase-access machine earlier state events access i =
+    let r = in-joined_back (λ (event : LoggedEvent). event.accesses) (entries machine [] state events) access
+    (subst (λ es. In access (joined (map (λ (event : LoggedEvent). event.accesses) es))) (log_entries machine state events) i) in
+    let p = entry_back machine [] state events r.0 r.1 r.2 in
+    let z = entry_at machine earlier state events r.0 p.0 p.1 in
+    let o = any_writer machine p.2.writer p.2.line z.2.writer z.2.line (state_at machine state events r.0) p.0 access (subst (λ xs. In access xs) p.2.accesses r.3) in
+    record {
+      place = r.0;
+      event = z.0;
+      stands = z.1;
+      other = o.0;
+      among = subst (λ xs. In o.0 xs) (sym z.2.accesses) o.1;
+      same_act = o.2;
+      same_object = o.3;
+    }
 
 -- likeness is a matter of acts and objects
 pub like-same : (awaited : Entry → Bool) (one other one' other' : ObjectAccess) → IsLike awaited one other → one'.act ≡ one.act → one'.object ≡ one.object → other'.act ≡ other.act →

@@ -7,7 +7,3 @@ pub mod Pairs
 pub mod Entries
 pub mod Cuts
 pub mod Growth
-pub mod EventAccesses
-pub mod Raw
-pub mod Sole
-pub mod NetWrites

@@ -1,4 +1,3 @@
 pub mod Likes
 pub mod Blocks
 pub mod Suffice
-pub mod FreeObjects

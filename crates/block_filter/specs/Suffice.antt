@@ -68,3 +68,7 @@ BlocksSuffice =
     IsIn second (log_accesses design (log_of (faulty_machine design fault) faulty (faulty_phase blocks))) → AreLeft marks blocks first second →
     conflict (log_of (faulty_machine design fault) faulty (faulty_phase blocks)) first second ≡ false) →
     phase_race (faulty_machine design fault) faulty (faulty_phase blocks) ≡ None
+
+-- whatever entries a log waits on, they are awaited ones where every entry is
+abbrev pub AllAreAwaited : Type 0
+AllAreAwaited = (design : FlatDesign) (marks : Marks) (log : LoggedPhase) → ((entry : Entry) → marks.awaited entry ≡ true) → WaitsAreAwaited design marks log

@@ -3,14 +3,13 @@
 //!
 //! Most events of a faulty machine's phase are those of the good machine's, and order each other as there. So where the good phase has no race, two accesses that the good machine makes too don't
 //! conflict, even where blocks with other events stand between them: `blocks_suffice` is that law. It leaves the accesses of suspect objects, which may be any, and some of met objects, which blocks
-//! of the faulty machine's own access only as the good machine does there; `free_objects` tells what it takes that these don't conflict. Each function here does nothing when it runs; its
-//! contract is the law.
+//! of the faulty machine's own access only as the good machine does there; the crate `free_objects` tells what it takes that these don't conflict. Where all that such blocks access is suspect, no
+//! object need be met. Each function here does nothing when it runs; its contract is the law.
 #![tactic(auto)]
 
 ghost use Rattle.block_filter.specs.Blocks.{BlocksGoOn, BlocksWiden};
-ghost use Rattle.block_filter.specs.FreeObjects.{UnwrittenObjectsAreFree, SoleEventsAreFree, SoleRunsAreFree, UnreadNetsAreFree, WrittenNetsAreFree, LaterReadsAreFree};
 ghost use Rattle.block_filter.specs.Likes.{AlikeEventsGoAlike, AlikeStretchesGoAlike};
-ghost use Rattle.block_filter.specs.Suffice.{BlocksSuffice};
+ghost use Rattle.block_filter.specs.Suffice.{BlocksSuffice, AllAreAwaited};
 
 /// Events that do alike in both machines go alike; blocks go on by one more, and may be told with more objects marked.
 pub fn blocks()
@@ -21,17 +20,8 @@ pub fn blocks()
 {}
 
 /// Where the good machine's phase has no race, the faulty machine's has none if no two accesses of a suspect object conflict, and none of a met object from a block of the faulty machine's own on.
+/// The entries that may be waited on are asked for where writes of other values are to be like the good machine's; else all may be.
 pub fn blocks_suffice()
-    ensures { BlocksSuffice }
-{}
-
-/// No two accesses of an object conflict where nothing writes it, where one event or one run of a process alone accesses it, or where it is a wild net piece that nothing reads; and from some event
-/// on, where nothing writes it from there on.
-pub fn free_objects()
-    ensures unwritten { UnwrittenObjectsAreFree }
-    ensures event { SoleEventsAreFree }
-    ensures run { SoleRunsAreFree }
-    ensures unread { UnreadNetsAreFree }
-    ensures written { WrittenNetsAreFree }
-    ensures later { LaterReadsAreFree }
+    ensures race { BlocksSuffice }
+    ensures awaited { AllAreAwaited }
 {}

@@ -14,38 +14,11 @@ use Rattle.v_design.specs.Laws.{BeginsPhase}
 use Rattle.copy_laws.specs.Filter.{IsIn}
 use Rattle.block_filter.specs.Blocks.{all_accesses}
 use Rattle.block_filter.specs.Suffice.{ObjectIsFree}
+use Rattle.free_objects.specs.Stretches.{IsUnused, IsUnwritten, IsUnread, IsOnlyWritten}
 
 -- whether an object is a wild net piece in a phase
 abbrev pub is_wild_net : FlatDesign → LoggedPhase → ℕ → Bool
 is_wild_net design log object = has (net_pieces design) object && is_wild design (phase_changes design log) object
-
--- some events, from a state on, make no access of an object
-abbrev pub IsUnused : Machine → State → List Event → ℕ → Type 0
-IsUnused machine state events object = AllHold (λ (access : ObjectAccess). nat_eq access.object object ≡ false) (all_accesses (log_of machine state events))
-
--- they make no write of it
-abbrev pub IsUnwritten : Machine → State → List Event → ℕ → Type 0
-IsUnwritten machine state events object =
-    AllHold (λ (access : ObjectAccess). (nat_eq access.object object && is_write access.act) ≡ false) (all_accesses (log_of machine state events))
-
--- whether an access is one with which the settling of a wild net piece conflicts, a held entry aside
-abbrev pub is_reading : AccessAct → Bool
-is_reading Reading = true
-is_reading (Writing old new) = false
-is_reading (Awaiting entry) = true
-is_reading (Ending entry) = false
-is_reading (Holding entry) = false
-is_reading Settling = false
-
--- they make no read of it, nor do they begin to wait on it
-abbrev pub IsUnread : Machine → State → List Event → ℕ → Type 0
-IsUnread machine state events object =
-    AllHold (λ (access : ObjectAccess). (nat_eq access.object object && is_reading access.act) ≡ false) (all_accesses (log_of machine state events))
-
--- they access it by writes alone
-abbrev pub IsOnlyWritten : Machine → State → List Event → ℕ → Type 0
-IsOnlyWritten machine state events object =
-    AllHold (λ (access : ObjectAccess). (nat_eq access.object object && not (is_write access.act)) ≡ false) (all_accesses (log_of machine state events))
 
 -- an event that accesses an object is a step of a process, and no event ends a wait of it
 pub record IsOfRun (machine : Machine) (object process : ℕ) (noted : NotedEvent) : Type 0 where

@@ -10,14 +10,13 @@ use Rattle.v_design.specs.Accesses.{held_accesses}
 use Rattle.v_design.specs.Logs.{LoggedEvent, PhaseAccess, phase_changes, counts, log_accesses, orders_others}
 use Rattle.v_design.specs.PhaseLogs.{NotedEvent, log_of}
 use Rattle.block_filter.specs.Blocks.{all_accesses}
-use Rattle.block_filter.specs.FreeObjects.{is_wild_net}
+use Rattle.free_objects.specs.FreeObjects.{is_wild_net}
 use Rattle.order_laws.proofs.Conflicts.{In}
 use Rattle.order_laws.proofs.RunStates.{state_at}
 use Rattle.block_filter.proofs.Places.{all-in}
 use Rattle.block_filter.proofs.Counted.{IsSettling, IsOfEvent, counted-back, log-back}
-use Rattle.block_filter.proofs.Entries.{entries, log_entries, entry_back, held-holds}
-use Rattle.block_filter.proofs.Cuts.{local-access}
-use Rattle.block_filter.proofs.EventAccesses.{of-event}
+use Rattle.block_filter.proofs.Entries.{entries, log_entries, entry_back, local-access, held-holds}
+use Rattle.free_objects.proofs.EventAccesses.{of-event}
 
 -- The accesses of a log
 

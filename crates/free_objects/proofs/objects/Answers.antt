@@ -1,7 +1,8 @@
--- The laws are proved in `Sole` and `NetWrites`.
-use Rattle.block_filter.proofs.Sole.{unwritten_objects_are_free, sole_events_are_free, sole_runs_are_free, unread_nets_are_free, later_reads_are_free}
-use Rattle.block_filter.proofs.NetWrites.{written_nets_are_free}
-use Rattle.block_filter.proofs.free_objects.Goals as goal
+-- The laws are proved in `Sole`, `NetWrites` and `Met`.
+use Rattle.free_objects.proofs.Sole.{unwritten_objects_are_free, sole_events_are_free, sole_runs_are_free, unread_nets_are_free, later_reads_are_free}
+use Rattle.free_objects.proofs.NetWrites.{written_nets_are_free}
+use Rattle.free_objects.proofs.Met.{met_reads_are_free}
+use Rattle.free_objects.proofs.objects.Goals as goal
 
 pub returns-clause-unwritten : goal.returns-clause-unwritten
 returns-clause-unwritten c = unwritten_objects_are_free
@@ -20,3 +21,6 @@ returns-clause-written c = written_nets_are_free
 
 pub returns-clause-later : goal.returns-clause-later
 returns-clause-later c = later_reads_are_free
+
+pub returns-clause-met : goal.returns-clause-met
+returns-clause-met c = met_reads_are_free

@@ -12,8 +12,9 @@ use Rattle.v_design.specs.Accesses.{AccessAct, Reading, Writing, Awaiting, Endin
 use Rattle.v_design.specs.Logs.{LoggedEvent, LoggedPhase, PhaseAccess, is_write, acts_clash, orders_others, orders, events_ordered, access_orders, log_accesses}
 use Rattle.v_design.specs.PhaseLogs.{NotedEvent, may_cause, ends_wait, is_step_of, noted_events, logged, log_of}
 use Rattle.block_filter.specs.Suffice.{ObjectIsFree}
-use Rattle.block_filter.specs.FreeObjects.{is_wild_net, IsUnused, IsUnwritten, is_reading, IsUnread, IsOfRun, UnwrittenObjectsAreFree}
-use Rattle.block_filter.specs.FreeObjects.{SoleEventsAreFree, SoleRunsAreFree, UnreadNetsAreFree, LaterReadsAreFree}
+use Rattle.free_objects.specs.FreeObjects.{is_wild_net, IsOfRun, UnwrittenObjectsAreFree}
+use Rattle.free_objects.specs.Stretches.{IsUnused, IsUnwritten, is_reading, IsUnread}
+use Rattle.free_objects.specs.FreeObjects.{SoleEventsAreFree, SoleRunsAreFree, UnreadNetsAreFree, LaterReadsAreFree}
 use Rattle.order_laws.proofs.Conflicts.{In}
 use Rattle.order_laws.proofs.FreeLogs.{clash-symmetric}
 use Rattle.order_laws.proofs.PathLaws.{true-false, or-either, or-second}
@@ -24,7 +25,7 @@ use Rattle.block_filter.proofs.Places.{get-left, get-right, get-parts, all-in, a
 use Rattle.block_filter.proofs.Reaches.{cause_in, cause-there, Reaches, one-step, reaches-orders, orders-self}
 use Rattle.block_filter.proofs.Clashes.{clear-free, parts-orders}
 use Rattle.block_filter.proofs.Entries.{entries, length-entries, log_entries, entries-append, go_back, last_noted, entry_at, entry_back, any_writer}
-use Rattle.block_filter.proofs.Raw.{IsAccess, IsHeld, IsRaw, Settles, access-is, tested}
+use Rattle.free_objects.proofs.Raw.{IsAccess, IsHeld, IsRaw, Settles, access-is, tested}
 
 -- Acts
 
@@ -95,10 +96,10 @@ held-clash object one other entry e o = ap (λ act. acts_clash object act other)
 pub of-object : (object other : ℕ) (b : Bool) → other ≡ object → (nat_eq other object && b) ≡ false → b ≡ false
 of-object object other b same e = ap (λ c. c && b) (sym (eq-eqb other object same)) ∙ e
 
-other-object : {A : Type 0} (object other : ℕ) → other ≡ object → nat_eq other object ≡ false → A
+pub other-object : {A : Type 0} (object other : ℕ) → other ≡ object → nat_eq other object ≡ false → A
 other-object object other same e = true-false (nat_eq other object) (eq-eqb other object same) e
 
-not-settled : {A : Type 0} (machine : Machine) (log : LoggedPhase) (object other : ℕ) → is_wild_net machine.design log object ≡ false → other ≡ object →
+pub not-settled : {A : Type 0} (machine : Machine) (log : LoggedPhase) (object other : ℕ) → is_wild_net machine.design log object ≡ false → other ≡ object →
     is_wild_net machine.design log other ≡ true → A
 not-settled machine log object other tame same wild = true-false (is_wild_net machine.design log other) wild (ap (is_wild_net machine.design log) same ∙ tame)
 

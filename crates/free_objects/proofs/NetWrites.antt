@@ -11,7 +11,8 @@ use Rattle.v_design.specs.Accesses.{AccessAct, Reading, Writing, Awaiting, Endin
 use Rattle.v_design.specs.Logs.{LoggedEvent, is_write, phase_changes, orders}
 use Rattle.v_design.specs.PhaseLogs.{log_of}
 use Rattle.block_filter.specs.Blocks.{all_accesses}
-use Rattle.block_filter.specs.FreeObjects.{is_wild_net, is_reading, IsOnlyWritten, WrittenNetsAreFree}
+use Rattle.free_objects.specs.FreeObjects.{is_wild_net, WrittenNetsAreFree}
+use Rattle.free_objects.specs.Stretches.{is_reading, IsOnlyWritten}
 use Rattle.order_laws.proofs.Conflicts.{In}
 use Rattle.order_laws.proofs.PathLaws.{true-false}
 use Rattle.order_laws.proofs.Unaffected.{write_by}
@@ -23,9 +24,9 @@ use Rattle.order_laws.proofs.Runs.{IsRun, clear_at, changes_there, change_count,
 use Rattle.block_filter.proofs.Places.{all-more}
 use Rattle.block_filter.proofs.Reaches.{orders-self}
 use Rattle.block_filter.proofs.Entries.{entries, entry_back}
-use Rattle.block_filter.proofs.EventAccesses.{of-event}
-use Rattle.block_filter.proofs.Raw.{tested}
-use Rattle.block_filter.proofs.Sole.{of-object, AreOrdered, ordered-free, unread_nets_are_free}
+use Rattle.free_objects.proofs.EventAccesses.{of-event}
+use Rattle.free_objects.proofs.Raw.{tested}
+use Rattle.free_objects.proofs.Sole.{of-object, AreOrdered, ordered-free, unread_nets_are_free}
 
 only-unread : (b : Bool) (act : AccessAct) → (b && not (is_write act)) ≡ false → (b && is_reading act) ≡ false
 only-unread false act e = refl
