@@ -8,9 +8,9 @@ use Rattle.v_design.specs.Runs.{happened}
 use Rattle.v_design.specs.Accesses.{AccessAct, Reading, Writing, Awaiting, Ending, Holding, Settling, ObjectAccess, held_accesses, accesses_of}
 use Rattle.v_design.specs.Logs.{LoggedEvent, LoggedPhase, PhaseAccess, changes_of, phase_changes, is_write, log_accesses, least_pair}
 use Rattle.v_design.specs.PhaseLogs.{NotedEvent, may_cause, logged, log_of}
-use Rattle.block_filter.specs.Likes.{Marks, IsSeen, GoesAlike}
+use Rattle.block_filter.specs.Likes.{Marks, IsSuspectOrLike, GoesAlike}
 use Rattle.block_filter.specs.Blocks.{BlockPair, Alike, Unlike, good_events, faulty_events, good_phase, faulty_phase, IsStretch, all_accesses, ReachesSuspects}
-use Rattle.block_filter.specs.Blocks.{IsMet, IsBlock, AreUnlike, IsBlockPair, AreBlocks}
+use Rattle.block_filter.specs.Blocks.{IsSuspectOrMet, IsBlock, AreUnlike, IsBlockPair, AreBlocks}
 use Rattle.block_filter.specs.Suffice.{IsAwaited, unlike_flags, BlocksSuffice, AllAreAwaited}
 use Rattle.order_laws.proofs.Conflicts.{In, append-assoc}
 use Rattle.order_laws.proofs.Notes.{new_notes, noted_events-new, new_notes-append}
@@ -142,11 +142,11 @@ module _ (design : FlatDesign) (fault : StuckAt) (marks : Marks) (parts : List P
       let there : In access (accesses_of (faulty_machine design fault) q.2.writer q.2.line (state_at (faulty_machine design fault) faulty events k) q.0) =
       subst (λ xs. In access xs) q.2.accesses i in
       go p.0 q.0 p.2 (one-there events k p.0 q.0 p.1 q.1) q.2.writer q.2.line
-      (all-in (IsSeen marks (accesses_of (good_machine design) q.2.writer q.2.line (state_at (good_machine design) good events k) q.0))
+      (all-in (IsSuspectOrLike marks (accesses_of (good_machine design) q.2.writer q.2.line (state_at (good_machine design) good events k) q.0))
       (accesses_of (faulty_machine design fault) q.2.writer q.2.line (state_at (faulty_machine design fault) faulty events k) q.0) access (d.accesses q.2.writer q.2.line) there)
     where
       go : (event other : Event) (p : IsEntry (good_machine design) ones good events k event x) → event ≡ other → (w l : ℕ) →
-          IsSeen marks (accesses_of (good_machine design) w l (state_at (good_machine design) good events k) other) access →
+          IsSuspectOrLike marks (accesses_of (good_machine design) w l (state_at (good_machine design) good events k) other) access →
           (marks.suspect access.object ≡ true) ⊎ HasLikeIn marks x.accesses access
       go event other p e w l (inl s) = inl s
       go event other p e w l (inr m) =
@@ -215,9 +215,9 @@ module _ (design : FlatDesign) (fault : StuckAt) (marks : Marks) (parts : List P
   own-likes k y ey access i =
       let o = local-access (faulty_machine design fault) others faulty (first ∷ yours) k y access ey i in
       go o.0 o.2 o.3
-      (all-in (IsMet marks (all_accesses (log_of (good_machine design) good (first ∷ mine)))) (all_accesses (log_of (faulty_machine design fault) faulty (first ∷ yours))) o.0 a.accesses o.1)
+      (all-in (IsSuspectOrMet marks (all_accesses (log_of (good_machine design) good (first ∷ mine)))) (all_accesses (log_of (faulty_machine design fault) faulty (first ∷ yours))) o.0 a.accesses o.1)
     where
-      go : (other : ObjectAccess) → other.act ≡ access.act → other.object ≡ access.object → IsMet marks (all_accesses (log_of (good_machine design) good (first ∷ mine))) other →
+      go : (other : ObjectAccess) → other.act ≡ access.act → other.object ≡ access.object → IsSuspectOrMet marks (all_accesses (log_of (good_machine design) good (first ∷ mine))) other →
           (marks.suspect access.object ≡ true) ⊎ ((marks.met access.object ≡ true) × HasLikeAt marks own.good access)
       go other act object (inl suspect) = inl (ap marks.suspect (sym object) ∙ suspect)
       go other act object (inr m) =

@@ -7,8 +7,8 @@ use Rattle.v_design.specs.Runs.{happened}
 use Rattle.v_design.specs.Accesses.{ObjectAccess, accesses_of}
 use Rattle.v_design.specs.Logs.{changes_of, phase_changes}
 use Rattle.v_design.specs.PhaseLogs.{log_of}
-use Rattle.block_filter.specs.Likes.{Marks, AreWider, WritesAlike, HasLikeAmong, IsSeen, AllGoAlike, AlikeEventsGoAlike, AlikeStretchesGoAlike}
-use Rattle.block_filter.specs.Blocks.{BlockPair, Alike, Unlike, good_events, faulty_events, good_phase, faulty_phase, all_accesses, ReachesSuspects, IsMet}
+use Rattle.block_filter.specs.Likes.{Marks, AreWider, WritesAlike, HasLikeAmong, IsSuspectOrLike, AllGoAlike, AlikeEventsGoAlike, AlikeStretchesGoAlike}
+use Rattle.block_filter.specs.Blocks.{BlockPair, Alike, Unlike, good_events, faulty_events, good_phase, faulty_phase, all_accesses, ReachesSuspects, IsSuspectOrMet}
 use Rattle.block_filter.specs.Blocks.{IsBlock, IsBlockPair, BlocksGoOn, BlocksWiden}
 use Rattle.order_laws.proofs.ToFront.{happened-append}
 use Rattle.block_filter.proofs.Places.{to_is_in, all-from_in, all-more}
@@ -21,8 +21,8 @@ alike_events_go_alike design fault marks good faulty event d = record {
   changes = d.changes;
   changed = λ writer line. ap (changes_of design) (d.accesses writer line);
   accesses = λ writer line.
-      subst (λ ones. AllHold (IsSeen marks ones) (accesses_of (faulty_machine design fault) writer line faulty event)) (sym (d.accesses writer line))
-      (all-from_in (IsSeen marks (accesses_of (faulty_machine design fault) writer line faulty event)) (accesses_of (faulty_machine design fault) writer line faulty event)
+      subst (λ ones. AllHold (IsSuspectOrLike marks ones) (accesses_of (faulty_machine design fault) writer line faulty event)) (sym (d.accesses writer line))
+      (all-from_in (IsSuspectOrLike marks (accesses_of (faulty_machine design fault) writer line faulty event)) (accesses_of (faulty_machine design fault) writer line faulty event)
       (λ access i. inr (access, to_is_in access (accesses_of (faulty_machine design fault) writer line faulty event) i, record { object = refl; act = inl refl })));
 }
 
@@ -56,11 +56,11 @@ wider-like marks wider w ones access l = (l.0, l.1, record { object = l.2.object
     go (inl e) = inl e
     go (inr v) = inr (record { good_writes = v.good_writes; faulty_writes = v.faulty_writes; matches = λ entry a m. v.matches entry (w.awaited entry a) m })
 
-wider-seen : (marks wider : Marks) → AreWider marks wider → (ones : List ObjectAccess) (access : ObjectAccess) → IsSeen marks ones access → IsSeen wider ones access
+wider-seen : (marks wider : Marks) → AreWider marks wider → (ones : List ObjectAccess) (access : ObjectAccess) → IsSuspectOrLike marks ones access → IsSuspectOrLike wider ones access
 wider-seen marks wider w ones access (inl s) = inl (w.suspect access.object s)
 wider-seen marks wider w ones access (inr l) = inr (wider-like marks wider w ones access l)
 
-wider-met : (marks wider : Marks) → AreWider marks wider → (ones : List ObjectAccess) (access : ObjectAccess) → IsMet marks ones access → IsMet wider ones access
+wider-met : (marks wider : Marks) → AreWider marks wider → (ones : List ObjectAccess) (access : ObjectAccess) → IsSuspectOrMet marks ones access → IsSuspectOrMet wider ones access
 wider-met marks wider w ones access (inl s) = inl (w.suspect access.object s)
 wider-met marks wider w ones access (inr m) = inr (w.met access.object m.0, wider-like marks wider w ones access m.1)
 
@@ -73,7 +73,7 @@ wider-events design fault marks wider w good faulty (event ∷ events) d = (
     changes = d.0.changes;
     changed = d.0.changed;
     accesses = λ writer line.
-        all-more (IsSeen marks (accesses_of (good_machine design) writer line good event)) (IsSeen wider (accesses_of (good_machine design) writer line good event))
+        all-more (IsSuspectOrLike marks (accesses_of (good_machine design) writer line good event)) (IsSuspectOrLike wider (accesses_of (good_machine design) writer line good event))
         (accesses_of (faulty_machine design fault) writer line faulty event) (wider-seen marks wider w (accesses_of (good_machine design) writer line good event)) (d.0.accesses writer line);
   },
   wider-events design fault marks wider w (after (good_machine design) good event) (after (faulty_machine design fault) faulty event) events d.1,
@@ -96,7 +96,7 @@ wider-pair design fault marks wider w good faulty (Unlike first ones others) b =
   faulty_block = wider-block (faulty_machine design fault) marks wider w faulty first others b.faulty_block;
   steps = b.steps;
   lanes = b.lanes;
-  accesses = all-more (IsMet marks (all_accesses (log_of (good_machine design) good (first ∷ ones)))) (IsMet wider (all_accesses (log_of (good_machine design) good (first ∷ ones))))
+  accesses = all-more (IsSuspectOrMet marks (all_accesses (log_of (good_machine design) good (first ∷ ones)))) (IsSuspectOrMet wider (all_accesses (log_of (good_machine design) good (first ∷ ones))))
       (all_accesses (log_of (faulty_machine design fault) faulty (first ∷ others))) (wider-met marks wider w (all_accesses (log_of (good_machine design) good (first ∷ ones)))) b.accesses;
 }
 

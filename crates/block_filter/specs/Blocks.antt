@@ -73,8 +73,8 @@ abbrev pub ReachesSuspects : FlatDesign → Marks → ℕ → Type 0
 ReachesSuspects design marks changed = (net : ℕ) → has (net_pieces design) net ≡ true → 0 < paths design changed net → marks.suspect net ≡ true
 
 -- an access of the faulty machine in a block of its own: its object is suspect, or met and the good machine has its like in its block
-abbrev pub IsMet : Marks → List ObjectAccess → ObjectAccess → Type 0
-IsMet marks ones access = (marks.suspect access.object ≡ true) ⊎ ((marks.met access.object ≡ true) × HasLikeAmong marks.awaited ones access)
+abbrev pub IsSuspectOrMet : Marks → List ObjectAccess → ObjectAccess → Type 0
+IsSuspectOrMet marks ones access = (marks.suspect access.object ≡ true) ⊎ ((marks.met access.object ≡ true) × HasLikeAmong marks.awaited ones access)
 
 -- a block of one machine: a process or lane step, and further events each of which has its cause in the block; what it changes reaches suspect net pieces alone
 pub record IsBlock (machine : Machine) (marks : Marks) (state : State) (first : Event) (events : List Event) : Type 0 where
@@ -91,7 +91,7 @@ pub record AreUnlike (design : FlatDesign) (fault : StuckAt) (marks : Marks) (go
   pub lanes : (process : ℕ) →
       may_cause_later (good_machine design) good (first ∷ ones) (LaneStep process) ≡ may_cause_later (faulty_machine design fault) faulty (first ∷ others) (LaneStep process)
   pub accesses :
-      AllHold (IsMet marks (all_accesses (log_of (good_machine design) good (first ∷ ones)))) (all_accesses (log_of (faulty_machine design fault) faulty (first ∷ others)))
+      AllHold (IsSuspectOrMet marks (all_accesses (log_of (good_machine design) good (first ∷ ones)))) (all_accesses (log_of (faulty_machine design fault) faulty (first ∷ others)))
 
 -- a block of both phases, from the states at its beginning
 abbrev pub IsBlockPair : FlatDesign → StuckAt → Marks → State → State → BlockPair → Type 0

@@ -51,8 +51,8 @@ abbrev pub HasLikeAmong : (Entry → Bool) → List ObjectAccess → ObjectAcces
 HasLikeAmong awaited ones access = (one : ObjectAccess) × IsIn one ones × IsLike awaited one access
 
 -- an access of an event that both machines take: its object is suspect, or the good machine has its like
-abbrev pub IsSeen : Marks → List ObjectAccess → ObjectAccess → Type 0
-IsSeen marks ones access = (marks.suspect access.object ≡ true) ⊎ HasLikeAmong marks.awaited ones access
+abbrev pub IsSuspectOrLike : Marks → List ObjectAccess → ObjectAccess → Type 0
+IsSuspectOrLike marks ones access = (marks.suspect access.object ≡ true) ⊎ HasLikeAmong marks.awaited ones access
 
 -- Events
 
@@ -63,7 +63,7 @@ pub record GoesAlike (design : FlatDesign) (fault : StuckAt) (marks : Marks) (go
   pub changed : (writer line : ℕ) →
       changes_of design (accesses_of (good_machine design) writer line good event) ≡ changes_of design (accesses_of (faulty_machine design fault) writer line faulty event)
   pub accesses : (writer line : ℕ) →
-      AllHold (IsSeen marks (accesses_of (good_machine design) writer line good event)) (accesses_of (faulty_machine design fault) writer line faulty event)
+      AllHold (IsSuspectOrLike marks (accesses_of (good_machine design) writer line good event)) (accesses_of (faulty_machine design fault) writer line faulty event)
 
 -- the same of several events, each in the states that the ones before it lead to
 abbrev pub AllGoAlike : FlatDesign → StuckAt → Marks → State → State → List Event → Type 0

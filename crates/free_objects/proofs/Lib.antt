@@ -3,4 +3,4 @@ pub mod Raw
 pub mod Sole
 pub mod NetWrites
 pub mod Stretches
-pub mod Met
+pub mod MetAccesses

@@ -69,7 +69,8 @@ module _ (machine : Machine) (state : State) (events : List Event) (net : ℕ) (
       go event (inr c) = ap (changed_in (state_at machine state events n) (after machine (state_at machine state events n) event)) (sym same) ∙ c
 
   -- a tame net piece changes once at most
-  net-once : is_wild_net machine.design (log_of machine state events) net ≡ false → (n m : ℕ) → changes_there machine state events net n ≡ true → changes_there machine state events net m ≡ true → n ≡ m
+  net-once : is_wild_net machine.design (log_of machine state events) net ≡ false → (n m : ℕ) → changes_there machine state events net n ≡ true →
+      changes_there machine state events net m ≡ true → n ≡ m
   net-once tame n m t u = elim (cases_order n m) [
     | inl e ↦ e
     | inr (inl below) ↦ absurd (omega (arith, changes_twice machine state events net n m below t u, few))

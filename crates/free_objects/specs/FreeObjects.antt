@@ -1,18 +1,17 @@
 -- When no two accesses of an object conflict in a phase, by what a caller can count: accesses that write nothing, those of one event or of one run of a process, wild net pieces that nothing reads
 -- (conflicts by IEEE 1364-2001, clause 5).
-use Rattle.std.specs.Prelude.{◌≡◌, ◌&&◌, ℕ, ◌≤◌, Bool, true, false, List, [], ◌∷◌, ◌++◌, length, Some, nat_eq, not, IsTrue}
+use Rattle.std.specs.Prelude.{◌≡◌, ◌&&◌, ℕ, ◌≤◌, Bool, true, false, List, [], ◌∷◌, ◌++◌, length, Some, nat_eq, IsTrue}
 use Rattle.vf_base.specs.Lists.{AllHold, has}
 use Rattle.v_design.specs.Paths.{net_pieces, is_wild}
 use Rattle.v_design.specs.Designs.{FlatDesign, Machine}
 use Rattle.v_design.specs.States.{State, Event, some_in}
 use Rattle.v_design.specs.Runs.{happened, all_possible}
-use Rattle.v_design.specs.Accesses.{AccessAct, Reading, Writing, Awaiting, Ending, Holding, Settling, ObjectAccess, held_accesses}
-use Rattle.v_design.specs.Logs.{LoggedPhase, PhaseAccess, is_write, phase_changes, log_accesses, conflict}
+use Rattle.v_design.specs.Accesses.{ObjectAccess, held_accesses}
+use Rattle.v_design.specs.Logs.{LoggedPhase, PhaseAccess, phase_changes, log_accesses, conflict}
 use Rattle.v_design.specs.PhaseLogs.{NotedEvent, ends_wait, is_step_of, noted_events, logged, log_of}
 use Rattle.v_design.specs.WellFormed.{KeepsRules}
 use Rattle.v_design.specs.Laws.{BeginsPhase}
 use Rattle.copy_laws.specs.Filter.{IsIn}
-use Rattle.block_filter.specs.Blocks.{all_accesses}
 use Rattle.block_filter.specs.Suffice.{ObjectIsFree}
 use Rattle.free_objects.specs.Stretches.{IsUnused, IsUnwritten, IsUnread, IsOnlyWritten}
 

@@ -1,7 +1,7 @@
--- The laws are proved in `Sole`, `NetWrites` and `Met`.
+-- The laws are proved in `Sole`, `NetWrites` and `MetAccesses`.
 use Rattle.free_objects.proofs.Sole.{unwritten_objects_are_free, sole_events_are_free, sole_runs_are_free, unread_nets_are_free, later_reads_are_free}
 use Rattle.free_objects.proofs.NetWrites.{written_nets_are_free}
-use Rattle.free_objects.proofs.Met.{met_reads_are_free}
+use Rattle.free_objects.proofs.MetAccesses.{met_reads_are_free}
 use Rattle.free_objects.proofs.objects.Goals as goal
 
 pub returns-clause-unwritten : goal.returns-clause-unwritten

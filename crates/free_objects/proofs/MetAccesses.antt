@@ -1,6 +1,6 @@
 -- What is left of a met object, where nothing writes it any more.
-use Rattle.std.proofs.Common.{◌≡◌, ℕ, zero, suc, ◌+◌, ◌<◌, ◌≤◌, List, [], ◌∷◌, ◌++◌, map, length, Bool, true, false, refl, sym, ap, subst, ◌∙◌, ◌⊎◌, inl, inr, arith}
-use Rattle.std.specs.Prelude.{Option, Some, None, slice_get, nat_eq}
+use Rattle.std.proofs.Common.{◌≡◌, ℕ, zero, suc, ◌+◌, ◌<◌, ◌≤◌, List, [], ◌∷◌, ◌++◌, map, length, true, false, refl, sym, ap, subst, ◌∙◌, ◌⊎◌, inl, inr, arith}
+use Rattle.std.specs.Prelude.{Some, None, slice_get, nat_eq}
 use Rattle.std.proofs.lemmas.Bool.{cases_lt}
 use Rattle.std.proofs.lemmas.Option.{slice_get_within}
 use Rattle.std.proofs.lemmas.List.{length-append}
@@ -14,14 +14,13 @@ use Rattle.v_design.specs.PhaseLogs.{NotedEvent, log_of}
 use Rattle.copy_laws.specs.Filter.{IsIn}
 use Rattle.block_filter.specs.Likes.{Marks}
 use Rattle.block_filter.specs.Blocks.{BlockPair, Alike, Unlike, faulty_events, faulty_phase}
-use Rattle.block_filter.specs.Suffice.{unlike_flags, AreLeft}
-use Rattle.free_objects.specs.Stretches.{IsUnwritten}
+use Rattle.block_filter.specs.Suffice.{unlike_flags}
 use Rattle.free_objects.specs.FreeObjects.{is_wild_net}
 use Rattle.free_objects.specs.MetObjects.{UnlikesLeave, MetReadsAreFree}
 use Rattle.order_laws.proofs.Conflicts.{In}
 use Rattle.order_laws.proofs.Notes.{new_notes}
 use Rattle.order_laws.proofs.SwappedRuns.{length-map}
-use Rattle.block_filter.proofs.Places.{get-left, get-right, get-parts, joined-append, from_is_in}
+use Rattle.block_filter.proofs.Places.{get-parts, joined-append, from_is_in}
 use Rattle.block_filter.proofs.Entries.{entries, length-entries, entries-append}
 use Rattle.free_objects.proofs.Raw.{IsAccess, IsHeld, IsRaw, Settles, access-is, tested}
 use Rattle.free_objects.proofs.Sole.{other-object, not-settled, later_reads_are_free}
