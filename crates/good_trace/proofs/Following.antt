@@ -1,33 +1,23 @@
 -- What the events of a window lead to.
-use Rattle.std.proofs.Common.{◌≡◌, ℕ, suc, ◌+◌, ◌-◌, ◌<◌, ◌≤◌, List, [], ◌∷◌, ◌++◌, map, length, get_or, below_more, refl, sym, ap, subst, ◌∙◌, arith}
-use Rattle.std.specs.Prelude.{Option, Some, slice_get}
-use Rattle.std.proofs.lemmas.List.{ext_get_or, get_or_read}
-use Rattle.std.proofs.Math.ListN.{get_or-append}
+use Rattle.std.proofs.Common.{◌≡◌, ℕ, suc, ◌+◌, ◌-◌, ◌<◌, ◌≤◌, List, [], map, length, get_or, sym, ap, subst, ◌∙◌, arith}
+use Rattle.std.specs.Prelude.{Option}
+use Rattle.std.proofs.lemmas.List.{ext_get_or}
 use Rattle.std.proofs.lemmas.Option.{slice_get_within}
 use Rattle.four_value.specs.Values.{LogicValue}
 use Rattle.v_design.specs.Designs.{FlatDesign, TestPlan, good_machine}
 use Rattle.v_design.specs.Assignments.{value_at}
-use Rattle.v_design.specs.Grades.{phases}
-use Rattle.v_design.specs.Runs.{FirstSlot}
-use Rattle.v_design.specs.States.{Event}
-use Rattle.causal_monitor.specs.declared.slot.SlotLog.{SlotLog}
 use Rattle.copy_laws.specs.Windows.{WindowEnd, IsWindow, good_slots}
 use Rattle.window_index.specs.Moments.{moments_of, IsFirstAtOrAfter}
-use Rattle.trace_window.specs.declared.sizes.Sizes.{Sizes}
-use Rattle.trace_window.specs.Acted.{evaluated_at, stepped_at, events_of}
+use Rattle.trace_window.specs.Acted.{evaluated_at, stepped_at}
 use Rattle.trace_window.specs.ActedLaws.{first-evaluation, first-step}
-use Rattle.trace_window.specs.Listed.{AreListed}
-use Rattle.trace_window.specs.LogLaws.{IsLoggedSlot, AreLogs, slot-acted, window-listed, window-acted}
 use Rattle.trace_window.specs.Moments.{window_events, values_through, values_before, window_values}
 use Rattle.trace_window.specs.Tables.{occurrence_of}
 use Rattle.trace_window.specs.Touched.{touched_at, written_at, IsFirstFrom}
 use Rattle.trace_window.specs.TouchLaws.{listed-length, first-touch, first-write}
 use Rattle.trace_window.specs.ValueLaws.{ValuesFollow, window-follow, follow-count, values_before-end, values-are}
-use Rattle.trace_window.specs.Writes.{Written, latest, writes_from}
+use Rattle.trace_window.specs.Writes.{latest, writes_from}
 use Rattle.good_trace.specs.declared.events.Events.{Events}
-use Rattle.good_trace.specs.Slots.{IsLogAt, first_turn}
-use Rattle.good_trace.specs.Events.{slots_accesses, slots_events, AreActed, AreSizes, AreEvents, AreWindowEvents}
-use Rattle.good_trace.specs.Traces.{AreSlotsFrom, IsTrace}
+use Rattle.good_trace.specs.Events.{AreWindowEvents}
 
 -- a window ends within the good first run
 pub ends-within : (design : FlatDesign) (plan : TestPlan) (begins ends : ℕ) (ending : WindowEnd) → IsWindow design plan begins ends ending → (begins ≤ ends) × (ends ≤ length (good_slots design plan))
@@ -36,47 +26,6 @@ ends-within design plan begins ends ending window =
     let last : ends ≡ suc (ends - 1) = omega arith in
     let low : ends - 1 < length (good_slots design plan) = slice_get_within (good_slots design plan) (ends - 1) window.last (window.stands (ends - 1) last) in
     (omega arith, omega arith)
-
--- the logs are those of the slots of the good first run
-slots-logged : (design : FlatDesign) (plan : TestPlan) (begins : ℕ) (slots : List SlotLog) → AreSlotsFrom design plan begins slots → AreLogs design plan begins slots
-slots-logged design plan begins slots are place slot log stands here =
-    let own : IsLogAt design plan (begins + place) log = are.each place log here in
-    let same : Some own.slot ≡ Some slot = sym own.stands ∙ stands in
-    let one : own.slot ≡ slot = cc in
-    subst (λ (s : FirstSlot). IsLoggedSlot (good_machine design) s log) one (record { first = first_turn (begins + place); is = own.logged })
-
--- the slots of a window have the accesses of its events
-pub window-accesses : (design : FlatDesign) (plan : TestPlan) (begins ends : ℕ) (slots : List SlotLog) → begins + length slots ≡ ends →
-    ends ≤ length (good_slots design plan) → AreSlotsFrom design plan begins slots →
-    AreListed (good_machine design) (window_events design plan begins ends) (slots_accesses slots)
-window-accesses design plan begins ends slots held fits are = window-listed design plan begins ends slots held fits (slots-logged design plan begins slots are)
-
--- and the events themselves
-pub window-events : (design : FlatDesign) (plan : TestPlan) (begins ends : ℕ) (slots : List SlotLog) → begins + length slots ≡ ends →
-    ends ≤ length (good_slots design plan) → AreSlotsFrom design plan begins slots → events_of (window_events design plan begins ends) ≡ slots_events slots
-window-events design plan begins ends slots held fits are = window-acted design plan begins ends slots held fits (slots-logged design plan begins slots are)
-
--- in each of them somebody acts
-pub AreActed-held : (design : FlatDesign) (plan : TestPlan) (begins : ℕ) (slots : List SlotLog) → AreSlotsFrom design plan begins slots → AreActed slots
-AreActed-held design plan begins slots are = λ place slot here.
-    let own = are.each place slot here in slot-acted (good_machine design) (first_turn (begins + place)) (phases (good_machine design) own.slot) slot own.logged
-
--- a trace's slots with their events
-pub AreWindowEvents-closed : (design : FlatDesign) (plan : TestPlan) (pushed closed steps : ℕ) (values : List LogicValue) (slots : List SlotLog) (ending : WindowEnd)
-    (sizes : Sizes) (events : Events) →
-    IsTrace design plan pushed closed steps values slots → IsWindow design plan closed pushed ending → AreSizes design sizes → AreEvents sizes (slots_accesses slots) (slots_events slots) events →
-    AreWindowEvents design plan closed pushed values events
-AreWindowEvents-closed design plan pushed closed steps values slots ending sizes events had window is are = record {
-  rules = had.rules;
-  values_are = had.values_are;
-  values_count = had.values_count;
-  accesses = slots_accesses slots;
-  listed = window-accesses design plan closed pushed slots had.held (ends-within design plan closed pushed ending window).1 had.slots_are;
-  sizes = sizes;
-  sizes_are = is;
-  events_are = subst (λ (l : List Event). AreEvents sizes (slots_accesses slots) l events)
-      (sym (window-events design plan closed pushed slots had.held (ends-within design plan closed pushed ending window).1 had.slots_are)) are;
-}
 
 -- the values of a window follow each other
 follows : (design : FlatDesign) (plan : TestPlan) (before through : ℕ) (values : List LogicValue) (events : Events) (ending : WindowEnd) → IsWindow design plan before through ending →
@@ -125,7 +74,7 @@ pub touch-is : (design : FlatDesign) (plan : TestPlan) (before through : ℕ) (v
     IsFirstFrom (touched_at (good_machine design) (window_events design plan before through) object) (length (window_events design plan before through)) moment answer
 touch-is design plan before through values events object moment answer are low first =
     first-touch (good_machine design) (window_events design plan before through) are.accesses object moment answer are.listed
-    (subst (λ l. IsFirstAtOrAfter l moment answer) (are.events_are.touches_are.moments object (omega (arith, low, are.sizes_are.objects))) first)
+    (subst (λ l. IsFirstAtOrAfter l moment answer) (are.events_are.touches_are.moments object low) first)
 
 -- its next change
 pub change-is : (design : FlatDesign) (plan : TestPlan) (before through : ℕ) (values : List LogicValue) (events : Events) (object moment : ℕ) (answer : Option ℕ) →
@@ -141,7 +90,7 @@ pub evaluation-is : (design : FlatDesign) (plan : TestPlan) (before through : �
     IsFirstFrom (evaluated_at (window_events design plan before through) node) (length (window_events design plan before through)) moment answer
 evaluation-is design plan before through values events node moment answer are low first =
     first-evaluation (window_events design plan before through) node moment answer
-    (subst (λ l. IsFirstAtOrAfter l moment answer) (are.events_are.evaluations_are.moments node (omega (arith, low, are.sizes_are.nodes))) first)
+    (subst (λ l. IsFirstAtOrAfter l moment answer) (are.events_are.evaluations_are.moments node low) first)
 
 -- the next step of a process
 pub step-is : (design : FlatDesign) (plan : TestPlan) (before through : ℕ) (values : List LogicValue) (events : Events) (process moment : ℕ) (answer : Option ℕ) →
@@ -149,19 +98,4 @@ pub step-is : (design : FlatDesign) (plan : TestPlan) (before through : ℕ) (va
     IsFirstFrom (stepped_at (window_events design plan before through) process) (length (window_events design plan before through)) moment answer
 step-is design plan before through values events process moment answer are low first =
     first-step (window_events design plan before through) process moment answer
-    (subst (λ l. IsFirstAtOrAfter l moment answer) (are.events_are.steps_are.moments process (omega (arith, low, are.sizes_are.processes))) first)
-
--- the last of a list
-get-last : (xs : List LogicValue) (v d : LogicValue) → get_or (xs ++ v ∷ []) (length xs) d ≡ v
-get-last [] v d = refl
-get-last (x ∷ xs) v d = get-last xs v d
-
--- one object more has its value behind the last event
-pub later-more : (values later : List LogicValue) (number moment : ℕ) (writes : List Written) (first v : LogicValue) → length later ≡ number → number < length values →
-    first ≡ get_or values number first →
-    ((object : ℕ) → object < number → get_or later object [] ≡ latest (get_or values object []) object moment writes) → v ≡ latest first number moment writes →
-    (object : ℕ) → object < number + 1 → get_or (later ++ v ∷ []) object [] ≡ latest (get_or values object []) object moment writes
-later-more values later number moment writes first v long low read had is =
-    below_more (λ object. get_or (later ++ v ∷ []) object [] ≡ latest (get_or values object []) object moment writes) number
-    (λ object below. get_or-append later (v ∷ []) [] object (omega (arith, long, below)) ∙ had object below)
-    (ap (λ n. get_or (later ++ v ∷ []) n []) (sym long) ∙ get-last later v [] ∙ is ∙ ap (λ x. latest x number moment writes) (get_or_read values number first low read []))
+    (subst (λ l. IsFirstAtOrAfter l moment answer) (are.events_are.steps_are.moments process low) first)

@@ -1,11 +1,13 @@
 mod Growing
 mod Counting
 mod Steps
-mod Keeping
+mod Windows
 mod Gathering
-mod Following
 mod RunsKeeping
+mod Keeping
+mod Following
 mod Standing
 mod Starting
 mod Boundaries
 mod Unwritten
+mod ClosedWindows

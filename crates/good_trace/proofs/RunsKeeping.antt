@@ -7,6 +7,7 @@ use Rattle.v_design.specs.Plain.{process_of}
 use Rattle.v_design.specs.Processes.{Ready, opened}
 use Rattle.v_design.specs.States.{ProcessState, found_or, idle_process}
 use Rattle.v_design.specs.Runs.{is_hyper}
+use Rattle.v_design.specs.WellFormed.{KeepsRules}
 use Rattle.v_design.specs.Grades.{Phase, phases}
 use Rattle.causal_monitor.specs.declared.slot.SlotLog.{SlotLog}
 use Rattle.process_code.specs.Codes.{rests_in_code}
@@ -23,14 +24,10 @@ use Rattle.between_slots.specs.WindowLaws.{window_phases-none, window_phases-mor
 use Rattle.window_runs.specs.RunLaws.{EndsJoin, EndsStand, EndsLead}
 use Rattle.window_runs.specs.RunsByProcess.{run_phase, numbered_from}
 use Rattle.window_runs.specs.Standing.{AreStatesAfter}
-use Rattle.four_value.specs.Values.{LogicValue}
-use Rattle.good_trace.specs.Slots.{IsSlotAt, IsLogAt}
-use Rattle.good_trace.specs.Starting.{AreFirstStates}
-use Rattle.good_trace.specs.Counted.{phases_logged}
-use Rattle.good_trace.specs.Traces.{AreSlotsFrom, IsTrace}
-use Rattle.std.proofs.Common.{zero, get_or, take}
-use Rattle.std.proofs.lemmas.List.Sums.{sum_by_more}
+use Rattle.good_trace.specs.Beginnings.{IsTimeAt, AreTimes}
 use Rattle.good_trace.specs.RunsKept.{AreStatesAt, AreRunsKept}
+use Rattle.good_trace.specs.Slots.{IsSlotAt}
+use Rattle.good_trace.specs.Starting.{AreFirstStates}
 
 -- The start
 
@@ -108,17 +105,16 @@ AreRunsKept-more join codes design plan pushed closed before count states runs m
 
 -- A window more
 
--- none of the slots that are held is hyperactive
-pub few-from : (design : FlatDesign) (plan : TestPlan) (before ends : ℕ) (slots : List SlotLog) → AreSlotsFrom design plan before slots → ends ≤ before + length slots →
-    AreFew design plan before ends
-few-from design plan before ends slots are fits number slot low high here =
-    elim (slice_get_cases slots (number - before)).1 [
+-- none of some slots of a window is hyperactive
+pub few-from : (design : FlatDesign) (plan : TestPlan) (before ends through : ℕ) (times : List ℕ) → AreTimes design plan before through times → ends ≤ through → AreFew design plan before ends
+few-from design plan before ends through times are fits number slot low high here =
+    elim (slice_get_cases times (number - before)).1 [
       | inl found ↦ at found.0 (are.each (number - before) found.0 found.2)
-      | inr past ↦ absurd (omega (arith, past.0, fits, low, high))
+      | inr past ↦ absurd (omega (arith, past.0, fits, low, high, are.held))
     ]
   where
-    at : (log : SlotLog) → IsLogAt design plan (before + (number - before)) log → is_hyper slot ≡ false
-    at log own =
+    at : (time : ℕ) → IsTimeAt design plan (before + (number - before)) time → is_hyper slot ≡ false
+    at time own =
         let there : slice_get (good_slots design plan) number ≡ Some own.slot = (let e : number ≡ before + (number - before) = omega (arith, low) in ap (λ n. slice_get (good_slots design plan) n) e)
         ∙ own.stands in
         let same : Some slot ≡ Some own.slot = sym here ∙ there in
@@ -126,11 +122,10 @@ few-from design plan before ends slots are fits number slot low high here =
         ap is_hyper one ∙ own.few_steps
 
 -- where the processes stand after it
-pub AreStatesAt-closed : RunsLead → EndsStand → EndsLead → (codes : List Code) (design : FlatDesign) (plan : TestPlan) (pushed closed steps before : ℕ) (values : List LogicValue)
-    (slots : List SlotLog)
-    (states later : List ProcState) (runs : List RunEnd) → IsTrace design plan pushed closed steps values slots → AreRunsKept codes design plan pushed closed before states runs →
-    closed ≤ pushed → pushed ≤ length (good_slots design plan) → AreStatesAfter states runs later → AreStatesAt codes design plan pushed later
-AreStatesAt-closed lead stand does codes design plan pushed closed steps before values slots states later runs had kept low fits after = record {
+pub AreStatesAt-closed : RunsLead → EndsStand → EndsLead → (codes : List Code) (design : FlatDesign) (plan : TestPlan) (pushed closed before : ℕ) (times : List ℕ) (states later : List ProcState)
+    (runs : List RunEnd) → KeepsRules design → AreTimes design plan closed pushed times → AreRunsKept codes design plan pushed closed before states runs → closed ≤ pushed →
+    pushed ≤ length (good_slots design plan) → AreStatesAfter states runs later → AreStatesAt codes design plan pushed later
+AreStatesAt-closed lead stand does codes design plan pushed closed before times states later runs rules timed kept low fits after = record {
   count = after.count ∙ kept.states_are.count;
   state_of = λ process own code here is. elim (slice_get_cases states process).1 [
     | inl found ↦
@@ -143,37 +138,7 @@ AreStatesAt-closed lead stand does codes design plan pushed closed steps before 
         ap (activity_at (rests_in_code code)) (after.each process found.0 own found.2 here).point
         ∙ does codes (good_machine design) (window_phases design plan closed pushed) runs process code found.0 kept.runs_are is
         ∙ ap (λ a. activity_after_runs a (runs_in (good_machine design) process (window_phases design plan closed pushed))) (kept.states_are.does process found.0 code found.2 is)
-        ∙ sym (lead design plan closed pushed process had.rules low fits (few-from design plan closed pushed slots had.slots_are (omega (arith, had.held))))
+        ∙ sym (lead design plan closed pushed process rules low fits (few-from design plan closed pushed pushed times timed (omega arith)))
     | inr past ↦ let within = slice_get_within later process own here in absurd (omega (arith, past.0, after.count))
   ];
 }
-
--- The phases of the first slots
-
--- as many as their logs tell
-pub phases-before : (design : FlatDesign) (plan : TestPlan) (before : ℕ) (slots : List SlotLog) → AreSlotsFrom design plan before slots → (count : ℕ) → count ≤ length slots →
-    phases_logged (take count slots) ≡ length (window_phases design plan before (before + count))
-phases-before design plan before slots are zero low =
-    (let e : before ≡ before + 0 = omega arith in sym (ap (λ (l : List Phase). length l) (window_phases-none design plan before)) ∙ ap (λ n. length (window_phases design plan before n)) e)
-phases-before design plan before slots are (suc count) low =
-    elim (slice_get_cases slots count).1 [
-      | inl found ↦ more found.0 found.1 found.3 (are.each count found.0 found.2) (phases-before design plan before slots are count (omega (arith, low)))
-      | inr past ↦ absurd (omega (arith, past.0, low))
-    ]
-  where
-    more : (log : SlotLog) → count < length slots → get_or slots count log ≡ log → IsLogAt design plan (before + count) log →
-        phases_logged (take count slots) ≡ length (window_phases design plan before (before + count)) →
-        phases_logged (take (suc count) slots) ≡ length (window_phases design plan before (before + suc count))
-    more log within read own had =
-        let grown = sum_by_more (λ (slot : SlotLog). length slot.phases) slots count log within in
-        let one : length (get_or slots count log).phases ≡ length log.phases = ap (λ (l : SlotLog). length l.phases) read in
-        let tells : length log.phases ≡ length (phases (good_machine design) own.slot) = ap length own.logged.phases_are
-        ∙ logged-count (good_machine design) 1 (phases (good_machine design) own.slot) in
-        let wide = window_phases-more design plan before (before + count) own.slot (omega arith) own.stands in
-        let all : length (window_phases design plan before (suc (before + count))) ≡ length (window_phases design plan before (before + count) ++ phases (good_machine design) own.slot) =
-        ap (λ (l : List Phase). length l) wide in
-        let long = length-append (window_phases design plan before (before + count)) (phases (good_machine design) own.slot) in
-        let next : length (window_phases design plan before (suc (before + count))) ≡ length (window_phases design plan before (before + suc count)) =
-        (let e : suc (before + count) ≡ before + suc count = omega arith in ap (λ n. length (window_phases design plan before n)) e) in
-        let same : phases_logged (take (suc count) slots) ≡ phases_logged (take (count + 1) slots) = (let e : suc count ≡ count + 1 = omega arith in ap (λ n. phases_logged (take n slots)) e) in
-        omega (arith, grown, one, tells, all, long, next, same, had)

@@ -13,34 +13,40 @@ use Rattle.v_design.specs.OwnSteps.{slots_through_stop}
 use Rattle.v_design.specs.PlainDesigns.{plan_of}
 use Rattle.v_design.specs.RulesHold.{plan_rules_hold}
 use Rattle.v_design.specs.declared.plan.Plan.{Plan}
-use Rattle.copy_laws.specs.Windows.{good_slots, window_steps}
+use Rattle.copy_laws.specs.Windows.{good_slots, window_slots, window_steps}
 
 abbrev slot_steps : FirstSlot → ℕ
 slot_steps slot = counted_steps slot.moves
 
 -- one slot more
-pub window_steps-more : (design : FlatDesign) (plan : TestPlan) (begins number : ℕ) (slot : FirstSlot) → slice_get (good_slots design plan) number ≡ Some slot → begins ≤ number →
-    window_steps design plan begins (number + 1) ≡ window_steps design plan begins number + counted_steps slot.moves
-window_steps-more design plan begins number slot stands low = steps-more (good_slots design plan) stands
+pub window_slots-more : (design : FlatDesign) (plan : TestPlan) (begins number : ℕ) (slot : FirstSlot) → slice_get (good_slots design plan) number ≡ Some slot → begins ≤ number →
+    window_slots design plan begins (number + 1) ≡ window_slots design plan begins number ++ slot ∷ []
+window_slots-more design plan begins number slot stands low = slots-more (good_slots design plan) stands
   where
-    steps-more : (slots : List FirstSlot) → slice_get slots number ≡ Some slot →
-        sum_by slot_steps (drop begins (take (number + 1) slots)) ≡ sum_by slot_steps (drop begins (take number slots)) + counted_steps slot.moves
-    steps-more slots at =
+    slots-more : (slots : List FirstSlot) → slice_get slots number ≡ Some slot → drop begins (take (number + 1) slots) ≡ drop begins (take number slots) ++ slot ∷ []
+    slots-more slots at =
         let within : number < length slots = slice_get_within slots number slot at in
         let long : length (take number slots) ≡ number = length-take-le number slots (omega arith) in
         let grown : take (number + 1) slots ≡ take number slots ++ slot ∷ [] = take_more slots number slot within
         ∙ ap (λ s. take number slots ++ s ∷ []) (get_or_from_slice_get slots number slot slot at) in
-        ap (λ l. sum_by slot_steps (drop begins l)) grown
-        ∙ ap (λ l. sum_by slot_steps l) (drop-append-le begins (take number slots) (slot ∷ []) (omega arith))
-        ∙ sum_by-append slot_steps (drop begins (take number slots)) (slot ∷ [])
-        ∙ ap (λ n. sum_by slot_steps (drop begins (take number slots)) + n) (zero-add (counted_steps slot.moves))
+        ap (drop begins) grown ∙ drop-append-le begins (take number slots) (slot ∷ []) (omega arith)
 
--- no slot has no steps
-pub window_steps-none : (design : FlatDesign) (plan : TestPlan) (number : ℕ) → window_steps design plan number number ≡ 0
-window_steps-none design plan number = none (good_slots design plan)
+pub window_steps-more : (design : FlatDesign) (plan : TestPlan) (begins number : ℕ) (slot : FirstSlot) → slice_get (good_slots design plan) number ≡ Some slot → begins ≤ number →
+    window_steps design plan begins (number + 1) ≡ window_steps design plan begins number + counted_steps slot.moves
+window_steps-more design plan begins number slot stands low =
+    ap (λ (l : List FirstSlot). sum_by slot_steps l) (window_slots-more design plan begins number slot stands low)
+    ∙ sum_by-append slot_steps (window_slots design plan begins number) (slot ∷ [])
+    ∙ ap (λ n. sum_by slot_steps (window_slots design plan begins number) + n) (zero-add (counted_steps slot.moves))
+
+-- no slot
+pub window_slots-none : (design : FlatDesign) (plan : TestPlan) (number : ℕ) → window_slots design plan number number ≡ []
+window_slots-none design plan number = none (good_slots design plan)
   where
-    none : (slots : List FirstSlot) → sum_by slot_steps (drop number (take number slots)) ≡ 0
-    none slots = let long = length-take number slots in ap (λ l. sum_by slot_steps l) (drop_of_length-le (take number slots) {i = number} (omega arith))
+    none : (slots : List FirstSlot) → drop number (take number slots) ≡ []
+    none slots = let long = length-take number slots in drop_of_length-le (take number slots) {i = number} (omega arith)
+
+pub window_steps-none : (design : FlatDesign) (plan : TestPlan) (number : ℕ) → window_steps design plan number number ≡ 0
+window_steps-none design plan number = ap (λ (l : List FirstSlot). sum_by slot_steps l) (window_slots-none design plan number)
 
 through-length : (machine : Machine) (slots : List FirstSlot) → length (slots_through_stop machine slots) ≤ length slots
 through-length machine [] = omega arith

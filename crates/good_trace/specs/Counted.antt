@@ -1,5 +1,5 @@
--- The process and lane steps of a slot, and the phases of some slots, by their logs (IEEE 1364-2001, clause 5).
-use Rattle.std.specs.Prelude.{ℕ, Bool, true, false, List, length, count_by, sum_by}
+-- The process and lane steps of a slot by its log (IEEE 1364-2001, clause 5).
+use Rattle.std.specs.Prelude.{ℕ, Bool, true, false, List, count_by, sum_by}
 use Rattle.causal_monitor.specs.declared.slot.Actor.{Actor}
 use Rattle.causal_monitor.specs.declared.slot.Actor.TheVariants.{Step, Lane, Eval, Move}
 use Rattle.causal_monitor.specs.declared.slot.SlotLog.{SlotLog}
@@ -14,7 +14,3 @@ is_step (Move node) = false
 -- the process and lane steps of all phases of a slot
 abbrev pub steps_logged : SlotLog → ℕ
 steps_logged log = sum_by (λ (actors : List Actor). count_by is_step actors) log.actors
-
--- the phases of some slots
-abbrev pub phases_logged : List SlotLog → ℕ
-phases_logged slots = sum_by (λ (slot : SlotLog). length slot.phases) slots

@@ -3,9 +3,9 @@ pub mod Slots
 pub mod Counted
 pub mod Events
 pub mod Beginnings
+pub mod Pushes
 pub mod Closing
 pub mod Traces
 pub mod RunsKept
 pub mod Starting
-pub mod Spares
 pub mod SlotsTold

@@ -16,13 +16,13 @@ use Rattle.process_code.specs.declared.state.RunEnd.{RunEnd}
 use Rattle.run_ends.specs.RunEnds.{IsCodeAt, AreCodesOf, told_of, AreRunEnds}
 use Rattle.between_slots.specs.Between.{activity_through, window_phases}
 use Rattle.between_slots.specs.Updates.{updates_through}
-use Rattle.causal_monitor.specs.declared.slot.SlotLog.{SlotLog}
-use Rattle.four_value.specs.Values.{LogicValue}
 use Rattle.copy_laws.specs.Windows.{WindowEnd}
 use Rattle.window_runs.specs.declared.index.RunIndex.{RunIndex}
 use Rattle.window_runs.specs.RunsByProcess.{IsRunIndexOf}
+use Rattle.good_trace.specs.declared.between.BetweenSlots.{BetweenSlots}
 use Rattle.good_trace.specs.declared.events.Events.{Events}
-use Rattle.good_trace.specs.Beginnings.{HasBeginnings}
+use Rattle.good_trace.specs.declared.pushed.PushedSlots.{PushedSlots}
+use Rattle.good_trace.specs.declared.pushed.SlotTable.{SlotTable}
 use Rattle.good_trace.specs.Traces.{IsTrace, IsTraceWindow}
 
 -- What contracts say
@@ -66,16 +66,14 @@ pub record HasRuns (design : FlatDesign) (plan : TestPlan) (before through phase
   pub index_is : IsRunIndexOf (length design.processes) runs index
 
 -- all that a trace keeps
-pub record KeepsTrace (codes : List Code) (design : FlatDesign) (plan : TestPlan) (pushed closed steps phases : ℕ) (values : List LogicValue) (slots : List SlotLog)
-    (states : List ProcState) (updates : List (List Due)) (runs : List RunEnd) : Type 0 where
-  pub slots_kept : IsTrace design plan pushed closed steps values slots
-  pub runs_kept : AreRunsKept codes design plan pushed closed phases states runs
-  pub updates_kept : AreUpdatesAt design plan closed updates
+pub record KeepsTrace (codes : List Code) (design : FlatDesign) (plan : TestPlan) (pushed closed steps phases : ℕ) (before : BetweenSlots) (slots : PushedSlots) : Type 0 where
+  pub slots_kept : IsTrace design plan pushed closed steps before.values.items slots
+  pub runs_kept : AreRunsKept codes design plan pushed closed phases before.states.items slots.table.runs.items
+  pub updates_kept : AreUpdatesAt design plan closed before.updates.items
 
 -- all that a window has
-pub record KeepsWindow (design : FlatDesign) (plan : TestPlan) (before through : ℕ) (ending : WindowEnd) (phases : ℕ) (values : List LogicValue) (events : Events)
-    (slots : List SlotLog) (states : List ProcState) (updates : List (List Due)) (runs : List RunEnd) (index : RunIndex) : Type 0 where
-  pub window : IsTraceWindow design plan before through ending values events slots
-  pub has_beginnings : HasBeginnings slots events
-  pub has_runs : HasRuns design plan before through phases states runs index
-  pub has_updates : AreUpdatesAt design plan before updates
+pub record KeepsWindow (design : FlatDesign) (plan : TestPlan) (begins ends : ℕ) (ending : WindowEnd) (phases : ℕ) (before : BetweenSlots) (events : Events) (slots : SlotTable)
+    (index : RunIndex) : Type 0 where
+  pub window : IsTraceWindow design plan begins ends ending before.values.items events slots
+  pub has_runs : HasRuns design plan begins ends phases before.states.items slots.runs.items index
+  pub has_updates : AreUpdatesAt design plan begins before.updates.items

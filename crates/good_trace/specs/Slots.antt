@@ -30,14 +30,6 @@ pub record IsSlotAt (codes : List Code) (design : FlatDesign) (plan : TestPlan) 
   -- a slot that is hyperactive is no slot of a window
   pub few_steps : is_hyper slot ≡ false
 
--- a log is that of the slot of the good first run before which so many slots stand
-pub record IsLogAt (design : FlatDesign) (plan : TestPlan) (number : ℕ) (log : SlotLog) : Type 0 where
-  pub slot : FirstSlot
-  pub stands : slice_get (good_slots design plan) number ≡ Some slot
-  pub logged : IsSlotLog (good_machine design) (first_turn number) (phases (good_machine design) slot) log
-  pub log_time : log.time ≡ slot.begins.time
-  pub few_steps : is_hyper slot ≡ false
-
 -- a window that has so many slots and steps is full
 abbrev pub is_full : ℕ → ℕ → Bool
 is_full slots steps = nat_le WINDOW_SLOTS slots || nat_le WINDOW_STEPS steps

@@ -14,15 +14,16 @@
 //! is in that state. `changes_in` has the changes of a slot, and `runs_in` the runs that end in it.
 #![tactic(auto)]
 
+mod between;
+mod closing;
 mod ending;
 mod events;
 mod first;
+mod pushed;
 mod setup;
 mod slot;
 mod spare;
-mod states;
 mod trace;
-mod updates;
 mod window;
 
 pub use ending::GoodEnd;

@@ -8,7 +8,7 @@ ghost use Rattle.v_design.specs.Sized.{IsSizedStatement};
 ghost use Rattle.v_design.specs.WellFormed.{IsPlanOf};
 ghost use Rattle.v_design.specs.declared.plan.Process.{Process};
 ghost use Rattle.run_ends.specs.RunEnds.{AreCodesOf};
-ghost use Rattle.good_trace.specs.Events.{AreSizes};
+ghost use Rattle.good_trace.specs.Events.{sizes_of};
 ghost use Rattle.good_trace.specs.Setups.{AreCompiled};
 
 use net_graph::Graph;
@@ -115,7 +115,7 @@ impl<'d, N: World> Setup<'d, N> {
 
     /// How many objects, nodes and processes the design has.
     pub(crate) fn sizes(&self) -> Sizes
-        ensures { AreSizes N.design result }
+        ensures { result ≡ sizes_of N.design }
     {
         let design = self.design;
         Sizes {

@@ -1,10 +1,9 @@
-// The slots of the good first run as they are pushed.
+// A slot of the good first run, by its log.
 
-ghost use Rattle.std.specs.Prelude.{◌≡◌, ◌+◌, ◌^◌, ◌<◌, ◌≤◌, ◌++◌, [], ◌∷◌, count_by, length, IfOk, OnOk, OnErr};
-ghost use Rattle.good_trace.specs.Counted.{is_step, steps_logged, phases_logged};
+ghost use Rattle.std.specs.Prelude.{◌≡◌, ◌+◌, ◌^◌, ◌<◌, ◌≤◌, count_by, length, IfOk};
+ghost use Rattle.good_trace.specs.Counted.{is_step, steps_logged};
 
 use causal_monitor::{Actor, SlotLog};
-use process_code::RunEnd;
 use vf_base::NoMemory;
 
 /// Whether an event is a step of a process or of its lane.
@@ -40,18 +39,6 @@ pub(crate) fn count_steps(log: &SlotLog) -> u32
     steps
 }
 
-/// How many phases some slots have, by their logs.
-pub(crate) fn count_phases(slots: &[SlotLog]) -> u32
-    requires { phases_logged slots.now < 2 ^ 32 }
-    ensures { result ≡ phases_logged slots.now }
-{
-    let mut phases = 0;
-    'slots: for slot in slots {
-        phases += slot.phases.as_slice().len() as u32;
-    }
-    phases
-}
-
 /// How many phases there are with those of a slot, by its log.
 ///
 /// # Errors
@@ -68,32 +55,5 @@ pub(crate) fn phases_after(before: u32, log: &SlotLog) -> Result<u32, NoMemory>
             None => Err(NoMemory),
             Some(phases) => Ok(phases),
         },
-    }
-}
-
-/// Puts a slot behind others, and the ends of its runs behind theirs.
-///
-/// # Errors
-///
-/// Want of memory. Both lists are as before then.
-pub(crate) fn push_slot(
-    slots: &mut Vec<SlotLog>,
-    runs: &mut Vec<RunEnd>,
-    slot: SlotLog,
-    mut more: Vec<RunEnd>,
-) -> Result<(), NoMemory>
-    ensures slots { OnOk result (slots.new.items ≡ slots.old.items ++ slot ∷ []) }
-    ensures runs { OnOk result (runs.new.items ≡ runs.old.items ++ more.items) }
-    ensures slots_stay { OnErr result (slots.new.items ≡ slots.old.items) }
-    ensures runs_stay { OnErr result (runs.new.items ≡ runs.old.items) }
-{
-    let count = runs.len();
-    runs.append(&mut more)?;
-    match slots.push(slot) {
-        Ok(()) => Ok(()),
-        Err(_) => {
-            runs.truncate(count);
-            Err(NoMemory)
-        }
     }
 }

@@ -4,23 +4,22 @@ ghost use Rattle.std.specs.Prelude.{◌≡◌, ◌+◌, ◌-◌, ◌<◌, ◌≤
 ghost use Rattle.copy_laws.specs.Windows.{IsWindow, window_steps};
 ghost use Rattle.good_trace.specs.Slots.{IsSlotAt, is_full, end_of};
 
+use crate::between::{BetweenSlots, first_states, no_updates};
+use crate::closing::{Closed, close_slots};
 use crate::ending::GoodEnd;
-use crate::events::{ClosedEvents, close_events};
 use crate::first::first_values;
+use crate::pushed::{PushedSlots, let_go};
 use crate::setup::Setup;
-use crate::slot::{count_steps, phases_after, push_slot};
+use crate::slot::{count_steps, phases_after};
 use crate::spare::{Spare, spare_of};
-use crate::states::{ClosedRuns, close_runs, first_states};
-use crate::updates::{last_time, no_updates};
 use crate::window::TraceWindow;
 use causal_monitor::SlotLog;
-use four_value::Vec4;
-use process_code::{ProcState, RunEnd};
+use process_code::RunEnd;
 use std::alloc::Global;
 use std::marker::{Model, PhantomData};
 use std::mem;
-use v_design::{Due, World};
-use vf_base::{NoMemory, Seq, WINDOW_SLOTS, WINDOW_STEPS};
+use v_design::World;
+use vf_base::{NoMemory, WINDOW_SLOTS, WINDOW_STEPS};
 use window_runs::number_from;
 
 /// The good first run of the world `N` as it is pushed, which contracts see as the code of each process, how many slots were pushed, and how many of these stand in
@@ -29,15 +28,13 @@ use window_runs::number_from;
 pub struct Trace<'s, 'd, N: World> {
     alloc: Global,
     setup: &'s Setup<'d, N>,
-    /// What the objects hold after the last close, where the processes stand, and what updates they have pending.
-    values: Vec<Vec4>,
-    states: Vec<ProcState>,
-    updates: Vec<Seq<Due>>,
-    /// The slots since then, their process and lane steps, their phases, and the ends of the runs in these, which are numbered through.
-    slots: Vec<SlotLog>,
+    /// What stands after the last close; the slots since then, their process and lane steps, and their phases.
+    before: BetweenSlots,
+    slots: PushedSlots,
     steps: u32,
     phases: u32,
-    runs: Vec<RunEnd>,
+    /// The ends of the runs of a window that is done with, as far as their memory isn't let go yet.
+    spent: Vec<RunEnd>,
     pushed: u64,
     closed: u64,
 }
@@ -56,7 +53,7 @@ impl<'s, 'd, N: World> Model for Trace<'s, 'd, N> {
 
     ghost view = { λ t. record { codes = t.setup.now.codes; pushed = t.pushed; closed = t.closed } };
 
-    ghost invariant = { λ t. KeepsTrace t.setup.now.codes N.design N.plan t.pushed t.closed t.steps t.phases t.values.items t.slots.items t.states.items t.updates.items t.runs.items };
+    ghost invariant = { λ t. KeepsTrace t.setup.now.codes N.design N.plan t.pushed t.closed t.steps t.phases t.before t.slots };
 }
 
 /// Whether a window that has so many slots and steps is full.
@@ -80,49 +77,56 @@ impl<'s, 'd, N: World> Trace<'s, 'd, N> {
         let codes = setup.codes();
         let states = first_states(alloc, codes)?;
         let updates = no_updates(alloc, codes.len())?;
+        let slots = PushedSlots::none(alloc)?;
         Ok(Trace {
             alloc,
             setup,
-            values,
-            states,
-            updates,
-            slots: Vec::new(alloc),
+            before: BetweenSlots {
+                values,
+                states,
+                updates,
+            },
+            slots,
             steps: 0,
             phases: 0,
-            runs: Vec::new(alloc),
+            spent: Vec::new(alloc),
             pushed: 0,
             closed: 0,
         })
     }
 
-    /// Puts the next slot of the good first run at the end, with the ends of its process runs, and tells whether the window is full now.
+    /// Puts the next slot of the good first run at the end, by its log and the ends of its process runs, and tells whether the window is full now. What the window needs
+    /// of the log is gathered from it, so the log stays the caller's.
     ///
     /// # Errors
     ///
-    /// Want of memory, or no further number of a phase. The trace is as before then.
-    pub fn push(&mut self, slot: SlotLog, mut runs: Vec<RunEnd>) -> Result<bool, NoMemory>
-        requires next { IsSlotAt self.old.codes N.design N.plan self.old.pushed slot runs.items }
+    /// Want of memory, or no further number of a phase or a moment. The trace is as before then.
+    pub fn push(&mut self, log: &SlotLog, mut runs: Vec<RunEnd>) -> Result<bool, NoMemory>
+        requires next { IsSlotAt self.old.codes N.design N.plan self.old.pushed log.now runs.items }
         requires room { is_full (self.old.pushed - self.old.closed) (window_steps N.design N.plan self.old.closed self.old.pushed) ≡ false }
         ensures pushed { OnOk result (self.new ≡ record self.old { pushed = self.old.pushed + 1 }) }
         ensures full { IfOk result (λ full. full ≡ is_full (self.new.pushed - self.new.closed) (window_steps N.design N.plan self.new.closed self.new.pushed)) }
         ensures err { OnErr result (self.new ≡ self.old) }
     {
         window_runs::ends_go_on();
-        let steps = count_steps(&slot);
-        let phases = phases_after(self.phases, &slot)?;
+        let steps = count_steps(log);
+        let phases = phases_after(self.phases, log)?;
         number_from(&mut runs, self.phases);
-        push_slot(&mut self.slots, &mut self.runs, slot, runs)?;
+        let_go(&mut self.spent, runs.len());
+        let sizes = self.setup.sizes();
+        self.slots.push(sizes, log, runs, phases)?;
         self.phases = phases;
         self.steps += steps;
         self.pushed += 1;
-        Ok(is_full(self.slots.len(), self.steps))
+        Ok(is_full(self.slots.table.times.len(), self.steps))
     }
 
-    /// The slots since the last close as a window, which ends as is told. The memory of a window that is done with is used again, if one is given.
+    /// The slots since the last close as a window, which ends as is told. The memory of a window that is done with is used again, if one is given: then memory is taken
+    /// only where the window has more of something than ever.
     ///
     /// # Errors
     ///
-    /// Want of memory, or no further number of a moment or a run. The trace is as before then.
+    /// Want of memory, or no further number of a change or a run. The trace is as before then.
     pub fn close_window(
         &mut self,
         last: GoodEnd,
@@ -139,35 +143,33 @@ impl<'s, 'd, N: World> Trace<'s, 'd, N> {
         window_runs::ends_go_on();
         between_slots::runs_lead();
         between_slots::updates_pend();
-        let spare = spare_of(self.alloc, used);
-        let Spare {
-            slots: free_slots,
-            runs: free_runs,
-            index: free_index,
-        } = spare;
-        let time = last_time(&self.slots);
-        let closed_runs = close_runs(
-            self.alloc,
-            free_index,
-            &self.states,
-            &self.updates,
-            &self.runs,
-            self.phases,
-            time,
-        )?;
         let sizes = self.setup.sizes();
-        let closed = close_events(self.alloc, sizes, &self.values, &self.slots)?;
-        let ClosedRuns {
+        let spare = spare_of(
+            self.alloc,
+            sizes,
+            &self.before.values,
+            used,
+            &mut self.spent,
+        )?;
+        let Spare {
+            closed: memory,
+            table,
+        } = spare;
+        let closed = close_slots(
+            self.alloc,
+            sizes,
+            memory,
+            &self.before,
+            &mut self.slots,
+            self.phases,
+        )?;
+        let Closed {
+            events,
             index,
-            stand,
-            pending,
-        } = closed_runs;
-        let ClosedEvents { events, later } = closed;
-        let slots = mem::replace(&mut self.slots, free_slots);
-        let runs = mem::replace(&mut self.runs, free_runs);
-        let values = mem::replace(&mut self.values, later);
-        let beginning = mem::replace(&mut self.states, stand);
-        let updates = mem::replace(&mut self.updates, pending);
+            later,
+        } = closed;
+        let slots = mem::replace(&mut self.slots.table, table);
+        let beginning = mem::replace(&mut self.before, later);
         let begins = self.closed;
         let ends = self.pushed;
         let phases = self.phases;
@@ -179,13 +181,10 @@ impl<'s, 'd, N: World> Trace<'s, 'd, N> {
             ends,
             last,
             phases,
-            values,
+            before: beginning,
             events,
-            states: beginning,
-            updates,
-            runs,
-            index,
             slots,
+            index,
             world: PhantomData,
         })
     }

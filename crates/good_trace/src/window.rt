@@ -20,18 +20,17 @@ ghost use Rattle.copy_laws.specs.Windows.{IsWindow, good_slots, window_steps};
 ghost use Rattle.good_trace.specs.RunsKept.{Stands, TellsRun};
 ghost use Rattle.good_trace.specs.SlotsTold.{AreWritesOf, IsUnwritten, slot_run_ends};
 
+use crate::between::{BetweenSlots, copy_updates};
 use crate::ending::GoodEnd;
 use crate::events::{Events, changes_between};
-use crate::slot::count_phases;
-use crate::updates::copy_updates;
-use causal_monitor::SlotLog;
+use crate::pushed::SlotTable;
 use four_value::Vec4;
 use process_code::{ProcState, RunEnd, codes_are_one};
 use std::alloc::Global;
 use std::marker::{Model, PhantomData};
 use trace_window::Change;
 use v_design::{Due, World};
-use vf_base::{NoMemory, NodeId, ObjectId, ProcId, Seq};
+use vf_base::{NoMemory, NodeId, ObjectId, ProcId};
 use window_runs::{RunIndex, runs_between, standing_after};
 
 /// Slots of the good first run of the world `N` in a row, which contracts see as how many slots of the run stand before the window and before its end, and how it ends.
@@ -42,15 +41,11 @@ pub struct TraceWindow<N: World> {
     pub(crate) last: GoodEnd,
     /// How many phases its slots have.
     pub(crate) phases: u32,
-    /// What the objects hold before the window, and what its events write and touch.
-    pub(crate) values: Vec<Vec4>,
+    /// What stands before the window, what its events write and touch, its slots, and the ends of the runs in these by process.
+    pub(crate) before: BetweenSlots,
     pub(crate) events: Events,
-    /// Where the processes stand before the window, what updates they have pending there, and the ends of the runs in it by process.
-    pub(crate) states: Vec<ProcState>,
-    pub(crate) updates: Vec<Seq<Due>>,
-    pub(crate) runs: Vec<RunEnd>,
+    pub(crate) slots: SlotTable,
     pub(crate) index: RunIndex,
-    pub(crate) slots: Vec<SlotLog>,
     pub(crate) world: PhantomData<N>,
 }
 
@@ -63,7 +58,7 @@ impl<N: World> Model for TraceWindow<N> {
 
     ghost view = { λ w. record { before = w.begins; through = w.ends; ending = end_of w.last } };
 
-    ghost invariant = { λ w. KeepsWindow N.design N.plan w.begins w.ends (end_of w.last) w.phases w.values.items w.events w.slots.items w.states.items w.updates.items w.runs.items w.index };
+    ghost invariant = { λ w. KeepsWindow N.design N.plan w.begins w.ends (end_of w.last) w.phases w.before w.events w.slots w.index };
 }
 
 impl<N: World> TraceWindow<N> {
@@ -105,7 +100,7 @@ impl<N: World> TraceWindow<N> {
         requires { object_number object < length N.design.objects }
         ensures { result ≡ value_at (window_values N.design N.plan self.now.before self.now.through moment) (object_number object) }
     {
-        let first = self.values[object.0 as usize];
+        let first = self.before.values[object.0 as usize];
         self.events.changes.value_at(first, object, moment)
     }
 
@@ -157,9 +152,7 @@ impl<N: World> TraceWindow<N> {
         requires { self.now.before + slot ≤ self.now.through }
         ensures { result ≡ length (window_phases N.design N.plan self.now.before (self.now.before + slot)) }
     {
-        // There are no more than all phases, whose number fits.
-        let _all = self.phases;
-        count_phases(&self.slots[..slot as usize])
+        self.slots.beginnings[slot as usize].phases
     }
 
     /// The end of the run of a number, counted from 0, among those of a process in a phase; none where there are fewer.
@@ -170,7 +163,7 @@ impl<N: World> TraceWindow<N> {
             TellsRun N.design (process_number process) one number (option_map (λ run. run.now) result) }
     {
         codes_are_one();
-        self.index.run(&self.runs, process, phase, number)
+        self.index.run(&self.slots.runs, process, phase, number)
     }
 
     /// Where a process stands before the window's first slot begins.
@@ -179,14 +172,14 @@ impl<N: World> TraceWindow<N> {
         ensures { Stands N.design (process_number process) (activity_through N.design N.plan self.now.before (process_number process)) result.now }
     {
         codes_are_one();
-        &self.states[process.0 as usize]
+        &self.before.states[process.0 as usize]
     }
 
     /// How many slots the window has. They are numbered from 0 on.
     pub fn slots(&self) -> u32
         ensures { self.now.before + result ≡ self.now.through }
     {
-        self.slots.len() as u32
+        self.slots.times.len() as u32
     }
 
     /// The time of the slot of a number, in steps.
@@ -194,7 +187,7 @@ impl<N: World> TraceWindow<N> {
         requires { self.now.before + slot < self.now.through }
         ensures { (one : FirstSlot) → slice_get (good_slots N.design N.plan) (self.now.before + slot) ≡ Some one → result ≡ one.begins.time }
     {
-        self.slots[slot as usize].time
+        self.slots.times[slot as usize]
     }
 
     /// How many events the window's slots before one have: so what an object holds before that slot is what it holds at this moment. Behind the last slot these are
@@ -204,7 +197,7 @@ impl<N: World> TraceWindow<N> {
         ensures moment { result ≡ length (window_events N.design N.plan self.now.before (self.now.before + slot)) }
         ensures values { window_values N.design N.plan self.now.before self.now.through result ≡ (state_through N.design N.plan (self.now.before + slot)).values }
     {
-        self.events.beginnings[slot as usize].moment
+        self.slots.beginnings[slot as usize].moment
     }
 
     /// Where a process stands before a slot; behind the last slot where it stands at the window's end.
@@ -217,8 +210,11 @@ impl<N: World> TraceWindow<N> {
         window_runs::ends_go_on();
         between_slots::runs_lead();
         let phases = self.phases_before(slot);
-        let first = &self.states[process.0 as usize];
-        standing_after(first, self.index.last_through(&self.runs, process, phases))
+        let first = &self.before.states[process.0 as usize];
+        standing_after(
+            first,
+            self.index.last_through(&self.slots.runs, process, phases),
+        )
     }
 
     /// The nonblocking updates that a process has pending before a slot, in the order of its statements; behind the last slot those at the window's end.
@@ -238,7 +234,7 @@ impl<N: World> TraceWindow<N> {
     {
         window_runs::ends_go_on();
         between_slots::updates_pend();
-        let first = self.updates[process.0 as usize].as_slice();
+        let first = self.before.updates[process.0 as usize].as_slice();
         if slot == 0 {
             let copy = copy_updates(alloc, first)?;
             return Ok(copy);
@@ -247,7 +243,7 @@ impl<N: World> TraceWindow<N> {
         let phases = self.phases_before(slot);
         let pending = self
             .index
-            .pending_through(alloc, &self.runs, process, phases, time, first)?;
+            .pending_through(alloc, &self.slots.runs, process, phases, time, first)?;
         Ok(pending)
     }
 
@@ -276,8 +272,8 @@ impl<N: World> TraceWindow<N> {
         ensures others { (object : ℕ) → object < length N.design.objects → IsUnwritten object result.now →
             value_at (state_through N.design N.plan (self.now.before + slot + 1)).values object ≡ value_at (state_through N.design N.plan (self.now.before + slot)).values object }
     {
-        let first = self.events.beginnings[slot as usize].changes;
-        let end = self.events.beginnings[slot as usize + 1].changes;
+        let first = self.slots.beginnings[slot as usize].changes;
+        let end = self.slots.beginnings[slot as usize + 1].changes;
         changes_between(self.events.changes.all(), first, end)
     }
 
@@ -291,6 +287,6 @@ impl<N: World> TraceWindow<N> {
         let _all = self.slots();
         let after = self.phases_before(slot);
         let through = self.phases_before(slot + 1);
-        runs_between(&self.runs, after, through)
+        runs_between(&self.slots.runs, after, through)
     }
 }

@@ -6,9 +6,9 @@ ghost use Rattle.good_windows.specs.Puts.{IsFilled};
 
 use crate::slot::{Put, next_within, put_slot};
 use crate::stage::{Stage, stage_by};
+use causal_monitor::SlotLog;
 use good_trace::Trace;
 use machine::Machine;
-use std::alloc::Global;
 use std::sync::ledger::Ledger;
 use v_design::World;
 use vf_base::{NoMemory, Steps};
@@ -20,16 +20,17 @@ pub struct Filled {
     pub some: bool,
 }
 
-/// Runs slots of the good first run, up to its plan's end, and puts them into the trace until the window is full or no further slot is one of a window.
+/// Runs slots of the good first run, up to its plan's end, and puts them into the trace until the window is full or no further slot is one of a window. The memory of
+/// `log` is used for each slot's.
 ///
 /// # Errors
 ///
 /// Want of memory.
 fn fill<'s, 'd, N: World, L: Ledger>(
-    alloc: Global,
     end: u64,
     machine: &mut Machine<'d>,
     trace: &mut Trace<'s, 'd, N>,
+    log: &mut SlotLog,
     steps: &mut Steps<L>,
 ) -> Result<Filled, NoMemory>
     requires end { N.plan.end ≡ end }
@@ -40,7 +41,7 @@ fn fill<'s, 'd, N: World, L: Ledger>(
     let mut some = false;
     let mut next = next_within(machine, end);
     'slots: while let Some(time) = next {
-        let put = put_slot(alloc, machine, trace, time, steps)?;
+        let put = put_slot(machine, trace, log, time, steps)?;
         match put {
             Put::Looped => {
                 return Ok(Filled {
@@ -77,11 +78,11 @@ fn fill<'s, 'd, N: World, L: Ledger>(
 ///
 /// Want of memory.
 pub(crate) fn go_on<'s, 'd, N: World, L: Ledger>(
-    alloc: Global,
     end: u64,
     stage: Stage,
     machine: &mut Machine<'d>,
     trace: &mut Trace<'s, 'd, N>,
+    log: &mut SlotLog,
     steps: &mut Steps<L>,
 ) -> Result<Filled, NoMemory>
     requires end { N.plan.end ≡ end }
@@ -90,7 +91,7 @@ pub(crate) fn go_on<'s, 'd, N: World, L: Ledger>(
     ensures { IfOk result (λ filled. IsFilled N.design N.plan trace.old.closed machine.new trace.new filled) }
 {
     if let Stage::Open = stage {
-        let filled = fill(alloc, end, machine, trace, steps)?;
+        let filled = fill(end, machine, trace, log, steps)?;
         return Ok(filled);
     }
     Ok(Filled { stage, some: false })

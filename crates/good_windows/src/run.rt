@@ -6,7 +6,9 @@ ghost use Rattle.good_windows.specs.Stages.{IsAtStart};
 
 use crate::fill::go_on;
 use crate::next::{NextWindow, give};
+use crate::slot::empty_log;
 use crate::stage::Stage;
+use causal_monitor::SlotLog;
 use good_trace::{Setup, Trace, TraceWindow};
 use machine::Machine;
 use std::alloc::Global;
@@ -19,11 +21,12 @@ use vf_base::{NoMemory, Steps};
 /// stand in windows so far, and whether it may be used: after a call that ran out of memory it isn't to be used again.
 #[derive(Drop)]
 pub struct GoodRun<'s, 'd, N: World> {
-    alloc: Global,
     /// The plan's end.
     end: u64,
     machine: Machine<'d>,
     trace: Trace<'s, 'd, N>,
+    /// The memory for the log of the slot that is run.
+    log: SlotLog,
     stage: Stage,
 }
 
@@ -68,10 +71,10 @@ impl<'s, 'd, N: World> GoodRun<'s, 'd, N> {
         let trace = Trace::new(alloc, setup)?;
         let machine = noting_machine(alloc, setup)?;
         Ok(GoodRun {
-            alloc,
             end: plan.end,
             machine,
             trace,
+            log: empty_log(alloc),
             stage: Stage::Open,
         })
     }
@@ -95,11 +98,11 @@ impl<'s, 'd, N: World> GoodRun<'s, 'd, N> {
         let stage = self.stage;
         self.stage = Stage::Spent;
         let filled = go_on(
-            self.alloc,
             self.end,
             stage,
             &mut self.machine,
             &mut self.trace,
+            &mut self.log,
             steps,
         )?;
         let next = give(&mut self.trace, filled, used)?;

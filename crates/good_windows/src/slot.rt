@@ -26,7 +26,7 @@ pub enum Put {
 }
 
 /// A log of no phases, which takes no memory.
-fn empty_log(alloc: Global) -> SlotLog {
+pub(crate) fn empty_log(alloc: Global) -> SlotLog {
     SlotLog {
         time: 0,
         phases: Seq::from_vec(Vec::new(alloc)),
@@ -57,15 +57,15 @@ fn put_by(end: SlotEnd, full: bool) -> Put
     }
 }
 
-/// Runs the next slot of the good first run, which begins at this time, and puts it into the trace where it isn't hyperactive.
+/// Runs the next slot of the good first run, which begins at this time, and puts it into the trace where it isn't hyperactive. The memory of `log` is used for the slot's.
 ///
 /// # Errors
 ///
 /// Want of memory.
 pub(crate) fn put_slot<'s, 'd, N: World, L: Ledger>(
-    alloc: Global,
     machine: &mut Machine<'d>,
     trace: &mut Trace<'s, 'd, N>,
+    log: &mut SlotLog,
     time: u64,
     steps: &mut Steps<L>,
 ) -> Result<Put, NoMemory>
@@ -76,8 +76,7 @@ pub(crate) fn put_slot<'s, 'd, N: World, L: Ledger>(
     requires room { is_full (trace.old.pushed - trace.old.closed) (window_steps N.design N.plan trace.old.closed trace.old.pushed) ≡ false }
     ensures { IfOk result (λ put. PutsSlot N.design N.plan time trace.old put machine.new trace.new) }
 {
-    let mut log = empty_log(alloc);
-    let end = machine.slot(&mut log, steps)?;
+    let end = machine.slot(log, steps)?;
     if let SlotEnd::Hyper = end {
         return Ok(Put::Looped);
     }

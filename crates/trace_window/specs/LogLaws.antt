@@ -1,11 +1,9 @@
 -- The accesses and the events that a slot's log has are those of the slot's events (IEEE 1364-2001, clause 5).
-use Rattle.std.proofs.Common.{◌≡◌, ℕ, zero, suc, ◌+◌, ◌-◌, ◌<◌, ◌≤◌, List, [], ◌∷◌, ◌++◌, map, length, take, drop, refl, sym, ap, subst, ◌∙◌, arith, append-nil, append_assoc, length-append}
-use Rattle.std.specs.Prelude.{Some, slice_get}
+use Rattle.std.proofs.Common.{◌≡◌, ℕ, ◌+◌, List, [], ◌∷◌, ◌++◌, map, length, refl, sym, ap, subst, ◌∙◌, arith, append-nil, append_assoc, length-append}
 use Rattle.std.specs.List.{AllZip}
-use Rattle.std.proofs.lemmas.List.{length-drop, length-take-le, length-map, map-append}
-use Rattle.std.proofs.lemmas.Option.{slice_get_within}
+use Rattle.std.proofs.lemmas.List.{length-map, map-append}
 use Rattle.vf_base.specs.Lists.{joined}
-use Rattle.v_design.specs.Designs.{FlatDesign, Machine, TestPlan, good_machine}
+use Rattle.v_design.specs.Designs.{Machine}
 use Rattle.v_design.specs.States.{State, Event, after}
 use Rattle.v_design.specs.Accesses.{accesses_of}
 use Rattle.v_design.specs.Logs.{LoggedEvent}
@@ -18,8 +16,7 @@ use Rattle.causal_monitor.specs.declared.slot.SlotLog.{SlotLog}
 use Rattle.causal_monitor.specs.declared.slot.Turn.{Turn}
 use Rattle.slot_record.specs.Records.{event_of}
 use Rattle.slot_record.specs.SlotLogs.{IsSlotLog, logged_phases, logged_phase_of}
-use Rattle.copy_laws.specs.Windows.{good_slots, window_slots}
-use Rattle.trace_window.specs.Moments.{Seen, seen_from, phase_seen, slot_seen, slots_seen, window_events}
+use Rattle.trace_window.specs.Moments.{Seen, seen_from, phase_seen, slot_seen}
 use Rattle.trace_window.specs.Acted.{events_of}
 use Rattle.trace_window.specs.Listed.{phase_accesses, log_accesses, log_events, HasActors, IsActed, AreAccessesOf, AreListed}
 
@@ -77,41 +74,6 @@ pub slot-listed : (machine : Machine) (first : Turn) (slot : FirstSlot) (log : S
 slot-listed machine first slot log is =
     subst (λ (l : List PhaseOfSlot). AreListed machine (slot_seen machine slot) (joined (map phase_accesses l))) (sym is.phases_are) (phases-listed machine 1 (phases machine slot))
 
--- a slot of the good first run, by its log
-pub record IsLoggedSlot (machine : Machine) (slot : FirstSlot) (log : SlotLog) : Type 0 where
-  pub first : Turn
-  pub is : IsSlotLog machine first (phases machine slot) log
-
--- the logs of some slots
-pub slots-listed : (machine : Machine) (slots : List FirstSlot) (logs : List SlotLog) → AllZip (IsLoggedSlot machine) slots logs →
-    AreListed machine (slots_seen machine slots) (joined (map log_accesses logs))
-slots-listed machine [] [] h = tt
-slots-listed machine [] (log ∷ logs) h = absurd h
-slots-listed machine (slot ∷ slots) [] h = absurd h
-slots-listed machine (slot ∷ slots) (log ∷ logs) h =
-    all_zip-append (AreAccessesOf machine) (slot_seen machine slot) (log_accesses log) (slots_seen machine slots) (joined (map log_accesses logs)) (slot-listed machine h.0.first slot log h.0.is)
-    (slots-listed machine slots logs h.1)
-
--- lists with a fact at each place
-pub all_zip-at : {A B : Type 0} (R : A → B → Type 0) (xs : List A) (ys : List B) → length xs ≡ length ys →
-    ((place : ℕ) (x : A) (y : B) → slice_get xs place ≡ Some x → slice_get ys place ≡ Some y → R x y) → AllZip R xs ys
-all_zip-at R [] [] long each = tt
-all_zip-at R [] (y ∷ ys) long each = absurd (omega (arith, long))
-all_zip-at R (x ∷ xs) [] long each = absurd (omega (arith, long))
-all_zip-at R (x ∷ xs) (y ∷ ys) long each = (each 0 x y refl refl, all_zip-at R xs ys (omega (arith, long)) (λ place a b at here. each (suc place) a b at here))
-
--- parts of a list, place by place
-get-drop : {A : Type 0} (xs : List A) (n place : ℕ) → slice_get (drop n xs) place ≡ slice_get xs (n + place)
-get-drop xs zero place = let e : place ≡ 0 + place = omega arith in ap (slice_get xs) e
-get-drop [] (suc n) place = refl
-get-drop (x ∷ xs) (suc n) place = get-drop xs n place ∙ (let e : suc (n + place) ≡ suc n + place = omega arith in ap (slice_get (x ∷ xs)) e)
-
-get-take : {A : Type 0} (xs : List A) (n place : ℕ) → place < n → slice_get (take n xs) place ≡ slice_get xs place
-get-take xs zero place low = absurd (omega arith)
-get-take [] (suc n) place low = refl
-get-take (x ∷ xs) (suc n) zero low = refl
-get-take (x ∷ xs) (suc n) (suc place) low = get-take xs n place (omega arith)
-
 -- Who acts
 
 -- in each event of a slot somebody acts
@@ -156,48 +118,6 @@ phases-events machine (phase ∷ rest) =
     map-append (λ (one : Seen). one.event) (phase_seen machine phase) (joined (map (phase_seen machine) rest))
     ∙ (λ i. seen-events machine phase.begins phase.events i ++ phases-events machine rest i)
 
-slots-events : (machine : Machine) (slots : List FirstSlot) (logs : List SlotLog) → AllZip (IsLoggedSlot machine) slots logs →
-    events_of (slots_seen machine slots) ≡ joined (map log_events logs)
-slots-events machine [] [] h = refl
-slots-events machine [] (log ∷ logs) h = absurd h
-slots-events machine (slot ∷ slots) [] h = absurd h
-slots-events machine (slot ∷ slots) (log ∷ logs) h =
-    map-append (λ (one : Seen). one.event) (slot_seen machine slot) (slots_seen machine slots)
-    ∙ (λ i. (phases-events machine (phases machine slot) ∙ sym (ap joined h.0.is.actors_are)) i ++ slots-events machine slots logs h.1 i)
-
--- Windows
-
--- the logs of the slots of a window, whose slots are known by their numbers
-abbrev pub AreLogs : FlatDesign → TestPlan → ℕ → List SlotLog → Type 0
-AreLogs design plan begins logs =
-    (place : ℕ) (slot : FirstSlot) (log : SlotLog) → slice_get (good_slots design plan) (begins + place) ≡ Some slot → slice_get logs place ≡ Some log → IsLoggedSlot (good_machine design) slot log
-
-window-logged : (design : FlatDesign) (plan : TestPlan) (begins ends : ℕ) (logs : List SlotLog) → begins + length logs ≡ ends → ends ≤ length (good_slots design plan) →
-    AreLogs design plan begins logs → AllZip (IsLoggedSlot (good_machine design)) (window_slots design plan begins ends) logs
-window-logged design plan begins ends logs held fits each = all_zip-at (IsLoggedSlot (good_machine design)) (window_slots design plan begins ends) logs long at
-  where
-    cut : length (take ends (good_slots design plan)) ≡ ends
-    cut = length-take-le ends (good_slots design plan) fits
-
-    long : length (window_slots design plan begins ends) ≡ length logs
-    long = let rest : length (drop begins (take ends (good_slots design plan))) ≡ length (take ends (good_slots design plan)) - begins = length-drop begins (take ends (good_slots design plan)) in
-        omega (arith, rest, cut, held)
-
-    at : (place : ℕ) (slot : FirstSlot) (log : SlotLog) → slice_get (window_slots design plan begins ends) place ≡ Some slot → slice_get logs place ≡ Some log →
-        IsLoggedSlot (good_machine design) slot log
-    at place slot log is here =
-        let low : place < length logs = slice_get_within logs place log here in
-        each place slot log
-        (sym (get-take (good_slots design plan) ends (begins + place) (omega (arith, held, low))) ∙ sym (get-drop (take ends (good_slots design plan)) begins place) ∙ is) here
-
--- the accesses of a window's events, by the logs of its slots
-pub window-listed : (design : FlatDesign) (plan : TestPlan) (begins ends : ℕ) (logs : List SlotLog) → begins + length logs ≡ ends → ends ≤ length (good_slots design plan) →
-    AreLogs design plan begins logs → AreListed (good_machine design) (window_events design plan begins ends) (joined (map log_accesses logs))
-window-listed design plan begins ends logs held fits each =
-    slots-listed (good_machine design) (window_slots design plan begins ends) logs (window-logged design plan begins ends logs held fits each)
-
--- and the events themselves
-pub window-acted : (design : FlatDesign) (plan : TestPlan) (begins ends : ℕ) (logs : List SlotLog) → begins + length logs ≡ ends → ends ≤ length (good_slots design plan) →
-    AreLogs design plan begins logs → events_of (window_events design plan begins ends) ≡ joined (map log_events logs)
-window-acted design plan begins ends logs held fits each =
-    slots-events (good_machine design) (window_slots design plan begins ends) logs (window-logged design plan begins ends logs held fits each)
+-- and of a slot by its log
+pub slot-events : (machine : Machine) (first : Turn) (slot : FirstSlot) (log : SlotLog) → IsSlotLog machine first (phases machine slot) log → events_of (slot_seen machine slot) ≡ log_events log
+slot-events machine first slot log is = phases-events machine (phases machine slot) ∙ sym (ap joined is.actors_are)

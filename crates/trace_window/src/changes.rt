@@ -38,41 +38,31 @@ impl Model for Changes {
     ghost invariant = { λ c. AreChanges c.objects c.changes.items c.moments c.places };
 }
 
-/// Lists each change of one of so many objects as an occurrence of its object at its moment, in place of the occurrences that were listed.
-fn list_moments(
+/// Lists each change of one of so many objects as an occurrence of its object, at its moment in one list and at its place in another, in place of what was listed.
+fn list_changes(
     objects: u32,
     changes: &[Change],
-    occurrences: &mut Vec<Occurrence>,
-) -> Result<(), NoMemory>
-    ensures { OnOk result (occurrences.new.items ≡ below objects (map at_moment changes.now)) }
-{
-    occurrences.clear();
-    'changes: for change in changes {
-        let occurrence = Occurrence {
-            number: change.object.0,
-            moment: change.moment,
-        };
-        push_below(occurrences, objects, occurrence)?;
-    }
-    Ok(())
-}
-
-/// The same at its place.
-fn list_places(
-    objects: u32,
-    changes: &[Change],
-    occurrences: &mut Vec<Occurrence>,
+    by_moment: &mut Vec<Occurrence>,
+    by_place: &mut Vec<Occurrence>,
 ) -> Result<(), NoMemory>
     requires { length changes.now < 2 ^ 32 }
-    ensures { OnOk result (occurrences.new.items ≡ below objects (at_places 0 changes.now)) }
+    ensures moments { OnOk result (by_moment.new.items ≡ below objects (map at_moment changes.now)) }
+    ensures places { OnOk result (by_place.new.items ≡ below objects (at_places 0 changes.now)) }
 {
-    occurrences.clear();
+    by_moment.clear();
+    by_place.clear();
     'changes: for (place, change) in changes.iter().enumerate() {
-        let occurrence = Occurrence {
-            number: change.object.0,
+        let number = change.object.0;
+        let at_moment = Occurrence {
+            number,
+            moment: change.moment,
+        };
+        let at_place = Occurrence {
+            number,
             moment: place as u32,
         };
-        push_below(occurrences, objects, occurrence)?;
+        push_below(by_moment, objects, at_moment)?;
+        push_below(by_place, objects, at_place)?;
     }
     Ok(())
 }
@@ -97,7 +87,7 @@ impl Changes {
     }
 
     /// Takes other changes, in ascending order of their moments, in place of these; those of objects past the count are never asked for. The list that they come from is
-    /// empty then and has the memory of the old ones; that of `occurrences` is used too, so that memory is taken only where there are more changes than ever.
+    /// empty then and has the memory of the old ones; that of `by_moment` and `by_place` is used too, so that memory is taken only where there are more changes than ever.
     ///
     /// # Errors
     ///
@@ -105,7 +95,8 @@ impl Changes {
     pub fn refill(
         self,
         changes: &mut Vec<Change>,
-        occurrences: &mut Vec<Occurrence>,
+        by_moment: &mut Vec<Occurrence>,
+        by_place: &mut Vec<Occurrence>,
     ) -> Result<Changes, NoMemory>
         requires { IsNonDecreasingBy change_moment changes.old.items }
         ensures changes { IfOk result (λ made. made ≡ record { count = self.count; writes = map written_of changes.old.items }) }
@@ -121,10 +112,9 @@ impl Changes {
         if changes.len() >= u32::MAX as usize {
             return Err(NoMemory);
         }
-        list_moments(objects, changes, occurrences)?;
-        moments.refill(occurrences)?;
-        list_places(objects, changes, occurrences)?;
-        places.refill(occurrences)?;
+        list_changes(objects, changes, by_moment, by_place)?;
+        moments.refill(by_moment)?;
+        places.refill(by_place)?;
         own.clear();
         mem::swap(changes, &mut own);
         Ok(Changes {

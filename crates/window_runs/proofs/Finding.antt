@@ -1,16 +1,17 @@
 -- What the index of a window's runs finds.
-use Rattle.std.proofs.Common.{◌≡◌, ℕ, zero, suc, ◌+◌, ◌-◌, ◌<◌, ◌≤◌, Bool, true, false, ◌&&◌, cond, List, [], ◌∷◌, ◌++◌, map, length, get_or, take, refl, sym, ap, subst, ◌∙◌, inl, inr, arith}
+use Rattle.std.proofs.Common.{◌≡◌, ℕ, zero, suc, ◌+◌, ◌-◌, ◌<◌, ◌≤◌, Bool, true, false, ◌&&◌, cond, List, [], ◌∷◌, map, length, get_or, refl, sym, ap, subst, ◌∙◌, inl, inr, arith}
 use Rattle.std.specs.Prelude.{All, Some, None, filter, nat_eq, slice_get}
 use Rattle.std.specs.List.Sorted.{IsNonDecreasingBy}
-use Rattle.std.proofs.lemmas.List.{length-map, length-take-le, get_or-map, take_more}
+use Rattle.std.proofs.lemmas.List.{length-map, get_or-map}
 use Rattle.std.proofs.lemmas.List.Kept.{IsNonDecreasingBy-filter}
 use Rattle.std.proofs.lemmas.Option.{slice_get_cases, slice_get-get_or}
 use Rattle.vf_base.specs.Base.{process_number}
+use Rattle.vf_base.specs.Lists.{map_numbered}
 use Rattle.window_index.specs.declared.occurrence.Occurrence.{Occurrence}
 use Rattle.window_index.specs.Moments.{moment_of, moments_of}
 use Rattle.process_code.specs.declared.state.RunEnd.{RunEnd}
 use Rattle.window_runs.specs.declared.index.RunIndex.{RunIndex}
-use Rattle.window_runs.specs.Placed.{at_place, at_places}
+use Rattle.window_runs.specs.Placed.{at_moment, at_place, at_places, placed}
 use Rattle.run_ends.specs.RunEnds.{ends_of}
 use Rattle.window_runs.specs.RunsByProcess.{run_process, run_phase, runs_of_process, only_at, IsRunIndexOf}
 use Rattle.window_runs.proofs.Picking.{own-moments, own-count, own-places, picked}
@@ -52,18 +53,10 @@ places-within owner count place [] h k d low = absurd (omega arith)
 places-within owner count place (x ∷ xs) h zero d low = h 0 x (omega arith)
 places-within owner count place (x ∷ xs) h (suc k) d low = places-within owner count (place + 1) xs (λ j e less. h (suc j) e (omega arith)) k d (omega arith)
 
-places-push : {A : Type 0} (owner : A → ℕ) (place : ℕ) (xs : List A) (x : A) → at_places owner place (xs ++ x ∷ []) ≡ at_places owner place xs ++ at_place owner (place + length xs) x ∷ []
-places-push owner place [] x = let e : place ≡ place + 0 = omega arith in ap (λ n. at_place owner n x ∷ []) e
-places-push owner place (y ∷ xs) x =
-    ap (λ l. at_place owner place y ∷ l)
-    (places-push owner (place + 1) xs x ∙ (let e : place + 1 + length xs ≡ place + suc (length xs) = omega arith in ap (λ n. at_places owner (place + 1) xs ++ at_place owner n x ∷ []) e))
-
-pub places-more : {A : Type 0} (owner : A → ℕ) (xs : List A) (i : ℕ) (x : A) → i < length xs → x ≡ get_or xs i x →
-    at_places owner 0 (take (i + 1) xs) ≡ at_places owner 0 (take i xs) ++ at_place owner i x ∷ []
-places-more owner xs i x low read =
-    ap (at_places owner 0) (take_more xs i x low ∙ ap (λ y. take i xs ++ y ∷ []) (sym read)) ∙ places-push owner 0 (take i xs) x
-    ∙ ap (λ n. at_places owner 0 (take i xs) ++ at_place owner n x ∷ []) (let long : length (take i xs) ≡ i = length-take-le i xs (omega arith) in let e : 0 + length (take i xs) ≡ i = omega arith in
-    e)
+-- elements that were listed at their moments
+pub places-again : {A : Type 0} (owner moment : A → ℕ) (place : ℕ) (xs : List A) → map_numbered placed place (map (at_moment owner moment) xs) ≡ at_places owner place xs
+places-again owner moment place [] = refl
+places-again owner moment place (x ∷ xs) = ap (λ l. at_place owner place x ∷ l) (places-again owner moment (place + 1) xs)
 
 -- Finding
 

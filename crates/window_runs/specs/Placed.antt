@@ -18,6 +18,10 @@ at_place owner place x = record { number = owner x; moment = place }
 abbrev pub at_places : {A : Type 0} → (A → ℕ) → ℕ → List A → List Occurrence
 at_places owner place xs = map_numbered (at_place owner) place xs
 
+-- an occurrence at its place among all, in place of its moment
+abbrev pub placed : ℕ → Occurrence → Occurrence
+placed place occurrence = record { number = occurrence.number; moment = place }
+
 -- an element that was found, where it has a moment
 abbrev pub at_only : {A : Type 0} → (A → ℕ) → ℕ → Option A → Option A
 at_only moment time None = None

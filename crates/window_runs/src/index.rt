@@ -4,7 +4,8 @@ ghost use Rattle.std.specs.Prelude.{◌≡◌, ◌-◌, ◌<◌, ◌≤◌, ◌^
 ghost use Rattle.std.specs.Option.{option_map};
 ghost use Rattle.std.specs.List.Sorted.{IsNonDecreasingBy};
 ghost use Rattle.vf_base.specs.Base.{process_number};
-ghost use Rattle.window_runs.specs.Placed.{at_moment, at_places};
+ghost use Rattle.vf_base.specs.Lists.{map_numbered};
+ghost use Rattle.window_runs.specs.Placed.{at_moment, placed};
 ghost use Rattle.run_ends.specs.RunEnds.{ends_of};
 ghost use Rattle.window_runs.specs.RunsByProcess.{run_process, run_phase, runs_of_process, only_at, IsRunIndexOf};
 ghost use Rattle.window_runs.specs.Standing.{last_run};
@@ -22,33 +23,29 @@ pub struct RunIndex {
     pub places: WindowIndex,
 }
 
-/// Each run as an occurrence of its process at its phase.
-fn list_phases(alloc: Global, runs: &[RunEnd]) -> Result<Vec<Occurrence>, NoMemory>
-    ensures { IfOk result (λ list. list.items ≡ map (at_moment run_process run_phase) runs.now) }
+/// Lists each run as an occurrence of its process at its phase, in place of the occurrences that were listed.
+fn list_phases(runs: &[RunEnd], occurrences: &mut Vec<Occurrence>) -> Result<(), NoMemory>
+    ensures { OnOk result (occurrences.new.items ≡ map (at_moment run_process run_phase) runs.now) }
 {
-    let list = runs
-        .iter()
-        .map(|run| Occurrence {
-            number: run.process.0,
-            moment: run.phase,
-        })
-        .collect(alloc)?;
-    Ok(list)
-}
-
-/// Each run as an occurrence of its process at its place.
-fn list_places(alloc: Global, runs: &[RunEnd]) -> Result<Vec<Occurrence>, NoMemory>
-    requires { length runs.now < 2 ^ 32 }
-    ensures { IfOk result (λ list. list.items ≡ at_places run_process 0 runs.now) }
-{
-    let mut occurrences = Vec::new(alloc);
-    'runs: for (place, run) in runs.iter().enumerate() {
+    occurrences.clear();
+    'runs: for run in runs {
         occurrences.push(Occurrence {
             number: run.process.0,
-            moment: place as u32,
+            moment: run.phase,
         })?;
     }
-    Ok(occurrences)
+    Ok(())
+}
+
+/// Puts each of some occurrences at its place among them, in place of its moment.
+fn put_at_places(occurrences: &mut Vec<Occurrence>)
+    requires { length occurrences.old.items < 2 ^ 32 }
+    ensures { occurrences.new.items ≡ map_numbered placed 0 occurrences.old.items }
+{
+    'occurrences: for place in 0..occurrences.len() {
+        let occurrence = &mut occurrences[place];
+        occurrence.moment = place as u32;
+    }
 }
 
 /// A run that was found, if it is of a phase.
@@ -62,32 +59,30 @@ fn only_in<'r>(found: Option<&'r RunEnd>, phase: u32) -> Option<&'r RunEnd>
 }
 
 impl RunIndex {
-    /// The index of some runs of so many processes, which come in ascending order of their phases.
+    /// The index of no runs of so many processes.
     ///
     /// # Errors
     ///
-    /// Want of memory, or more runs than numbers for them.
-    pub fn build(alloc: Global, processes: u32, runs: &[RunEnd]) -> Result<RunIndex, NoMemory>
-        requires within { All (λ run. process_number run.process < processes) runs.now }
-        requires rise { IsNonDecreasingBy run_phase runs.now }
-        ensures { IfOk result (λ index. IsRunIndexOf processes runs.now index) }
+    /// Want of memory.
+    pub fn new(alloc: Global, processes: u32) -> Result<RunIndex, NoMemory>
+        ensures { IfOk result (λ index. IsRunIndexOf processes [] index) }
     {
-        if runs.len() >= u32::MAX as usize {
-            return Err(NoMemory);
-        }
-        let by_phase = list_phases(alloc, runs)?;
-        let phases = WindowIndex::build(alloc, processes, &by_phase)?;
-        let by_place = list_places(alloc, runs)?;
-        let places = WindowIndex::build(alloc, processes, &by_place)?;
+        let phases = WindowIndex::new(alloc, processes)?;
+        let places = WindowIndex::new(alloc, processes)?;
         Ok(RunIndex { phases, places })
     }
 
-    /// Makes the index that of other runs of the same processes, in the memory that it has.
+    /// Makes the index that of other runs of the same processes, which come in ascending order of their phases. It uses the memory that it has and that of `occurrences`,
+    /// so memory is taken only where there are more runs than ever.
     ///
     /// # Errors
     ///
     /// Want of memory, or more runs than numbers for them. Nothing is said of the index then.
-    pub fn refill(&mut self, alloc: Global, runs: &[RunEnd]) -> Result<(), NoMemory>
+    pub fn refill(
+        &mut self,
+        runs: &[RunEnd],
+        occurrences: &mut Vec<Occurrence>,
+    ) -> Result<(), NoMemory>
         requires same { length self.old.places ≡ length self.old.phases }
         requires within { All (λ run. process_number run.process < length self.old.phases) runs.now }
         requires rise { IsNonDecreasingBy run_phase runs.now }
@@ -96,10 +91,10 @@ impl RunIndex {
         if runs.len() >= u32::MAX as usize {
             return Err(NoMemory);
         }
-        let by_phase = list_phases(alloc, runs)?;
-        self.phases.refill(&by_phase)?;
-        let by_place = list_places(alloc, runs)?;
-        self.places.refill(&by_place)?;
+        list_phases(runs, occurrences)?;
+        self.phases.refill(occurrences)?;
+        put_at_places(occurrences);
+        self.places.refill(occurrences)?;
         Ok(())
     }
 

@@ -2,7 +2,7 @@
 //! processes by clause 9).
 //!
 //! A window's runs stand in one list, in the order in which they end, with the window's phases numbered through from 1. `number_from` numbers the phases of a slot's
-//! runs on from those before it. `RunIndex::build` makes an index of such a list, which tells of each process the phases and the places of its own runs; `run` finds by
+//! runs on from those before it. `RunIndex::refill` makes an index of such a list, which tells of each process the phases and the places of its own runs; `run` finds by
 //! it the n-th run of a process in a phase, by binary search, `last` its last one, and `last_through` the last one in the first phases. `states_after` tells where each
 //! process stands after all the runs, and `updates_after` what nonblocking updates it has pending then (clause 9.2.2); `pending_through` tells the same of one process after the
 //! first phases. `runs_between` gives the runs of some phases in a row.

@@ -1,6 +1,6 @@
 // Where the processes stand after a window's runs.
 
-ghost use Rattle.std.specs.Prelude.{◌≡◌, ◌<◌, ◌^◌, length, IfOk};
+ghost use Rattle.std.specs.Prelude.{◌≡◌, ◌<◌, ◌^◌, length, OnOk};
 ghost use Rattle.std.specs.Option.{option_map};
 ghost use Rattle.window_runs.specs.RunsByProcess.{IsRunIndexOf};
 ghost use Rattle.window_runs.specs.Standing.{standing_after, AreStatesAfter};
@@ -20,7 +20,7 @@ pub fn standing_after<'s>(state: &'s ProcState, run: Option<&'s RunEnd>) -> &'s 
     }
 }
 
-/// Where each process stands after some runs, of which this is the index, if it stood so before them.
+/// Puts where each process stands after some runs, of which this is the index, if it stood so before them, in place of what is listed in `later`.
 ///
 /// # Errors
 ///
@@ -30,17 +30,18 @@ pub fn states_after(
     states: &[ProcState],
     runs: &[RunEnd],
     index: &RunIndex,
-) -> Result<Vec<ProcState>, NoMemory>
+    later: &mut Vec<ProcState>,
+) -> Result<(), NoMemory>
     requires count { length states.now ≡ length index.now.phases }
     requires index { IsRunIndexOf (length index.now.phases) runs.now index.now }
     requires few { length states.now < 2 ^ 32 }
-    ensures { IfOk result (λ later. AreStatesAfter states.now runs.now later.items) }
+    ensures { OnOk result (AreStatesAfter states.now runs.now later.new.items) }
 {
-    let mut later = Vec::new(alloc);
+    later.clear();
     'processes: for (number, state) in states.iter().enumerate() {
         let last = index.last(runs, ProcId(number as u32));
         let copy = standing_after(state, last).copy(alloc)?;
         later.push(copy)?;
     }
-    Ok(later)
+    Ok(())
 }

@@ -95,7 +95,8 @@ impl RunIndex {
     }
 }
 
-/// The updates that each process has pending at a time, in steps, after the runs in the phases up to one, of which this is the index, if it had these pending before.
+/// Puts the updates that each process has pending at a time, in steps, after the runs in the phases up to one, of which this is the index, if it had these pending before,
+/// in place of what is listed in `later`.
 ///
 /// # Errors
 ///
@@ -107,18 +108,19 @@ pub fn updates_after(
     index: &RunIndex,
     phase: u32,
     time: u64,
-) -> Result<Vec<Seq<Due>>, NoMemory>
+    later: &mut Vec<Seq<Due>>,
+) -> Result<(), NoMemory>
     requires count { length updates.now ≡ length index.now.phases }
     requires index { IsRunIndexOf (length index.now.phases) runs.now index.now }
     requires few { length updates.now < 2 ^ 32 }
-    ensures { IfOk result (λ later. AreUpdatesAfter phase time updates.now runs.now later.items) }
+    ensures { OnOk result (AreUpdatesAfter phase time updates.now runs.now later.new.items) }
 {
-    let mut later = Vec::new(alloc);
+    later.clear();
     'processes: for number in 0..updates.len() {
         let process = ProcId(number as u32);
         let first = updates[number].as_slice();
         let pending = index.pending_through(alloc, runs, process, phase, time, first)?;
         later.push(Seq::from_vec(pending))?;
     }
-    Ok(later)
+    Ok(())
 }

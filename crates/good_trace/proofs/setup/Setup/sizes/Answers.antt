@@ -1,5 +1,5 @@
 -- A design has few of each.
-use Rattle.std.proofs.Common.{◌≡◌, ◌≤◌, ◌<◌, ◌^◌, ℕ, List, map, length, ap, arith}
+use Rattle.std.proofs.Common.{◌≡◌, ◌≤◌, ◌<◌, ◌^◌, List, map, length, ap, arith}
 use Rattle.std.proofs.lemmas.List.{length-map}
 use Rattle.v_design.specs.Plain.{object_of, node_of, process_of}
 use Rattle.v_design.specs.PlainDesigns.{design_of}

@@ -4,12 +4,9 @@ use Rattle.v_design.specs.Designs.{FlatDesign, good_machine}
 use Rattle.v_design.specs.PlainDesigns.{design_of}
 use Rattle.v_design.specs.RulesHold.{rules_hold}
 use Rattle.v_design.specs.WellFormed.{KeepsRules}
-use Rattle.causal_monitor.specs.declared.slot.SlotLog.{SlotLog}
 use Rattle.process_code.specs.declared.code.Code.{Code}
-use Rattle.process_code.specs.declared.state.RunEnd.{RunEnd}
 use Rattle.run_ends.specs.RunEnds.{AreCodesOf}
 use Rattle.good_trace.specs.Starting.{AreFirstStates}
-use Rattle.good_trace.specs.Traces.{IsTrace}
 use Rattle.good_trace.specs.RunsKept.{AreRunsKept}
 use Rattle.good_trace.proofs.Steps.{run-fits}
 use Rattle.good_trace.proofs.Keeping.{IsTrace-none}
@@ -29,13 +26,12 @@ invariant_of-result g c =
     subst (λ (l : List Code). AreFirstStates l c.in_ok-states.states.items) c.codes-codes.ensures.codes c.in_ok-states.ensures in
     record {
       slots_kept =
-          subst (λ (l : List SlotLog). IsTrace g.N.World.design g.N.World.plan 0 0 0 c.in_ok-values.values.items l) (sym c.new.ensures.items)
-          (IsTrace-none g.N.World.design g.N.World.plan 0 c.in_ok-values.values.items (subst KeepsRules (sym c.setup.invariant.design_is) (rules_hold (design_of own) own.rules))
+          IsTrace-none g.N.World.design g.N.World.plan 0 c.in_ok-values.values.items c.in_ok-slots.slots (subst KeepsRules (sym c.setup.invariant.design_is) (rules_hold (design_of own) own.rules))
           (c.in_ok-values.ensures.values ∙ ap (λ (d : FlatDesign). first_values (good_machine d)) (sym c.setup.invariant.design_is))
           (c.in_ok-values.ensures.count ∙ ap (λ (d : FlatDesign). length d.objects) (sym c.setup.invariant.design_is))
-          (run-fits g.N.World.design g.N.World.plan c.setup.inside.plan.now c.setup.invariant.plan_is));
+          (run-fits g.N.World.design g.N.World.plan c.setup.inside.plan.now c.setup.invariant.plan_is) c.in_ok-slots.ensures.table c.in_ok-slots.ensures.list;
       runs_kept =
-          subst (λ (l : List RunEnd). AreRunsKept codes g.N.World.design g.N.World.plan 0 0 0 c.in_ok-states.states.items l) (sym c.new-2.ensures.items)
+          subst (AreRunsKept codes g.N.World.design g.N.World.plan 0 0 0 c.in_ok-states.states.items) (sym c.in_ok-slots.ensures.table.runs)
           (AreRunsKept-none codes g.N.World.design g.N.World.plan 0 c.in_ok-states.states.items are (AreStatesAt-start codes g.N.World.design g.N.World.plan c.in_ok-states.states.items are first));
       updates_kept =
           AreUpdatesAt-start g.N.World.design g.N.World.plan c.in_ok-updates.updates.items (c.in_ok-updates.ensures.count ∙ c.codes-codes.ensures.world.count)

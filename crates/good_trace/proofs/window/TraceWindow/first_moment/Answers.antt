@@ -4,7 +4,7 @@ use Rattle.between_slots.specs.Between.{state_through}
 use Rattle.good_trace.specs.Slots.{end_of}
 use Rattle.good_trace.specs.Traces.{WindowKept}
 use Rattle.good_trace.proofs.Following.{ends-within}
-use Rattle.good_trace.proofs.Boundaries.{moment-is, values-at}
+use Rattle.good_trace.proofs.Boundaries.{begins-there, values-at}
 use Rattle.good_trace.proofs.window.TraceWindow.first_moment.Goals as goal
 
 pub returns-clause-moment : goal.returns-clause-moment
@@ -12,9 +12,8 @@ returns-clause-moment g c =
     let w = c.self.inside in
     let own = c.self.invariant in
     let fits : w.begins + c.args.slot ≤ w.ends = subst (λ (k : WindowKept). k.before + c.args.slot ≤ k.through) (sym c.self.view_is) c.requires in
-    let within = ends-within g.N.World.design g.N.World.plan w.begins w.ends (end_of w.last) own.window.stands.window in
-    moment-is g.N.World.design g.N.World.plan w.begins w.ends c.args.slot w.slots.items w.events.beginnings.items c.index.result.now own.window.stands.slots_are own.window.stands.held within.1
-    own.has_beginnings.beginnings fits c.index.ensures
+    (begins-there g.N.World.design g.N.World.plan w.begins w.ends c.args.slot own.window.events_are.accesses w.slots.beginnings.items c.index.result.now own.window.beginnings_are fits
+    c.index.ensures).moment
     ∙ ap (λ (k : WindowKept). length (window_events g.N.World.design g.N.World.plan k.before (k.before + c.args.slot))) c.self.view_is
 
 pub returns-clause-values : goal.returns-clause-values
@@ -27,6 +26,6 @@ returns-clause-values g c =
     subst
     (λ (k : WindowKept). window_values g.N.World.design g.N.World.plan k.before k.through moment ≡ (state_through g.N.World.design g.N.World.plan (k.before + c.args.slot)).values) c.self.view_is
     (ap (window_values g.N.World.design g.N.World.plan w.begins w.ends)
-    (moment-is g.N.World.design g.N.World.plan w.begins w.ends c.args.slot w.slots.items w.events.beginnings.items c.index.result.now own.window.stands.slots_are own.window.stands.held within.1
-    own.has_beginnings.beginnings fits c.index.ensures)
+    (begins-there g.N.World.design g.N.World.plan w.begins w.ends c.args.slot own.window.events_are.accesses w.slots.beginnings.items c.index.result.now own.window.beginnings_are fits
+    c.index.ensures).moment
     ∙ values-at g.N.World.design g.N.World.plan w.begins (w.begins + c.args.slot) w.ends (omega arith) fits within.1)

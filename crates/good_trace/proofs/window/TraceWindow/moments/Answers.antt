@@ -8,4 +8,4 @@ pub returns : goal.returns
 returns g c =
     let w = c.self.inside in
     subst (λ (k : WindowKept). w.events.count ≡ length (window_events g.N.World.design g.N.World.plan k.before k.through)) c.self.view_is
-    (count-is g.N.World.design g.N.World.plan w.begins w.ends w.values.items w.events c.self.invariant.window.events_are)
+    (count-is g.N.World.design g.N.World.plan w.begins w.ends w.before.values.items w.events c.self.invariant.window.events_are)

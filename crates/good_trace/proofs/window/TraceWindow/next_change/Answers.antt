@@ -14,4 +14,4 @@ returns g c =
     subst
     (λ (k : WindowKept). IsFirstFrom (written_at (good_machine g.N.World.design) (window_events g.N.World.design g.N.World.plan k.before k.through) own)
     (length (window_events g.N.World.design g.N.World.plan k.before k.through)) c.args.moment c.next.result) c.self.view_is
-    (change-is g.N.World.design g.N.World.plan w.begins w.ends w.values.items w.events own c.args.moment c.next.result c.self.invariant.window.events_are c.next.ensures)
+    (change-is g.N.World.design g.N.World.plan w.begins w.ends w.before.values.items w.events own c.args.moment c.next.result c.self.invariant.window.events_are c.next.ensures)

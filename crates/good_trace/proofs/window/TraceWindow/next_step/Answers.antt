@@ -14,5 +14,5 @@ returns g c =
     subst
     (λ (k : WindowKept). IsFirstFrom (stepped_at (window_events g.N.World.design g.N.World.plan k.before k.through) own)
     (length (window_events g.N.World.design g.N.World.plan k.before k.through)) c.args.moment c.first_at_or_after.result) c.self.view_is
-    (step-is g.N.World.design g.N.World.plan w.begins w.ends w.values.items w.events own c.args.moment c.first_at_or_after.result c.self.invariant.window.events_are c.requires
+    (step-is g.N.World.design g.N.World.plan w.begins w.ends w.before.values.items w.events own c.args.moment c.first_at_or_after.result c.self.invariant.window.events_are c.requires
     c.first_at_or_after.ensures)

@@ -13,5 +13,5 @@ returns g c =
     let object = object_number c.args.object in
     subst (λ (k : WindowKept). IsFirstFrom (touched_at (good_machine g.N.World.design) (window_events g.N.World.design g.N.World.plan k.before k.through) object)
     (length (window_events g.N.World.design g.N.World.plan k.before k.through)) c.args.moment c.first_at_or_after.result) c.self.view_is
-    (touch-is g.N.World.design g.N.World.plan w.begins w.ends w.values.items w.events object c.args.moment c.first_at_or_after.result c.self.invariant.window.events_are c.requires
+    (touch-is g.N.World.design g.N.World.plan w.begins w.ends w.before.values.items w.events object c.args.moment c.first_at_or_after.result c.self.invariant.window.events_are c.requires
     c.first_at_or_after.ensures)

@@ -11,7 +11,7 @@ pub returns : goal.returns
 returns g c =
     let w = c.self.inside in
     let process = process_number c.args.process in
-    let low : process < length w.states.items = omega (arith, c.requires, c.self.invariant.has_runs.kept.states_are.count) in
+    let low : process < length w.before.states.items = omega (arith, c.requires, c.self.invariant.has_runs.kept.states_are.count) in
     subst (λ (k : WindowKept). Stands g.N.World.design process (activity_through g.N.World.design g.N.World.plan k.before process) c.index.result.now) c.self.view_is
-    (Stands-kept c.codes_are_one.ensures.read g.N.World.design g.N.World.plan w.begins w.ends w.phases w.states.items w.runs.items w.index process c.index.result.now c.self.invariant.has_runs
-    c.requires (slice_get_read w.states.items (length w.states.items) process c.index.result.now refl low c.index.ensures))
+    (Stands-kept c.codes_are_one.ensures.read g.N.World.design g.N.World.plan w.begins w.ends w.phases w.before.states.items w.slots.runs.items w.index process c.index.result.now c.self.invariant.has_runs
+    c.requires (slice_get_read w.before.states.items (length w.before.states.items) process c.index.result.now refl low c.index.ensures))

@@ -11,7 +11,7 @@ pub returns : goal.returns
 returns g c = λ before one at stands.
     let w = c.self.inside in
     let process = process_number c.args.process in
-    TellsRun-found c.codes_are_one.ensures.read g.N.World.design g.N.World.plan w.begins w.ends w.phases w.states.items w.runs.items w.index process c.args.phase c.args.number before one _
+    TellsRun-found c.codes_are_one.ensures.read g.N.World.design g.N.World.plan w.begins w.ends w.phases w.before.states.items w.slots.runs.items w.index process c.args.phase c.args.number before one _
     c.self.invariant.has_runs c.requires.process at
     (subst (λ (k : WindowKept). slice_get (window_phases g.N.World.design g.N.World.plan k.before k.through) before ≡ Some one) (sym c.self.view_is) stands)
     (c.run.ensures ∙ ap (λ l. slice_get (ends_of c.args.phase process l) c.args.number) c.deref.ensures.value)

@@ -14,7 +14,7 @@ returns g c =
     let fits : w.begins + c.args.slot < w.ends = subst (λ (k : WindowKept). k.before + c.args.slot < k.through) (sym c.self.view_is) c.requires in
     subst (λ (k : WindowKept). map ender_told c.runs_between.result.now ≡ slot_run_ends g.N.World.design g.N.World.plan k.before (k.before + c.args.slot)) c.self.view_is
     (run-ends-in c.ends_go_on.ensures.between own.has_runs.codes g.N.World.design g.N.World.plan w.begins (w.begins + c.args.slot) w.ends c.phases_before-after.result
-    c.phases_before-through.result w.runs.items c.runs_between.result.now (omega arith) fits own.has_runs.kept.runs_are
+    c.phases_before-through.result w.slots.runs.items c.runs_between.result.now (omega arith) fits own.has_runs.kept.runs_are
     (subst (λ (k : WindowKept). c.phases_before-after.result ≡ length (window_phases g.N.World.design g.N.World.plan k.before (k.before + c.args.slot))) (sym c.self.view_is)
     c.phases_before-after.ensures)
     (c.phases_before-through.ensures ∙ ap (λ (k : WindowKept). length (window_phases g.N.World.design g.N.World.plan k.before (k.before + (c.args.slot + 1)))) (sym c.self.view_is)

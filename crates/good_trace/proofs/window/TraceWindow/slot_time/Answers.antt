@@ -9,9 +9,8 @@ use Rattle.good_trace.proofs.window.TraceWindow.slot_time.Goals as goal
 pub returns : goal.returns
 returns g c = λ one here.
     let w = c.self.inside in
+    let own = c.self.invariant.window.times_are in
     let fits : w.begins + c.args.slot < w.ends = subst (λ (k : WindowKept). k.before + c.args.slot < k.through) (sym c.self.view_is) c.requires in
-    let low : c.args.slot < length w.slots.items = omega (arith, fits, c.self.invariant.window.stands.held) in
     time-at g.N.World.design g.N.World.plan (w.begins + c.args.slot) c.index.result.now one
-    (c.self.invariant.window.stands.slots_are.each c.args.slot c.index.result.now
-    (slice_get_read w.slots.items (length w.slots.items) c.args.slot c.index.result.now refl low c.index.ensures))
+    (own.each c.args.slot c.index.result.now (slice_get_read w.slots.times.items (length w.slots.times.items) c.args.slot c.index.result.now refl (omega (arith, fits, own.held)) c.index.ensures))
     (ap (λ (k : WindowKept). slice_get (good_slots g.N.World.design g.N.World.plan) (k.before + c.args.slot)) c.self.view_is ∙ here)

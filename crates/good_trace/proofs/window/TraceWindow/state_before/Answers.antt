@@ -16,7 +16,7 @@ returns g c =
     let w = c.self.inside in
     let own = c.self.invariant in
     let process = process_number c.args.process in
-    let low : process < length w.states.items = omega (arith, c.requires.process, own.has_runs.kept.states_are.count) in
+    let low : process < length w.before.states.items = omega (arith, c.requires.process, own.has_runs.kept.states_are.count) in
     let fits : w.begins + c.args.slot ≤ w.ends = subst (λ (k : WindowKept). k.before + c.args.slot ≤ k.through) (sym c.self.view_is) c.requires.slot in
     let within = ends-within g.N.World.design g.N.World.plan w.begins w.ends (end_of w.last) own.window.stands.window in
     let phases : c.phases_before-phases.result ≡ length (window_phases g.N.World.design g.N.World.plan w.begins (w.begins + c.args.slot)) =
@@ -24,9 +24,9 @@ returns g c =
     c.phases_before-phases.ensures in
     subst (λ (k : WindowKept). Stands g.N.World.design process (activity_through g.N.World.design g.N.World.plan (k.before + c.args.slot) process) c.standing_after.result.now) c.self.view_is
     (Stands-before c.codes_are_one.ensures.read c.runs_lead.ensures.runs c.ends_go_on.ensures.part c.ends_go_on.ensures.stand c.ends_go_on.ensures.lead g.N.World.design g.N.World.plan w.begins
-    (w.begins + c.args.slot) w.ends w.phases c.phases_before-phases.result w.slots.items w.states.items w.runs.items w.index process c.index-first.result.now c.standing_after.result.now
-    own.window.events_are.rules own.window.stands.slots_are own.has_runs (omega arith) fits (omega (arith, own.window.stands.held)) within.1 c.requires.process
-    (slice_get_read w.states.items (length w.states.items) process c.index-first.result.now refl low c.index-first.ensures) phases
+    (w.begins + c.args.slot) w.ends w.phases c.phases_before-phases.result w.slots.times.items w.before.states.items w.slots.runs.items w.index process c.index-first.result.now c.standing_after.result.now
+    own.window.events_are.rules own.window.times_are own.has_runs (omega arith) fits within.1 c.requires.process
+    (slice_get_read w.before.states.items (length w.before.states.items) process c.index-first.result.now refl low c.index-first.ensures) phases
     (c.standing_after.ensures
     ∙ ap (standing_after c.index-first.result.now)
     (c.last_through.ensures ∙ ap (λ l. last_run process (runs_through c.phases_before-phases.result l)) c.deref.ensures.value)))

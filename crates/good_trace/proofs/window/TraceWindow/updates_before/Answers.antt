@@ -16,7 +16,7 @@ pub returns-then-slot-eq0 : goal.returns-then-slot-eq0
 returns-then-slot-eq0 g c =
     let w = c.self.inside in
     let process = process_number c.args.process in
-    let first = first-updates g.N.World.design g.N.World.plan w.begins process w.updates.items c.as_slice-first.result.now c.index.result.now c.self.invariant.has_updates c.requires.process
+    let first = first-updates g.N.World.design g.N.World.plan w.begins process w.before.updates.items c.as_slice-first.result.now c.index.result.now c.self.invariant.has_updates c.requires.process
     c.as_slice-first.ensures c.index.ensures in
     let begins = ap (λ (k : WindowKept). k.before) c.self.view_is in
     let e : w.begins ≡ c.args.self.now.before + c.args.slot = omega (arith, begins, c.if-slot-eq0.true) in
@@ -27,7 +27,7 @@ returns g c =
     let w = c.self.inside in
     let own = c.self.invariant in
     let process = process_number c.args.process in
-    let first = first-updates g.N.World.design g.N.World.plan w.begins process w.updates.items c.as_slice-first.result.now c.index.result.now own.has_updates c.requires.process
+    let first = first-updates g.N.World.design g.N.World.plan w.begins process w.before.updates.items c.as_slice-first.result.now c.index.result.now own.has_updates c.requires.process
     c.as_slice-first.ensures c.index.ensures in
     let fits : w.begins + c.args.slot ≤ w.ends = subst (λ (k : WindowKept). k.before + c.args.slot ≤ k.through) (sym c.self.view_is) c.requires.slot in
     let within = ends-within g.N.World.design g.N.World.plan w.begins w.ends (end_of w.last) own.window.stands.window in
@@ -36,9 +36,8 @@ returns g c =
     let there : suc (w.begins + (c.args.slot - 1)) ≡ c.args.self.now.before + c.args.slot = omega (arith, begins, c.if-slot-eq0.false) in
     c.in_ok-pending.ensures ∙ ap (λ l. pending_through process c.phases_before-phases.result c.slot_time-time.result (map due_of c.as_slice-first.result.now) l) c.deref.ensures.value
     ∙ pending-before c.updates_pend.ensures.updates c.ends_go_on.ensures.part c.ends_go_on.ensures.append own.has_runs.codes g.N.World.design g.N.World.plan w.begins
-    (w.begins + (c.args.slot - 1)) w.ends c.phases_before-phases.result c.slot_time-time.result process w.slots.items w.runs.items (map due_of c.as_slice-first.result.now)
-    own.window.events_are.rules own.has_runs.kept.codes_are own.window.stands.slots_are own.has_runs.kept.runs_are (omega arith) (omega (arith, fits, c.if-slot-eq0.false))
-    (omega (arith, own.window.stands.held)) within.1 c.requires.process
+    (w.begins + (c.args.slot - 1)) w.ends c.phases_before-phases.result c.slot_time-time.result process w.slots.times.items w.slots.runs.items (map due_of c.as_slice-first.result.now)
+    own.window.events_are.rules own.has_runs.kept.codes_are own.window.times_are own.has_runs.kept.runs_are (omega arith) (omega (arith, fits, c.if-slot-eq0.false)) within.1 c.requires.process
     (λ one here.
     c.slot_time-time.ensures one
     (ap (λ (k : WindowKept). slice_get (good_slots g.N.World.design g.N.World.plan) (k.before + (c.args.slot - 1))) (sym c.self.view_is) ∙ here))

@@ -15,8 +15,8 @@ returns g c =
     let object = object_number c.args.object in
     c.value_at.ensures
     ∙ ap (λ v. latest v object c.args.moment w.events.changes.writes)
-    (get_or_read w.values.items object c.index-first.result.now (omega (arith, c.requires, c.self.invariant.window.events_are.values_count)) c.index-first.ensures [])
-    ∙ subst (λ (k : WindowKept). latest (value_at w.values.items object) object c.args.moment w.events.changes.writes
+    (get_or_read w.before.values.items object c.index-first.result.now (omega (arith, c.requires, c.self.invariant.window.events_are.values_count)) c.index-first.ensures [])
+    ∙ subst (λ (k : WindowKept). latest (value_at w.before.values.items object) object c.args.moment w.events.changes.writes
     ≡ value_at (window_values g.N.World.design g.N.World.plan k.before k.through c.args.moment) object) c.self.view_is
-    (value-is g.N.World.design g.N.World.plan w.begins w.ends w.values.items w.events (end_of w.last) c.self.invariant.window.stands.window c.self.invariant.window.events_are object c.args.moment
+    (value-is g.N.World.design g.N.World.plan w.begins w.ends w.before.values.items w.events (end_of w.last) c.self.invariant.window.stands.window c.self.invariant.window.events_are object c.args.moment
     c.requires)

@@ -25,21 +25,21 @@ index-in objects count list all index numbers is had =
 pub refill-requires-clause-numbers : goal.refill-requires-clause-numbers
 refill-requires-clause-numbers c =
     low-in c.self.inside.objects (length c.self.inside.moments) c.deref-2.result.now (map at_moment c.deref.result.now) c.self.invariant.moments_are.numbers
-    (c.deref-2.ensures.value ∙ c.in_ok-list_moments.ensures)
+    (c.deref-2.ensures.value ∙ c.in_ok-list_changes.ensures.moments)
 
 pub refill-requires-clause-ascending : goal.refill-requires-clause-ascending
 refill-requires-clause-ascending c =
-    up-in c.self.inside.objects c.deref-2.result.now (map at_moment c.deref.result.now) (c.deref-2.ensures.value ∙ c.in_ok-list_moments.ensures)
+    up-in c.self.inside.objects c.deref-2.result.now (map at_moment c.deref.result.now) (c.deref-2.ensures.value ∙ c.in_ok-list_changes.ensures.moments)
     (moments-ascend c.deref.result.now (subst (λ (l : List Change). IsNonDecreasingBy change_moment l) (sym c.deref.ensures.value) c.requires))
 
 pub refill-requires-2-clause-numbers : goal.refill-requires-2-clause-numbers
 refill-requires-2-clause-numbers c =
-    low-in c.self.inside.objects (length c.self.inside.places) c.deref-4.result.now (at_places 0 c.deref-3.result.now) c.self.invariant.places_are.numbers
-    (c.deref-4.ensures.value ∙ c.in_ok-list_places.ensures)
+    low-in c.self.inside.objects (length c.self.inside.places) c.deref-3.result.now (at_places 0 c.deref.result.now) c.self.invariant.places_are.numbers
+    (c.deref-3.ensures.value ∙ c.in_ok-list_changes.ensures.places)
 
 pub refill-requires-2-clause-ascending : goal.refill-requires-2-clause-ascending
 refill-requires-2-clause-ascending c =
-    up-in c.self.inside.objects c.deref-4.result.now (at_places 0 c.deref-3.result.now) (c.deref-4.ensures.value ∙ c.in_ok-list_places.ensures) (places-ascend c.deref-3.result.now)
+    up-in c.self.inside.objects c.deref-3.result.now (at_places 0 c.deref.result.now) (c.deref-3.ensures.value ∙ c.in_ok-list_changes.ensures.places) (places-ascend c.deref.result.now)
 
 pub invariant_of-result : goal.invariant_of-result
 invariant_of-result c =
@@ -48,9 +48,9 @@ invariant_of-result c =
       moments_are =
           subst (λ (l : List Change). IsIndexOf c.self.inside.objects (map at_moment l) c.refill.new.self) (c.deref.ensures.value ∙ sym own)
           (index-in c.self.inside.objects (length c.self.inside.moments) c.deref-2.result.now (map at_moment c.deref.result.now) c.refill.new.self c.self.invariant.moments_are.numbers
-          (c.deref-2.ensures.value ∙ c.in_ok-list_moments.ensures) c.in_ok-refill.ensures.ok);
+          (c.deref-2.ensures.value ∙ c.in_ok-list_changes.ensures.moments) c.in_ok-refill.ensures.ok);
       places_are =
-          subst (λ (l : List Change). IsIndexOf c.self.inside.objects (at_places 0 l) c.refill-2.new.self) (c.deref-3.ensures.value ∙ sym own)
-          (index-in c.self.inside.objects (length c.self.inside.places) c.deref-4.result.now (at_places 0 c.deref-3.result.now) c.refill-2.new.self c.self.invariant.places_are.numbers
-          (c.deref-4.ensures.value ∙ c.in_ok-list_places.ensures) c.in_ok-refill-2.ensures.ok);
+          subst (λ (l : List Change). IsIndexOf c.self.inside.objects (at_places 0 l) c.refill-2.new.self) (c.deref.ensures.value ∙ sym own)
+          (index-in c.self.inside.objects (length c.self.inside.places) c.deref-3.result.now (at_places 0 c.deref.result.now) c.refill-2.new.self c.self.invariant.places_are.numbers
+          (c.deref-3.ensures.value ∙ c.in_ok-list_changes.ensures.places) c.in_ok-refill-2.ensures.ok);
     }
