@@ -59,6 +59,11 @@ def parameters_backwards(count, form):
     return top(*[f"localparam p{at} = {form.replace('N', f'p{at + 1}')};" for at in range(count)], f"localparam p{count} = 1;", "reg [p0 & 3:0] q;")
 
 
+def long_range(count, *last):
+    """A range whose first bound is a sum of as many times `a`, and of the names in `last`."""
+    return f"[{balanced_sum(['a'] * count + list(last))}:0]"
+
+
 def balanced_sum(names):
     """A sum of names whose parentheses are nested as little as may be."""
     half = len(names) // 2
@@ -134,11 +139,13 @@ GROWTH = [
     ("words of a memory, check", 16384, lambda n: checked(top(f"reg [7:0] m [1:{n}];"))),
     ("parameters, each of the next, check", 5000, lambda n: checked(parameters_backwards(n, "N + 1"))),
     ("parameters, each twice of the next, check", 5000, lambda n: checked(parameters_backwards(n, "N + N"))),
-    ("names of one range of as many operands, check", 2048, lambda n: checked(top("localparam a = 0;", f"wire [{balanced_sum(['a'] * n)}:0] " + ", ".join(numbered(n, "wI")) + ";"))),
+    ("names of one range of as many operands, check", 2048, lambda n: checked(top("localparam a = 0;", f"wire {long_range(n)} " + ", ".join(numbered(n, "wI")) + ";"))),
     ("ports of one range of as many operands, twice, check", 1024, lambda n: checked(
-        "module m(" + ", ".join(numbered(n, "iI")) + ");\nlocalparam a = 0;\n" + "".join(f"{kind} [{balanced_sum(['a'] * n)}:0] " + ", ".join(numbered(n, "iI")) + ";\n" for kind in ("input", "wire"))
+        "module m(" + ", ".join(numbered(n, "iI")) + ");\nlocalparam a = 0;\n" + "".join(f"{kind} {long_range(n)} " + ", ".join(numbered(n, "iI")) + ";\n" for kind in ("input", "wire"))
         + "endmodule\n" + top(*numbered(n, "wire wI;"), "m a(" + ", ".join(numbered(n, "wI")) + ");"))),
-    ("parameters of one range of as many operands, check", 2048, lambda n: checked(top("localparam a = 0;", f"localparam [{balanced_sum(['a'] * n)}:0] " + ", ".join(numbered(n, "pI = 1")) + ";"))),
+    ("parameters of one range of as many operands, check", 2048, lambda n: checked(top("localparam a = 0;", f"localparam {long_range(n)} " + ", ".join(numbered(n, "pI = 1")) + ";"))),
+    ("parameters of a range of later ones, each of one that waits, check", 2048, lambda n: checked(top(
+        f"localparam {long_range(n)} " + ", ".join(numbered(n, "pI = qI")) + ";", *[f"localparam q{at} = q{at + 1};" for at in range(n - 1)], f"localparam q{n - 1} = 1;", "localparam a = 0;"))),
     ("gates, each of the next, check", 6144, lambda n: checked(gates_backwards(n))),
     ("gates, each of the next, faults", 6144, lambda n: (["faults", "design", "top"], gates_backwards(n), "")),
     ("gates of one name, check", 8192, lambda n: checked(top("reg a;", *numbered(n, "wire wI; buf(wI, a);")))),
@@ -163,6 +170,17 @@ GROWTH = [
     ("writes of a slot, grade", 8000, lambda n: graded(top("reg q;", f"initial repeat ({n}) q = ~q;"), PLAN)),
     ("updates of a slot, grade", 8000, lambda n: graded(top("reg q;", f"initial repeat ({n}) q <= 1;"), PLAN)),
     ("slots, grade", 4000, lambda n: graded(top("reg q = 0;", "always #1 q = ~q;"), PLAN.replace("end 20", f"end {n}"))),
+]
+# As GROWTH, of texts that are refused: with the message. Their parameter z rests on itself, so what names it never has a value.
+REFUSED_GROWTH = [
+    ("ports of two ranges that wait, of as many operands, check", 1024, lambda n: checked(
+        "module top(" + ", ".join(numbered(n, "iI")) + ");\nparameter z = z; localparam a = 0;\n"
+        + "".join(f"{kind} {long_range(n, 'z')} " + ", ".join(numbered(n, "iI")) + ";\n" for kind in ("input", "wire")) + "endmodule\n"), refused("design 2:15: not a constant")),
+    ("parameters of a range that waits, each of one that gets its value, check", 2048, lambda n: checked(top(
+        "parameter z = z;", f"localparam {long_range(n, 'z')} " + ", ".join(numbered(n, "pI = qI")) + ";", *[f"localparam q{at} = q{at + 1};" for at in range(n - 1)], f"localparam q{n - 1} = 1;",
+        "localparam a = 0;")), refused("design 2:15: not a constant")),
+    ("parameters of a range that waits for a long name, check", 4000, lambda n: checked(top(
+        "parameter " + "z" * 16 * n, "= " + "z" * 16 * n + ";", f"localparam [{'z' * 16 * n}:0] " + ", ".join(numbered(n, "pI = 1")) + ";")), refused("design 3:3: not a constant")),
 ]
 # As GROWTH, of texts in which a module of n parts has n instances or a gate of n inputs as many faults, so that what they spell or ask for grows by 16: told, and not judged.
 PRODUCTS = [
@@ -239,11 +257,11 @@ def try_short(program, row):
     return right
 
 
-def try_growth(program, row, divide, start, most_growth=MOST_GROWTH):
+def try_growth(program, row, divide, start, wanted=(0, ""), most_growth=MOST_GROWTH):
     name, least, make = row
     counts = [max(least // divide, 1) * factor for factor in (1, 2, 4)]
     runs = [Run(program, *make(count)) for count in counts]
-    failed = next((f"{count}: {run.end()}" for count, run in zip(counts, runs) if run.status), None)
+    failed = next((f"{count}: {run.end()}" for count, run in zip(counts, runs) if (run.status, run.message) != wanted), None)
     if failed:
         print(f"{name}, {failed}")
     first, second, last = (max(run.seconds - start, 0.001) for run in runs)
@@ -280,7 +298,8 @@ def main():
     if not given.edges:
         print("\n| what grows | n | time of n | of 2n by n | of 4n by n | memory of 4n |\n|---|---|---|---|---|---|")
         right += [try_growth(program, row, given.divide, start) for row in GROWTH if chosen.search(row[0])]
-        right += [try_growth(program, row, given.divide, start, float("inf")) for row in PRODUCTS if chosen.search(row[0])]
+        right += [try_growth(program, row, given.divide, start, wanted) for *row, wanted in REFUSED_GROWTH if chosen.search(row[0])]
+        right += [try_growth(program, row, given.divide, start, most_growth=float("inf")) for row in PRODUCTS if chosen.search(row[0])]
     print(f"\nlimits: {right.count(True)} right, {right.count(False)} wrong")
     return 0 if all(right) else 1
 

@@ -69,11 +69,7 @@ pub(crate) fn close_events(
     evaluations.refill(&list.evaluations)?;
     steps.refill(&list.steps)?;
     // This takes the changes out of the list, so nothing that may fail comes behind it.
-    let changes = used_changes.refill(
-        &mut list.changes,
-        &mut own.touches,
-        &mut own.evaluations,
-    )?;
+    let changes = used_changes.refill(&mut list.changes, &mut own.touches, &mut own.evaluations)?;
     let count = list.moment;
     list.restart(0);
     Ok(Events {

@@ -6,12 +6,12 @@ use Rattle.v_tree.specs.Trees.{Identifier, same_name}
 use Rattle.v_names.specs.Scopes.{SignedValue, ScopeEntry, ScopeName, Scope, looked_up, is_waiting}
 use Rattle.v_names.specs.SizeViews.{signed_value}
 use Rattle.v_names.specs.declared.constant.Constant.{Constant}
-use Rattle.v_names.specs.Names.{Declaration, GivenParameter, given_of, given_if, meaning_of, meanings, scope_after}
+use Rattle.v_names.specs.Names.{Declaration, GivenParameter, given_of, given_if, meaning_of, meanings, is_parameter_declared, scope_after}
 use Rattle.module_scope.specs.Kept.{kept}
 use Rattle.module_scope.specs.Givens.{given_seen, given_first, value_or}
 use Rattle.module_scope.specs.Meanings.{meaning_with, meaning-is}
 use Rattle.v_names.specs.Meanings.{named_by}
-use Rattle.module_scope.specs.Settled.{waiting_left, IsSettled, AreStill, AreApart, IsTurn, IsPassed}
+use Rattle.module_scope.specs.Settled.{waiting_left, IsSettled, AreStill, AreApart, IsTurn, IsPassed, OnlyParametersWait}
 use Rattle.module_scope.proofs.Maps.{equal-same}
 use Rattle.module_scope.proofs.Apart.{found-at, not-declared}
 use Rattle.name_checks.specs.Rows.{drop-step, drop-past}
@@ -130,6 +130,21 @@ way-turn pairs ds old now new changed turned changed' i d rest apart below at w 
 pub way-end : (given : List GivenParameter) (ds : List Declaration) (old now : Scope) (changed : Bool) → IsUnderWay given ds old now changed [] → IsPassed given ds old now changed
 way-end given ds old now true w = (w.settled, w.fewer refl)
 way-end given ds old now false w = (w.settled, w.still refl tt)
+
+-- What waits
+
+parameter-at : (given : List GivenParameter) (ds : List Declaration) (scope : Scope) (i : ℕ) (d : Declaration) → AreApart ds → IsSettled given ds scope → i < length ds → d ≡ get_or ds i d →
+    OnlyParametersWait scope d
+parameter-at given ds scope i d apart s below at w =
+    let it = s.waits d.name w in
+    ap (λ (x : Declaration). is_parameter_declared x.declared) (some d it.0 (sym (found-at ds i d apart below at) ∙ it.1)) ∙ it.2
+  where
+    some : (a b : Declaration) → Some a ≡ Some b → a ≡ b
+    some a b e = cc
+
+pub parameter-seen : {A : Type 0} (view : A → Declaration) (xs : List A) (i : ℕ) (x : A) (given : List GivenParameter) (scope : Scope) → AreApart (map view xs) → IsSettled given (map view xs) scope →
+    i < length xs → x ≡ get_or xs i x → OnlyParametersWait scope (view x)
+parameter-seen view xs i x given scope apart s below at = parameter-at given (map view xs) scope i (view x) apart s (below-mapped view xs i below) (get-mapped view xs i x below at)
 
 -- A scope that is declared one name at a time
 

@@ -1,8 +1,11 @@
 -- The ranges of groups that are kept, where one more is kept or parameters get values.
 use Rattle.std.proofs.Common.{◌≡◌, ◌⊎◌, ℕ, Bool, true, false, ◌||◌, List, [], ◌∷◌, Option, Some, None, inl, inr, refl, sym, ap, ap₂, subst, ◌∙◌}
+use Rattle.std.specs.Borrow.{Bor}
 use Rattle.std.specs.List.{slice_get}
 use Rattle.v_tree.specs.Trees.{Identifier, SourceExpression, NamedPlace, named_in, same_name}
-use Rattle.v_names.specs.Scopes.{DeclaredRange, ScopeEntry, Scope, entry_if, looked_up, is_waiting}
+use Rattle.v_tree.specs.Views.{expression_of}
+use Rattle.v_tree.specs.declared.expression.Expr.{Expr}
+use Rattle.v_names.specs.Scopes.{SignedValue, DeclaredRange, ScopeEntry, Scope, entry_if, looked_up, is_waiting}
 use Rattle.v_names.specs.Readings.{number_or}
 use Rattle.v_names.specs.Constants.{some_waiting}
 use Rattle.v_names.specs.Names.{bound_number, range_of, bounds_wait, declared_bounds}
@@ -15,10 +18,12 @@ use Rattle.module_scope.specs.declared.declaration.GroupBounds.{GroupBounds}
 use Rattle.module_scope.specs.declared.declaration.Declared.{Declared}
 use Rattle.module_scope.specs.declared.declaration.Declared.TheVariants as declared
 use Rattle.module_scope.specs.declared.ranges.GroupRange.{GroupRange}
+use Rattle.module_scope.specs.declared.settled_ranges.SettledRanges.{SettledRanges}
 use Rattle.module_scope.specs.Declarations.{declared_seen}
-use Rattle.module_scope.specs.Groups.{group_bounds}
+use Rattle.module_scope.specs.Groups.{group_bounds, IsGrouped}
+use Rattle.module_scope.specs.Meanings.{meaning_with, parameter_by, parameter-by}
 use Rattle.module_scope.proofs.Maps.{same-equal}
-use Rattle.module_scope.specs.Ranges.{IsRangeIn, AreRanges, HasOneMore, IsSettledPart}
+use Rattle.module_scope.specs.Ranges.{kept_range, range_once_known, IsRangeIn, AreRanges, HasOneMore, AreSettledRanges}
 
 pub no-ranges : (scope : Scope) (groups : List Bounds) (kept : ℕ → Option GroupRange) → ((group : ℕ) → kept group ≡ None) → AreRanges scope groups kept
 no-ranges scope groups kept h = record { right = λ group bounds r at e. let no : None ≡ Some r = sym (h group) ∙ e in cc }
@@ -71,14 +76,47 @@ under-put s t name entry waits puts = record { agrees = λ other w. by other w (
     by other w false e = ap constant_part (sym (puts other ∙ ap (λ b. entry_if b entry (looked_up s other)) e))
 
 -- the ranges that don't wait are those in a scope that has more values
-pub ranges-under : (s t : Scope) (groups : List Bounds) (old new : ℕ → Option GroupRange) → Under s t → AreRanges s groups old → IsSettledPart old new → AreRanges t groups new
-ranges-under s t groups old new u before part = record { right = λ group bounds r at e. by group bounds r at (part.kept group r e) }
+range-under : (s t : Scope) (bounds : plain.Bounds) (r : GroupRange) → Under s t → r.waits ≡ false → IsRangeIn s bounds r → IsRangeIn t bounds r
+range-under s t bounds r u settled is =
+    let same = range-kept s t u bounds (sym is.waits ∙ settled) in
+    record { waits = is.waits ∙ same.0; range = is.range ∙ same.1 }
+
+pub ranges-under : (s t : Scope) (groups : List Bounds) (old new : SettledRanges) → Under s t → AreSettledRanges s groups old → new.known ≡ old.known → new.waiting ≡ None →
+    AreSettledRanges t groups new
+ranges-under s t groups old new u before same none = record {
+  are_ranges = record { right = λ group bounds r at e. let e' = old-kept group r e in range-under s t (bounds_seen bounds) r u (before.known group r e') (before.are_ranges.right group bounds r at e') };
+  known = λ group r e. before.known group r (old-kept group r e);
+  waiting = λ group bounds at e. let no : None ≡ Some group = sym none ∙ e in cc;
+}
   where
-    by : (group : ℕ) (bounds : Bounds) (r : GroupRange) → slice_get groups group ≡ Some bounds → (r.waits ≡ false) × (old group ≡ Some r) → IsRangeIn t (bounds_seen bounds) r
-    by group bounds r at h =
-        let is = before.right group bounds r at h.1 in
-        let same = range-kept s t u (bounds_seen bounds) (sym is.waits ∙ h.0) in
-        record { waits = is.waits ∙ same.0; range = is.range ∙ same.1 }
+    old-kept : (group : ℕ) (r : GroupRange) → kept_range new.known group ≡ Some r → kept_range old.known group ≡ Some r
+    old-kept group r e = sym (ap (λ k. kept_range k group) same) ∙ e
+
+-- Ranges while parameters get their values
+
+pub settled-more : (scope : Scope) (groups : List Bounds) (old new : SettledRanges) (group : ℕ) (range : GroupRange) (bounds : Bounds) → AreSettledRanges scope groups old →
+    HasOneMore group range (kept_range old.known) (kept_range new.known)
+    → new.waiting ≡ old.waiting → slice_get groups group ≡ Some bounds → range.waits ≡ false → IsRangeIn scope (bounds_seen bounds) range → AreSettledRanges scope groups new
+settled-more scope groups old new group range bounds before more same at settled is = record {
+  are_ranges = one-more scope groups (kept_range old.known) (kept_range new.known) group range bounds before.are_ranges more at is;
+  known = λ other r e. by other r (more.kept other r e);
+  waiting = λ other b there e. before.waiting other b there (sym same ∙ e);
+}
+  where
+    by : (other : ℕ) (r : GroupRange) → ((other ≡ group) × (r ≡ range)) ⊎ (kept_range old.known other ≡ Some r) → r.waits ≡ false
+    by other r (inl h) = ap (λ (x : GroupRange). x.waits) h.1 ∙ settled
+    by other r (inr h) = before.known other r h
+
+-- what a parameter means by its range while parameters get their values
+pub settled-meaning : (scope : Scope) (groups : List Bounds) (d : Declared) (is_local signed : Bool) (bounds : GroupBounds) (value : Bor Expr) (range : Option DeclaredRange)
+    (given : Option SignedValue) (entry : ScopeEntry) → d ≡ declared.Param is_local signed bounds value → IsGrouped groups d
+    → ((b : Bounds) → slice_get groups bounds.group ≡ Some b → range ≡ range_once_known scope (bounds_seen b)) → entry ≡ parameter_by scope signed range (expression_of value.now) given
+    → entry ≡ meaning_with scope given (declared_seen d)
+settled-meaning scope groups d is_local signed bounds value range given entry is grouped ranged means =
+    let at : slice_get groups bounds.group ≡ Some bounds.bounds = subst (λ (x : Declared). IsGrouped groups x) is grouped in
+    means ∙ ap (λ (r : Option DeclaredRange). parameter_by scope signed r (expression_of value.now) given) (ranged bounds.bounds at)
+    ∙ parameter-by scope signed (bounds_seen bounds.bounds) (expression_of value.now) given
+    ∙ sym (ap (λ (x : Declared). meaning_with scope given (declared_seen x)) is)
 
 -- The bounds of what is declared
 

@@ -35,6 +35,10 @@ abbrev pub AreApart : List Declaration → Type 0
 AreApart [] = Unit {0}
 AreApart (d ∷ ds) = NoneNamed d.name ds × AreApart ds
 
+-- what waits is a parameter
+abbrev pub OnlyParametersWait : Scope → Declaration → Type 0
+OnlyParametersWait scope d = waits_in scope d ≡ true → is_parameter_declared d.declared ≡ true
+
 -- a declaration got its value, or it has one or can't get one
 abbrev pub IsTurn : Option SignedValue → Declaration → Scope → Scope → Bool → Type 0
 IsTurn given d old new true =

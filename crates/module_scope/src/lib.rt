@@ -18,6 +18,7 @@ mod once;
 mod order;
 mod ranges;
 mod settle;
+mod settled_ranges;
 mod twice;
 
 pub use by_name::{declarations_by_name, declared_names, scope_of_module};

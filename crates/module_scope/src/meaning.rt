@@ -74,28 +74,29 @@ fn parameter_entry(signed: bool, range: BitRange, constant: Option<Constant>) ->
     }
 }
 
-/// A parameter's value by its range: what the instance gives, else that of its expression; none yet where it names a parameter that has none.
-fn parameter_by(
+/// A parameter's value by its range: what the instance gives, else that of its expression. It has none yet where the expression names a parameter without
+/// one, and where its range does, which isn't there then.
+pub fn parameter_by(
     alloc: Global,
     scope: &Scope<'_>,
     signed: bool,
-    range: GroupRange,
+    range: Option<BitRange>,
     value: &Expr,
     given: Option<Constant>,
 ) -> Result<Entry, NoMemory>
-    ensures { IfOk result (λ entry. entry_of entry ≡ parameter_by scope.now signed range.waits (range_seen range.range) (expression_of value.now) (option_map signed_value given)) }
+    ensures { IfOk result (λ entry. entry_of entry ≡ parameter_by scope.now signed (option_map range_seen range) (expression_of value.now) (option_map signed_value given)) }
 {
-    if range.waits {
+    let Some(range) = range else {
         return Ok(Entry::WaitingParam);
-    }
+    };
     match given {
-        Some(constant) => Ok(parameter_entry(signed, range.range, Some(constant))),
+        Some(constant) => Ok(parameter_entry(signed, range, Some(constant))),
         None => {
             if is_waiting(value, scope) {
                 return Ok(Entry::WaitingParam);
             }
-            let constant = constant_of(alloc, value, scope, context_width(range.range))?;
-            Ok(parameter_entry(signed, range.range, constant))
+            let constant = constant_of(alloc, value, scope, context_width(range))?;
+            Ok(parameter_entry(signed, range, constant))
         }
     }
 }
@@ -112,7 +113,7 @@ fn meaning_by(
 {
     match declared {
         Declared::Param { signed, value, .. } => {
-            let entry = parameter_by(alloc, scope, signed, range, value, given)?;
+            let entry = parameter_by(alloc, scope, signed, range.unless_waiting(), value, given)?;
             Ok(entry)
         }
         Declared::Port { is_reg, signed, .. } => Ok(vector_entry(is_reg, range.range, signed)),

@@ -1,13 +1,14 @@
 // The ranges of declarations by the parameters of a scope, evaluated once for all names that are declared together.
 
-ghost use Rattle.std.specs.Prelude.{◌≡◌, ◌<◌, ℕ, length, get_or, None, Some, OnOk, IfOk};
+ghost use Rattle.std.specs.Prelude.{◌≡◌, ◌<◌, ℕ, length, None, Some, OnOk, IfOk, option_map};
 ghost use Rattle.std.specs.List.{slice_get};
 ghost use Rattle.v_names.specs.Names.{bounds_wait, declared_bounds};
 ghost use Rattle.name_checks.specs.BoundViews.{bounds_seen};
+ghost use Rattle.name_checks.specs.RangeViews.{range_seen};
 ghost use Rattle.name_checks.specs.declared.bounds.Bounds.{Bounds};
 ghost use Rattle.module_scope.specs.Declarations.{declared_seen};
 ghost use Rattle.module_scope.specs.Groups.{group_bounds, IsGrouped};
-ghost use Rattle.module_scope.specs.Ranges.{waiting_range, kept_range, IsRangeIn, AreRanges, HasOneMore, IsSettledPart};
+ghost use Rattle.module_scope.specs.Ranges.{kept_range, unless_waiting, IsRangeIn, AreRanges, HasOneMore};
 
 use crate::declaration::{Declared, GroupBounds};
 use name_checks::{BitRange, Bounds, range_of};
@@ -15,25 +16,26 @@ use std::alloc::Global;
 use v_names::{Scope, is_waiting};
 use vf_base::NoMemory;
 
-/// The range of a group of declarations, and whether it names a parameter that has no value yet.
+/// The range of a group of declarations, and whether it names a parameter that has no value.
 #[derive(Clone, Copy)]
 pub struct GroupRange {
     pub waits: bool,
     pub range: BitRange,
 }
 
-/// The range of a group that names a parameter that has no value yet.
-#[derive(Clone, Copy)]
-pub struct WaitingRange {
-    pub group: usize,
-    pub range: BitRange,
+impl GroupRange {
+    /// The range, unless it waits.
+    pub fn unless_waiting(self) -> Option<BitRange>
+        ensures { option_map range_seen result ≡ unless_waiting self.waits (range_seen self.range) }
+    {
+        if self.waits { None } else { Some(self.range) }
+    }
 }
 
 /// The ranges of groups as far as they have been evaluated.
 #[derive(Drop)]
 pub struct GroupRanges {
-    known: Vec<Option<BitRange>>,
-    waiting: Option<WaitingRange>,
+    evaluated: Vec<Option<GroupRange>>,
 }
 
 impl GroupRanges {
@@ -41,81 +43,33 @@ impl GroupRanges {
     pub fn new(alloc: Global, groups: usize) -> Result<GroupRanges, NoMemory>
         ensures { IfOk result (λ ranges. (group : ℕ) → kept_range ranges group ≡ None) }
     {
-        let mut known = Vec::new(alloc);
-        known.resize(groups, None)?;
-        Ok(GroupRanges {
-            known,
-            waiting: None,
-        })
-    }
-
-    /// The range of a group that doesn't wait, if it has been evaluated.
-    fn known_range(&self, group: usize) -> Option<BitRange>
-        ensures { result ≡ get_or self.now.known.items group None }
-    {
-        if group >= self.known.len() {
-            return None;
-        }
-        self.known[group]
-    }
-
-    /// The range of a group that waits, if it has been evaluated.
-    fn waiting_range(&self, group: usize) -> Option<GroupRange>
-        ensures { result ≡ waiting_range self.now.waiting group }
-    {
-        match self.waiting {
-            None => None,
-            Some(waiting) => {
-                if waiting.group != group {
-                    return None;
-                }
-                Some(GroupRange {
-                    waits: true,
-                    range: waiting.range,
-                })
-            }
-        }
+        let mut evaluated = Vec::new(alloc);
+        evaluated.resize(groups, None)?;
+        Ok(GroupRanges { evaluated })
     }
 
     /// The range of a group, if it has been evaluated.
-    fn get(&self, group: usize) -> Option<GroupRange>
+    pub fn get(&self, group: usize) -> Option<GroupRange>
         ensures { result ≡ kept_range self.now group }
     {
-        match self.known_range(group) {
-            Some(range) => Some(GroupRange {
-                waits: false,
-                range,
-            }),
-            None => self.waiting_range(group),
+        if group >= self.evaluated.len() {
+            return None;
         }
+        self.evaluated[group]
     }
 
     /// Keeps the range of a group.
-    fn keep(&mut self, group: usize, range: GroupRange)
+    pub fn keep(&mut self, group: usize, range: GroupRange)
         ensures { HasOneMore group range (kept_range self.old) (kept_range self.new) }
     {
-        if range.waits {
-            self.waiting = Some(WaitingRange {
-                group,
-                range: range.range,
-            });
-            return;
+        if group < self.evaluated.len() {
+            self.evaluated[group] = Some(range);
         }
-        if group < self.known.len() {
-            self.known[group] = Some(range.range);
-        }
-    }
-
-    /// Forgets the ranges that wait, since a parameter has got its value.
-    pub fn forget_waiting(&mut self)
-        ensures { IsSettledPart (kept_range self.old) (kept_range self.new) }
-    {
-        self.waiting = None;
     }
 }
 
 /// Whether a bound names a parameter that has no value yet.
-fn bounds_wait(scope: &Scope<'_>, bounds: Bounds<'_>) -> bool
+pub fn bounds_wait(scope: &Scope<'_>, bounds: Bounds<'_>) -> bool
     ensures { result ≡ bounds_wait scope.now (bounds_seen bounds.entry) }
 {
     match bounds {

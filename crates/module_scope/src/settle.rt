@@ -12,14 +12,15 @@ ghost use Rattle.v_names.specs.SizeViews.{signed_value};
 ghost use Rattle.module_scope.specs.Declarations.{declared_seen, declaration_seen, declarations_seen};
 ghost use Rattle.module_scope.specs.Givens.{given_seen};
 ghost use Rattle.module_scope.specs.Groups.{IsGrouped, AreGrouped};
-ghost use Rattle.module_scope.specs.Ranges.{kept_range, AreRanges};
-ghost use Rattle.module_scope.specs.Settled.{waiting_left, AreApart, AreStill, IsPassed, IsSettled, IsTurn};
+ghost use Rattle.module_scope.specs.Ranges.{kept_range, AreRanges, AreSettledRanges};
+ghost use Rattle.module_scope.specs.Settled.{waiting_left, AreApart, AreStill, IsPassed, IsSettled, IsTurn, OnlyParametersWait};
 
 use crate::declaration::{Declaration, Declared};
-use crate::meaning::meaning_of;
+use crate::meaning::{meaning_of, parameter_by};
 use crate::name_map::NameMap;
 use crate::order::waiting_order;
 use crate::ranges::GroupRanges;
+use crate::settled_ranges::{SettledRanges, settled_range};
 use name_checks::Bounds;
 use std::alloc::Global;
 use v_names::{Constant, Entry, Scope};
@@ -77,17 +78,28 @@ fn settle<'m>(
     declaration: Declaration<'m>,
     given: Option<Constant>,
     groups: &[Bounds<'m>],
-    ranges: &mut GroupRanges,
+    ranges: &mut SettledRanges,
 ) -> Result<bool, NoMemory>
+    requires parameter { OnlyParametersWait scope.old (declaration_seen declaration) }
     requires grouped { IsGrouped groups.now declaration.declared }
-    requires ranges { AreRanges scope.old groups.now (kept_range ranges.old) }
+    requires ranges { AreSettledRanges scope.old groups.now ranges.old }
     ensures turn { IfOk result (λ changed. IsTurn (option_map signed_value given) (declaration_seen declaration.entry) scope.old scope.new changed) }
-    ensures ranges { OnOk result (AreRanges scope.new groups.now (kept_range ranges.new)) }
+    ensures ranges { OnOk result (AreSettledRanges scope.new groups.now ranges.new) }
 {
     if !is_waiting_name(scope, declaration.name) {
         return Ok(false);
     }
-    let entry = meaning_of(alloc, scope, given, declaration.declared, groups, ranges)?;
+    let Declared::Param {
+        signed,
+        bounds,
+        value,
+        ..
+    } = declaration.declared
+    else {
+        return Ok(false);
+    };
+    let range = settled_range(alloc, scope, groups, bounds.group, ranges)?;
+    let entry = parameter_by(alloc, scope, signed, range, value, given)?;
     if is_waiting_entry(&entry) {
         return Ok(false);
     }
@@ -110,14 +122,14 @@ fn pass<'m>(
     declared: &[Declaration<'m>],
     given: &NameMap<'_, Constant>,
     groups: &[Bounds<'m>],
-    ranges: &mut GroupRanges,
+    ranges: &mut SettledRanges,
 ) -> Result<bool, NoMemory>
     requires apart { AreApart (declarations_seen declared.now) }
     requires settled { IsSettled (given_seen given.now) (declarations_seen declared.now) scope.old }
     requires grouped { AreGrouped groups.now declared.now }
-    requires ranges { AreRanges scope.old groups.now (kept_range ranges.old) }
+    requires ranges { AreSettledRanges scope.old groups.now ranges.old }
     ensures passed { IfOk result (λ changed. IsPassed (given_seen given.now) (declarations_seen declared.now) scope.old scope.new changed) }
-    ensures ranges { OnOk result (AreRanges scope.new groups.now (kept_range ranges.new)) }
+    ensures ranges { OnOk result (AreSettledRanges scope.new groups.now ranges.new) }
 {
     let mut changed = false;
     'declared: for declaration in declared {
@@ -142,15 +154,15 @@ fn settle_at<'m>(
     given: &NameMap<'_, Constant>,
     groups: &[Bounds<'m>],
     place: usize,
-    ranges: &mut GroupRanges,
+    ranges: &mut SettledRanges,
 ) -> Result<(), NoMemory>
     requires apart { AreApart (declarations_seen declared.now) }
     requires settled { IsSettled (given_seen given.now) (declarations_seen declared.now) scope.old }
     requires grouped { AreGrouped groups.now declared.now }
-    requires ranges { AreRanges scope.old groups.now (kept_range ranges.old) }
+    requires ranges { AreSettledRanges scope.old groups.now ranges.old }
     ensures settled { OnOk result (IsSettled (given_seen given.now) (declarations_seen declared.now) scope.new) }
     ensures fewer { OnOk result (waiting_left scope.new (declarations_seen declared.now) ≤ waiting_left scope.old (declarations_seen declared.now)) }
-    ensures ranges { OnOk result (AreRanges scope.new groups.now (kept_range ranges.new)) }
+    ensures ranges { OnOk result (AreSettledRanges scope.new groups.now ranges.new) }
 {
     if place >= declared.len() {
         return Ok(());
@@ -168,15 +180,15 @@ fn settle_waiting<'m>(
     declared: &[Declaration<'m>],
     given: &NameMap<'_, Constant>,
     groups: &[Bounds<'m>],
-    ranges: &mut GroupRanges,
+    ranges: &mut SettledRanges,
 ) -> Result<(), NoMemory>
     requires apart { AreApart (declarations_seen declared.now) }
     requires settled { IsSettled (given_seen given.now) (declarations_seen declared.now) scope.old }
     requires grouped { AreGrouped groups.now declared.now }
-    requires ranges { AreRanges scope.old groups.now (kept_range ranges.old) }
+    requires ranges { AreSettledRanges scope.old groups.now ranges.old }
     ensures settled { OnOk result (IsSettled (given_seen given.now) (declarations_seen declared.now) scope.new) }
     ensures fewer { OnOk result (waiting_left scope.new (declarations_seen declared.now) ≤ waiting_left scope.old (declarations_seen declared.now)) }
-    ensures ranges { OnOk result (AreRanges scope.new groups.now (kept_range ranges.new)) }
+    ensures ranges { OnOk result (AreSettledRanges scope.new groups.now ranges.new) }
 {
     let order = waiting_order(alloc, scope, declared, given)?;
     'order: for place in &order {
@@ -192,15 +204,15 @@ fn settle_all<'m>(
     declared: &[Declaration<'m>],
     given: &NameMap<'_, Constant>,
     groups: &[Bounds<'m>],
-    ranges: &mut GroupRanges,
+    ranges: &mut SettledRanges,
 ) -> Result<(), NoMemory>
     requires apart { AreApart (declarations_seen declared.now) }
     requires settled { IsSettled (given_seen given.now) (declarations_seen declared.now) scope.old }
     requires grouped { AreGrouped groups.now declared.now }
-    requires ranges { AreRanges scope.old groups.now (kept_range ranges.old) }
+    requires ranges { AreSettledRanges scope.old groups.now ranges.old }
     ensures settled { OnOk result (IsSettled (given_seen given.now) (declarations_seen declared.now) scope.new) }
     ensures still { OnOk result (AreStill (given_seen given.now) scope.new (declarations_seen declared.now)) }
-    ensures ranges { OnOk result (AreRanges scope.new groups.now (kept_range ranges.new)) }
+    ensures ranges { OnOk result (AreSettledRanges scope.new groups.now ranges.new) }
 {
     'passes: loop {
         let changed = pass(alloc, scope, declared, given, groups, ranges)?;
@@ -246,8 +258,16 @@ pub fn scope_of<'m>(
     ensures { IfOk result (λ scope. scope ≡ scope_after (parameter_count (declarations_seen declared.now) + 1) (given_seen given.now) (declarations_seen declared.now)) }
 {
     let mut settled = waiting_scope(alloc, declared)?;
-    let mut ranges = GroupRanges::new(alloc, groups.len())?;
-    settle_all(alloc, &mut settled, declared, given, groups, &mut ranges)?;
+    let mut settled_ranges = SettledRanges::new(alloc, groups.len())?;
+    settle_all(
+        alloc,
+        &mut settled,
+        declared,
+        given,
+        groups,
+        &mut settled_ranges,
+    )?;
+    let mut ranges = settled_ranges.into_known();
     let scope = meanings(alloc, &settled, declared, given, groups, &mut ranges)?;
     Ok(scope)
 }

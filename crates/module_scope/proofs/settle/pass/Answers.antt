@@ -5,7 +5,7 @@ use Rattle.module_scope.specs.Kept.{kept}
 use Rattle.module_scope.specs.Givens.{given_seen}
 use Rattle.module_scope.specs.Settled.{IsTurn}
 use Rattle.module_scope.specs.Declarations.{declaration_seen, declarations_seen}
-use Rattle.module_scope.proofs.Passes.{way-start, way-step, way-last}
+use Rattle.module_scope.proofs.Passes.{parameter-seen, way-start, way-step, way-last}
 use Rattle.module_scope.proofs.Grouping.{grouped-at}
 use Rattle.module_scope.proofs.settle.pass.Goals as goal
 
@@ -34,3 +34,8 @@ returns-clause-passed c =
 pub settle-requires-clause-grouped : goal.settle-requires-clause-grouped
 settle-requires-clause-grouped c =
     grouped-at c.args.groups.now c.args.declared.now c.declared.declaration-index c.declaration-item.result c.requires.grouped c.declared-test.true c.declaration-item.is
+
+pub settle-requires-clause-parameter : goal.settle-requires-clause-parameter
+settle-requires-clause-parameter c =
+    parameter-seen declaration_seen c.args.declared.now c.declared.declaration-index c.declaration-item.result (given_seen c.args.given.now) c.declared.scope c.requires.apart
+    c.declared.invariant.way.settled c.declared-test.true c.declaration-item.is

@@ -1,0 +1,9 @@
+pub mod Places
+pub mod Reaches
+pub mod Parts
+pub mod Clashes
+pub mod Counted
+pub mod Pairs
+pub mod Entries
+pub mod Cuts
+pub mod Growth

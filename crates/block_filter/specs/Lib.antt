@@ -1,0 +1,3 @@
+pub mod Likes
+pub mod Blocks
+pub mod Suffice

@@ -1,0 +1,10 @@
+mod Lists
+mod Phases
+mod Updates
+mod Together
+mod Turned
+mod Passed
+mod Changed
+mod Slots
+mod Unequal
+mod Walked
