@@ -8,9 +8,8 @@ use Rattle.vf_base.specs.Lists.{has}
 use Rattle.vf_base.specs.declared.ids.NodeId.{NodeId}
 use Rattle.vf_base.specs.declared.ids.ObjectId.{ObjectId}
 use Rattle.v_design.specs.Designs.{FlatDesign}
-use Rattle.net_graph.specs.Tables.{readers_of}
-use Rattle.net_settle.specs.MarkLaws.{has-readers_of}
-use Rattle.net_settle.specs.Marked.{reads}
+use Rattle.net_graph.specs.ReaderLaws.{has-readers_of}
+use Rattle.net_graph.specs.Tables.{readers_of, reads}
 use Rattle.copy_laws.specs.Differences.{Ascend}
 use Rattle.copy_state.specs.Entries.{first_from}
 use Rattle.trace_window.specs.Moments.{Seen}

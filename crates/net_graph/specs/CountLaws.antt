@@ -62,6 +62,19 @@ WritesCounts-more from through outputs before later x value had within is = reco
       ];
 }
 
+-- the paths through a node over the counts before it are, cut at 2, those over all paths
+pub through_capped : (design : FlatDesign) → KeepsRules design → (from k : ℕ) (n : FlatNode) → slice_get design.nodes k ≡ Some n → (counts : List ℕ) →
+    length counts ≡ length design.objects → CountsBefore design from k counts →
+    min 2 (path_weight n.kind * sum_by (λ o. get_or counts o 0) (distinct_inputs n)) ≡ min 2 (path_weight n.kind * sum_by (all_paths design.nodes from) (distinct_inputs n))
+through_capped design rules from k n at counts sized had =
+    let inputs : (x : ℕ) → has (distinct_inputs n) x ≡ true → get_or counts x 0 ≡ min 2 (all_paths design.nodes from x) =
+    λ x reads.
+    let is_input : has n.inputs x ≡ true = has-without_repeats [] n.inputs x reads in
+    let in_counts : x < length design.objects = AllHold-has (λ o. o < length design.objects) n.inputs x (inputs_are_objects design k n rules at) is_input in
+    had x (omega arith) ∙ ap (min 2) (paths_before-driven design.nodes rules.ranked from k x (input_driven_below design.nodes rules.ranked k n at x is_input)) in
+    weight_capped n.kind (sum_by (λ o. get_or counts o 0) (distinct_inputs n)) (sum_by (all_paths design.nodes from) (distinct_inputs n))
+    (sum_capped (λ o. get_or counts o 0) (all_paths design.nodes from) (distinct_inputs n) inputs)
+
 -- one more node
 counts_stepped : (design : FlatDesign) → KeepsRules design → (from k : ℕ) (n : FlatNode) → slice_get design.nodes k ≡ Some n → (counts later : List ℕ) (through : ℕ) →
     length counts ≡ length design.objects → CountsBefore design from k counts →
@@ -73,14 +86,8 @@ counts_stepped design rules from k n at counts later through sized had is_throug
           let start : paths_before design.nodes from k o ≡ one_if (nat_eq from o) =
           paths_before-undriven design.nodes from k o
           (λ i m before i_at. false_from_ne_true (has m.outputs o) (λ also. both_ways (has n.outputs o) (rules.one_driver i k m n i_at at before o also) drives)) in
-          let inputs : (x : ℕ) → has (distinct_inputs n) x ≡ true → get_or counts x 0 ≡ min 2 (all_paths design.nodes from x) =
-          λ x reads.
-          let is_input : has n.inputs x ≡ true = has-without_repeats [] n.inputs x reads in
-          let in_counts : x < length design.objects = AllHold-has (λ o. o < length design.objects) n.inputs x (inputs_are_objects design k n rules at) is_input in
-          had x (omega arith) ∙ ap (min 2) (paths_before-driven design.nodes rules.ranked from k x (input_driven_below design.nodes rules.ranked k n at x is_input)) in
           let sums : min 2 (path_weight n.kind * sum_by (λ o. get_or counts o 0) (distinct_inputs n)) ≡ min 2 (path_weight n.kind * sum_by (all_paths design.nodes from) (distinct_inputs n)) =
-          weight_capped n.kind (sum_by (λ o. get_or counts o 0) (distinct_inputs n)) (sum_by (all_paths design.nodes from) (distinct_inputs n))
-          (sum_capped (λ o. get_or counts o 0) (all_paths design.nodes from) (distinct_inputs n) inputs) in
+          through_capped design rules from k n at counts sized had in
           let now : get_or later o 0 ≡ min 2 (one_if (nat_eq from o) + through) = writes.written o low drives in
           let more : paths_before design.nodes from (k + 1) o ≡ paths_before design.nodes from k o + paths_through (all_paths design.nodes from) o n = paths_before-more design.nodes from k n o at in
           let part : paths_through (all_paths design.nodes from) o n ≡ path_weight n.kind * sum_by (all_paths design.nodes from) (distinct_inputs n) =

@@ -3,6 +3,9 @@ pub mod Tables
 pub mod TableLaws
 pub mod RuleLaws
 pub mod CountLaws
+pub mod ReaderLaws
+pub mod Walks
+pub mod WalkLaws
 pub mod ConeLaws
 pub mod Loops
 pub mod WiringLaws

@@ -1,5 +1,5 @@
 -- What a graph keeps of a design: each node's inputs once, and who reads an object (continuous assignments and gates of IEEE 1364-2001, clause 6 and clause 7).
-use Rattle.std.specs.Prelude.{◌≡◌, ℕ, ◌+◌, ◌*◌, ◌<◌, Bool, true, false, List, [], ◌∷◌, map, length, min, Vec, get_or}
+use Rattle.std.specs.Prelude.{◌≡◌, ℕ, ◌+◌, ◌*◌, ◌<◌, Bool, true, false, List, [], ◌∷◌, map, length, min, Vec, get_or, Option, Some, None, slice_get}
 use Rattle.std.specs.declared.alloc.Global.{Global}
 use Rattle.vf_base.specs.declared.ids.ObjectId.{ObjectId}
 use Rattle.vf_base.specs.declared.ids.NodeId.{NodeId}
@@ -29,6 +29,15 @@ readers_from object number (node ∷ nodes) = before_if (has node.inputs object)
 -- the numbers of the nodes that read an object, ascending
 abbrev pub readers_of : FlatDesign → ℕ → List ℕ
 readers_of design object = readers_from object 0 design.nodes
+
+-- whether a node, if it is there, reads an object
+abbrev pub reads : ℕ → Option FlatNode → Bool
+reads object None = false
+reads object (Some node) = has node.inputs object
+
+-- whether the node of a number reads an object
+abbrev pub node_reads_at : FlatDesign → ℕ → ℕ → Bool
+node_reads_at design object number = reads object (slice_get design.nodes number)
 
 -- lists of objects as numbers
 abbrev pub object_lists : List (Vec ObjectId Global) → List (List ℕ)

@@ -9,21 +9,28 @@ ghost use Rattle.v_design.specs.Paths.{path_weight, one_if, paths};
 ghost use Rattle.v_design.specs.PlainDesigns.{design_of};
 ghost use Rattle.net_graph.specs.Tables.{AreCounts};
 ghost use Rattle.net_graph.specs.CountLaws.{WritesCounts};
+ghost use Rattle.net_graph.specs.Walks.{OnlyWalkedCount};
 
 use crate::graph::Graph;
+use crate::walk::{clear_walk, count_reached};
+use number_set::NumberSet;
 use std::alloc::Global;
 use v_design::{Design, Node, NodeKind};
 use vf_base::{NoMemory, ObjectId};
 
-/// Room for counting paths in the graph of a design, with the counts from the object that was asked of last.
+/// Room for counting paths in the graph of a design, with the counts from the object that was asked of last and the nodes through which they go.
 #[derive(Drop)]
 pub struct Marks<'d> {
     /// The design for which the marks were made.
     pub design: &'d Design,
     from: Option<ObjectId>,
     counts: Vec<u8>,
+    walked: NumberSet,
     pub ghost sized: { vec_len counts ≡ length (design_of design.now).objects },
+    pub ghost walked_sized: { walked.bound ≡ length (design_of design.now).nodes },
+    pub ghost is_object: { ForSome from (λ object. object_number object < vec_len counts) },
     pub ghost counted: { ForSome from (λ object. AreCounts (design_of design.now) (object_number object) counts.items) },
+    pub ghost only: { OnlyWalkedCount (design_of design.now).nodes walked from counts.items },
 }
 
 /// The sum of the counts of some objects, cut at 2.
@@ -64,7 +71,7 @@ fn with_start(from: ObjectId, object: ObjectId, through: u8) -> u8
 }
 
 /// Writes the counts of a node's outputs.
-fn write_counts(outputs: &[ObjectId], from: ObjectId, through: u8, counts: &mut Vec<u8>)
+pub(crate) fn write_counts(outputs: &[ObjectId], from: ObjectId, through: u8, counts: &mut Vec<u8>)
     requires are_objects { All (λ output. object_number output < vec_len counts.old) outputs.now }
     requires is_capped { through ≤ 2 }
     ensures same { vec_len counts.new ≡ vec_len counts.old }
@@ -75,42 +82,19 @@ fn write_counts(outputs: &[ObjectId], from: ObjectId, through: u8, counts: &mut 
     }
 }
 
-/// The counts before the first node: one path from the object to itself, by no node.
-fn start_counts(from: ObjectId, counts: &mut Vec<u8>)
-    requires { object_number from < vec_len counts.old }
-    ensures same { vec_len counts.new ≡ vec_len counts.old }
-    ensures start { (o : ℕ) → o < length counts.new.items → get_or counts.new.items o 0 ≡ one_if (nat_eq (object_number from) o) }
-{
-    'counts: for count in counts.iter_mut() {
-        *count = 0;
-    }
-    counts[from.0 as usize] = 1;
-}
-
-/// The counts of all objects, node by node.
-fn count_all(graph: &Graph, from: ObjectId, counts: &mut Vec<u8>)
-    requires sized { vec_len counts.old ≡ length (design_of graph.now.design.now).objects }
-    requires is_object { object_number from < vec_len counts.old }
-    ensures same { vec_len counts.new ≡ vec_len counts.old }
-    ensures counted { AreCounts (design_of graph.now.design.now) (object_number from) counts.new.items }
-{
-    start_counts(from, counts);
-    'nodes: for (number, node) in graph.design.nodes.as_slice().iter().enumerate() {
-        let through = paths_through_node(node, graph.inputs_of(number), counts);
-        write_counts(node.outputs.as_slice(), from, through, counts);
-    }
-}
-
 impl<'d> Marks<'d> {
     /// Room for the design of a graph.
     pub fn new(alloc: Global, graph: &Graph<'d>) -> Result<Marks<'d>, NoMemory>
         ensures { IfOk result (λ marks. marks.design.now ≡ graph.now.design.now) }
     {
+        let nodes = graph.design.nodes.as_slice().len();
         let counts = vec![in alloc; 0u8; graph.design.objects.as_slice().len()]?;
+        let walked = NumberSet::new(alloc, nodes as u32)?;
         Ok(Marks {
             design: graph.design,
             from: None,
             counts,
+            walked,
         })
     }
 }
@@ -128,14 +112,15 @@ impl<'d> Graph<'d> {
                 return;
             }
         }
-        work.from = None;
-        count_all(self, from, &mut work.counts);
+        clear_walk(self.design, work.from, &mut work.counts, &mut work.walked);
+        count_reached(self, from, &mut work.counts, &mut work.walked);
         work.from = Some(from);
     }
 
     /// The number of paths of nodes from an object to a net piece, 2 where there are more; a combinational block on a path counts twice.
     ///
-    /// The marks keep the counts from one object: asking of one object for many net pieces in a row costs one walk over the nodes.
+    /// The marks keep the counts from one object: asking of one object for many net pieces in a row costs one walk, over the nodes that it reaches and
+    /// a bit of each node between them. A walk takes no memory, and taking its counts away costs as much as it did.
     pub fn paths(&self, from: ObjectId, net: ObjectId, work: &mut Marks<'d>) -> u8
         requires is_object { object_number from < length (design_of self.now.design.now).objects }
         requires is_net { object_number net < length (design_of self.now.design.now).objects }

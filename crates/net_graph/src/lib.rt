@@ -13,6 +13,7 @@ mod count;
 mod graph;
 mod rank;
 mod spread;
+mod walk;
 
 pub use count::Marks;
 pub use graph::Graph;

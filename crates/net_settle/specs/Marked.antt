@@ -1,20 +1,11 @@
 -- Marked nodes: those that are still to be evaluated (continuous assignments and gates of IEEE 1364-2001, clause 6 and clause 7).
-use Rattle.std.specs.Prelude.{◌≡◌, ℕ, ◌<◌, Bool, true, false, not, ◌&&◌, ◌||◌, List, Option, Some, None, get_or, slice_get, nat_eq}
-use Rattle.vf_base.specs.Lists.{has}
-use Rattle.v_design.specs.Designs.{FlatNode, FlatDesign}
+use Rattle.std.specs.Prelude.{◌≡◌, ℕ, ◌<◌, Bool, true, false, not, ◌&&◌, ◌||◌, List, get_or, nat_eq}
+use Rattle.v_design.specs.Designs.{FlatDesign}
+use Rattle.net_graph.specs.Tables.{node_reads_at}
 
 -- whether a node is marked, no node past the last
 abbrev pub marked_at : List Bool → ℕ → Bool
 marked_at marks node = get_or marks node false
-
--- whether a node, if it is there, reads an object
-abbrev pub reads : ℕ → Option FlatNode → Bool
-reads object None = false
-reads object (Some node) = has node.inputs object
-
--- whether the node of a number reads an object
-abbrev pub node_reads_at : FlatDesign → ℕ → ℕ → Bool
-node_reads_at design object number = reads object (slice_get design.nodes number)
 
 -- exactly the readers of an object are marked besides
 abbrev pub MarksReaders : FlatDesign → ℕ → List Bool → List Bool → Type 0

@@ -14,7 +14,8 @@ use Rattle.v_design.specs.States.{NodeState, State, Evaluation, NetUpdate, found
 use Rattle.v_design.specs.Runs.{work_of, named_event, least_work}
 use Rattle.graph_order.specs.ListLaws.{or-false}
 use Rattle.node_eval.specs.ValuesOf.{AreValuesOf}
-use Rattle.net_settle.specs.Marked.{marked_at, reads, MarksReaders, NoneMarked, IsLeastMarked}
+use Rattle.net_graph.specs.Tables.{reads}
+use Rattle.net_settle.specs.Marked.{marked_at, MarksReaders, NoneMarked, IsLeastMarked}
 use Rattle.net_state.specs.Held.{node_marked, marks_with}
 
 -- Marks

@@ -4,7 +4,7 @@ use Rattle.std.proofs.lemmas.Option.{slice_get-get_or}
 use Rattle.vf_base.specs.Base.{object_number, node_number}
 use Rattle.v_design.specs.PlainDesigns.{design_of}
 use Rattle.net_graph.specs.Tables.{readers_of}
-use Rattle.net_settle.specs.MarkLaws.{readers_below}
+use Rattle.net_graph.specs.ReaderLaws.{readers_below}
 use Rattle.trace_window.specs.Moments.{window_events}
 use Rattle.copy_skip.proofs.Limited.{yet-more, none-reads}
 use Rattle.copy_skip.proofs.limits.readers_limit.Goals as goal

@@ -1,7 +1,8 @@
 use Rattle.std.proofs.Common.{rules, map, ◌≤◌}
 use Rattle.vf_base.specs.Base.{object_number, node_number}
 use Rattle.v_design.specs.PlainDesigns.{design_of}
-use Rattle.net_settle.specs.MarkLaws.{readers_below, MarksReaders-all, none-past, none-below}
+use Rattle.net_graph.specs.ReaderLaws.{readers_below}
+use Rattle.net_settle.specs.MarkLaws.{MarksReaders-all, none-past, none-below}
 use Rattle.net_settle.proofs.settle.Settle.change.Goals as goal
 
 pub past_of-past-requires-clause-are_nodes : goal.past_of-past-requires-clause-are_nodes
