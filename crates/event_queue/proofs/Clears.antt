@@ -1,5 +1,5 @@
 -- Processes that are let go of one by one.
-use Rattle.std.proofs.Common.{◌≡◌, ℕ, zero, suc, ◌+◌, ◌<◌, ◌≤◌, List, [], ◌∷◌, length, map, get_or, refl, sym, ◌∙◌, ap, arith, add-one}
+use Rattle.std.proofs.Common.{◌≡◌, ℕ, zero, suc, ◌+◌, ◌<◌, ◌≤◌, List, [], ◌∷◌, length, get_or, refl, sym, ◌∙◌, ap, arith, add-one}
 use Rattle.vf_base.specs.Lists.{change_at}
 use Rattle.event_queue.specs.Queues.{HeldProcess, nothing_held, held_at, repeated}
 use Rattle.event_queue.specs.declared.held.Held.{Held}

@@ -8,3 +8,4 @@ pub mod NextTimes
 pub mod NothingHeld
 pub mod Clears
 pub mod Turns
+pub mod Removed

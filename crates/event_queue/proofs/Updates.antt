@@ -1,17 +1,20 @@
 -- How the lanes of a time follow the appends of updates.
 use Rattle.std.proofs.Common.{◌≡◌, ℕ, zero, suc, ◌+◌, ◌<◌, ◌≤◌, Bool, true, false, List, [], ◌∷◌, ◌++◌, length, map, filter, cond, Option, Some, refl, sym, ◌∙◌, ap, arith, nat_eq, nat_lt, nat_cmp}
-use Rattle.std.proofs.Common.{add-zero, zero-add, subst}
+use Rattle.std.proofs.Common.{add-zero, zero-add, subst, take, get_or, append_assoc}
+use Rattle.std.proofs.lemmas.List.{take_more, map_push}
 use Rattle.std.specs.Option.{option_map}
 use Rattle.std.specs.BTreeMap.{BTreeMap, get}
 use Rattle.std.proofs.lemmas.Bool.{lt-ltb, le-ltb, ne_eqb, eq-eqb, eqb-true}
 use Rattle.vf_base.specs.Lists.{AllHold, change_at}
 use Rattle.v_design.specs.Assignments.{ValueUpdate}
 use Rattle.v_design.specs.States.{LaterUpdate, is_any}
-use Rattle.v_design.specs.Plain.{update_of}
+use Rattle.v_design.specs.Plain.{due_of, update_of}
+use Rattle.v_design.specs.declared.plan.Due.{Due}
 use Rattle.vf_base.specs.declared.ids.ProcId.{ProcId}
 use Rattle.v_design.specs.declared.plan.Update.{Update}
-use Rattle.event_queue.specs.Queues.{HeldProcess, held_at, with_later, is_postponed, lane_if, lanes_from}
+use Rattle.event_queue.specs.Queues.{HeldProcess, held_at, with_later, with_laters, is_postponed, lane_if, lanes_from}
 use Rattle.event_queue.specs.Arranged.{wakes_at, is_at, updates_at, lane_of, listed_in, list_or_none, IsArranged, ListsAt, update_before, with_update, process_of}
+use Rattle.event_queue.specs.ChangeLaws.{change-twice}
 use Rattle.event_queue.proofs.Numbers.{numbers_where-from, lanes_from-numbers}
 use Rattle.event_queue.proofs.Arrangements.{numbers_where-change_at, lanes_from-change_at, lanes-list}
 
@@ -149,3 +152,16 @@ module _ (held : List HeldProcess) (postponed : List ProcId) (sleepers : BTreeMa
             (cond b (Some (with_update p u (list_or_none (get nat_cmp lanes t)))) (get nat_cmp lanes q)) ≡ z
         mapped q z true f g = f refl
         mapped q z false f g = g refl
+
+-- one update more behind others
+pub laters-more : (held : List HeldProcess) (p : ℕ) (later : List LaterUpdate) (one : LaterUpdate) →
+    change_at (change_at held p (with_laters later)) p (with_later one) ≡ change_at held p (with_laters (later ++ one ∷ []))
+laters-more held p later one =
+    change-twice held p (with_laters later) (with_later one)
+    ∙ (λ i. change_at held p (λ (h : HeldProcess). record { holding = h.holding; later = append_assoc h.later later (one ∷ []) i }))
+
+-- and one more taken of some
+pub taken-more : (updates : List Due) (i : ℕ) (due : Due) → i < length updates → due ≡ get_or updates i due →
+    map due_of (take i updates) ++ due_of due ∷ [] ≡ map due_of (take (i + 1) updates)
+taken-more updates i due low is =
+    sym (ap (map due_of) (take_more updates i due low ∙ ap (λ (d : Due). take i updates ++ d ∷ []) (sym is)) ∙ map_push due_of (take i updates) due)

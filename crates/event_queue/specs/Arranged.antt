@@ -2,6 +2,7 @@
 use Rattle.std.specs.Prelude.{◌≡◌, ℕ, zero, suc, ◌<◌, ◌≤◌, Bool, true, false, not, List, [], ◌∷◌, ◌++◌, map, filter, Option, Some, None, nat_eq, nat_lt, cond}
 use Rattle.std.specs.Option.{option_map, IsSome}
 use Rattle.std.specs.List.{slice_index_or}
+use Rattle.std.specs.List.Sorted.{IsPartitionPoint}
 use Rattle.std.specs.Vec.{vec_len, vec_capacity}
 use Rattle.std.specs.Ordering.{nat_cmp}
 use Rattle.std.specs.BTreeMap.{BTreeMap, get}
@@ -144,3 +145,30 @@ TakesLanes time old None new = (some_in (λ (h : HeldProcess). some_in (is_at ti
 TakesLanes time old (Some lanes) new =
     (some_in (λ (h : HeldProcess). some_in (is_at time) h.later) old ≡ true) × (map lane_of lanes ≡ lanes_from (updates_at time) 0 old)
     × (new ≡ map (without_at time) old)
+
+-- Removals from the lists of a time
+
+-- the place of a number in a list that ascends by numbers: that of the first that isn't below it
+abbrev pub IsPlaceOf : {A : Type 0} → (A → ℕ) → ℕ → List A → ℕ → Type 0
+IsPlaceOf f number xs place = IsPartitionPoint (λ y. nat_lt (f y) number ≡ true) (λ y. nat_lt (f y) number ≡ false) xs place
+
+-- a list without a process
+abbrev pub without_process : ProcId → List ProcId → List ProcId
+without_process process processes = filter (λ (other : ProcId). not (nat_eq other.0 process.0)) processes
+
+-- lanes without that of a process
+abbrev pub without_lane : ProcId → List (ProcId × List Update) → List (ProcId × List Update)
+without_lane process lanes = filter (λ (lane : ProcId × List Update). not (nat_eq lane.0.0 process.0)) lanes
+
+-- the list that a map has at a time is changed, and it has what it had at all others
+abbrev pub ChangesAt : {A : Type 0} → ℕ → (List A → List A) → BTreeMap ℕ (List A) → BTreeMap ℕ (List A) → Type 0
+ChangesAt time change old new = (t : ℕ) → get nat_cmp new t ≡ cond (nat_eq time t) (option_map change (get nat_cmp old t)) (get nat_cmp old t)
+
+-- the same, and the time has no list where it is empty then
+abbrev pub RemovesAt : {A : Type 0} → ℕ → (List A → List A) → BTreeMap ℕ (List A) → BTreeMap ℕ (List A) → Type 0
+RemovesAt time change old new = (t : ℕ) → get nat_cmp new t ≡ cond (nat_eq time t) (listed_in (change (list_or_none (get nat_cmp old t)))) (get nat_cmp old t)
+
+-- the lanes of a process are gone at the times of some updates
+abbrev pub RemovesLanes : ProcId → List LaterUpdate → BTreeMap ℕ (List (ProcId × List Update)) → BTreeMap ℕ (List (ProcId × List Update)) → Type 0
+RemovesLanes process later old new =
+    (t : ℕ) → get nat_cmp new t ≡ cond (some_in (is_at t) later) (listed_in (without_lane process (list_or_none (get nat_cmp old t)))) (get nat_cmp old t)

@@ -2,3 +2,4 @@ pub mod Queues
 pub mod Arranged
 pub mod Regions
 pub mod TurnLaws
+pub mod ChangeLaws

@@ -48,6 +48,18 @@ with_holding holding held = record held { holding = holding }
 abbrev pub with_later : LaterUpdate → HeldProcess → HeldProcess
 with_later later held = record held { later = held.later ++ later ∷ [] }
 
+-- a process with more nonblocking updates
+abbrev pub with_laters : List LaterUpdate → HeldProcess → HeldProcess
+with_laters laters held = record held { later = held.later ++ laters }
+
+-- a process with these nonblocking updates in the place of its own
+abbrev pub with_updates : List LaterUpdate → HeldProcess → HeldProcess
+with_updates later held = record held { later = later }
+
+-- a process that is held so, with these nonblocking updates
+abbrev pub held_with : Holding → List LaterUpdate → HeldProcess
+held_with holding later = record { holding = holding; later = later }
+
 -- Tests of one process
 
 -- postponed by a delay of 0

@@ -21,9 +21,9 @@ pub struct Held {
 }
 
 impl Held {
-    ghost use Rattle.std.specs.Prelude.{◌≡◌, ◌<◌, OnOk, vec_len, vec_capacity};
+    ghost use Rattle.std.specs.Prelude.{◌≡◌, ◌<◌, [], OnOk, vec_len, vec_capacity};
     ghost use Rattle.v_design.specs.Plain.{due_of};
-    ghost use Rattle.event_queue.specs.Queues.{nothing_held, with_holding, with_later};
+    ghost use Rattle.event_queue.specs.Queues.{nothing_held, with_holding, with_later, with_updates};
     ghost use Rattle.event_queue.specs.Arranged.{held_process, without_at};
 
     /// Holds the process so.
@@ -38,6 +38,13 @@ impl Held {
         ensures { held_process self.new ≡ nothing_held }
     {
         self.holding = Holding::Free;
+        self.later.clear();
+    }
+
+    /// Lets go of the updates.
+    pub fn clear_updates(&mut self)
+        ensures { held_process self.new ≡ with_updates [] (held_process self.old) }
+    {
         self.later.clear();
     }
 

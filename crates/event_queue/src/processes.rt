@@ -1,12 +1,12 @@
 // Changes of what is held by process.
 
-ghost use Rattle.std.specs.Prelude.{◌≡◌, ◌<◌, length, map, List, OnOk};
+ghost use Rattle.std.specs.Prelude.{◌≡◌, ◌<◌, length, map, List, [], OnOk};
 ghost use Rattle.vf_base.specs.Lists.{AllHold, change_at};
 ghost use Rattle.vf_base.specs.Base.{process_number};
 ghost use Rattle.vf_base.specs.declared.ids.ProcId.{ProcId};
 ghost use Rattle.v_design.specs.declared.plan.Update.{Update};
 ghost use Rattle.v_design.specs.Plain.{due_of};
-ghost use Rattle.event_queue.specs.Queues.{HeldProcess, held_at, nothing_held, repeated, with_holding, with_later};
+ghost use Rattle.event_queue.specs.Queues.{HeldProcess, held_at, nothing_held, repeated, with_holding, with_later, with_updates};
 ghost use Rattle.event_queue.specs.declared.held.Holding.TheVariants as Holding;
 ghost use Rattle.event_queue.specs.Arranged.{HasRoom, held_by_process, without_at, lane_number, changed_each};
 
@@ -96,4 +96,21 @@ pub fn updates_of(processes: &[Held], process: ProcId) -> &[Due]
     ensures { map due_of result.now ≡ (held_at (held_by_process processes.now) process.0).later }
 {
     processes[process.0 as usize].later.as_slice()
+}
+
+/// How a process is held.
+pub fn holding_of(processes: &[Held], process: ProcId) -> Holding
+    requires { process.0 < length processes.now }
+    ensures { result ≡ (held_at (held_by_process processes.now) process.0).holding }
+{
+    processes[process.0 as usize].holding
+}
+
+/// Lets go of the updates of a process.
+pub fn clear_updates(processes: &mut [Held], process: ProcId)
+    requires { process.0 < length processes.old }
+    ensures { held_by_process processes.new ≡ change_at (held_by_process processes.old) process.0 (with_updates []) }
+{
+    let held = &mut processes[process.0 as usize];
+    held.clear_updates();
 }

@@ -1,13 +1,13 @@
 // The queue of turns.
 
-ghost use Rattle.std.specs.Prelude.{◌≡◌, ◌<◌, ◌↔◌, length, map, OnOk, OnErr, IfOk, IsNone, Some};
+ghost use Rattle.std.specs.Prelude.{◌≡◌, ◌<◌, ◌↔◌, [], length, map, OnOk, OnErr, IfOk, IsNone, IsTrue, Some};
 ghost use Rattle.std.specs.Option.{option_map};
 ghost use Rattle.vf_base.specs.Base.{process_number};
 ghost use Rattle.vf_base.specs.Lists.{AllHold, change_at};
 ghost use Rattle.v_design.specs.Plain.{due_of, update_of};
 ghost use Rattle.v_design.specs.States.{some_in, is_due};
 ghost use Rattle.event_queue.specs.Queues.{HeldProcess, is_postponed, repeated, nothing_held, held_at, with_holding};
-ghost use Rattle.event_queue.specs.Queues.{with_later, ComesAfter, HoldsNothing, next_time, next_region, released, held_after};
+ghost use Rattle.event_queue.specs.Queues.{with_later, with_laters, with_updates, held_with, ComesAfter, HoldsNothing, next_time, next_region, released, held_after};
 ghost use Rattle.event_queue.specs.Arranged.{processes_where, wakes_at, TakesPostponed, TakesLanes};
 ghost use Rattle.event_queue.specs.declared.held.Holding.TheVariants as Holding;
 ghost use Rattle.event_queue.specs.Regions.{turn_region};
@@ -15,9 +15,11 @@ ghost use Rattle.event_queue.specs.Regions.{turn_region};
 use crate::calendar::{Lanes, Sleepers, add_sleeper, add_update, earlier, first_time, put_process};
 use crate::held::{Held, Holding};
 use crate::processes::{
-    clear_all, drop_each, free_each, hold, push_update, reserve_update, updates_of,
+    clear_all, clear_updates, drop_each, free_each, hold, holding_of, push_update, reserve_update,
+    updates_of,
 };
 use crate::region::Region;
+use crate::removals::{remove_lanes, remove_process, remove_sleeper};
 use std::alloc::Global;
 use std::collections::BTreeMap;
 use std::marker::Model;
@@ -126,6 +128,135 @@ impl Queue {
         add_update(self.alloc, &mut self.lanes, time, process, &update)?;
         push_update(&mut self.processes, process, Due { time, update });
         Ok(())
+    }
+
+    /// Appends nonblocking updates of a process, in order.
+    ///
+    /// # Errors
+    ///
+    /// Want of memory; what is held of the process is then not told.
+    pub fn schedule_updates(&mut self, process: ProcId, updates: &[Due]) -> Result<(), NoMemory>
+        requires { process_number process < length self.old }
+        ensures { OnOk result (self.new ≡ change_at self.old (process_number process) (with_laters (map due_of updates.now))) }
+    {
+        'updates: for due in updates {
+            self.schedule_update(process, due.time, due.update)?;
+        }
+        Ok(())
+    }
+
+    /// A process has these nonblocking updates in the place of its own, in the order of their appends. It is held as it was.
+    ///
+    /// # Errors
+    ///
+    /// Want of memory; what is held of the process is then not told.
+    pub fn put_updates(&mut self, process: ProcId, updates: &[Due]) -> Result<(), NoMemory>
+        requires { process_number process < length self.old }
+        ensures { OnOk result (self.new ≡ change_at self.old (process_number process) (with_updates (map due_of updates.now))) }
+    {
+        self.drop_updates(process);
+        self.schedule_updates(process, updates)
+    }
+
+    /// A process is held so, with these nonblocking updates, in the order of their appends, whatever was held of it before. All others stay as they are.
+    ///
+    /// # Errors
+    ///
+    /// Want of memory; what is held of the process is then not told.
+    pub fn replace(
+        &mut self,
+        process: ProcId,
+        holding: Holding,
+        updates: &[Due],
+    ) -> Result<(), NoMemory>
+        requires { process_number process < length self.old }
+        ensures { OnOk result (self.new ≡ change_at self.old (process_number process) (λ (old : HeldProcess). held_with holding (map due_of updates.now))) }
+    {
+        self.put_updates(process, updates)?;
+        self.put_holding(process, holding)
+    }
+
+    /// How a process is held.
+    fn holding(&self, process: ProcId) -> Holding
+        requires { process_number process < length self.now }
+        ensures { result ≡ (held_at self.now (process_number process)).holding }
+    {
+        holding_of(&self.processes, process)
+    }
+
+    /// Lets go of the updates of a process.
+    fn drop_updates(&mut self, process: ProcId)
+        requires { process_number process < length self.old }
+        ensures { self.new ≡ change_at self.old (process_number process) (with_updates []) }
+    {
+        let updates = updates_of(&self.processes, process);
+        remove_lanes(self.alloc, &mut self.lanes, process, updates);
+        clear_updates(&mut self.processes, process);
+    }
+
+    /// Lets go of a process that sleeps until a time.
+    fn release_sleeper(&mut self, process: ProcId, time: u64)
+        requires number { process_number process < length self.old }
+        requires asleep { (held_at self.old (process_number process)).holding ≡ Holding.Asleep time }
+        ensures { self.new ≡ change_at self.old (process_number process) (with_holding Holding.Free) }
+    {
+        remove_sleeper(self.alloc, &mut self.sleepers, time, process);
+        hold(&mut self.processes, process, Holding::Free);
+    }
+
+    /// Lets go of a process that is postponed.
+    fn release_postponed(&mut self, process: ProcId)
+        requires number { process_number process < length self.old }
+        requires postponed { (held_at self.old (process_number process)).holding ≡ Holding.Postponed }
+        ensures { self.new ≡ change_at self.old (process_number process) (with_holding Holding.Free) }
+    {
+        remove_process(self.alloc, &mut self.postponed, process);
+        hold(&mut self.processes, process, Holding::Free);
+    }
+
+    /// Lets go of a process, whose updates stay.
+    fn release(&mut self, process: ProcId)
+        requires { process_number process < length self.old }
+        ensures { self.new ≡ change_at self.old (process_number process) (with_holding Holding.Free) }
+    {
+        match self.holding(process) {
+            Holding::Free => {}
+            Holding::Asleep(time) => self.release_sleeper(process, time),
+            Holding::Postponed => self.release_postponed(process),
+        }
+    }
+
+    /// Whether a process is held so.
+    fn is_held(&self, process: ProcId, holding: Holding) -> bool
+        requires { process_number process < length self.now }
+        ensures { IsTrue result → (held_at self.now (process_number process)).holding ≡ holding }
+    {
+        self.holding(process) == holding
+    }
+
+    /// Holds a process so that isn't held. Its updates stay.
+    fn hold_free(&mut self, process: ProcId, holding: Holding) -> Result<(), NoMemory>
+        requires number { process_number process < length self.old }
+        requires free { (held_at self.old (process_number process)).holding ≡ Holding.Free }
+        ensures { OnOk result (self.new ≡ change_at self.old (process_number process) (with_holding holding)) }
+    {
+        match holding {
+            Holding::Asleep(time) => self.sleep(process, time),
+            Holding::Postponed => self.postpone(process),
+            Holding::Free => Ok(()),
+        }
+    }
+
+    /// Holds a process so, whatever held it before. Its updates stay.
+    fn put_holding(&mut self, process: ProcId, holding: Holding) -> Result<(), NoMemory>
+        requires { process_number process < length self.old }
+        ensures { OnOk result (self.new ≡ change_at self.old (process_number process) (with_holding holding)) }
+    {
+        if self.is_held(process, holding) {
+            return Ok(());
+        }
+        self.release(process);
+        self.hold_free(process, holding)
     }
 
     /// The least time at which a process that is held asleep wakes or an update that is held is due; `None` where there is no such time.

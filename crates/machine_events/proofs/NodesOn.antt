@@ -2,7 +2,7 @@
 use Rattle.std.proofs.Common.{◌≡◌, ℕ, zero, suc, ◌<◌, List, [], ◌∷◌, ◌++◌, not, ◌&&◌, map, length, refl, sym, ap, subst, ◌∙◌, arith}
 use Rattle.std.specs.Prelude.{Option, Some, None, slice_get}
 use Rattle.std.specs.List.{All}
-use Rattle.vf_base.specs.Base.{object_number}
+use Rattle.vf_base.specs.Base.{object_number, process_number}
 use Rattle.four_value.specs.Values.{LogicValue, same_value}
 use Rattle.vf_base.specs.Lists.{has, AllHold, joined, map_numbered}
 use Rattle.v_design.specs.Designs.{FlatNode, Machine}
@@ -21,8 +21,11 @@ use Rattle.net_state.specs.States.{machine_in, values_in, nodes_in, AreNetsOf}
 use Rattle.net_state.specs.TellLaws.{WorkTells, work-tells}
 use Rattle.process_table.specs.declared.table.ProcessTable.{ProcessTable}
 use Rattle.process_table.specs.Tables.{TableState, IsTableOf, is_woken}
-use Rattle.process_table.specs.Arranged.{IsKept, table_of}
+use Rattle.process_table.specs.Arranged.{table_of}
 use Rattle.machine_laws.specs.WriteTells.{woken-numbers}
+use Rattle.causal_monitor.specs.Notes.{noted_access}
+use Rattle.machine_events.specs.declared.told.Told.{Told}
+use Rattle.machine_events.specs.Alone.{NodeHappens}
 use Rattle.machine_events.specs.Parts.{AreBothOf, Leads}
 use Rattle.machine_events.specs.PartLaws.{happened-node}
 
@@ -81,37 +84,45 @@ woken-table machine state last old new changes had woke time processes = record 
   processes = ap (λ (t : TableState). t.processes) woke ∙ ap (map (woken_by changes)) had.processes ∙ sym processes;
 }
 
--- the work on a node that is recorded leads on
-pub node-leads : (nets_old nets_new : NetState) (table_old table_new : ProcessTable) (kept_old kept_new : SlotRecord) (node : ℕ) (text : FlatNode) (changes : List Change)
-    (accesses : List ObjectAccess) (ended : List ℕ) →
-    node < length (nodes_in nets_old) → slice_get (machine_in nets_old).design.nodes node ≡ Some text → machine_in nets_new ≡ machine_in nets_old →
-    ((state : State) → AreNetsOf nets_old state → AreNetsOf nets_new (after (machine_in nets_old) (after (machine_in nets_old) state (Evaluation node)) (NetUpdate node))) →
-    ((flat : FlatNode) → slice_get (machine_in nets_old).design.nodes node ≡ Some flat → map change_seen changes ≡ seen.net_changes (machine_in nets_old).design flat.outputs (values_in nets_old)
-    (values_in nets_new)) →
-    table_of table_new ≡ record (table_of table_old) { processes = map (woken_by (map change_seen changes)) (table_of table_old).processes } → IsKept table_new →
-    accesses ≡ joined (map_numbered (ended_by_changes (map change_seen changes)) 0 (table_of table_old).processes) →
-    ended ≡ numbers_where (is_woken (map change_seen changes)) 0 (table_of table_old).processes →
-    (inputs : List ℕ) → text.inputs ≡ inputs → AddsNode node inputs changes accesses ended kept_old kept_new →
-    Leads (node_more node) nets_old nets_new table_old table_new kept_old kept_new
-node-leads nets_old nets_new table_old table_new kept_old kept_new node text changes accesses ended low here same nets told woke kept acc end inputs own adds = λ machine first before phase log amid.
-    let state : State = state_in machine phase in
-    let last : State = after machine (after machine state (Evaluation node)) (NetUpdate node) in
-    let were : AreNetsOf nets_old state = amid.both.nets_are in
-    let tells : WorkTells machine state node (map change_seen changes) =
-    subst (λ (k : Machine). WorkTells k state node (map change_seen changes)) amid.both.machine_is
-    (work-tells nets_old nets_new state node (map change_seen changes) were low (nets state were) told) in
-    let processes : (table_of table_old).processes ≡ state.processes = amid.both.table_is.processes in
-    let update : TellsUpdate machine (after machine state (Evaluation node)) node changes accesses ended =
-    update-told machine state node changes accesses ended tells
-    (acc ∙ ap (λ ps. joined (map_numbered (ended_by_changes (map change_seen changes)) 0 ps)) processes)
-    (end ∙ ap (numbers_where (is_woken (map change_seen changes)) 0) processes) in
-    let both : AreBothOf machine last nets_new table_new = record {
-      machine_is = same ∙ amid.both.machine_is;
-      nets_are = subst (λ (k : Machine). AreNetsOf nets_new (after k (after k state (Evaluation node)) (NetUpdate node))) amid.both.machine_is (nets state were);
-      table_is = woken-table machine state last (table_of table_old) (table_of table_new) (map change_seen changes) amid.both.table_is woke tells.time tells.processes;
-    } in
-    record {
-      both = subst (λ s. AreBothOf machine s nets_new table_new) (sym (happened-node machine phase node)) both;
-      arranged = kept;
-      recorded = adds machine first before phase log text amid.recorded (subst (λ (k : Machine). slice_get k.design.nodes node ≡ Some text) amid.both.machine_is here) own update;
+-- the work on a node, with the processes that it wakes, happens and is told
+module _ (nets_old nets_new : NetState) (table_old table_new : ProcessTable) (node : ℕ) (changes : List Change) (accesses : List ObjectAccess) (ended : List ℕ)
+    (low : node < length (nodes_in nets_old)) (same : machine_in nets_new ≡ machine_in nets_old)
+    (nets : (state : State) → AreNetsOf nets_old state → AreNetsOf nets_new (after (machine_in nets_old) (after (machine_in nets_old) state (Evaluation node)) (NetUpdate node)))
+    (told : (flat : FlatNode) → slice_get (machine_in nets_old).design.nodes node ≡ Some flat →
+    map change_seen changes ≡ seen.net_changes (machine_in nets_old).design flat.outputs (values_in nets_old) (values_in nets_new))
+    (woke : table_of table_new ≡ record (table_of table_old) { processes = map (woken_by (map change_seen changes)) (table_of table_old).processes })
+    (machine : Machine) (state : State) (both : AreBothOf machine state nets_old table_old)
+  where
+    work : WorkTells machine state node (map change_seen changes)
+    work =
+        subst (λ (k : Machine). WorkTells k state node (map change_seen changes)) both.machine_is
+        (work-tells nets_old nets_new state node (map change_seen changes) both.nets_are low (nets state both.nets_are) told)
+
+    pub node-both : AreBothOf machine (after machine (after machine state (Evaluation node)) (NetUpdate node)) nets_new table_new
+    node-both = record {
+      machine_is = same ∙ both.machine_is;
+      nets_are = subst (λ (k : Machine). AreNetsOf nets_new (after k (after k state (Evaluation node)) (NetUpdate node))) both.machine_is (nets state both.nets_are);
+      table_is = woken-table machine state (after machine (after machine state (Evaluation node)) (NetUpdate node)) (table_of table_old) (table_of table_new) (map change_seen changes)
+          both.table_is woke work.time work.processes;
     }
+
+    pub node-told : accesses ≡ joined (map_numbered (ended_by_changes (map change_seen changes)) 0 (table_of table_old).processes) →
+        ended ≡ numbers_where (is_woken (map change_seen changes)) 0 (table_of table_old).processes →
+        TellsUpdate machine (after machine state (Evaluation node)) node changes accesses ended
+    node-told acc end =
+        update-told machine state node changes accesses ended work
+        (acc ∙ ap (λ ps. joined (map_numbered (ended_by_changes (map change_seen changes)) 0 ps)) both.table_is.processes)
+        (end ∙ ap (numbers_where (is_woken (map change_seen changes)) 0) both.table_is.processes)
+
+-- the work on a node that is recorded leads on
+pub node-leads : (nets_old nets_new : NetState) (table_old table_new : ProcessTable) (kept_old kept_new : SlotRecord) (node : ℕ) (text : FlatNode) (told : Told) →
+    slice_get (machine_in nets_old).design.nodes node ≡ Some text → NodeHappens node nets_old nets_new table_old table_new told →
+    (inputs : List ℕ) → text.inputs ≡ inputs →
+    AddsNode node inputs told.net_changes.items (map noted_access told.accesses.items) (map process_number told.ended.items) kept_old kept_new →
+    Leads (node_more node) nets_old nets_new table_old table_new kept_old kept_new
+node-leads nets_old nets_new table_old table_new kept_old kept_new node text told here happens inputs own adds = λ machine first before phase log amid. record {
+  both = subst (λ s. AreBothOf machine s nets_new table_new) (sym (happened-node machine phase node)) (happens.both machine (state_in machine phase) amid.both);
+  arranged = happens.one.kept;
+  recorded = adds machine first before phase log text amid.recorded (subst (λ (k : Machine). slice_get k.design.nodes node ≡ Some text) amid.both.machine_is here) own
+      (happens.tells machine (state_in machine phase) amid.both);
+}

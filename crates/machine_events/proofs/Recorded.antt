@@ -22,7 +22,7 @@ use Rattle.slot_record.specs.Records.{IsRecord, process_count, object_count}
 use Rattle.slot_record.specs.declared.record.SlotRecord.{SlotRecord}
 use Rattle.slot_record.specs.SlotRecords.{RecordsSlot, AddsStep, one_more, state_in}
 use Rattle.net_state.specs.declared.state.NetState.{NetState}
-use Rattle.net_state.specs.States.{machine_in, values_in}
+use Rattle.net_state.specs.States.{machine_in, nodes_in, values_in}
 use Rattle.process_table.specs.declared.table.ProcessTable.{ProcessTable}
 use Rattle.process_table.specs.declared.deed.Stepped.{Stepped}
 use Rattle.process_table.specs.Deeds.{IsStepOf}
@@ -30,7 +30,8 @@ use Rattle.process_table.specs.Tables.{TableState, IsTableOf, process_in}
 use Rattle.process_table.specs.Arranged.{IsKept, table_of}
 use Rattle.machine_laws.specs.StepTells.{lane_gone_on, lane-after, lane-told}
 use Rattle.machine_events.specs.declared.told.Told.{Told}
-use Rattle.machine_events.specs.Parts.{FitsDesign, FitsRecord, AreBothOf, WritesUpdate, Happens, IsAmid, IsInSlot, Leads}
+use Rattle.machine_events.specs.Alone.{AreOfOne}
+use Rattle.machine_events.specs.Parts.{FitsDesign, FitsRecord, AreBothOf, WritesUpdate, Happens, IsAmid, IsInSlot}
 use Rattle.machine_events.specs.StepDeeds.{IsStepped, CarriesOut, IsMidStep, FinishesStep}
 use Rattle.machine_events.specs.PartLaws.{happened-more, table-count, passes-there}
 
@@ -48,6 +49,21 @@ values-count nets = nets.objects.are.count
 -- the processes are those of the design of the values
 pub same-design : (nets : NetState) (table : ProcessTable) (kept : SlotRecord) → IsInSlot nets table kept → (table_of table).design ≡ (machine_in nets).design
 same-design nets table kept s = s.is.both.table_is.design ∙ sym (ap (λ (k : Machine). k.design) s.is.both.machine_is)
+
+-- a state that both are of
+abbrev pub state_both : NetState → ProcessTable → State
+state_both nets table = record { time = (table_of table).time; values = values_in nets; nodes = nodes_in nets; processes = (table_of table).processes }
+
+pub both-of : (nets : NetState) (table : ProcessTable) → AreOfOne nets table → AreBothOf (machine_in nets) (state_both nets table) nets table
+both-of nets table one = record { machine_is = refl; nets_are = record { values = refl; nodes = refl }; table_is = record { design = one.design; time = refl; processes = refl } }
+
+-- what is of a state is of one machine
+pub one-after : (machine : Machine) (state : State) (nets : NetState) (table : ProcessTable) → AreBothOf machine state nets table → IsKept table → AreOfOne nets table
+one-after machine state nets table both kept = record { kept = kept; design = both.table_is.design ∙ sym (ap (λ (k : Machine). k.design) both.machine_is) }
+
+-- in a slot, too
+pub one-in-slot : (nets : NetState) (table : ProcessTable) (kept : SlotRecord) → IsInSlot nets table kept → AreOfOne nets table
+one-in-slot nets table kept s = one-after s.machine (state_in s.machine s.phase) nets table s.is.both s.is.arranged
 
 -- What is recorded
 
@@ -110,16 +126,13 @@ event-leads machine first before phase log event line nets table old new told ha
 pub lane-low : (table : ProcessTable) (process : ℕ) → is_any (process_in (table_of table) process).lane ≡ true → process < length (table_of table).processes
 lane-low table process any = passes-there (λ (p : ProcessState). is_any p.lane) idle_process (table_of table).processes process refl any
 
--- a step of a lane leads on
-pub lane-leads : (nets_old nets_new : NetState) (table_old table table_new : ProcessTable) (kept_old kept_new : SlotRecord) (told : Told) (process : ℕ) (update : ValueUpdate) →
+-- a step of a lane happens
+pub lane-happens : (nets_old nets_new : NetState) (table_old table table_new : ProcessTable) (told : Told) (process : ℕ) (update : ValueUpdate) →
     Some update ≡ first_update (process_in (table_of table_old) process).lane → table_of table ≡ record (table_of table_old)
     { processes = change_at (table_of table_old).processes process after_lane_step } →
     WritesUpdate update process update.line nets_old nets_new table table_new told →
-    AddsStep (LaneStep process) update.line (map noted_access told.accesses.items) (map object_number told.changed.items) (map process_number told.ended.items) kept_old kept_new →
-    Leads (one_more (LaneStep process)) nets_old nets_new table_old table_new kept_old kept_new
-lane-leads nets_old nets_new table_old table table_new kept_old kept_new told process update found rest writes adds = λ machine first before phase log amid.
-    let state : State = state_in machine phase in
-    let both = amid.both in
+    (machine : Machine) (state : State) → AreBothOf machine state nets_old table_old → Happens machine state (LaneStep process) update.line nets_new table_new told
+lane-happens nets_old nets_new table_old table table_new told process update found rest writes machine state both =
     let mid : AreBothOf machine (lane_gone_on process state) nets_old table = record {
       machine_is = both.machine_is;
       nets_are = record { values = both.nets_are.values; nodes = both.nets_are.nodes };
@@ -131,11 +144,10 @@ lane-leads nets_old nets_new table_old table table_new kept_old kept_new told pr
     } in
     let first_is : first_update (process_at state process).lane ≡ Some update =
     sym (found ∙ ap (λ (ps : List ProcessState). first_update (found_or idle_process (slice_get ps process)).lane) both.table_is.processes) in
-    event-leads machine first before phase log (LaneStep process) update.line nets_new table_new kept_old kept_new told
-    (record {
+    record {
       both = subst (λ s. AreBothOf machine s nets_new table_new) (sym (lane-after machine state process update first_is)) (writes.both machine (lane_gone_on process state) mid);
       tells = lane-told machine state process update _ _ _ first_is (writes.tells machine (lane_gone_on process state) mid);
-    }) writes.kept adds amid.recorded
+    }
 
 -- Steps
 
@@ -156,17 +168,16 @@ mid-design process stepped nets table kept s = s.is.step.after.design ∙ sym (a
 pub ready-low : (table : ProcessTable) (process : ℕ) → is_ready (process_in (table_of table) process).activity ≡ true → process < length (table_of table).processes
 ready-low table process ready = passes-there (λ (p : ProcessState). is_ready p.activity) idle_process (table_of table).processes process refl ready
 
--- a ready process has taken a step from where the parts stood
-pub stepped-amid : (machine : Machine) (first : Turn) (before : List Phase) (phase : Phase) (nets : NetState) (old new : ProcessTable) (kept : SlotRecord) (log : SlotLog) (process : ℕ)
-    (stepped : Stepped) →
-    IsAmid machine first before phase nets old kept log → is_ready (process_in (table_of old) process).activity ≡ true →
+-- a ready process has taken a step in a state
+pub stepped-both : (machine : Machine) (state : State) (nets : NetState) (old new : ProcessTable) (process : ℕ) (stepped : Stepped) →
+    AreBothOf machine state nets old → is_ready (process_in (table_of old) process).activity ≡ true →
     ((machine : Machine) (state : State) → IsTableOf machine state (table_of old) → state.values ≡ values_in nets → IsStepOf machine state process stepped (table_of new)) →
-    IsStepped machine (state_in machine phase) process stepped nets new
-stepped-amid machine first before phase nets old new kept log process stepped amid ready steps = record {
-  ready = subst (λ (ps : List ProcessState). is_ready (found_or idle_process (slice_get ps process)).activity ≡ true) amid.both.table_is.processes ready;
-  machine_is = amid.both.machine_is;
-  nets_are = amid.both.nets_are;
-  step = steps machine (state_in machine phase) amid.both.table_is (sym amid.both.nets_are.values);
+    IsStepped machine state process stepped nets new
+stepped-both machine state nets old new process stepped both ready steps = record {
+  ready = subst (λ (ps : List ProcessState). is_ready (found_or idle_process (slice_get ps process)).activity ≡ true) both.table_is.processes ready;
+  machine_is = both.machine_is;
+  nets_are = both.nets_are;
+  step = steps machine state both.table_is (sym both.nets_are.values);
 }
 
 -- the table has as many processes as before

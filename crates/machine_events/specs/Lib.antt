@@ -1,4 +1,5 @@
 pub mod Parts
+pub mod Alone
 pub mod StepDeeds
 pub mod Turns
 pub mod PartLaws

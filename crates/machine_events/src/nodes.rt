@@ -5,6 +5,7 @@ ghost use Rattle.vf_base.specs.Base.{node_number};
 ghost use Rattle.v_design.specs.PlainDesigns.{design_of};
 ghost use Rattle.net_state.specs.States.{machine_in, nodes_in};
 ghost use Rattle.slot_record.specs.SlotRecords.{node_more};
+ghost use Rattle.machine_events.specs.Alone.{AreOfOne, NodeHappens};
 ghost use Rattle.machine_events.specs.Parts.{IsInSlot, Leads};
 
 use crate::notes::note_node;
@@ -14,6 +15,27 @@ use process_table::ProcessTable;
 use slot_record::SlotRecord;
 use v_design::Design;
 use vf_base::{NoMemory, NodeId};
+
+/// A node is evaluated, and its nets get the values, of which no record is kept: `told` tells it.
+///
+/// # Errors
+///
+/// Want of memory.
+pub fn node_alone(
+    nets: &mut NetState,
+    table: &mut ProcessTable,
+    told: &mut Told,
+    node: NodeId,
+) -> Result<(), NoMemory>
+    requires one { AreOfOne nets.old table.old }
+    requires node { node_number node < length (nodes_in nets.old) }
+    ensures { OnOk result (NodeHappens (node_number node) nets.old nets.new table.old table.new told.new) }
+{
+    told.clear();
+    nets.work(node, &mut told.net_changes)?;
+    table.wake(&told.net_changes, &mut told.accesses, &mut told.ended)?;
+    Ok(())
+}
 
 /// A node is evaluated, and its nets get the values.
 ///
@@ -33,9 +55,7 @@ pub fn work_node(
     requires node { node_number node < length (nodes_in nets.old) }
     ensures { OnOk result (Leads (node_more (node_number node)) nets.old nets.new table.old table.new record.old record.new) }
 {
-    told.clear();
-    nets.work(node, &mut told.net_changes)?;
-    table.wake(&told.net_changes, &mut told.accesses, &mut told.ended)?;
+    node_alone(nets, table, told, node)?;
     let own = &design.nodes.as_slice()[node.0 as usize];
     note_node(record, told, node, own)?;
     Ok(())

@@ -1,6 +1,6 @@
 // A step of a process.
 
-ghost use Rattle.std.specs.Prelude.{◌≡◌, ◌<◌, ◌≤◌, ◌^◌, Some, None, true, length, OnOk};
+ghost use Rattle.std.specs.Prelude.{◌≡◌, ◌<◌, ◌≤◌, ◌^◌, Some, None, true, length, IfOk, OnOk};
 ghost use Rattle.vf_base.specs.Base.{object_number, process_number};
 ghost use Rattle.v_design.specs.States.{Step, is_ready};
 ghost use Rattle.v_design.specs.Accesses.{waiting_entries};
@@ -8,6 +8,7 @@ ghost use Rattle.net_state.specs.States.{values_in, machine_in};
 ghost use Rattle.process_table.specs.Arranged.{IsKept, table_of};
 ghost use Rattle.process_table.specs.Tables.{process_in};
 ghost use Rattle.slot_record.specs.SlotRecords.{one_more};
+ghost use Rattle.machine_events.specs.Alone.{AreOfOne, HappensTo};
 ghost use Rattle.machine_events.specs.Parts.{FitsDesign, IsInSlot, Leads};
 ghost use Rattle.machine_events.specs.StepDeeds.{TellsQuiet, CarriesOut, IsMidStep, FinishesStep};
 
@@ -158,6 +159,28 @@ pub fn finish_step(
     carry_out(nets, table, told, process, stepped)?;
     note_step(record, told, process, stepped.line)?;
     Ok(())
+}
+
+/// A ready process takes a step, of which no record is kept: `told` tells it. It answers what the step did.
+///
+/// # Errors
+///
+/// Want of memory.
+pub fn step_alone<L: Ledger>(
+    nets: &mut NetState,
+    table: &mut ProcessTable,
+    told: &mut Told,
+    process: ProcId,
+    steps: &mut Steps<L>,
+) -> Result<Stepped, NoMemory>
+    requires one { AreOfOne nets.old table.old }
+    requires ready { is_ready (process_in (table_of table.old) (process_number process)).activity ≡ true }
+    requires time { (table_of table.old).time ≤ 2 ^ 63 }
+    ensures { IfOk result (λ stepped. HappensTo (Step (process_number process)) stepped.line nets.old nets.new table.old table.new told.new) }
+{
+    let stepped = table.step(process, &*nets, steps)?;
+    carry_out(nets, table, told, process, &stepped)?;
+    Ok(stepped)
 }
 
 /// A ready process takes a step.

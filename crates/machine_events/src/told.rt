@@ -27,6 +27,34 @@ impl Told {
         }
     }
 
+    /// The accesses that are told, in order.
+    pub fn accesses(&self) -> &[Noted]
+        ensures { result.now ≡ self.now.accesses.items }
+    {
+        self.accesses.as_slice()
+    }
+
+    /// The objects of which a process or lane step is told that it changed them.
+    pub fn changed(&self) -> &[ObjectId]
+        ensures { result.now ≡ self.now.changed.items }
+    {
+        self.changed.as_slice()
+    }
+
+    /// The processes whose waits are told to have ended, ascending.
+    pub fn ended(&self) -> &[ProcId]
+        ensures { result.now ≡ self.now.ended.items }
+    {
+        self.ended.as_slice()
+    }
+
+    /// The changes of a node's nets that were told last, in the order of the objects.
+    pub fn net_changes(&self) -> &[Change]
+        ensures { result.now ≡ self.now.net_changes.items }
+    {
+        self.net_changes.as_slice()
+    }
+
     /// No access, no changed object and no wait that ended is told any more.
     pub(crate) fn clear(&mut self)
         ensures accesses { self.new.accesses.items ≡ [] }

@@ -1,6 +1,6 @@
 // What a step does to a state, once what it reads is known.
 
-ghost use Rattle.std.specs.Prelude.{◌≡◌, ◌≤◌, ◌<◌, ◌+◌, ◌-◌, ◌^◌, [], ◌∷◌, length, get_or, IsTrue, ◌↔◌, IfOk, vec_capacity};
+ghost use Rattle.std.specs.Prelude.{◌≡◌, ◌≤◌, ◌<◌, ◌+◌, ◌-◌, ◌^◌, [], ◌∷◌, length, get_or, IsTrue, ◌↔◌, IfOk, OnOk, vec_capacity};
 ghost use Rattle.process_code.specs.StatesOf.{KeepsRoom, IsStateOf};
 ghost use Rattle.process_code.specs.declared.code.Code.{Code};
 ghost use Rattle.process_code.specs.Points.{point_of, said_by, said_delay, stage_after, after_turn, SaysInner, SaysAwait, SaysFinished, HasUpdates, TakesUpdate};
@@ -131,6 +131,35 @@ impl ProcState {
             updates,
         })
     }
+
+    /// Comes to stand where another state of its code stands. No memory is asked for where the room suffices.
+    ///
+    /// # Errors
+    ///
+    /// Want of memory; the state is then not to be used again.
+    pub fn copy_from(&mut self, other: &ProcState) -> Result<(), NoMemory>
+        ensures point { OnOk result (point_of self.new ≡ point_of other.now) }
+        ensures state { OnOk result ((code : Code) → IsStateOf code self.old → IsStateOf code other.now → IsStateOf code self.new) }
+    {
+        put_elements(&mut self.operands, &other.operands)?;
+        put_elements(&mut self.counts, &other.counts)?;
+        put_elements(&mut self.updates, &other.updates)?;
+        self.stage = other.stage;
+        self.position = other.position;
+        self.place = other.place;
+        self.delay = other.delay;
+        Ok(())
+    }
+}
+
+/// Puts elements in the place of those of a list, whose room stays.
+fn put_elements<T: Copy>(list: &mut Vec<T>, elements: &[T]) -> Result<(), NoMemory>
+    ensures items { OnOk result (list.new.items ≡ elements.now) }
+    ensures room { vec_capacity list.old ≤ vec_capacity list.new }
+{
+    list.clear();
+    list.extend_from_slice(elements)?;
+    Ok(())
 }
 
 /// The same elements, with as much room.

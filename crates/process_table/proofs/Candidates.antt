@@ -1,6 +1,6 @@
 -- The processes that some changes may make ready (IEEE 1364-2001, clause 9.7).
-use Rattle.std.proofs.Common.{◌≡◌, ℕ, zero, suc, ◌+◌, ◌<◌, ◌≤◌, Bool, true, false, List, [], ◌∷◌, ◌++◌, length, map, get_or, take, refl, sym, ap, ◌∙◌, subst, arith, inl, inr}
-use Rattle.std.specs.Prelude.{slice_get, nat_eq, ◌||◌, Contains}
+use Rattle.std.proofs.Common.{◌≡◌, ℕ, zero, suc, ◌+◌, ◌<◌, true, List, [], ◌∷◌, ◌++◌, length, map, get_or, take, refl, sym, ap, ◌∙◌, subst, arith}
+use Rattle.std.specs.Prelude.{slice_get, ◌||◌}
 use Rattle.std.specs.List.Sorted.{IsNonDecreasing, IsPermutation}
 use Rattle.std.proofs.lemmas.List.Sorted.{Contains-permutation}
 use Rattle.std.proofs.lemmas.List.{take_more, map_push}
@@ -16,7 +16,6 @@ use Rattle.value_change.specs.Changes.{ObjectChange, matches_one, change_seen}
 use Rattle.value_change.specs.declared.change.Change.{Change}
 use Rattle.wait_index.specs.Waits.{IsIndexOf, waiters_of}
 use Rattle.wait_index.specs.WaitLaws.{among-waiters}
-use Rattle.process_table.specs.Tables.{is_woken}
 use Rattle.process_table.specs.Waited.{IsWaitable, body_of, activity_entries, tasks_entries}
 use Rattle.process_table.specs.WaitedLaws.{hold-left}
 use Rattle.process_table.specs.Wakes.{Climbs, HasWoken, HasWaiters}

@@ -1,15 +1,15 @@
 -- A table with one row changed (nothing of the language).
-use Rattle.std.proofs.Common.{◌≡◌, ℕ, zero, suc, ◌+◌, ◌<◌, ◌≤◌, Bool, true, false, List, [], ◌∷◌, ◌++◌, length, map, get_or, set, Option, Some, None, refl, sym, ap, ◌∙◌, subst, arith}
+use Rattle.std.proofs.Common.{◌≡◌, ℕ, zero, suc, ◌<◌, Bool, true, List, [], ◌∷◌, length, map, get_or, set, refl, sym, ap, ◌∙◌, subst, arith}
 use Rattle.std.specs.Prelude.{slice_get}
 use Rattle.std.proofs.lemmas.List.{length-map}
-use Rattle.vf_base.specs.Lists.{AllHold, change_at, zip_with, first_place, earlier_place}
+use Rattle.vf_base.specs.Lists.{AllHold, change_at}
 use Rattle.v_design.specs.Designs.{FlatDesign, FlatProcess}
 use Rattle.four_value.specs.Values.{LogicValue}
 use Rattle.v_design.specs.Processes.{Activity, Done, ProcessStep}
 use Rattle.process_code.specs.Points.{StepSaid, said_of}
-use Rattle.v_design.specs.States.{ProcessState, found_or, idle_process, is_ready, is_any}
+use Rattle.v_design.specs.States.{ProcessState, found_or, idle_process, is_ready}
 use Rattle.event_queue.specs.declared.held.Holding.{Holding}
-use Rattle.event_queue.specs.Queues.{HeldProcess, nothing_held, held_at, holding_of, ComesAfter}
+use Rattle.event_queue.specs.Queues.{HeldProcess, nothing_held, held_at, ComesAfter}
 use Rattle.process_table.specs.declared.row.Row.{Row}
 use Rattle.process_table.specs.Waited.{IsWaitable, WaitsAreWaitable, activity_entries, body_of}
 use Rattle.process_table.specs.Rows.{RowState, row_state, row_states, row_text, state_at, text_at, IsGoodRow, RowChanges, RowsChange, StepsRow, StepsRows, step_from, step_at, after_row_step}

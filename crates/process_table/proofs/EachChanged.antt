@@ -1,12 +1,12 @@
 -- Rows and sets of which some elements change, one after another (nothing of the language).
-use Rattle.std.proofs.Common.{◌≡◌, ℕ, zero, suc, ◌+◌, ◌<◌, ◌≤◌, Bool, true, false, List, [], ◌∷◌, ◌++◌, length, map, get_or, take, refl, sym, ap, ◌∙◌, subst, arith}
+use Rattle.std.proofs.Common.{◌≡◌, ℕ, ◌+◌, ◌<◌, List, [], ◌∷◌, ◌++◌, length, map, get_or, take, refl, sym, ap, ◌∙◌}
 use Rattle.std.proofs.lemmas.List.{length-map, take_more, map_push}
-use Rattle.vf_base.specs.Lists.{AllHold, change_at}
+use Rattle.vf_base.specs.Lists.{change_at}
 use Rattle.v_design.specs.Assignments.{ValueUpdate}
 use Rattle.process_table.specs.declared.row.Row.{Row}
 use Rattle.process_table.specs.Rows.{RowState, row_states, row_text, made_ready, with_lane, RowsChange}
 use Rattle.process_table.specs.Turned.{each_changed, lanes_put, ReadiesRows, FillsLanes}
-use Rattle.process_table.proofs.Lists.{length-change}
+use Rattle.event_queue.specs.ChangeLaws.{length-change}
 
 -- one number more
 pub each-push : {A : Type 0} (change : A → A) (numbers : List ℕ) (n : ℕ) (xs : List A) → each_changed change (numbers ++ n ∷ []) xs ≡ change_at (each_changed change numbers xs) n change

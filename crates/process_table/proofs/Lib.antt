@@ -17,3 +17,4 @@ pub mod EachChanged
 pub mod TurnedLaws
 pub mod CodesAt
 pub mod PutLaws
+pub mod Replaced

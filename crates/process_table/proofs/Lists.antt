@@ -1,9 +1,8 @@
 -- Lists with one element changed (nothing of the language).
-use Rattle.std.proofs.Common.{◌≡◌, ℕ, zero, suc, ◌+◌, ◌<◌, ◌≤◌, Bool, true, false, List, [], ◌∷◌, ◌++◌, length, map, get_or, set, Option, Some, None, refl, sym, ap, ◌∙◌, subst, arith}
+use Rattle.std.proofs.Common.{◌≡◌, ℕ, zero, suc, ◌<◌, Bool, List, [], ◌∷◌, length, map, get_or, set, refl, sym, ap, ◌∙◌, subst, arith}
 use Rattle.std.specs.Prelude.{slice_get}
 use Rattle.vf_base.specs.Lists.{AllHold, change_at, first_place, earlier_place}
 use Rattle.v_design.specs.States.{found_or}
-use Rattle.event_queue.specs.Queues.{repeated}
 
 -- the images of a changed list
 pub map-change : {A B : Type 0} (d : A) (f : A → B) (xs : List A) (p : ℕ) (g : A → A) → map f (change_at xs p g) ≡ change_at (map f xs) p (λ y. f (g (found_or d (slice_get xs p))))
@@ -16,36 +15,6 @@ pub change-unseen : {A B : Type 0} (d : A) (f : A → B) (xs : List A) (p : ℕ)
 change-unseen d f [] p b e = refl
 change-unseen d f (x ∷ xs) zero b e = ap (λ y. y ∷ map f xs) (sym e)
 change-unseen d f (x ∷ xs) (suc p) b e = ap (λ ys. f x ∷ ys) (change-unseen d f xs p b e)
-
--- a change that changes nothing
-pub change-none : {A : Type 0} (d : A) (xs : List A) (p : ℕ) (g : A → A) → g (found_or d (slice_get xs p)) ≡ found_or d (slice_get xs p) → change_at xs p g ≡ xs
-change-none d [] p g e = refl
-change-none d (x ∷ xs) zero g e = ap (λ y. y ∷ xs) e
-change-none d (x ∷ xs) (suc p) g e = ap (λ ys. x ∷ ys) (change-none d xs p g e)
-
--- two changes that agree on what is there
-pub change-same : {A : Type 0} (d : A) (xs : List A) (p : ℕ) (f g : A → A) → f (found_or d (slice_get xs p)) ≡ g (found_or d (slice_get xs p)) → change_at xs p f ≡ change_at xs p g
-change-same d [] p f g e = refl
-change-same d (x ∷ xs) zero f g e = ap (λ y. y ∷ xs) e
-change-same d (x ∷ xs) (suc p) f g e = ap (λ ys. x ∷ ys) (change-same d xs p f g e)
-
--- one change after another
-pub change-twice : {A : Type 0} (xs : List A) (p : ℕ) (f g : A → A) → change_at (change_at xs p f) p g ≡ change_at xs p (λ x. g (f x))
-change-twice [] p f g = refl
-change-twice (x ∷ xs) zero f g = refl
-change-twice (x ∷ xs) (suc p) f g = ap (λ ys. x ∷ ys) (change-twice xs p f g)
-
--- what stands at the changed place
-pub at-change : {A : Type 0} (d : A) (xs : List A) (p : ℕ) (g : A → A) → p < length xs → found_or d (slice_get (change_at xs p g) p) ≡ g (found_or d (slice_get xs p))
-at-change d [] p g low = absurd (omega (arith, low))
-at-change d (x ∷ xs) zero g low = refl
-at-change d (x ∷ xs) (suc p) g low = at-change d xs p g (omega (arith, low))
-
--- a changed list is as long
-pub length-change : {A : Type 0} (xs : List A) (p : ℕ) (g : A → A) → length (change_at xs p g) ≡ length xs
-length-change [] p g = refl
-length-change (x ∷ xs) zero g = refl
-length-change (x ∷ xs) (suc p) g = ap suc (length-change xs p g)
 
 -- a fact of each place holds after a change that keeps it
 pub each-changed : {A : Type 0} (d : A) (Q : ℕ → A → Type 0) (xs : List A) (p : ℕ) (g : A → A) → Q p (g (found_or d (slice_get xs p))) → ((n : ℕ) → Q n (found_or d (slice_get xs n))) →

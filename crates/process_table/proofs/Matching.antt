@@ -1,18 +1,13 @@
 -- Which entry of a wait matches first, and whose wait some changes end (IEEE 1364-2001, clause 9.7).
-use Rattle.std.proofs.Common.{◌≡◌, ℕ, zero, suc, ◌+◌, ◌<◌, ◌≤◌, Bool, true, false, List, [], ◌∷◌, ◌++◌, length, map, get_or, take, drop, Option, Some, None, refl, sym, ap, ◌∙◌, subst, arith, inl, inr}
-use Rattle.std.specs.Prelude.{slice_get, nat_eq, ◌||◌, ◌&&◌}
-use Rattle.std.proofs.lemmas.Bool.{or_cases, or_left, or_right, and_parts, eqb-true, eq-eqb}
-use Rattle.four_value.specs.Values.{IsWidth, edge_matches, part_of}
-use Rattle.vf_base.specs.Lists.{AllHold, has, first_place, earlier_place}
-use Rattle.v_design.specs.Trees.{Entry, Null}
-use Rattle.v_design.specs.Designs.{FlatDesign, FlatProcess}
-use Rattle.v_design.specs.Processes.{Activity, Ready, Waiting, Asleep, Postponed, Done}
-use Rattle.v_design.specs.States.{found_or, some_entry, entry_matches}
-use Rattle.v_design.specs.Accesses.{waiting_entries, without_first}
+use Rattle.std.proofs.Common.{◌≡◌, ℕ, zero, suc, ◌+◌, ◌<◌, Bool, true, false, List, [], ◌∷◌, ◌++◌, length, map, get_or, take, drop, Option, Some, None, refl, sym, ap, ◌∙◌, subst, arith, inl, inr}
+use Rattle.std.specs.Prelude.{nat_eq, ◌||◌}
+use Rattle.std.proofs.lemmas.Bool.{or_cases, and_parts, eqb-true}
+use Rattle.four_value.specs.Values.{edge_matches, part_of}
+use Rattle.vf_base.specs.Lists.{AllHold, first_place, earlier_place}
+use Rattle.v_design.specs.Trees.{Entry}
+use Rattle.v_design.specs.States.{some_entry, entry_matches}
+use Rattle.v_design.specs.Accesses.{without_first}
 use Rattle.value_change.specs.Changes.{ObjectChange, matches_one}
-use Rattle.wait_index.specs.Waits.{IsIndexOf, waited_objects, waiters_of, waiters_from, before_if}
-use Rattle.process_table.specs.Waited.{IsWaitable, body_of}
-use Rattle.process_table.specs.Wakes.{HasWaiters}
 
 -- The first that passes a test
 

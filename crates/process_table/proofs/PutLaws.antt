@@ -1,9 +1,9 @@
 -- A table that is cleared, and a process that is put into it (nothing of the language).
-use Rattle.std.proofs.Common.{◌≡◌, ℕ, zero, suc, ◌+◌, ◌<◌, ◌≤◌, Bool, true, false, List, [], ◌∷◌, ◌++◌, length, map, get_or, refl, sym, ap, ◌∙◌, subst, arith, append-nil}
+use Rattle.std.proofs.Common.{◌≡◌, ℕ, zero, suc, ◌<◌, ◌≤◌, Bool, false, List, [], ◌∷◌, ◌++◌, length, map, get_or, refl, sym, ap, ◌∙◌, subst, arith}
 use Rattle.std.specs.Prelude.{slice_get}
 use Rattle.vf_base.specs.Lists.{AllHold, change_at}
 use Rattle.v_design.specs.Designs.{FlatDesign, FlatProcess}
-use Rattle.v_design.specs.Processes.{Activity, Done}
+use Rattle.v_design.specs.Processes.{Done}
 use Rattle.v_design.specs.States.{ProcessState, LaterUpdate, found_or, idle_process}
 use Rattle.event_queue.specs.declared.held.Holding.{Holding}
 use Rattle.event_queue.specs.declared.held.Holding.TheVariants.{Free}
@@ -13,18 +13,13 @@ use Rattle.process_code.specs.declared.state.Stage.{Stage}
 use Rattle.process_code.specs.declared.state.ProcState.{ProcState}
 use Rattle.process_table.specs.declared.row.Row.{Row}
 use Rattle.process_table.specs.Waited.{IsWaitable, WaitsAreWaitable, activity_entries, body_of}
-use Rattle.process_table.specs.Rows.{RowState, row_states, row_text, idle_row, state_at, RowsChange}
-use Rattle.process_table.specs.Arranged.{with_held, processes_of, row_ready, row_busy, row_holding, row_activity, IsTable, HasStage, stage_holding, with_laters, held_so}
-use Rattle.process_table.specs.Puts.{MayStand, StandsAt, process_at_state, doing, PutsState, ClearsRows}
-use Rattle.process_table.proofs.Lists.{at-change, change-none}
-use Rattle.process_table.proofs.Changed.{no_row, processes-change, changed, lanes-unseen, holding-at, after-at, waits-at, rows-length}
+use Rattle.process_table.specs.Rows.{row_states, idle_row, state_at}
+use Rattle.process_table.specs.Arranged.{with_held, processes_of, row_ready, row_busy, row_holding, row_activity, IsTable, HasStage, stage_holding, held_so}
+use Rattle.process_table.specs.Puts.{StandsAt, process_at_state, doing, PutsState, ClearsRows}
+use Rattle.event_queue.specs.ChangeLaws.{at-change}
+use Rattle.process_table.proofs.Changed.{no_row, processes-change, changed, lanes-unseen, holding-at, after-at, rows-length}
 use Rattle.process_table.proofs.TableCalls.{process-row, count-ready, count-lanes, count-queue, count-texts}
 use Rattle.process_table.proofs.Steps.{hold-more}
-
--- no update more
-pub no-laters : (queue : List HeldProcess) (p : ℕ) → queue ≡ change_at queue p (with_laters [])
-no-laters queue p =
-    sym (change-none nothing_held queue p (with_laters []) (ap (λ (later : List LaterUpdate). record (held_at queue p) { later = later }) (append-nil (held_at queue p).later)))
 
 -- Lists of one element
 

@@ -1,17 +1,15 @@
 -- What a row does, by the stage of its process (nothing of the language).
-use Rattle.std.proofs.Common.{◌≡◌, ℕ, zero, suc, ◌+◌, ◌<◌, ◌≤◌, Bool, true, false, List, [], ◌∷◌, ◌++◌, length, map, drop, get_or, Option, Some, None, refl, sym, ap, ◌∙◌, subst, arith}
-use Rattle.std.specs.Prelude.{slice_get, vec_capacity}
+use Rattle.std.proofs.Common.{◌≡◌, ℕ, zero, suc, ◌+◌, ◌<◌, ◌≤◌, true, List, [], ◌∷◌, length, map, take, drop, get_or, Some, refl, sym, ap, ◌∙◌, arith}
+use Rattle.std.proofs.lemmas.List.{take_all}
 use Rattle.four_value.specs.Values.{LogicValue}
 use Rattle.v_design.specs.Plain.{process_of, update_of}
 use Rattle.v_design.specs.declared.plan.Update.{Update}
-use Rattle.v_design.specs.Assignments.{ValueUpdate}
 use Rattle.v_design.specs.Processes as does
 use Rattle.v_design.specs.Processes.{Activity, process_step}
 use Rattle.v_design.specs.States.{is_ready, is_any, next_activity, first_update, rest_of}
 use Rattle.process_code.specs.Codes.{rests_in_code}
-use Rattle.process_code.specs.Positions.{part_of_head}
-use Rattle.process_code.specs.Points.{Point, point_of, said_by, said_of, tasks_at, activity_of, activity_by, activity_at}
-use Rattle.process_code.specs.StatesOf.{IsStateOf, StepsAsDefined, HasRoomFor}
+use Rattle.process_code.specs.Points.{Point, point_of, said_by, said_of, tasks_at, activity_of, activity_by}
+use Rattle.process_code.specs.StatesOf.{StepsAsDefined}
 use Rattle.process_code.specs.Lines.{line_of_tasks, step-line}
 use Rattle.process_code.specs.declared.code.Code.{Code}
 use Rattle.process_code.specs.declared.state.Did.{Did}
@@ -94,3 +92,14 @@ pub lane-some : (taken : ℕ) (lane : List Update) → taken < length lane → i
 lane-some taken [] low = absurd (omega (arith, low))
 lane-some zero (first ∷ lane) low = refl
 lane-some (suc taken) (first ∷ lane) low = lane-some taken lane (omega (arith, low))
+
+-- the updates from where the lane isn't taken
+pub lane-from : (taken start n : ℕ) (lane : List Update) → start ≤ taken → start ≤ length lane → (start < taken → length lane ≤ start) → length lane ≤ n + start →
+    map update_of (take n (drop start lane)) ≡ lane_left taken lane
+lane-from zero zero n lane low within end all = ap (map update_of) (take_all n lane (omega (arith, all)))
+lane-from (suc taken) zero n [] low within end all = ap (map update_of) (take_all n [] (omega arith))
+lane-from (suc taken) zero n (update ∷ lane) low within end all = absurd (omega (arith, end (omega arith)))
+lane-from zero (suc start) n lane low within end all = absurd (omega (arith, low))
+lane-from (suc taken) (suc start) n [] low within end all = absurd (omega (arith, within))
+lane-from (suc taken) (suc start) n (update ∷ lane) low within end all =
+    lane-from taken start n lane (omega (arith, low)) (omega (arith, within)) (λ less. omega (arith, end (omega (arith, less)))) (omega (arith, all))

@@ -1,5 +1,5 @@
 -- A step lets a process sleep until a later time alone (IEEE 1364-2001, clause 9.7).
-use Rattle.std.proofs.Common.{◌≡◌, ℕ, zero, suc, ◌+◌, ◌<◌, Bool, true, false, List, [], ◌∷◌, Option, Some, None, arith}
+use Rattle.std.proofs.Common.{ℕ, zero, suc, Bool, true, false, List, [], ◌∷◌, Option, Some, None, arith}
 use Rattle.vf_base.specs.Base.{SourcePlace}
 use Rattle.four_value.specs.Values.{LogicValue}
 use Rattle.v_design.specs.Trees.{Expression, Statement, Null, Block, If, Case, For, While, Repeat, Forever, Delay, EventControl, Wait, Blocking, Nonblocking, Finish}

@@ -1,20 +1,19 @@
 -- A step of the table is a step of the state (IEEE 1364-2001, clause 5).
-use Rattle.std.proofs.Common.{◌≡◌, ℕ, zero, suc, ◌+◌, ◌<◌, ◌≤◌, Bool, true, false, List, [], ◌∷◌, ◌++◌, length, map, Option, Some, None, refl, sym, ap, ◌∙◌, subst, arith, append-nil, inl, inr}
+use Rattle.std.proofs.Common.{◌≡◌, ℕ, ◌<◌, ◌≤◌, Bool, List, [], ◌∷◌, ◌++◌, length, map, refl, sym, ap, ◌∙◌, subst, arith}
 use Rattle.std.specs.Prelude.{slice_get}
 use Rattle.std.specs.Option.{option_map, option_to_list}
 use Rattle.four_value.specs.Values.{LogicValue}
 use Rattle.vf_base.specs.Lists.{AllHold, change_at}
 use Rattle.v_design.specs.Trees.{Entry}
 use Rattle.v_design.specs.Designs.{FlatDesign, FlatProcess, Machine}
-use Rattle.v_design.specs.Assignments.{ValueUpdate}
 use Rattle.v_design.specs.Processes.{Activity, Ready, Waiting, Asleep, Postponed, Done, Action, ReadsObject, WritesObject, AppendsUpdate, TouchesNothing, ProcessStep, process_step}
-use Rattle.v_design.specs.States.{State, ProcessState, LaterUpdate, found_or, idle_process, is_ready, is_any, source_at, activity_step, step_of, process_at, after_step, with_process, next_activity}
+use Rattle.v_design.specs.States.{State, ProcessState, LaterUpdate, found_or, idle_process, is_ready, activity_step, step_of, process_at, after_step, next_activity}
 use Rattle.v_design.specs.States.{appended, write_of}
 use Rattle.v_design.specs.Accesses.{waiting_entries, is_waiting}
 use Rattle.v_design.specs.Plain.{due_of}
 use Rattle.event_queue.specs.declared.held.Holding.TheVariants as held
-use Rattle.event_queue.specs.Queues.{HeldProcess, held_at, holding_of, ComesAfter, WakesAfter}
-use Rattle.process_code.specs.Points.{StepSaid, said_of, said_of_activity}
+use Rattle.event_queue.specs.Queues.{HeldProcess, held_at, holding_of, WakesAfter}
+use Rattle.process_code.specs.Points.{StepSaid, said_of}
 use Rattle.process_code.specs.declared.state.Stage.{Stage}
 use Rattle.process_table.specs.declared.row.Row.{Row}
 use Rattle.process_table.specs.declared.deed.Stepped.{Stepped}
@@ -23,10 +22,10 @@ use Rattle.process_table.specs.Deeds.{IsStepOf, read_of, read_by, written_by, re
 use Rattle.process_table.specs.Waited.{IsWaitable, activity_entries, tasks_entries, waited_entries, body_of}
 use Rattle.process_table.specs.WaitedLaws.{step-waits, hold-right}
 use Rattle.process_table.proofs.Sleeps.{step-wakes}
-use Rattle.process_table.specs.Rows.{RowState, row_states, row_text, state_at, text_at, step_from, step_at, after_row_step, made_ready, readied, RowsChange, StepsRows}
-use Rattle.process_table.specs.Arranged.{with_held, processes_of, row_ready, row_busy, row_holding, IsTable, HasStage, stage_holding, later_by, held_so}
-use Rattle.process_table.proofs.Lists.{at-change, change-none, change-twice}
-use Rattle.process_table.proofs.Changed.{processes-change, at-process, length-processes, queue-length, holding-at, changed, ready-unseen, lanes-unseen, queue-unseen, after-at, waits-at, no_row}
+use Rattle.process_table.specs.Rows.{RowState, row_states, row_text, state_at, text_at, step_from, step_at, after_row_step, readied, StepsRows}
+use Rattle.process_table.specs.Arranged.{processes_of, row_ready, row_holding, IsTable, HasStage, stage_holding, later_by, held_so}
+use Rattle.event_queue.specs.ChangeLaws.{at-change}
+use Rattle.process_table.proofs.Changed.{processes-change, at-process, length-processes, queue-length, holding-at, changed, lanes-unseen, after-at, waits-at, no_row}
 
 -- The step that comes next
 

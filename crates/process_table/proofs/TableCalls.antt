@@ -1,31 +1,29 @@
 -- What the calls of a table need of its parts (nothing of the language).
-use Rattle.std.proofs.Common.{◌≡◌, ℕ, zero, suc, ◌+◌, ◌<◌, ◌≤◌, Bool, true, false, List, [], ◌∷◌, ◌++◌, length, map, get_or, Option, Some, None, refl, sym, ap, ◌∙◌, subst, arith}
+use Rattle.std.proofs.Common.{◌≡◌, ℕ, zero, suc, Bool, true, false, List, [], ◌∷◌, length, map, get_or, Option, refl, sym, ap, ◌∙◌, subst, arith}
 use Rattle.std.specs.Prelude.{slice_get}
 use Rattle.std.proofs.lemmas.List.{length-map, get_or_past}
 use Rattle.four_value.specs.Values.{IsWidth}
-use Rattle.vf_base.specs.Lists.{AllHold, change_at, has, first_place}
-use Rattle.v_design.specs.Trees.{Entry, Null}
+use Rattle.vf_base.specs.Lists.{AllHold, change_at, first_place}
+use Rattle.v_design.specs.Trees.{Entry}
 use Rattle.v_design.specs.Designs.{FlatDesign, FlatProcess, Machine}
 use Rattle.v_design.specs.Processes as does
 use Rattle.v_design.specs.Processes.{Activity, opened}
-use Rattle.v_design.specs.States.{State, ProcessState, found_or, idle_process, is_ready, is_any, start, some_entry, entry_matches, rest_of, after_lane_step, turn_of, turn_by, some_in, is_due}
+use Rattle.v_design.specs.States.{State, ProcessState, found_or, idle_process, is_ready, is_any, some_entry, turn_of, turn_by, some_in, is_due}
 use Rattle.v_design.specs.Accesses.{waiting_entries}
-use Rattle.v_design.specs.WellFormed.{KeepsRules}
 use Rattle.event_queue.specs.declared.held.Holding.{Holding}
 use Rattle.event_queue.specs.declared.held.Holding.TheVariants as held
 use Rattle.event_queue.specs.Queues.{HeldProcess, nothing_held, repeated, held_at, held_of, holding_of, ComesAfter, is_postponed, next_time, next_turn}
 use Rattle.event_queue.specs.TurnLaws.{next_turn-held}
-use Rattle.wait_index.specs.Waits.{IsIndexOf, waited_objects, waiters_of, waiters_from, before_if}
+use Rattle.wait_index.specs.Waits.{IsIndexOf}
 use Rattle.value_change.specs.Changes.{ObjectChange, matches_one, woken_by}
 use Rattle.process_table.specs.declared.row.Row.{Row}
-use Rattle.process_table.specs.Tables.{TableState, IsTableOf, process_in, is_woken}
+use Rattle.process_table.specs.Tables.{IsTableOf}
 use Rattle.process_table.specs.Waited.{IsWaitable, WaitsAreWaitable, waited_entries, tasks_entries, activity_entries, body_of}
 use Rattle.process_table.specs.WaitedLaws.{opened-waits, hold-left}
-use Rattle.process_table.specs.Rows.{RowState, row_state, row_states, row_text, state_at, text_at, new_state, made_ready, readied, after_update, IsGoodRow, RowsChange}
+use Rattle.process_table.specs.Rows.{RowState, row_states, row_text, state_at, text_at, new_state, made_ready, readied, after_update, IsGoodRow, RowsChange}
 use Rattle.process_table.specs.Arranged.{with_held, processes_of, row_ready, row_busy, row_holding, row_activity, IsTable}
-use Rattle.process_table.specs.Wakes.{HasWoken, HasWaiters}
-use Rattle.process_table.proofs.Lists.{first_place-map, change-none}
-use Rattle.process_table.proofs.Woken.{wakes, woken-none, ended-none}
+use Rattle.process_table.proofs.Lists.{first_place-map}
+use Rattle.process_table.proofs.Woken.{wakes}
 use Rattle.process_table.proofs.Changed.{no_row, processes-change_row, at-process, map-processes, length-processes, queue-length, holding-at, changed, ready-unseen, lanes-unseen, queue-unseen}
 use Rattle.process_table.proofs.Changed.{after-at, waits-at, rows-length}
 use Rattle.process_table.proofs.Steps.{waitable-readied, readied-free}
@@ -84,7 +82,7 @@ ready-free (does.Postponed tasks) e = absurd (cc)
 ready-free does.Done e = absurd (cc)
 
 -- Members of a set
-member-at : {A : Type 0} (test : A → Bool) (default : A) (xs : List A) (p : ℕ) → test default ≡ false → get_or (map test xs) p false ≡ test (found_or default (slice_get xs p))
+pub member-at : {A : Type 0} (test : A → Bool) (default : A) (xs : List A) (p : ℕ) → test default ≡ false → get_or (map test xs) p false ≡ test (found_or default (slice_get xs p))
 member-at test default [] p none = get_or_past [] p false (omega arith) ∙ sym none
 member-at test default (x ∷ xs) zero none = refl
 member-at test default (x ∷ xs) (suc p) none = member-at test default xs p none

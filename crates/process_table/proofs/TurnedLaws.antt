@@ -1,7 +1,7 @@
 -- A table after a turn (IEEE 1364-2001, clauses 5.3 and 5.4).
-use Rattle.std.proofs.Common.{◌≡◌, ℕ, zero, suc, ◌+◌, ◌<◌, ◌≤◌, Bool, true, false, not, List, [], ◌∷◌, ◌++◌, length, map, Option, Some, None, refl, sym, ap, ◌∙◌, subst, arith, inl, inr, append-nil}
+use Rattle.std.proofs.Common.{◌≡◌, ℕ, zero, suc, ◌+◌, ◌<◌, ◌≤◌, Bool, true, false, not, List, [], ◌∷◌, ◌++◌, length, map, Option, Some, None, refl, sym, ap, ◌∙◌, subst, arith, append-nil}
 use Rattle.std.proofs.Common.{cond}
-use Rattle.std.specs.Prelude.{slice_get, filter, min, nat_le, ◌||◌, if◌then◌else◌}
+use Rattle.std.specs.Prelude.{slice_get, filter, nat_le, ◌||◌, if◌then◌else◌}
 use Rattle.std.proofs.lemmas.List.{length-map}
 use Rattle.std.proofs.lemmas.Bool.{leb-false}
 use Rattle.vf_base.specs.Lists.{AllHold, change_at, zip_with}
@@ -19,14 +19,14 @@ use Rattle.event_queue.specs.declared.held.Holding.TheVariants as held
 use Rattle.event_queue.specs.Queues.{HeldProcess, TurnRegion, holding_of, is_postponed, wakes_by, wake_time, ComesAfter, WakesAfter, next_time, next_turn, next_region, region_of, held_after}
 use Rattle.event_queue.specs.Queues.{held_after_turn, free_if, without_due, numbers_where, number_if, lanes_from, lane_if, updates_due}
 use Rattle.process_table.specs.declared.row.Row.{Row}
-use Rattle.process_table.specs.Tables.{TableState, IsTableOf}
+use Rattle.process_table.specs.Tables.{IsTableOf}
 use Rattle.process_table.specs.Waited.{IsWaitable, WaitsAreWaitable, activity_entries, body_of}
 use Rattle.process_table.specs.Rows.{RowState, row_states, row_text, IsGoodRow, made_ready, readied, with_lane}
 use Rattle.process_table.specs.Arranged.{with_held, processes_of, row_ready, row_busy, row_holding, row_activity, IsTable}
 use Rattle.process_table.specs.Turned.{each_changed, lanes_put, row_after, time_after}
 use Rattle.process_table.proofs.Numbers.{numbers-below}
 use Rattle.process_table.proofs.Steps.{waitable-readied, readied-free}
-use Rattle.process_table.proofs.TableCalls.{turn-table, long, ready-free}
+use Rattle.process_table.proofs.TableCalls.{turn-table, long}
 
 -- One element after another, by numbers
 

@@ -1,11 +1,11 @@
 -- What the calls on the waits of a table need of its parts (nothing of the language).
-use Rattle.std.proofs.Common.{◌≡◌, ℕ, suc, ◌+◌, ◌<◌, ◌≤◌, Bool, true, false, List, [], ◌∷◌, ◌++◌, length, map, get_or, refl, sym, ap, ◌∙◌, subst, arith, append-nil, append_assoc}
+use Rattle.std.proofs.Common.{◌≡◌, ℕ, suc, ◌+◌, ◌<◌, ◌≤◌, Bool, true, false, List, [], ◌∷◌, ◌++◌, length, map, get_or, refl, sym, ap, ◌∙◌, subst, arith, append_assoc}
 use Rattle.std.specs.Prelude.{slice_get}
 use Rattle.std.specs.List.{All}
 use Rattle.std.proofs.lemmas.List.{map_push}
 use Rattle.vf_base.specs.Base.{process_number, object_number}
 use Rattle.vf_base.specs.declared.ids.ProcId.{ProcId}
-use Rattle.vf_base.specs.Lists.{AllHold, change_at, joined, map_numbered}
+use Rattle.vf_base.specs.Lists.{AllHold, joined, map_numbered}
 use Rattle.v_design.specs.Trees.{Entry}
 use Rattle.v_design.specs.Designs.{FlatDesign}
 use Rattle.v_design.specs.Plain.{entry_of}
@@ -15,16 +15,16 @@ use Rattle.v_design.specs.Accesses.{ObjectAccess, waiting_entries, waiting_line,
 use Rattle.v_design.specs.declared.tree.WaitEntry.{WaitEntry}
 use Rattle.causal_monitor.specs.Notes.{noted_access}
 use Rattle.causal_monitor.specs.declared.noted.Noted.{Noted}
-use Rattle.value_change.specs.Changes.{ObjectChange, matches_one, woken_by, ended_by_changes, change_seen}
+use Rattle.value_change.specs.Changes.{ObjectChange, matches_one, ended_by_changes}
 use Rattle.value_change.specs.declared.change.Change.{Change}
-use Rattle.event_queue.specs.Queues.{HeldProcess, held_at, nothing_held, numbers_where}
+use Rattle.event_queue.specs.Queues.{HeldProcess, numbers_where}
 use Rattle.process_table.specs.declared.row.Row.{Row}
 use Rattle.process_table.specs.Tables.{TableState, process_in, is_woken}
 use Rattle.process_table.specs.Waited.{IsWaitable, body_of, activity_entries}
 use Rattle.process_table.specs.Rows.{RowState, row_state, row_states, state_at, made_ready, RowsChange}
-use Rattle.process_table.specs.Arranged.{with_held, processes_of, IsTable}
+use Rattle.process_table.specs.Arranged.{processes_of, IsTable}
 use Rattle.process_table.specs.Noted.{EndsWait, IsEntryIn}
-use Rattle.process_table.specs.Wakes.{IsWoken, IsWokenAt, HasWoken, HasWaiters, listed_below}
+use Rattle.process_table.specs.Wakes.{IsWokenAt, HasWoken, HasWaiters, listed_below}
 use Rattle.process_table.proofs.Changed.{state-is, waits-at}
 use Rattle.process_table.proofs.TableCalls.{process-row, count-processes, wake-processes}
 use Rattle.process_table.proofs.Candidates.{waiting-waitable, woken-listed}

@@ -1,9 +1,9 @@
 -- The processes that some changes make ready, one after another (IEEE 1364-2001, clause 9.7).
-use Rattle.std.proofs.Common.{◌≡◌, ℕ, zero, suc, ◌+◌, ◌-◌, ◌<◌, ◌≤◌, Bool, true, false, List, [], ◌∷◌, ◌++◌, length, map, get_or, Option, Some, None, refl, sym, ap, ◌∙◌, subst, arith, append-nil}
+use Rattle.std.proofs.Common.{◌≡◌, ℕ, zero, suc, ◌+◌, ◌-◌, ◌<◌, ◌≤◌, Bool, true, false, List, [], ◌∷◌, ◌++◌, length, map, get_or, refl, sym, ap, ◌∙◌, subst, arith, append-nil}
 use Rattle.std.proofs.Common.{append_assoc, inl, inr}
 use Rattle.std.specs.Prelude.{slice_get}
 use Rattle.std.proofs.lemmas.Bool.{cases_lt}
-use Rattle.vf_base.specs.Lists.{has, change_at, joined, map_numbered}
+use Rattle.vf_base.specs.Lists.{change_at, joined, map_numbered}
 use Rattle.v_design.specs.Trees.{Entry}
 use Rattle.v_design.specs.Processes.{Activity, Ready, Waiting, Asleep, Postponed, Done}
 use Rattle.v_design.specs.States.{ProcessState, found_or, idle_process, some_entry, ready_if}

@@ -1,7 +1,7 @@
 -- How a table arranges the processes of a state: rows by process, sets of those that have an event, and a queue of turns (nothing of the language).
-use Rattle.std.specs.Prelude.{◌≡◌, ℕ, Bool, List, [], ◌∷◌, ◌++◌, map, filter, length, take, drop, slice_get, Option, Some, None}
-use Rattle.vf_base.specs.Lists.{AllHold, change_at, zip_with, joined, map_numbered}
-use Rattle.v_design.specs.Designs.{FlatDesign, FlatProcess}
+use Rattle.std.specs.Prelude.{◌≡◌, ℕ, Bool, List, [], ◌∷◌, ◌++◌, map}
+use Rattle.vf_base.specs.Lists.{AllHold, zip_with}
+use Rattle.v_design.specs.Designs.{FlatDesign}
 use Rattle.v_design.specs.Processes.{Activity}
 use Rattle.v_design.specs.States.{ProcessState, LaterUpdate, is_ready, is_any}
 use Rattle.v_design.specs.Accesses.{is_waiting}
@@ -16,7 +16,7 @@ use Rattle.v_design.specs.PlainDesigns.{design_of}
 use Rattle.process_table.specs.declared.row.Row.{Row}
 use Rattle.process_table.specs.declared.table.ProcessTable.{ProcessTable}
 use Rattle.process_table.specs.Tables.{TableState}
-use Rattle.process_table.specs.Rows.{RowState, row_states, row_text, IsGoodRow, state_at}
+use Rattle.process_table.specs.Rows.{RowState, row_states, row_text, IsGoodRow}
 use Rattle.process_table.specs.Waited.{WaitsAreWaitable}
 
 -- the state of a process, of its row and what is held of it
@@ -90,10 +90,6 @@ later_by (SaysSleep time) = []
 later_by SaysZero = []
 later_by SaysFinished = []
 later_by SaysInner = []
-
--- a process with more nonblocking updates
-abbrev pub with_laters : List LaterUpdate → HeldProcess → HeldProcess
-with_laters laters held = record held { later = held.later ++ laters }
 
 -- a process that is held so, with more nonblocking updates
 abbrev pub held_so : Holding → List LaterUpdate → HeldProcess → HeldProcess

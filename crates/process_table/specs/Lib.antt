@@ -9,3 +9,4 @@ pub mod Wakes
 pub mod Noted
 pub mod Turned
 pub mod Puts
+pub mod Replaces

@@ -1,5 +1,5 @@
 -- The accesses that a table tells of its waits (IEEE 1364-2001, clauses 5 and 9.7).
-use Rattle.std.specs.Prelude.{◌≡◌, ℕ, ◌<◌, Bool, List, ◌++◌, length, map, filter, Some, None}
+use Rattle.std.specs.Prelude.{◌≡◌, ℕ, ◌<◌, Bool, List, ◌++◌, length, map, Some, None}
 use Rattle.std.specs.List.{All}
 use Rattle.vf_base.specs.Base.{object_number}
 use Rattle.vf_base.specs.declared.ids.ProcId.{ProcId}
@@ -9,7 +9,6 @@ use Rattle.vf_base.specs.Lists.{AllHold, has}
 use Rattle.v_design.specs.Trees.{Entry}
 use Rattle.v_design.specs.Designs.{FlatDesign}
 use Rattle.v_design.specs.Paths.{net_pieces}
-use Rattle.v_design.specs.Plain.{entry_of}
 use Rattle.v_design.specs.Processes.{Activity}
 use Rattle.v_design.specs.States.{some_entry}
 use Rattle.v_design.specs.Accesses.{waiting_entries, waiting_line, ended_of}

@@ -1,5 +1,5 @@
 -- What a row of a table holds of its process: what it does, and its lane (IEEE 1364-2001, clause 9).
-use Rattle.std.specs.Prelude.{◌≡◌, ℕ, false, List, [], ◌∷◌, map, drop, slice_get}
+use Rattle.std.specs.Prelude.{◌≡◌, ℕ, false, List, [], map, drop, slice_get}
 use Rattle.four_value.specs.Values.{LogicValue}
 use Rattle.vf_base.specs.Lists.{AllHold, change_at}
 use Rattle.v_design.specs.Plain.{process_of, update_of}

@@ -1,5 +1,5 @@
 -- What a turn does to the rows of a table and to what its queue holds (IEEE 1364-2001, clauses 5.3 and 5.4).
-use Rattle.std.specs.Prelude.{◌≡◌, ℕ, true, List, [], ◌∷◌, map, cond}
+use Rattle.std.specs.Prelude.{◌≡◌, ℕ, List, [], ◌∷◌, map, cond}
 use Rattle.vf_base.specs.Lists.{AllHold, change_at}
 use Rattle.v_design.specs.Assignments.{ValueUpdate}
 use Rattle.v_design.specs.States.{TurnKind, PostponedTurn, UpdatesTurn, TimeTurn, is_any}

@@ -1,11 +1,11 @@
 -- The entries for which a process may wait, as far as its text names them (IEEE 1364-2001, clause 9.7).
-use Rattle.std.specs.Prelude.{◌≡◌, ℕ, ◌<◌, Bool, true, false, List, [], ◌∷◌, ◌++◌, map, length, slice_get, IsTrue}
+use Rattle.std.specs.Prelude.{◌≡◌, ℕ, ◌<◌, true, false, List, [], ◌∷◌, ◌++◌, map, length, slice_get}
 use Rattle.four_value.specs.Values.{IsWidth}
 use Rattle.four_value.specs.declared.logic.Edge.TheVariants.{Any}
 use Rattle.vf_base.specs.Lists.{has, AllHold}
 use Rattle.v_design.specs.Trees.{Piece, Entry, Statement, Null, Block, If, Case, For, While, Repeat, Forever, Delay, EventControl, Wait, Blocking, Nonblocking, Finish, Statements, no_statements}
 use Rattle.v_design.specs.Trees.{more_statements, CaseItems, no_items, more_items}
-use Rattle.v_design.specs.Designs.{FlatDesign, FlatProcess}
+use Rattle.v_design.specs.Designs.{FlatDesign}
 use Rattle.v_design.specs.Processes.{Task, Run, Turns, Writes, Appends, Activity, Ready, Waiting, Asleep, Postponed, Done}
 use Rattle.v_design.specs.States.{found_or}
 use Rattle.v_design.specs.Reads.{named_in}

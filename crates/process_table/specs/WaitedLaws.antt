@@ -1,28 +1,20 @@
 -- In a run a process waits for entries of its body alone (IEEE 1364-2001, clause 9.7).
-use Rattle.std.proofs.Common.{◌≡◌, ℕ, zero, suc, ◌+◌, List, [], ◌∷◌, ◌++◌, map, Bool, true, false, refl, ap, sym, subst, inl, inr, arith, ◌∙◌}
-use Rattle.std.specs.Prelude.{Option, Some, None, slice_get, nat_eq, nat_le, nat_lt, min, ◌-◌, ◌&&◌, ◌||◌, cond, if◌then◌else◌, IsTrue, is_some}
-use Rattle.std.proofs.lemmas.Bool.{eqb-true, eq-eqb, or_cases, or_right, or_left, and_parts}
-use Rattle.vf_base.specs.Lists.{has, change_at, AllHold}
-use Rattle.four_value.specs.Values.{LogicValue, natural_number, edge_matches, part_of}
+use Rattle.std.proofs.Common.{ℕ, zero, suc, ◌+◌, List, [], ◌∷◌, ◌++◌, Bool, true, false}
+use Rattle.std.specs.Prelude.{Option, Some, None, if◌then◌else◌}
+use Rattle.vf_base.specs.Lists.{has, AllHold}
+use Rattle.four_value.specs.Values.{LogicValue, natural_number}
 use Rattle.vf_base.specs.Base.{SourcePlace}
 use Rattle.v_design.specs.Trees.{Piece, Entry, Vector, Expression, Constant, Name, BitSelect, PartSelect, WordSelect, Unary, Binary, Conditional, Concatenation, Replication, Expressions}
 use Rattle.v_design.specs.Trees.{no_expressions, more_expressions, Statement, Null, Block, If, Case, For, While, Repeat, Forever, Delay, EventControl, Wait, Blocking, Nonblocking, Finish}
 use Rattle.v_design.specs.Trees.{Statements, no_statements, more_statements, CaseItems, no_items, more_items}
-use Rattle.v_design.specs.Expressions.{Progress, Needs, Has, then_with, sign_of, read_expression, read_each, pieces_read, parts_read, piece_objects, Slice, slice_piece, slice_pieces, slices_at}
+use Rattle.v_design.specs.Expressions.{Progress, Needs, Has, then_with, sign_of, read_expression, read_each, pieces_read, parts_read, slice_piece, slice_pieces, slices_at}
 use Rattle.v_design.specs.Expressions.{whole_slices, bit_slices, some_place_within, part_places, place_of_number, index_number, is_constant, no_values, memory_pieces}
-use Rattle.v_design.specs.Designs.{FlatProcess, FlatNode, FlatDesign, Machine}
-use Rattle.v_design.specs.Assignments.{ValueUpdate, value_at, read_assignment, some_label_matches}
-use Rattle.v_design.specs.Processes.{Task, Run, Turns, Writes, Appends, Activity, Ready, Waiting, Asleep, Postponed, Done, Action, ReadsObject, WritesObject, AppendsUpdate, TouchesNothing}
+use Rattle.v_design.specs.Designs.{FlatProcess}
+use Rattle.v_design.specs.Assignments.{ValueUpdate, read_assignment, some_label_matches}
+use Rattle.v_design.specs.Processes.{Task, Run, Turns, Writes, Appends}
 use Rattle.v_design.specs.Processes.{ProcessStep, opened, opened_all, goes_on, after_delay, reads_or, writes_left, write_step, append_step, assignment_step, either_statement, read_items, read_case}
 use Rattle.v_design.specs.Processes.{turns_of, turns_step, loop_of, wait_step, statement_step, end_step, process_step, piece_unless, pieces_once, change_entries}
-use Rattle.v_design.specs.States.{State, ProcessState, Event, Step, LaneStep, Evaluation, NetUpdate, TurnKind, PostponedTurn, UpdatesTurn, TimeTurn, found_or, idle_process, process_at, source_at}
-use Rattle.v_design.specs.States.{start, next_activity, write_of, activity_step, step_of, after_step, first_update, after_lane_step, after, entry_matches, some_entry, ready_if, woken, woken_process}
-use Rattle.v_design.specs.States.{with_value, with_values, written_if, value_written, with_process, evaluated, nets_updated, resumed, awake_at, is_due, turned, turn_of}
-use Rattle.v_design.specs.Accesses.{waiting_entries}
-use Rattle.v_design.specs.Runs.{Move, Happens, turned_by, made, all_made}
-use Rattle.v_design.specs.Runs as runs
 use Rattle.v_design.specs.Reads.{named_in, named_in_parts}
-use Rattle.graph_order.specs.ListLaws.{AllHold-has}
 use Rattle.process_table.specs.Waited.{piece_entries, waited_entries, all_entries, items_entries, task_entries, tasks_entries, activity_entries}
 
 -- All entries of a list pass a test

@@ -1,5 +1,5 @@
 -- The processes that some changes may make ready (IEEE 1364-2001, clause 9.7).
-use Rattle.std.specs.Prelude.{◌≡◌, ℕ, zero, suc, ◌+◌, ◌≤◌, ◌<◌, true, List, [], ◌∷◌, ◌++◌, map, length, get_or, slice_get, Some}
+use Rattle.std.specs.Prelude.{◌≡◌, ℕ, zero, suc, ◌+◌, ◌≤◌, ◌<◌, true, List, [], ◌∷◌, ◌++◌, map, length, get_or, slice_get}
 use Rattle.vf_base.specs.Lists.{has, AllHold, change_at, joined, map_numbered}
 use Rattle.v_design.specs.States.{ProcessState, found_or, idle_process}
 use Rattle.v_design.specs.Accesses.{ObjectAccess}

@@ -5,11 +5,11 @@ ghost use Rattle.std.specs.Option.{option_map, option_to_list};
 ghost use Rattle.vf_base.specs.Base.{process_number};
 ghost use Rattle.vf_base.specs.Lists.{change_at};
 ghost use Rattle.v_design.specs.Plain.{due_of};
-ghost use Rattle.event_queue.specs.Queues.{held_at, with_holding};
+ghost use Rattle.event_queue.specs.Queues.{held_at, with_holding, with_laters};
 ghost use Rattle.event_queue.specs.declared.held.Holding.TheVariants as Holding;
 ghost use Rattle.process_code.specs.Points.{said_by};
 ghost use Rattle.process_table.specs.Rows.{row_states, state_at};
-ghost use Rattle.process_table.specs.Arranged.{HasStage, stage_holding, later_by, with_laters, held_so};
+ghost use Rattle.process_table.specs.Arranged.{HasStage, stage_holding, later_by, held_so};
 ghost use Rattle.process_table.specs.Deeds.{read_by, written_by, read_said, written_said};
 
 use crate::deed::Act;
@@ -154,17 +154,6 @@ pub fn keep(queue: &mut Queue, process: ProcId, did: &Did, stage: Stage) -> Resu
     Ok(())
 }
 
-/// Appends some updates of a process.
-fn append_all(queue: &mut Queue, process: ProcId, updates: &[Due]) -> Result<(), NoMemory>
-    requires { process_number process < length queue.old }
-    ensures { OnOk result (queue.new ≡ change_at queue.old (process_number process) (with_laters (map due_of updates.now))) }
-{
-    'updates: for due in updates {
-        queue.schedule_update(process, due.time, due.update)?;
-    }
-    Ok(())
-}
-
 /// Lets the queue hold a process that isn't held as its stage says, with some updates.
 pub fn hold_with(
     queue: &mut Queue,
@@ -176,7 +165,7 @@ pub fn hold_with(
     requires free { (held_at queue.old (process_number process)).holding ≡ Holding.Free }
     ensures { OnOk result (queue.new ≡ change_at queue.old (process_number process) (held_so (stage_holding stage) (map due_of updates.now))) }
 {
-    append_all(queue, process, updates)?;
+    queue.schedule_updates(process, updates)?;
     hold(queue, process, stage)?;
     Ok(())
 }

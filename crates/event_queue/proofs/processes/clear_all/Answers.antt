@@ -1,5 +1,5 @@
 -- One more is let go of, until there are all.
-use Rattle.std.proofs.Common.{◌≤◌, length, ◌∙◌, ap, arith, List}
+use Rattle.std.proofs.Common.{◌∙◌, ap, arith, List}
 use Rattle.vf_base.specs.Lists.{change_at}
 use Rattle.event_queue.specs.Queues.{HeldProcess, nothing_held, repeated}
 use Rattle.event_queue.specs.Arranged.{held_by_process}

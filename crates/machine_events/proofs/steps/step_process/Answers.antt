@@ -2,7 +2,8 @@
 use Rattle.std.proofs.Common.{◌∙◌, length, sym, ap}
 use Rattle.vf_base.specs.Base.{process_number}
 use Rattle.v_design.specs.Designs.{FlatDesign}
-use Rattle.machine_events.proofs.Recorded.{values-count, same-design, ready-low, stepped-amid, stepped-low}
+use Rattle.slot_record.specs.SlotRecords.{state_in}
+use Rattle.machine_events.proofs.Recorded.{values-count, same-design, ready-low, stepped-both, stepped-low}
 use Rattle.machine_events.proofs.steps.step_process.Goals as goal
 
 pub step-requires-clause-kept : goal.step-requires-clause-kept
@@ -15,8 +16,8 @@ step-requires-clause-values g c =
 pub finish_step-requires-clause-process : goal.finish_step-requires-clause-process
 finish_step-requires-clause-process g c =
     let s = c.requires.stands in
-    let stepped = stepped-amid s.machine s.first s.before s.phase c.args.nets.now c.args.table.now c.step.new.self c.args.record.now s.log
-    (process_number c.args.process) c.in_ok-stepped.stepped s.is c.requires.ready c.in_ok-stepped.ensures.step in
+    let stepped = stepped-both s.machine (state_in s.machine s.phase) c.args.nets.now c.args.table.now c.step.new.self
+    (process_number c.args.process) c.in_ok-stepped.stepped s.is.both c.requires.ready c.in_ok-stepped.ensures.step in
     stepped-low c.args.table.now c.step.new.self (process_number c.args.process) s.is.arranged c.in_ok-stepped.ensures.kept
     (stepped.step.after.design ∙ sym s.is.both.table_is.design) (ready-low c.args.table.now (process_number c.args.process) c.requires.ready)
 
@@ -29,8 +30,8 @@ finish_step-requires-clause-stands g c =
       before = s.before;
       phase = s.phase;
       log = s.log;
-      is = stepped-amid s.machine s.first s.before s.phase c.args.nets.now c.args.table.now c.step.new.self c.args.record.now s.log
-          (process_number c.args.process) c.in_ok-stepped.stepped s.is c.requires.ready
+      is = stepped-both s.machine (state_in s.machine s.phase) c.args.nets.now c.args.table.now c.step.new.self
+          (process_number c.args.process) c.in_ok-stepped.stepped s.is.both c.requires.ready
           c.in_ok-stepped.ensures.step;
       recorded = s.is.recorded;
     }
@@ -38,6 +39,6 @@ finish_step-requires-clause-stands g c =
 pub returns : goal.returns
 returns g c = λ machine first before phase log amid.
     c.in_ok-finish_step.ensures machine first before phase log
-    (stepped-amid machine first before phase c.args.nets.now c.args.table.now c.step.new.self c.args.record.now log
-    (process_number c.args.process) c.in_ok-stepped.stepped amid c.requires.ready c.in_ok-stepped.ensures.step)
+    (stepped-both machine (state_in machine phase) c.args.nets.now c.args.table.now c.step.new.self
+    (process_number c.args.process) c.in_ok-stepped.stepped amid.both c.requires.ready c.in_ok-stepped.ensures.step)
     amid.recorded

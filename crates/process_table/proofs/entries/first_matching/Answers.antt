@@ -1,4 +1,4 @@
-use Rattle.std.proofs.Common.{◌≡◌, get_or, sym}
+use Rattle.std.proofs.Common.{get_or, sym}
 use Rattle.four_value.specs.Values.{IsWidth}
 use Rattle.four_value.specs.declared.logic.Edge.TheVariants.{Any}
 use Rattle.v_design.specs.Plain.{entry_of}

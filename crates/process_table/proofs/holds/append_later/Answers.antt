@@ -1,5 +1,5 @@
 use Rattle.vf_base.specs.Base.{process_number}
-use Rattle.process_table.proofs.PutLaws.{no-laters}
+use Rattle.event_queue.specs.ChangeLaws.{no-laters}
 use Rattle.process_table.proofs.holds.append_later.Goals as goal
 
 pub returns-in-Read : goal.returns-in-Read

@@ -4,7 +4,7 @@ use Rattle.event_queue.specs.declared.held.Holding.{Holding}
 use Rattle.event_queue.specs.declared.held.Holding.TheVariants.{Free}
 use Rattle.event_queue.specs.Queues.{HeldProcess, nothing_held, held_at, with_holding}
 use Rattle.vf_base.specs.Lists.{change_at}
-use Rattle.process_table.proofs.Lists.{change-none}
+use Rattle.event_queue.specs.ChangeLaws.{change-none}
 use Rattle.process_table.proofs.holds.hold.Goals as goal
 
 -- a process that isn't held stays so

@@ -1,11 +1,11 @@
-use Rattle.std.proofs.Common.{◌≡◌, ◌∙◌, ◌<◌, List, length, ap, sym, arith, subst}
+use Rattle.std.proofs.Common.{◌∙◌, List, length, ap, arith}
 use Rattle.vf_base.specs.Base.{process_number}
 use Rattle.vf_base.specs.Lists.{change_at}
 use Rattle.event_queue.specs.Queues.{HeldProcess, nothing_held, held_at, with_holding}
-use Rattle.event_queue.specs.declared.held.Holding.TheVariants.{Free}
 use Rattle.process_code.specs.Points.{said_by}
-use Rattle.process_table.specs.Arranged.{later_by, with_laters, stage_holding}
-use Rattle.process_table.proofs.Lists.{length-change, at-change, change-twice}
+use Rattle.event_queue.specs.Queues.{with_laters}
+use Rattle.process_table.specs.Arranged.{later_by, stage_holding}
+use Rattle.event_queue.specs.ChangeLaws.{at-change, length-change, change-twice}
 use Rattle.process_table.proofs.holds.keep.Goals as goal
 
 pub hold-requires-clause-number : goal.hold-requires-clause-number

@@ -1,4 +1,4 @@
-use Rattle.std.proofs.Common.{◌≡◌, ◌≤◌, ◌<◌, ◌∙◌, List, length, map, sym, ap, arith, add-one, refl}
+use Rattle.std.proofs.Common.{◌≡◌, ◌∙◌, List, length, map, sym, ap, arith, add-one}
 use Rattle.std.proofs.lemmas.List.{length-map}
 use Rattle.vf_base.specs.Lists.{change_at}
 use Rattle.process_table.specs.declared.row.Row.{Row}

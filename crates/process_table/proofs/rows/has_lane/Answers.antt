@@ -1,4 +1,4 @@
-use Rattle.std.proofs.Common.{◌≡◌, ◌∙◌, ◌<◌, ◌≤◌, Bool, length, ap, sym, arith, true, false}
+use Rattle.std.proofs.Common.{◌∙◌, length, ap, sym, arith}
 use Rattle.vf_base.specs.Base.{process_number}
 use Rattle.v_design.specs.States.{is_any}
 use Rattle.process_table.specs.Rows.{RowState}

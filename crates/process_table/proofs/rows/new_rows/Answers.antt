@@ -1,9 +1,8 @@
-use Rattle.std.proofs.Common.{rules, ◌≡◌, ◌∙◌, ◌++◌, ◌∷◌, ◌+◌, ◌<◌, [], List, ℕ, ap, sym, subst, take, map, length, get_or}
+use Rattle.std.proofs.Common.{◌≡◌, ◌∙◌, ◌++◌, ◌∷◌, ◌+◌, ◌<◌, [], List, ℕ, ap, sym, subst, take, map, length, get_or}
 use Rattle.std.proofs.lemmas.List.{take_more, take_all, map_push}
 use Rattle.vf_base.specs.Lists.{AllHold}
 use Rattle.v_design.specs.Plain.{process_of}
 use Rattle.v_design.specs.declared.plan.Process.{Process}
-use Rattle.process_table.specs.declared.row.Row.{Row}
 use Rattle.process_table.specs.Rows.{IsGoodRow, row_text, row_state, row_states, new_state}
 use Rattle.process_table.proofs.Steps.{hold-more}
 use Rattle.process_table.proofs.rows.new_rows.Goals as goal

@@ -1,8 +1,8 @@
-use Rattle.std.proofs.Common.{rules, ◌≡◌, ◌∙◌, ◌<◌, ◌+◌, ◌++◌, ◌∷◌, [], Bool, true, length, map, get_or, take, ap, sym, subst, arith, ℕ, List, refl, map-id}
+use Rattle.std.proofs.Common.{rules, ◌∙◌, ◌<◌, Bool, true, length, map, ap, sym, subst, arith, List, refl, map-id}
 use Rattle.std.proofs.lemmas.List.{map_push}
 use Rattle.std.proofs.lemmas.Iterator.Consumers.{YieldsList-turn, YieldsList-end}
 use Rattle.std.proofs.lemmas.Iterator.Adapters.{YieldsList-from_vec}
-use Rattle.vf_base.specs.Lists.{AllHold, change_at}
+use Rattle.vf_base.specs.Lists.{change_at}
 use Rattle.event_queue.specs.Arranged.{lane_number, lane_of}
 use Rattle.process_table.specs.Turned.{each_changed, FillsLanes}
 use Rattle.process_table.proofs.Matching.{AllHold-image}

@@ -1,4 +1,4 @@
-use Rattle.std.proofs.Common.{◌≡◌, ◌∙◌, ◌<◌, ◌+◌, ◌++◌, ◌∷◌, [], Bool, true, length, map, get_or, take, ap, sym, subst, arith, ℕ, List, take_all}
+use Rattle.std.proofs.Common.{◌∙◌, ◌<◌, Bool, true, length, map, get_or, take, ap, sym, subst, arith, ℕ, List, take_all}
 use Rattle.vf_base.specs.Base.{process_number}
 use Rattle.vf_base.specs.declared.ids.ProcId.{ProcId}
 use Rattle.vf_base.specs.Lists.{AllHold, change_at}

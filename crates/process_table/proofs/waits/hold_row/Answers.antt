@@ -1,6 +1,5 @@
-use Rattle.std.proofs.Common.{◌≡◌, ◌∙◌, ◌++◌, ◌<◌, [], ◌∷◌, length, map, filter, ap, sym, subst, List, ℕ}
-use Rattle.std.specs.List.{All}
-use Rattle.vf_base.specs.Base.{process_number, object_number}
+use Rattle.std.proofs.Common.{◌∙◌, ◌++◌, ◌<◌, [], ◌∷◌, length, map, filter, ap, sym, subst, List}
+use Rattle.vf_base.specs.Base.{process_number}
 use Rattle.vf_base.specs.declared.finding.AccessKind.TheVariants as kind
 use Rattle.vf_base.specs.Lists.{AllHold, has}
 use Rattle.v_design.specs.Paths.{net_pieces}
@@ -8,7 +7,6 @@ use Rattle.v_design.specs.Plain.{entry_of}
 use Rattle.v_design.specs.Designs.{FlatDesign}
 use Rattle.v_design.specs.PlainDesigns.{design_of}
 use Rattle.v_design.specs.Trees.{Entry}
-use Rattle.v_design.specs.declared.tree.WaitEntry.{WaitEntry}
 use Rattle.causal_monitor.specs.Notes.{noted_access}
 use Rattle.v_design.specs.Accesses.{waiting_entries}
 use Rattle.process_table.specs.Rows.{row_state}

@@ -1,5 +1,5 @@
 -- Nothing is held by process, and nothing by time.
-use Rattle.std.proofs.Common.{◌≡◌, ◌∙◌, ◌++◌, take, drop, ℕ, length, sym, subst, ap, List, []}
+use Rattle.std.proofs.Common.{◌∙◌, ℕ, length, sym, subst, ap, List}
 use Rattle.vf_base.specs.declared.ids.ProcId.{ProcId}
 use Rattle.event_queue.specs.Queues.{HeldProcess, nothing_held, repeated}
 use Rattle.event_queue.specs.Arranged.{held_by_process, IsArranged}

@@ -1,5 +1,5 @@
 -- The list of the postponed has an element just where a process is postponed.
-use Rattle.std.proofs.Common.{◌≡◌, zero, suc, ◌∙◌, not, nat_eq, length, List, [], ◌∷◌, sym, ap, refl, arith, true≢false}
+use Rattle.std.proofs.Common.{◌≡◌, suc, ◌∙◌, not, nat_eq, length, List, [], ◌∷◌, ap, refl, arith}
 use Rattle.std.proofs.lemmas.Bool.{ne_eqb}
 use Rattle.v_design.specs.States.{is_any, some_in}
 use Rattle.event_queue.specs.Queues.{HeldProcess, is_postponed}

@@ -1,5 +1,5 @@
 -- They are those of the view at the process's place.
-use Rattle.std.proofs.Common.{◌≡◌, ◌∙◌, ◌<◌, length, ap, arith, List}
+use Rattle.std.proofs.Common.{◌∙◌, length, ap, arith, List}
 use Rattle.vf_base.specs.Base.{process_number}
 use Rattle.event_queue.specs.declared.held.Held.{Held}
 use Rattle.event_queue.specs.Queues.{HeldProcess, held_at}

@@ -1,5 +1,5 @@
 -- A process that is done has read no operand, and all of its lane is taken.
-use Rattle.std.proofs.Common.{◌≡◌, ◌≤◌, ℕ, length, List, [], refl, sym, ap, subst, arith}
+use Rattle.std.proofs.Common.{ℕ, length, List, refl, sym, ap, subst, arith}
 use Rattle.std.specs.Prelude.{vec_capacity}
 use Rattle.v_design.specs.Assignments.{ValueUpdate}
 use Rattle.v_design.specs.Processes.{Done}

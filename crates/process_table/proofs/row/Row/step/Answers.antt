@@ -1,8 +1,8 @@
-use Rattle.std.proofs.Common.{◌≡◌, ap, refl}
+use Rattle.std.proofs.Common.{ap, refl}
 use Rattle.v_design.specs.Processes.{Activity}
 use Rattle.process_code.specs.Codes.{rests_in_code}
 use Rattle.process_code.specs.Points.{point_of}
-use Rattle.process_table.specs.Rows.{RowState, lane_left}
+use Rattle.process_table.specs.Rows.{lane_left}
 use Rattle.process_table.proofs.RowSteps.{ready-stage, row-line, row-said, row-activity}
 use Rattle.process_table.proofs.row.Row.step.Goals as goal
 

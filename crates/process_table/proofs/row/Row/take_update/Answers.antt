@@ -1,10 +1,7 @@
-use Rattle.std.proofs.Common.{◌≡◌, ◌∙◌, ◌<◌, ◌≤◌, ◌+◌, ℕ, List, length, get_or, map, drop, ap, sym, arith, refl, subst, Some}
+use Rattle.std.proofs.Common.{◌∙◌, ◌<◌, List, length, get_or, ap, arith, refl}
 use Rattle.v_design.specs.Assignments.{ValueUpdate}
-use Rattle.v_design.specs.States.{first_update}
-use Rattle.v_design.specs.Plain.{update_of}
 use Rattle.v_design.specs.declared.plan.Update.{Update}
 use Rattle.process_code.specs.Points.{activity_of}
-use Rattle.process_table.specs.Rows.{RowState, lane_left}
 use Rattle.process_table.proofs.RowSteps.{lane-first, lane-rest}
 use Rattle.process_table.proofs.row.Row.take_update.Goals as goal
 

@@ -1,4 +1,4 @@
-use Rattle.std.proofs.Common.{◌≡◌, ◌∙◌, ◌<◌, ◌^◌, ℕ, Bool, List, false, length, ap, sym, subst, arith}
+use Rattle.std.proofs.Common.{◌≡◌, ◌∙◌, ℕ, Bool, List, false, length, ap, sym, subst, arith}
 use Rattle.event_queue.specs.Queues.{repeated}
 use Rattle.process_table.specs.Sets.{IsSet}
 use Rattle.process_table.proofs.Members.{set-none, repeated-length}

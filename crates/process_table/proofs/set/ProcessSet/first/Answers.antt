@@ -1,4 +1,4 @@
-use Rattle.std.proofs.Common.{◌≡◌, ◌∙◌, ◌<◌, ◌≤◌, Bool, ap, arith}
+use Rattle.std.proofs.Common.{◌∙◌, Bool, ap, arith}
 use Rattle.vf_base.specs.Lists.{first_place}
 use Rattle.process_table.proofs.Members.{set-first, set-empty}
 use Rattle.process_table.proofs.set.ProcessSet.first.Goals as goal

@@ -1,4 +1,4 @@
-use Rattle.std.proofs.Common.{◌≡◌, ◌∙◌, ◌++◌, ◌∷◌, [], ◌^◌, ◌<◌, ℕ, Bool, List, ap, sym, subst, arith, cond}
+use Rattle.std.proofs.Common.{◌≡◌, ◌∙◌, ◌++◌, ◌∷◌, [], ◌^◌, ◌<◌, Bool, List, ap, sym, subst, arith}
 use Rattle.event_queue.specs.Queues.{repeated}
 use Rattle.process_table.specs.Sets.{IsSet}
 use Rattle.process_table.proofs.Members.{set-new, repeated-push}

@@ -1,4 +1,4 @@
-use Rattle.std.proofs.Common.{◌≡◌, ◌∙◌, Bool, List, false, ap}
+use Rattle.std.proofs.Common.{◌∙◌, Bool, List, false, ap}
 use Rattle.vf_base.specs.Base.{process_number}
 use Rattle.vf_base.specs.Lists.{change_at}
 use Rattle.process_table.proofs.Lists.{set-change}

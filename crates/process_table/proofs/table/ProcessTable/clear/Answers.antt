@@ -1,4 +1,4 @@
-use Rattle.std.proofs.Common.{◌≡◌, ◌∙◌, ap, sym, subst, List, Bool, false, length}
+use Rattle.std.proofs.Common.{◌∙◌, ap, sym, subst, List, Bool, false, length}
 use Rattle.v_design.specs.PlainDesigns.{design_of}
 use Rattle.v_design.specs.States.{ProcessState}
 use Rattle.event_queue.specs.Queues.{HeldProcess, nothing_held, repeated}

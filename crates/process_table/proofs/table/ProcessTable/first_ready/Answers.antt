@@ -1,4 +1,4 @@
-use Rattle.std.proofs.Common.{◌≡◌, ◌∙◌}
+use Rattle.std.proofs.Common.{◌∙◌}
 use Rattle.v_design.specs.PlainDesigns.{design_of}
 use Rattle.process_table.proofs.TableCalls.{first-ready}
 use Rattle.process_table.proofs.table.ProcessTable.first_ready.Goals as goal

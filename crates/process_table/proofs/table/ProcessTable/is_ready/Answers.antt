@@ -1,4 +1,4 @@
-use Rattle.std.proofs.Common.{◌≡◌, ◌∙◌}
+use Rattle.std.proofs.Common.{◌∙◌}
 use Rattle.vf_base.specs.Base.{process_number}
 use Rattle.v_design.specs.PlainDesigns.{design_of}
 use Rattle.process_table.proofs.TableCalls.{ready-member}

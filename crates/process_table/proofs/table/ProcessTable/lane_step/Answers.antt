@@ -1,22 +1,15 @@
-use Rattle.std.proofs.Common.{◌≡◌, ◌∙◌, ◌<◌, ◌≤◌, ℕ, List, length, map, ap, sym, subst, arith, refl}
-use Rattle.std.proofs.lemmas.List.{length-map}
+use Rattle.std.proofs.Common.{◌∙◌, ◌<◌, List, length, ap, sym, arith, refl}
 use Rattle.vf_base.specs.Base.{process_number}
 use Rattle.vf_base.specs.Lists.{change_at}
-use Rattle.v_design.specs.Plain.{update_of}
 use Rattle.v_design.specs.PlainDesigns.{design_of}
-use Rattle.v_design.specs.States.{ProcessState, is_any, first_update, after_lane_step}
-use Rattle.process_table.specs.declared.row.Row.{Row}
-use Rattle.process_table.specs.Rows.{RowState, row_states, row_text, row_state, state_at, after_update}
+use Rattle.v_design.specs.States.{ProcessState, first_update, after_lane_step}
+use Rattle.process_table.specs.Rows.{RowState, row_states, state_at, after_update}
 use Rattle.process_table.specs.Arranged.{processes_of, table_of}
-use Rattle.process_table.specs.Tables.{TableState}
-use Rattle.process_table.proofs.Lists.{at-change}
+use Rattle.event_queue.specs.ChangeLaws.{at-change}
 use Rattle.process_table.proofs.Changed.{no_row, processes-change_row, rows-length}
+use Rattle.process_table.proofs.EachChanged.{as-many}
 use Rattle.process_table.proofs.TableCalls.{process-row, count-processes, count-lanes, lane-table}
 use Rattle.process_table.proofs.table.ProcessTable.lane_step.Goals as goal
-
--- as many rows after it
-as-many : (old new : List Row) → map row_text new ≡ map row_text old → length new ≡ length old
-as-many old new texts = sym (length-map new row_text) ∙ ap length texts ∙ length-map old row_text
 
 pub take_update-update-requires : goal.take_update-update-requires
 take_update-update-requires c =

@@ -1,4 +1,4 @@
-use Rattle.std.proofs.Common.{◌≡◌, ◌∙◌, ◌<◌, ◌≤◌, ◌^◌, ℕ, List, [], length, map, ap, sym, subst, arith, refl}
+use Rattle.std.proofs.Common.{◌≡◌, ◌∙◌, List, [], length, map, ap, sym, subst, arith, refl}
 use Rattle.std.proofs.lemmas.List.{length-map}
 use Rattle.v_design.specs.Plain.{process_of, statement_of}
 use Rattle.v_design.specs.Designs.{FlatDesign, FlatProcess}
@@ -8,10 +8,9 @@ use Rattle.vf_base.specs.Lists.{AllHold}
 use Rattle.v_design.specs.Sized.{IsSizedStatement}
 use Rattle.v_design.specs.Processes as does
 use Rattle.v_design.specs.Processes.{opened}
-use Rattle.v_design.specs.States.{ProcessState}
 use Rattle.v_design.specs.declared.plan.Process.{Process}
-use Rattle.event_queue.specs.Queues.{HeldProcess, repeated, nothing_held}
-use Rattle.process_table.specs.Rows.{RowState, row_states, row_text, new_state}
+use Rattle.event_queue.specs.Queues.{repeated, nothing_held}
+use Rattle.process_table.specs.Rows.{RowState, new_state}
 use Rattle.process_table.specs.Arranged.{processes_of}
 use Rattle.process_table.proofs.Bodies.{bodies-waitable, sized-processes}
 use Rattle.process_table.proofs.TableCalls.{table-new, start-processes}

@@ -1,7 +1,5 @@
-use Rattle.std.proofs.Common.{◌≡◌, ◌∙◌, ℕ, Bool, true, false, Option, Some, None, ap, sym, refl}
+use Rattle.std.proofs.Common.{◌∙◌, true, false, Some, None, sym, refl}
 use Rattle.v_design.specs.PlainDesigns.{design_of}
-use Rattle.v_design.specs.States.{turn_by, some_in, is_due}
-use Rattle.event_queue.specs.Queues.{HeldProcess, next_time}
 use Rattle.process_table.proofs.TableCalls.{turn-table, turn-told}
 use Rattle.process_table.proofs.table.ProcessTable.next_turn.Goals as goal
 

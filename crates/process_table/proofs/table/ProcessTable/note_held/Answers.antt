@@ -1,16 +1,14 @@
-use Rattle.std.proofs.Common.{◌≡◌, ◌∙◌, ◌++◌, ◌<◌, ◌≤◌, [], length, map, ap, sym, subst, arith, get_or, List, ℕ}
+use Rattle.std.proofs.Common.{◌≡◌, ◌∙◌, ◌++◌, ◌<◌, [], length, map, ap, sym, subst, arith, get_or, List, ℕ}
 use Rattle.vf_base.specs.Lists.{AllHold}
-use Rattle.v_design.specs.Trees.{Entry}
 use Rattle.v_design.specs.PlainDesigns.{design_of}
 use Rattle.v_design.specs.RulesHold.{rules_hold}
 use Rattle.v_design.specs.States.{ProcessState}
 use Rattle.v_design.specs.Accesses.{held_by, waiting_entries}
 use Rattle.causal_monitor.specs.Notes.{noted_access}
 use Rattle.process_table.specs.declared.row.Row.{Row}
-use Rattle.process_table.specs.declared.table.ProcessTable.{ProcessTable}
-use Rattle.process_table.specs.Arranged.{table_of, IsKept}
+use Rattle.process_table.specs.Arranged.{table_of}
 use Rattle.process_table.specs.Noted.{IsEntryIn}
-use Rattle.process_table.specs.Rows.{RowState, row_states, row_state}
+use Rattle.process_table.specs.Rows.{RowState}
 use Rattle.process_table.proofs.Changed.{state-is}
 use Rattle.process_table.proofs.TableCalls.{count-texts, count-processes, process-row}
 use Rattle.process_table.proofs.WaitCalls.{entries-in, held-more, held-all}

@@ -1,9 +1,8 @@
-use Rattle.std.proofs.Common.{◌≡◌, ◌∙◌, ◌++◌, ◌<◌, ◌≤◌, length, map, ap, sym, subst, arith, append-nil, List}
+use Rattle.std.proofs.Common.{◌∙◌, ◌++◌, map, ap, sym, subst, arith, append-nil, List}
 use Rattle.vf_base.specs.Base.{process_number}
 use Rattle.vf_base.specs.declared.finding.AccessKind.TheVariants as kind
 use Rattle.vf_base.specs.Lists.{AllHold}
 use Rattle.v_design.specs.Trees.{Entry}
-use Rattle.v_design.specs.Processes.{Activity}
 use Rattle.v_design.specs.PlainDesigns.{design_of}
 use Rattle.v_design.specs.States.{ProcessState}
 use Rattle.v_design.specs.Accesses.{await_accesses, waiting_entries}

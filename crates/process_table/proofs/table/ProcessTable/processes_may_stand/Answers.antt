@@ -1,5 +1,5 @@
 -- What the queue holds and what the processes wait for are so at each place.
-use Rattle.std.proofs.Common.{◌≡◌, sym, subst}
+use Rattle.std.proofs.Common.{sym, subst}
 use Rattle.v_design.specs.PlainDesigns.{design_of}
 use Rattle.v_design.specs.States.{ProcessState}
 use Rattle.event_queue.specs.Queues.{WakesAfter}

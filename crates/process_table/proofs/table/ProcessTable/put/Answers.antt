@@ -1,24 +1,20 @@
 -- In the code of its row the process stands as it is to stand, and so in each code of the process.
-use Rattle.std.proofs.Common.{◌≡◌, ◌∙◌, ◌<◌, List, [], length, map, ap, sym, arith}
+use Rattle.std.proofs.Common.{◌∙◌, List, [], map, ap, arith}
 use Rattle.vf_base.specs.Base.{process_number}
 use Rattle.vf_base.specs.Lists.{change_at}
 use Rattle.v_design.specs.Plain.{due_of}
 use Rattle.v_design.specs.PlainDesigns.{design_of}
 use Rattle.v_design.specs.Processes.{Activity}
 use Rattle.v_design.specs.States.{ProcessState}
-use Rattle.std.proofs.lemmas.List.{length-map}
 use Rattle.process_table.specs.declared.row.Row.{Row}
-use Rattle.process_table.specs.Rows.{row_text, row_states}
+use Rattle.process_table.specs.Rows.{row_states}
 use Rattle.process_table.specs.Arranged.{table_of, processes_of}
 use Rattle.process_table.specs.Tables.{TableState}
+use Rattle.process_table.proofs.EachChanged.{as-many}
 use Rattle.process_table.proofs.CodesAt.{row-low, row-there, code-at, one-process}
 use Rattle.process_table.proofs.TableCalls.{count-ready, count-queue}
 use Rattle.process_table.proofs.PutLaws.{idle-free, put-table, put-processes}
 use Rattle.process_table.proofs.table.ProcessTable.put.Goals as goal
-
--- as many rows as before
-as-many : (old new : List Row) → map row_text new ≡ map row_text old → length new ≡ length old
-as-many old new texts = sym (length-map new row_text) ∙ ap length texts ∙ length-map old row_text
 
 pub put_state-requires-clause-number : goal.put_state-requires-clause-number
 put_state-requires-clause-number c = row-low c.args.self.now c.requires.kept (process_number c.args.process) c.requires.number

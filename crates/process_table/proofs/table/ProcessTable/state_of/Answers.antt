@@ -1,5 +1,5 @@
 -- The row's state is a state of each code of its process.
-use Rattle.std.proofs.Common.{rules, ◌≡◌, ◌∙◌, sym, ap}
+use Rattle.std.proofs.Common.{rules, ◌∙◌, sym, ap}
 use Rattle.vf_base.specs.Base.{process_number}
 use Rattle.v_design.specs.PlainDesigns.{design_of}
 use Rattle.v_design.specs.States.{ProcessState}

@@ -1,19 +1,17 @@
-use Rattle.std.proofs.Common.{◌≡◌, ◌<◌, ◌≤◌, ◌∙◌, ℕ, List, Bool, true, length, map, ap, sym, subst, arith, refl}
+use Rattle.std.proofs.Common.{◌≡◌, ◌<◌, ◌∙◌, ℕ, List, true, length, map, ap, sym, subst, arith, refl}
 use Rattle.std.proofs.lemmas.List.{length-map}
 use Rattle.vf_base.specs.Base.{process_number}
-use Rattle.vf_base.specs.Lists.{change_at}
 use Rattle.v_design.specs.Designs.{FlatProcess}
 use Rattle.v_design.specs.PlainDesigns.{design_of}
 use Rattle.v_design.specs.Reads.{named_by}
 use Rattle.v_design.specs.RulesHold.{rules_hold}
 use Rattle.v_design.specs.States.{ProcessState, is_ready}
 use Rattle.process_operands.specs.BoundsLaws.{AreBelow}
-use Rattle.event_queue.specs.Queues.{held_at, holding_of}
 use Rattle.process_code.specs.Points.{said_by}
 use Rattle.process_table.specs.declared.row.Row.{Row}
 use Rattle.process_table.specs.declared.table.ProcessTable.{ProcessTable}
-use Rattle.process_table.specs.Rows.{RowState, row_states, row_text, row_state, state_at, text_at}
-use Rattle.process_table.specs.Arranged.{IsKept, table_of, processes_of}
+use Rattle.process_table.specs.Rows.{row_states, row_text, row_state, state_at, text_at}
+use Rattle.process_table.specs.Arranged.{IsKept, table_of}
 use Rattle.process_table.specs.Tables.{process_in}
 use Rattle.process_table.proofs.Bodies.{bodies-waitable, bodies-below}
 use Rattle.process_table.proofs.Changed.{ready-low, rows-length, holding-at}

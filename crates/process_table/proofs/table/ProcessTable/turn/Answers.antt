@@ -1,4 +1,4 @@
-use Rattle.std.proofs.Common.{◌≡◌, ◌∙◌, ◌<◌, [], ◌∷◌, Bool, true, length, map, ap, sym, subst, arith, refl, ℕ, List, Option, Some, None}
+use Rattle.std.proofs.Common.{◌≡◌, ◌∙◌, ◌<◌, [], ◌∷◌, Bool, true, length, map, ap, sym, subst, refl, ℕ, List, Option}
 use Rattle.vf_base.specs.Base.{process_number}
 use Rattle.vf_base.specs.declared.ids.ProcId.{ProcId}
 use Rattle.v_design.specs.declared.plan.Update.{Update}
@@ -6,11 +6,10 @@ use Rattle.vf_base.specs.Lists.{AllHold}
 use Rattle.v_design.specs.Assignments.{ValueUpdate}
 use Rattle.v_design.specs.PlainDesigns.{design_of}
 use Rattle.v_design.specs.Runs.{turned_by}
-use Rattle.v_design.specs.States.{State, TurnKind}
+use Rattle.v_design.specs.States.{TurnKind}
 use Rattle.event_queue.specs.Arranged.{lane_number, lane_of}
-use Rattle.event_queue.specs.Queues.{HeldProcess, next_turn, next_region}
+use Rattle.event_queue.specs.Queues.{HeldProcess, next_turn}
 use Rattle.event_queue.specs.Regions.{turn_region}
-use Rattle.event_queue.specs.declared.region.Region.{Region}
 use Rattle.process_table.specs.Rows.{row_states, made_ready}
 use Rattle.process_table.specs.Arranged.{processes_of, IsTable}
 use Rattle.process_table.specs.Tables.{IsTableOf}

@@ -1,4 +1,4 @@
-use Rattle.std.proofs.Common.{◌≡◌, ◌∙◌, sym, ap, arith}
+use Rattle.std.proofs.Common.{◌∙◌, sym, ap, arith}
 use Rattle.vf_base.specs.Base.{process_number}
 use Rattle.v_design.specs.PlainDesigns.{design_of}
 use Rattle.v_design.specs.States.{ProcessState}

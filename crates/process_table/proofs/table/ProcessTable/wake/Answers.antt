@@ -1,4 +1,4 @@
-use Rattle.std.proofs.Common.{◌≡◌, map, sym, subst, List, ℕ}
+use Rattle.std.proofs.Common.{map, sym, subst, List, ℕ}
 use Rattle.v_design.specs.PlainDesigns.{design_of}
 use Rattle.value_change.specs.Changes.{change_seen}
 use Rattle.process_table.specs.Wakes.{HasWoken}

@@ -1,4 +1,4 @@
-use Rattle.std.proofs.Common.{◌≡◌, ◌≤◌, ◌<◌, ◌∙◌, length, map, get_or, arith, refl, sym, ap, ◌+◌, List, subst}
+use Rattle.std.proofs.Common.{◌≡◌, ◌∙◌, map, get_or, arith, refl, sym, ap, List, subst}
 use Rattle.vf_base.specs.Base.{process_number}
 use Rattle.v_design.specs.Designs.{FlatDesign}
 use Rattle.causal_monitor.specs.Notes.{noted_access}

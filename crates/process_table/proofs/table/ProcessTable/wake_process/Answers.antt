@@ -1,4 +1,4 @@
-use Rattle.std.proofs.Common.{rules, ◌≡◌, ◌≤◌, ◌<◌, false, true, length, map, arith, subst, sym, ap, ◌∙◌}
+use Rattle.std.proofs.Common.{rules, ◌≡◌, false, true, map, arith, subst, sym, ◌∙◌}
 use Rattle.vf_base.specs.Base.{process_number}
 use Rattle.v_design.specs.PlainDesigns.{design_of}
 use Rattle.causal_monitor.specs.Notes.{noted_access}

@@ -1,0 +1,7 @@
+-- A process that isn't held stays so.
+use Rattle.vf_base.specs.Base.{process_number}
+use Rattle.event_queue.proofs.Removed.{same-holding}
+use Rattle.event_queue.proofs.queue.Queue.hold_free.Goals as goal
+
+pub returns-in-Free : goal.returns-in-Free
+returns-in-Free c = rw c.in-Free.is (same-holding c.args.self.now (process_number c.args.process) _ c.requires.free)

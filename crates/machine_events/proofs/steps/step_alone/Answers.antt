@@ -1,0 +1,38 @@
+-- The step is taken and carried out.
+use Rattle.std.proofs.Common.{◌∙◌, length, sym, ap, subst}
+use Rattle.vf_base.specs.Base.{process_number}
+use Rattle.v_design.specs.Designs.{FlatDesign}
+use Rattle.net_state.specs.States.{machine_in}
+use Rattle.machine_events.specs.Parts.{FitsDesign}
+use Rattle.machine_events.proofs.Recorded.{values-count, stepped-both, state_both, both-of, one-after}
+use Rattle.machine_events.proofs.steps.step_alone.Goals as goal
+
+pub step-requires-clause-kept : goal.step-requires-clause-kept
+step-requires-clause-kept g c = c.requires.one.kept
+
+pub step-requires-clause-values : goal.step-requires-clause-values
+step-requires-clause-values g c = values-count c.args.nets.now ∙ sym (ap (λ (d : FlatDesign). length d.objects) c.requires.one.design)
+
+pub carry_out-requires-clause-design : goal.carry_out-requires-clause-design
+carry_out-requires-clause-design g c =
+    let nets = c.args.nets.now in
+    let table = c.args.table.now in
+    (stepped-both (machine_in nets) (state_both nets table) nets table c.step.new.self (process_number c.args.process) c.in_ok-stepped.stepped (both-of nets table c.requires.one)
+    c.requires.ready c.in_ok-stepped.ensures.step).step.after.design
+
+pub carry_out-requires-clause-values : goal.carry_out-requires-clause-values
+carry_out-requires-clause-values g c = values-count c.args.nets.now
+
+pub returns : goal.returns
+returns g c =
+    let nets = c.args.nets.now in
+    let table = c.args.table.now in
+    let carries = c.in_ok-carry_out.ensures in
+    let stepped = stepped-both (machine_in nets) (state_both nets table) nets table c.step.new.self (process_number c.args.process) c.in_ok-stepped.stepped (both-of nets table c.requires.one)
+    c.requires.ready c.in_ok-stepped.ensures.step in
+    record {
+      one = one-after _ _ c.carry_out.new.nets c.carry_out.new.table (carries.happens (machine_in nets) (state_both nets table) stepped).both carries.kept;
+      fits = subst (λ (d : FlatDesign). FitsDesign d c.carry_out.new.told) (stepped.step.after.design ∙ sym c.requires.one.design) carries.fits;
+      happens = λ machine state both. carries.happens machine state
+          (stepped-both machine state nets table c.step.new.self (process_number c.args.process) c.in_ok-stepped.stepped both c.requires.ready c.in_ok-stepped.ensures.step);
+    }

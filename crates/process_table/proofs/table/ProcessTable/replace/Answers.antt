@@ -1,0 +1,91 @@
+-- In the code of its row the process stands as it is to stand, and so in each code of the process.
+use Rattle.std.proofs.Common.{◌∙◌, List, map, ap, arith}
+use Rattle.vf_base.specs.Base.{process_number}
+use Rattle.vf_base.specs.Lists.{change_at}
+use Rattle.v_design.specs.Plain.{due_of, update_of}
+use Rattle.v_design.specs.PlainDesigns.{design_of}
+use Rattle.v_design.specs.Processes.{Activity}
+use Rattle.v_design.specs.States.{ProcessState}
+use Rattle.process_table.specs.declared.row.Row.{Row}
+use Rattle.process_table.specs.Rows.{row_states}
+use Rattle.process_table.specs.Arranged.{table_of, processes_of}
+use Rattle.process_table.specs.Tables.{TableState}
+use Rattle.process_table.proofs.EachChanged.{as-many}
+use Rattle.process_table.proofs.CodesAt.{row-low, row-there, code-at, one-process}
+use Rattle.process_table.proofs.TableCalls.{count-ready, count-lanes, count-queue}
+use Rattle.process_table.proofs.Replaced.{held-as, replaced-table, replaced-processes}
+use Rattle.process_table.proofs.table.ProcessTable.replace.Goals as goal
+
+pub replace_row-requires-clause-number : goal.replace_row-requires-clause-number
+replace_row-requires-clause-number c = row-low c.args.self.now c.requires.kept (process_number c.args.process) c.requires.number
+
+pub replace_row-requires-clause-state : goal.replace_row-requires-clause-state
+replace_row-requires-clause-state c = λ row is.
+    let t = c.args.self.now in
+    let p = process_number c.args.process in
+    (c.requires.stands row.code (code-at t c.requires.kept p row (row-low t c.requires.kept p c.requires.number) is)).is_state
+
+pub standing_of-standing-requires : goal.standing_of-standing-requires
+standing_of-standing-requires c =
+    let t = c.args.self.now in
+    let p = process_number c.args.process in
+    let low = row-low t c.requires.kept p c.requires.number in
+    let r = row-there t.rows.items p low in
+    omega (arith, low, as-many t.rows.items c.replace_row.new.rows.items (c.in_ok-replace_row.ensures r.0 r.1).texts)
+
+pub replace-requires : goal.replace-requires
+replace-requires c =
+    let t = c.args.self.now in
+    let p = process_number c.args.process in
+    omega (arith, row-low t c.requires.kept p c.requires.number, count-queue (design_of t.design.now) t.time t.rows.items t.index t.ready t.lanes t.queue c.requires.kept)
+
+pub mark-requires : goal.mark-requires
+mark-requires c =
+    let t = c.args.self.now in
+    let p = process_number c.args.process in
+    omega (arith, row-low t c.requires.kept p c.requires.number, count-ready (design_of t.design.now) t.time t.rows.items t.index t.ready t.lanes t.queue c.requires.kept)
+
+pub has_lane-busy-requires : goal.has_lane-busy-requires
+has_lane-busy-requires c =
+    let t = c.args.self.now in
+    let p = process_number c.args.process in
+    let low = row-low t c.requires.kept p c.requires.number in
+    let r = row-there t.rows.items p low in
+    omega (arith, low, as-many t.rows.items c.replace_row.new.rows.items (c.in_ok-replace_row.ensures r.0 r.1).texts)
+
+pub mark-requires-2 : goal.mark-requires-2
+mark-requires-2 c =
+    let t = c.args.self.now in
+    let p = process_number c.args.process in
+    omega (arith, row-low t c.requires.kept p c.requires.number, count-lanes (design_of t.design.now) t.time t.rows.items t.index t.ready t.lanes t.queue c.requires.kept)
+
+pub returns-clause-table : goal.returns-clause-table
+returns-clause-table c = λ code at.
+    let t = c.args.self.now in
+    let design = design_of t.design.now in
+    let p = process_number c.args.process in
+    let low = row-low t c.requires.kept p c.requires.number in
+    let r = row-there t.rows.items p low in
+    let row : Row = r.0 in
+    let later = map due_of c.args.later.now in
+    let lane = map update_of c.args.lane.now in
+    let Table : List ProcessState → TableState = λ ps. record (table_of t) { processes = ps } in
+    let kept = held-as t.queue c.replace.new.self p _ _ later c.in_ok-replace.ensures c.holding_at.ensures in
+    ap Table (replaced-processes design t.time t.rows.items t.index t.ready t.lanes t.queue c.requires.kept p row r.1 low c.args.state.now later lane
+    (c.requires.stands row.code (code-at t c.requires.kept p row low r.1)) c.replace_row.new.rows.items c.in_ok-replace_row.ensures _ c.replace.new.self kept
+    ∙ ap (λ (a : Activity). change_at (processes_of (row_states t.rows.items) t.queue) p (λ (old : ProcessState). record { activity = a; later = later; lane = lane }))
+    ((c.codes_are_one.ensures.read row.code code (one-process t c.requires.kept p row code low r.1 at)).activity c.args.state.now))
+
+pub returns-clause-kept : goal.returns-clause-kept
+returns-clause-kept c =
+    let t = c.args.self.now in
+    let design = design_of t.design.now in
+    let p = process_number c.args.process in
+    let low = row-low t c.requires.kept p c.requires.number in
+    let r = row-there t.rows.items p low in
+    let row : Row = r.0 in
+    let later = map due_of c.args.later.now in
+    replaced-table design t.time t.rows.items t.index t.ready t.lanes t.queue c.requires.kept p row r.1 low c.args.state.now later (map update_of c.args.lane.now)
+    (c.requires.stands row.code (code-at t c.requires.kept p row low r.1)) c.replace_row.new.rows.items c.in_ok-replace_row.ensures c.standing_of-standing.result.stage
+    c.standing_of-standing.result.ready c.standing_of-standing.result.waits c.has_lane-busy.result c.mark.new.set c.mark-2.new.set c.replace.new.self c.standing_of-standing.ensures
+    c.has_lane-busy.ensures c.mark.ensures c.mark-2.ensures (held-as t.queue c.replace.new.self p _ _ later c.in_ok-replace.ensures c.holding_at.ensures)
