@@ -1,3 +1,4 @@
 pub mod Slots
 pub mod Strobes
 pub mod Gradings
+pub mod Ticks

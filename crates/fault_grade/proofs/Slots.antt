@@ -1,5 +1,5 @@
 -- The slot that is next, and how the time that is left falls.
-use Rattle.std.proofs.Common.{◌≡◌, ℕ, zero, suc, ◌+◌, ◌-◌, ◌<◌, ◌≤◌, refl, sym, ap, subst, ◌∙◌, arith}
+use Rattle.std.proofs.Common.{◌≡◌, ℕ, ◌+◌, ◌-◌, ◌<◌, ◌≤◌, refl, sym, subst, ◌∙◌, arith}
 use Rattle.std.specs.Prelude.{Option, Some, None}
 use Rattle.std.specs.Option.{option_map}
 use Rattle.v_design.specs.Designs.{Machine}
@@ -8,8 +8,7 @@ use Rattle.machine.specs.Standing.{machine_kept, begins_next}
 use Rattle.machine.specs.declared.parts.Machine.{Machine as Simulated}
 use Rattle.fault_grade.specs.declared.stop.Stop.{Stop}
 use Rattle.fault_grade.specs.Beside.{some-is}
-use Rattle.fault_grade.specs.Stops.{stop_view}
-use Rattle.fault_grade.specs.Reached.{GoesOn, IsReached, next_of, IsPast, StopsFirst, RunsOn, Advanced, advanced, since-now}
+use Rattle.fault_grade.specs.Reached.{IsReached, next_of, IsPast, StopsFirst, RunsOn, Advanced, advanced}
 
 -- the state in which the next slot begins
 pub next-is : (m : Simulated) (time : ℕ) → next_of m ≡ Some time → (begins : State) × (begins_next m ≡ Some begins) × (begins.time ≡ time)

@@ -1,5 +1,5 @@
 -- What a grading stands on (nothing of the language).
-use Rattle.std.specs.Prelude.{◌≡◌, ℕ, ◌<◌, length}
+use Rattle.std.specs.Prelude.{◌≡◌, ◌<◌, length}
 use Rattle.vf_base.specs.Base.{WatchedBit}
 use Rattle.v_design.specs.Designs.{FlatDesign, TestPlan}
 use Rattle.v_design.specs.PlainDesigns.{design_of, plan_of}

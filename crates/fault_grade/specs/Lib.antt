@@ -5,3 +5,4 @@ pub mod Samples
 pub mod Gradings
 pub mod Beside
 pub mod Results
+pub mod Ticks

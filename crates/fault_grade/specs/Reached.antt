@@ -1,5 +1,5 @@
 -- A machine in its first run: the slots that it ran are fine, and the others are ahead (slots by IEEE 1364-2001, clause 5).
-use Rattle.std.proofs.Common.{◌≡◌, ℕ, ◌+◌, ◌<◌, ◌≤◌, List, [], ◌∷◌, Bool, true, false, refl, sym, ap, subst, ◌∙◌, arith}
+use Rattle.std.proofs.Common.{◌≡◌, ℕ, ◌+◌, ◌<◌, ◌≤◌, List, Bool, true, false, refl, sym, ap, subst, ◌∙◌, arith}
 use Rattle.std.specs.Prelude.{Option, Some, None, nat_le}
 use Rattle.std.specs.Option.{option_map}
 use Rattle.std.proofs.lemmas.Bool.{le-leb, lt-leb}
@@ -7,7 +7,7 @@ use Rattle.vf_base.specs.Base.{reported_pair}
 use Rattle.four_value.specs.Values.{LogicValue}
 use Rattle.v_design.specs.Designs.{Machine}
 use Rattle.v_design.specs.States.{State, start}
-use Rattle.v_design.specs.Runs.{FirstSlot, only_if, first_run, next_slot, slot_end}
+use Rattle.v_design.specs.Runs.{only_if, first_run}
 use Rattle.v_design.specs.Grades as plain
 use Rattle.v_design.specs.WellFormed.{KeepsRules}
 use Rattle.order_laws.specs.FirstRuns.{FirstRunsGoOn}
@@ -15,13 +15,13 @@ use Rattle.machine_laws.specs.SlotLoop.{slot_from}
 use Rattle.causal_monitor.specs.declared.slot.Turn.{Turn}
 use Rattle.causal_monitor.specs.declared.slot.SlotLog.{SlotLog}
 use Rattle.grade_laws.specs.Ahead.{IsAhead, Shows, ahead-start, ahead-fine, ahead-race, ahead-hyper, ahead-since, ahead-rises, ahead-never, ahead-over, ahead-later}
-use Rattle.machine.specs.Standing.{IsStanding, RunsSlot, machine_kept, state_kept, begins_next, begun_within, following, outcome_of, next-is-following}
+use Rattle.machine.specs.Standing.{IsStanding, RunsSlot, machine_kept, state_kept, begins_next, begun_within, outcome_of, next-is-following}
 use Rattle.machine.specs.declared.end.SlotEnd.{SlotEnd}
 use Rattle.machine.specs.declared.parts.Machine.{Machine as Simulated}
 use Rattle.vf_base.specs.declared.finding.Pair.{Pair}
 use Rattle.fault_grade.specs.declared.stop.Stop.{Stop}
 use Rattle.fault_grade.specs.declared.stop.Stop.TheVariants.{Race, Loop}
-use Rattle.fault_grade.specs.Stops.{race_stop, loop_stop, stop_view, StopsSo}
+use Rattle.fault_grade.specs.Stops.{stop_view, StopsSo}
 
 -- What stands
 
@@ -59,7 +59,7 @@ Advanced until old (Some stop) new = ((stop_view stop).time ≤ until) × StopsF
 
 -- The start
 
-within-some : (end : ℕ) (begins : State) → begins.time ≤ end → begun_within end (Some begins) ≡ Some begins
+pub within-some : (end : ℕ) (begins : State) → begins.time ≤ end → begun_within end (Some begins) ≡ Some begins
 within-some end begins h = ap (λ b. only_if b begins) (le-leb begins.time end h)
 
 within-later : (end : ℕ) (begins : State) → end < begins.time → begun_within end (Some begins) ≡ None
@@ -184,6 +184,13 @@ IsPast until m = (later : ℕ) → next_of m ≡ Some later → until < later
 past-next : (until : ℕ) (m : Simulated) (begins : State) → IsPast until m → begins_next m ≡ Some begins → until < begins.time
 past-next until m begins past is = past begins.time (ap (option_map (λ (s : State). s.time)) is)
 
+pub none-within : (until : ℕ) (m : Simulated) → IsPast until m → begun_within until (begins_next m) ≡ None
+none-within until m past = go (begins_next m) refl
+  where
+    go : (next : Option State) → begins_next m ≡ next → begun_within until next ≡ None
+    go None e = refl
+    go (Some begins) e = within-later until begins (past-next until m begins past e)
+
 -- a machine that ran all slots up to a time
 pub advanced : (until now : ℕ) (old new : Simulated) → machine_kept new ≡ machine_kept old → GoesOn now new → now ≤ until → IsPast until new → Advanced until old None new
 advanced until now old new same goes h past = (
@@ -205,11 +212,7 @@ advanced until now old new same goes h past = (
     shows : (end : ℕ) → until ≤ end → Shows (machine_kept new) end until (state_kept new).values
     shows end k = shows-by end k (begins_next new) refl (goes.ahead end (omega (arith, h, k)))
 
-    none-by : (next : Option State) → begins_next new ≡ next → begun_within until next ≡ None
-    none-by None e = refl
-    none-by (Some begins) e = within-later until begins (past-next until new begins past e)
-
     never : plain.first_stop (machine_kept new) (first_run (machine_kept new) until) ≡ None
     never =
         ahead-never (machine_kept new) until now (state_kept new).values
-        (subst (λ (next : Option State). IsAhead (machine_kept new) until now next (state_kept new).values) (none-by (begins_next new) refl) (goes.ahead until h))
+        (subst (λ (next : Option State). IsAhead (machine_kept new) until now next (state_kept new).values) (none-within until new past) (goes.ahead until h))

@@ -1,13 +1,16 @@
 // What the good machine shows.
 
-ghost use Rattle.std.specs.Prelude.{◌≡◌, map, IfOk};
+ghost use Rattle.std.specs.Prelude.{◌≡◌, ℕ, map, IfOk};
 ghost use Rattle.v_design.specs.Designs.{FlatDesign, TestPlan};
+ghost use Rattle.v_design.specs.OwnSteps.{good_steps};
 ghost use Rattle.v_design.specs.PlainDesigns.{plan_of};
 ghost use Rattle.grade_laws.specs.Grading.{IsGoodRun};
 ghost use Rattle.fault_grade.specs.Benches.{IsBench, bench_design, bench_plan};
 ghost use Rattle.kept_samples.specs.Plain.{sample_of};
 ghost use Rattle.fault_grade.specs.Samples.{stop_if, IsGood};
 ghost use Rattle.fault_grade.specs.Gradings.{IsShowable};
+ghost use Rattle.fault_grade.specs.Ticks.{IsTicked};
+ghost use Rattle.machine.specs.Ticks.{raised_by};
 
 use crate::bench::Bench;
 use crate::run::{advance, empty_log};
@@ -61,7 +64,9 @@ fn show_on<L: Ledger>(
     steps: &mut Steps<L>,
 ) -> Result<GoodRun, NoMemory>
     requires { IsShowable (plan_of plan.now) machine.old }
-    ensures { IfOk result (λ shown. (of : IsShowable (plan_of plan.now) machine.old) → IsGood of.design (plan_of plan.now) shown) }
+    ensures good { IfOk result (λ shown. (of : IsShowable (plan_of plan.now) machine.old) → IsGood of.design (plan_of plan.now) shown) }
+    ensures ticks { IfOk result (λ _. (of : IsShowable (plan_of plan.now) machine.old) (start : ℕ) → IsTicked start 0 machine.old steps.old →
+        steps.new ≡ raised_by (good_steps of.design (plan_of plan.now)) start) }
 {
     let mut samples = Vec::new(alloc);
     'strobes: for strobe in plan.strobes.as_slice() {
@@ -78,7 +83,7 @@ fn show_on<L: Ledger>(
     Ok(shown_by(samples, stop))
 }
 
-/// Runs the good machine to the plan's end, or to its first race or loop.
+/// Runs the good machine to the plan's end, or to its first race or loop. `steps` ticks once for each of its process steps.
 ///
 /// # Errors
 ///
@@ -89,7 +94,8 @@ pub fn run_good<L: Ledger>(
     steps: &mut Steps<L>,
 ) -> Result<GoodRun, NoMemory>
     requires { IsBench bench.now }
-    ensures { IfOk result (IsGood (bench_design bench.now) (bench_plan bench.now)) }
+    ensures good { IfOk result (IsGood (bench_design bench.now) (bench_plan bench.now)) }
+    ensures ticks { IfOk result (λ _. steps.new ≡ raised_by (good_steps (bench_design bench.now) (bench_plan bench.now)) steps.old) }
 {
     order_laws::first_run_goes_on();
     let mut machine = Machine::new(alloc, bench.design, bench.graph, None)?;

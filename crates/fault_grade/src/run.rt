@@ -1,7 +1,8 @@
 // A machine's first run, slot by slot to a time.
 
-ghost use Rattle.std.specs.Prelude.{◌≡◌, ◌≤◌, ◌^◌, ℕ, Some, IfOk};
+ghost use Rattle.std.specs.Prelude.{◌≡◌, ◌≤◌, ◌^◌, ℕ, suc, Some, IfOk};
 ghost use Rattle.fault_grade.specs.Reached.{GoesOn, IsReached, RunsOn, Advanced, next_of};
+ghost use Rattle.fault_grade.specs.Ticks.{IsTicked, TicksOn, Ticked};
 ghost use Rattle.machine.specs.Standing.{IsStanding};
 
 use crate::stop::{Stop, stop_at};
@@ -31,7 +32,9 @@ fn run_slot<L: Ledger>(
     requires standing { IsStanding machine.old }
     requires next { next_of machine.old ≡ Some time }
     requires limit { time ≤ 2 ^ 63 }
-    ensures { IfOk result (λ stop. RunsOn time machine.old stop machine.new) }
+    ensures runs { IfOk result (λ stop. RunsOn time machine.old stop machine.new) }
+    ensures ticks { IfOk result (λ stop. (start until now : ℕ) → GoesOn now machine.old → time ≤ until → IsTicked start (suc until) machine.old steps.old →
+        TicksOn start until machine.old stop machine.new steps.new) }
 {
     order_laws::first_run_goes_on();
     let end = machine.slot(log, steps)?;
@@ -51,7 +54,8 @@ pub fn advance<L: Ledger>(
 ) -> Result<Option<Stop>, NoMemory>
     requires reached { IsReached until machine.old }
     requires limit { until ≤ 2 ^ 63 }
-    ensures { IfOk result (λ stop. Advanced until machine.old stop machine.new) }
+    ensures advanced { IfOk result (λ stop. Advanced until machine.old stop machine.new) }
+    ensures ticks { IfOk result (λ stop. (start : ℕ) → IsTicked start (suc until) machine.old steps.old → Ticked start until machine.old stop machine.new steps.new) }
 {
     let mut next = machine.next_time();
     'slots: while let Some(time) = next {

@@ -1,5 +1,5 @@
 -- The next slot begins (IEEE 1364-2001, clause 5.4).
-use Rattle.std.proofs.Common.{◌≡◌, ℕ, ◌≤◌, ◌^◌, [], length, refl, sym, ap, subst, ◌∙◌}
+use Rattle.std.proofs.Common.{◌≡◌, ℕ, ◌≤◌, ◌^◌, [], length, refl, sym, ap, subst, ◌∙◌, arith}
 use Rattle.std.specs.Prelude.{Option, Some, None, IsSomeAnd}
 use Rattle.v_design.specs.PlainDesigns.{design_of}
 use Rattle.v_design.specs.Designs.{Machine}
@@ -60,7 +60,7 @@ pub slot-begun : SlotsBegin → SlotsBeginNotes → (begins : State) (old new : 
     design_of new.graph.now.design.now ≡ design_of old.graph.now.design.now → IsEmptyLog log → BeginsSlot old.record between →
     BeginsPhase turn (table_of new.table).time (held_in (table_of new.table)) between new.record → new.runs.ended.items ≡ [] → runs_so_far new.runs ≡ runs_so_far old.runs →
     notes_runs new ≡ notes_runs old →
-    Runs (machine_kept old) (first_turn old.stage) begins 0 new log
+    Runs (machine_kept old) (first_turn old.stage) begins 0 0 0 new log
 slot-begun law notes begins old new log turn between standing next low first table kept nets same graph empty slot phase none stay noted =
     let machine = machine_kept old in
     let both : AreBothOf machine begins new.nets new.table = record { machine_is = same; nets_are = begins-nets old.stage new.nets (state_kept old) begins nets next; table_is = table } in
@@ -72,6 +72,8 @@ slot-begun law notes begins old new log turn between standing next low first tab
           (λ on. notes machine begins new.runs (subst (AreAtRest (length machine.design.processes)) (sym stay) (standing.rests begins next (sym noted ∙ on))) none);
       begins_is = refl;
       steps_is = refl;
+      ticks_are = refl;
+      moves_are = omega arith;
     }
 
 -- there is room for as many objects as the design has

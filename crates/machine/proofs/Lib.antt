@@ -1,6 +1,8 @@
 pub mod Places
 pub mod Moved
 pub mod Events
+pub mod Ticks
+pub mod MovesSoFar
 pub mod TurnsOn
 pub mod Made
 pub mod NodesOn

@@ -1,5 +1,5 @@
 -- A phase ends, and a turn within the slot begins the next one (IEEE 1364-2001, clauses 5.3 and 5.4).
-use Rattle.std.proofs.Common.{◌≡◌, ℕ, zero, suc, ◌≤◌, List, [], ◌∷◌, Bool, true, false, ◌||◌, length, refl, sym, subst, ◌∙◌}
+use Rattle.std.proofs.Common.{◌≡◌, ℕ, zero, suc, ◌+◌, ◌≤◌, List, [], ◌∷◌, Bool, true, false, ◌||◌, length, refl, sym, subst, ◌∙◌, arith}
 use Rattle.std.specs.Prelude.{Option, Some, None, slice_get}
 use Rattle.v_design.specs.PlainDesigns.{design_of}
 use Rattle.vf_base.specs.Lists.{first_place, earlier_place}
@@ -22,10 +22,12 @@ use Rattle.machine.specs.Standing.{machine_kept, state_kept, notes_runs}
 use Rattle.machine_events.specs.Parts.{AreBothOf}
 use Rattle.machine_events.specs.Turns.{held_in, TellsTurn}
 use Rattle.machine_events.specs.PartLaws.{turned-nets, held-is}
-use Rattle.machine.specs.Moments.{IsMovingIn}
+use Rattle.machine.specs.Moments.{IsMovingIn, moves_so_far}
 use Rattle.machine.specs.Phases.{Runs}
 use Rattle.machine.proofs.Moved.{both-at, moved, graph-of}
 use Rattle.machine.proofs.Events.{rules-at}
+use Rattle.machine.proofs.Ticks.{so-far-turn}
+use Rattle.machine.proofs.MovesSoFar.{moves-turn}
 
 -- No process has an event
 
@@ -84,17 +86,17 @@ pub ended-room : (m : Simulated) (after : SlotRecord) (log logged : SlotLog) →
 ended-room m after log logged moving ends = (ends (machine_kept m) moving.first moving.at.ended _ (sym moving.is.parts.graph) moving.is.recorded).causes.objects
 
 -- the turn leads to the next moment
-pub turn-moved : TurnsGoOn → PhasesNoteNothing → (machine : Machine) (first : Turn) (begins : State) (steps : ℕ) (old new : Simulated) (log logged : SlotLog) (turn : Turn) (between : SlotRecord) →
-    Runs machine first begins steps old log → steps ≤ most_steps →
+pub turn-moved : TurnsGoOn → PhasesNoteNothing → (machine : Machine) (first : Turn) (begins : State) (steps ticks moves : ℕ) (old new : Simulated) (log logged : SlotLog) (turn : Turn)
+    (between : SlotRecord) → Runs machine first begins steps ticks moves old log → steps ≤ most_steps →
     IsIdle (state_kept old) → TellsTurn (Some turn) (turn_of (state_kept old)) → EndsPhase (design_of old.graph.now.design.now) old.record between log logged →
     ((state : State) → IsTableOf machine state (table_of old.table) → IsTableOf machine (turned_by (turn_of state) state) (table_of new.table)) → IsKept new.table →
     AreNetsOf new.nets (state_kept old) →
     machine_kept new ≡ machine_kept old → design_of new.graph.now.design.now ≡ design_of old.graph.now.design.now →
-    BeginsPhase turn (table_of new.table).time (held_in (table_of new.table)) between new.record → new.runs ≡ old.runs → notes_runs new ≡ notes_runs old → Runs machine first begins steps new logged
-turn-moved law quiet machine first begins steps old new log logged turn between runs few idle told ends turns kept nets same graph starts noted notes =
+    BeginsPhase turn (table_of new.table).time (held_in (table_of new.table)) between new.record → new.runs ≡ old.runs → notes_runs new ≡ notes_runs old → Runs machine first begins steps ticks (moves + 1) new logged
+turn-moved law quiet machine first begins steps ticks moves old new log logged turn between runs few idle told ends turns kept nets same graph starts noted notes =
     go (turn_of runs.at.state) refl (subst (λ (s : State). TellsTurn (Some turn) (turn_of s)) runs.is.state_is told)
   where
-    go : (found : Option TurnKind) → turn_of runs.at.state ≡ found → TellsTurn (Some turn) found → Runs machine first begins steps new logged
+    go : (found : Option TurnKind) → turn_of runs.at.state ≡ found → TellsTurn (Some turn) found → Runs machine first begins steps ticks (moves + 1) new logged
     go None is tells = absurd tells
     go (Some kind) is tells =
         let at = runs.at in
@@ -118,4 +120,6 @@ turn-moved law quiet machine first begins steps old new log logged turn between 
               (quiet machine at.ended (present_phase at) (Some kind) next old.runs (none-ready machine at runs.is.comes (subst IsIdle runs.is.state_is idle)) (runs.is.runs (sym notes ∙ on))));
           begins_is = runs.begins_is;
           steps_is = runs.steps_is;
+          ticks_are = so-far-turn kind at ∙ runs.ticks_are;
+          moves_are = (let more : moves_so_far (after_turn kind at) ≡ moves_so_far at + 1 = moves-turn kind at in let had : moves ≤ moves_so_far at = runs.moves_are in omega (arith, more, had));
         }

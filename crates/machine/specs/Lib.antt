@@ -1,4 +1,5 @@
 pub mod Standing
 pub mod Moments
 pub mod RunNotes
+pub mod Ticks
 pub mod Phases

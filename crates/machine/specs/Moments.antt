@@ -1,8 +1,9 @@
 -- A machine in the midst of a slot: the moment to which the first order has come, and what is recorded of it (IEEE 1364-2001, clause 5).
-use Rattle.std.specs.Prelude.{◌≡◌, ◌≤◌, ◌^◌, true, length}
+use Rattle.std.specs.Prelude.{◌≡◌, ℕ, ◌+◌, ◌≤◌, ◌^◌, true, List, length, sum_by}
 use Rattle.v_design.specs.PlainDesigns.{design_of}
 use Rattle.v_design.specs.Designs.{Machine}
 use Rattle.v_design.specs.Runs.{most_steps}
+use Rattle.v_design.specs.Grades.{Phase}
 use Rattle.causal_monitor.specs.declared.slot.Turn.{Turn}
 use Rattle.causal_monitor.specs.declared.slot.SlotLog.{SlotLog}
 use Rattle.machine_laws.specs.SlotLoop.{Moment, ComesTo, present_phase}
@@ -12,6 +13,14 @@ use Rattle.net_state.specs.States.{values_in}
 use Rattle.process_table.specs.Arranged.{IsKept, table_of}
 use Rattle.machine.specs.declared.parts.Machine.{Machine as Simulated}
 use Rattle.machine.specs.Standing.{machine_kept, state_kept, notes_runs}
+
+-- the moves of some phases that ended: the events of each, and the turn after it
+abbrev pub moves_in : List Phase → ℕ
+moves_in phases = sum_by (λ (phase : Phase). length phase.events + 1) phases
+
+-- the moves of a slot so far, at a moment
+abbrev pub moves_so_far : Moment → ℕ
+moves_so_far at = moves_in at.ended + length at.events
 
 -- the parts of a machine agree
 pub record AreParts (m : Simulated) : Type 0 where

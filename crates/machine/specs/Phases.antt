@@ -10,35 +10,39 @@ use Rattle.v_design.specs.Runs.{most_steps, turn_in_slot}
 use Rattle.causal_monitor.specs.declared.slot.Turn.{Turn}
 use Rattle.causal_monitor.specs.declared.slot.Turn.TheVariants.{Time}
 use Rattle.causal_monitor.specs.declared.slot.SlotLog.{SlotLog}
-use Rattle.machine_laws.specs.SlotLoop.{Moment, EndsAt, IsIdle}
+use Rattle.machine_laws.specs.SlotLoop.{Moment, EndsAt, IsIdle, slot_from}
 use Rattle.machine.specs.declared.end.SlotEnd.{SlotEnd}
 use Rattle.machine.specs.declared.moves.Made.{Made}
-use Rattle.machine.specs.declared.moves.Made.TheVariants.{Counted, Uncounted, Nothing}
+use Rattle.machine.specs.declared.moves.Made.TheVariants.{ProcessStep, LaneStep, Uncounted, Nothing}
 use Rattle.machine.specs.declared.parts.Machine.{Machine as Simulated}
 use Rattle.machine.specs.declared.parts.Stage.{Stage}
 use Rattle.machine.specs.declared.parts.Stage.TheVariants.{Between, Over}
 use Rattle.machine.specs.Standing.{machine_kept, state_kept, begins_next, notes_runs, first_turn, BeginsInFirstRun, IsStanding, RunsSlot}
-use Rattle.machine.specs.Moments.{IsAt}
+use Rattle.machine.specs.Moments.{IsAt, moves_so_far}
+use Rattle.machine.specs.Ticks.{raised_by, process_steps, steps_so_far}
 
 -- Moves
 
--- a machine stands in the slot that a state begins, so many process and lane steps into it
-pub record Runs (machine : Machine) (first : Turn) (begins : State) (steps : ℕ) (m : Simulated) (log : SlotLog) : Type 0 where
+-- a machine stands in the slot that a state begins, so many process and lane steps into it, of which so many are process steps, and at least so many moves
+pub record Runs (machine : Machine) (first : Turn) (begins : State) (steps ticks moves : ℕ) (m : Simulated) (log : SlotLog) : Type 0 where
   pub at : Moment
   pub is : IsAt machine first at m log
   pub begins_is : at.begins ≡ begins
   pub steps_is : at.steps ≡ steps
+  pub ticks_are : steps_so_far at ≡ ticks
+  pub moves_are : moves ≤ moves_so_far at
 
 -- a machine stands at the beginning of some slot
 pub record IsBegun (m : Simulated) (log : SlotLog) : Type 0 where
   pub first : Turn
   pub begins : State
-  pub runs : Runs (machine_kept m) first begins 0 m log
+  pub runs : Runs (machine_kept m) first begins 0 0 0 m log
 
 -- from wherever the machine stood in a slot, a turn within the slot begins its next phase
 pub record TurnsPhase (old new : Simulated) (log_old log_new : SlotLog) : Type 0 where
   pub notes_are : notes_runs new ≡ notes_runs old
-  pub leads : (machine : Machine) (first : Turn) (begins : State) (steps : ℕ) → Runs machine first begins steps old log_old → steps ≤ most_steps → Runs machine first begins steps new log_new
+  pub leads : (machine : Machine) (first : Turn) (begins : State) (steps ticks moves : ℕ) → Runs machine first begins steps ticks moves old log_old → steps ≤ most_steps →
+      Runs machine first begins steps ticks (moves + 1) new log_new
 
 -- neither an event nor a turn within the slot is possible
 pub record IsQuiet (state : State) : Type 0 where
@@ -47,20 +51,36 @@ pub record IsQuiet (state : State) : Type 0 where
 
 -- how many process and lane steps were made
 abbrev pub steps_made : Made → ℕ
-steps_made Counted = 1
+steps_made ProcessStep = 1
+steps_made LaneStep = 1
 steps_made Uncounted = 0
 steps_made Nothing = 0
 
+-- how many of them are process steps
+abbrev pub ticks_made : Made → ℕ
+ticks_made ProcessStep = 1
+ticks_made LaneStep = 0
+ticks_made Uncounted = 0
+ticks_made Nothing = 0
+
+-- how many moves
+abbrev pub moves_made : Made → ℕ
+moves_made ProcessStep = 1
+moves_made LaneStep = 1
+moves_made Uncounted = 1
+moves_made Nothing = 0
+
 -- nothing was made only where the slot is at its end
 abbrev pub QuietIfNothing : Made → State → Type 0
-QuietIfNothing Counted state = Unit {0}
+QuietIfNothing ProcessStep state = Unit {0}
+QuietIfNothing LaneStep state = Unit {0}
 QuietIfNothing Uncounted state = Unit {0}
 QuietIfNothing Nothing state = IsQuiet state
 
 -- from wherever the machine stood in a slot, it made a move of it
 pub record MakesMove (made : Made) (old new : Simulated) (log_old log_new : SlotLog) : Type 0 where
-  pub goes_on : (machine : Machine) (first : Turn) (begins : State) (steps : ℕ) → Runs machine first begins steps old log_old → steps ≤ most_steps →
-      Runs machine first begins (steps + steps_made made) new log_new
+  pub goes_on : (machine : Machine) (first : Turn) (begins : State) (steps ticks moves : ℕ) → Runs machine first begins steps ticks moves old log_old → steps ≤ most_steps →
+      Runs machine first begins (steps + steps_made made) (ticks + ticks_made made) (moves + moves_made made) new log_new
   pub quiet : QuietIfNothing made (state_kept new)
   pub notes_are : notes_runs new ≡ notes_runs old
 
@@ -78,7 +98,12 @@ pub record EndsSlot (machine : Machine) (first : Turn) (begins : State) (hyper :
 -- from the beginning of a slot the machine came to its end, hyperactive or not
 pub record ComesToEnd (hyper : Bool) (old new : Simulated) (log_old log_new : SlotLog) : Type 0 where
   pub notes_are : notes_runs new ≡ notes_runs old
-  pub ends : (machine : Machine) (first : Turn) (begins : State) → Runs machine first begins 0 old log_old → EndsSlot machine first begins hyper new log_new
+  pub ends : (machine : Machine) (first : Turn) (begins : State) → Runs machine first begins 0 0 0 old log_old → EndsSlot machine first begins hyper new log_new
+
+-- and a counter rose by the process steps of that slot
+abbrev pub CountsSlot : (old : Simulated) (log : SlotLog) (before after : ℕ) → Type 0
+CountsSlot old log before after =
+    (machine : Machine) (first : Turn) (begins : State) → Runs machine first begins 0 0 0 old log → after ≡ raised_by (process_steps (slot_from machine begins)) before
 
 -- the same of some slot
 pub record IsEnded (hyper : Bool) (m : Simulated) (log : SlotLog) : Type 0 where
@@ -90,7 +115,7 @@ pub record IsEnded (hyper : Bool) (m : Simulated) (log : SlotLog) : Type 0 where
 pub record BeginsSlotHere (old new : Simulated) (log : SlotLog) : Type 0 where
   pub notes_are : notes_runs new ≡ notes_runs old
   pub machine_is : machine_kept new ≡ machine_kept old
-  pub runs : (begins : State) → begins_next old ≡ Some begins → Runs (machine_kept old) (first_turn old.stage) begins 0 new log
+  pub runs : (begins : State) → begins_next old ≡ Some begins → Runs (machine_kept old) (first_turn old.stage) begins 0 0 0 new log
 
 -- the outcome of a slot, by whether it is hyperactive and by its first race
 abbrev pub outcome_told : Bool → Option Pair → SlotOutcome

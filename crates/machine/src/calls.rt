@@ -5,6 +5,8 @@ ghost use Rattle.std.specs.Option.{option_map};
 ghost use Rattle.v_design.specs.States.{State, start};
 ghost use Rattle.v_design.specs.Views.{machine_with};
 ghost use Rattle.causal_monitor.specs.declared.slot.Turn.TheVariants as turns;
+ghost use Rattle.machine_laws.specs.SlotLoop.{slot_from};
+ghost use Rattle.machine.specs.Ticks.{raised_by, process_steps};
 ghost use Rattle.machine.specs.Standing.{IsStanding, RunsSlot, EveryOrderEndsHere, machine_kept, state_kept, begins_next, notes_runs, first_turn};
 
 use crate::end::SlotEnd;
@@ -71,7 +73,7 @@ impl<'d> Machine<'d> {
     }
 
     /// Runs the next slot in the first order, to its end or through its first process or lane step past 100,000, and answers how it ends. `log` is
-    /// the log of its phases afterwards, whatever it held before; the memory of what it held is used again.
+    /// the log of its phases afterwards, whatever it held before; the memory of what it held is used again. `steps` ticks once for each step of a process.
     ///
     /// # Errors
     ///
@@ -85,6 +87,7 @@ impl<'d> Machine<'d> {
         requires left { IsSomeAnd (begins_next self.old) (λ begins. begins.time ≤ 2 ^ 63) }
         ensures machine { IfOk result (λ _. machine_kept self.new ≡ machine_kept self.old) }
         ensures slot { IfOk result (λ end. (begins : State) → begins_next self.old ≡ Some begins → RunsSlot (machine_kept self.old) begins (first_turn self.old.stage) end self.new log.new) }
+        ensures ticks { IfOk result (λ _. (begins : State) → begins_next self.old ≡ Some begins → steps.new ≡ raised_by (process_steps (slot_from (machine_kept self.old) begins)) steps.old) }
         ensures every_order { IfOk result (λ _. (begins : State) → begins_next self.old ≡ Some begins → EveryOrderEndsHere (machine_kept self.old) begins self.new) }
         ensures standing { IfOk result (λ _. IsStanding self.new) }
         ensures notes { IfOk result (λ _. notes_runs self.new ≡ notes_runs self.old) }

@@ -10,7 +10,8 @@ ghost use Rattle.net_state.specs.States.{nodes_in};
 ghost use Rattle.machine.specs.Standing.{state_kept};
 ghost use Rattle.machine.specs.Moments.{IsMovingIn, StaysAt};
 ghost use Rattle.machine_events.specs.Turns.{TellsTurn};
-ghost use Rattle.machine.specs.Phases.{IsBegun, MakesMove, ComesToEnd, TurnsPhase, steps_made};
+ghost use Rattle.machine.specs.Ticks.{raised_by};
+ghost use Rattle.machine.specs.Phases.{IsBegun, MakesMove, ComesToEnd, CountsSlot, TurnsPhase, steps_made, ticks_made};
 
 use crate::parts::Machine;
 use causal_monitor::{SlotLog, Turn};
@@ -18,10 +19,11 @@ use machine_events::{begin_phase, slot_turn};
 use std::sync::ledger::Ledger;
 use vf_base::{MAX_SLOT_STEPS, NoMemory, NodeId, Steps};
 
-/// What was made of a slot: a process or lane step, which is counted, work on a node or a turn, or nothing, since nothing is left.
+/// What was made of a slot: a step of a process or of a lane, which are counted, work on a node or a turn, or nothing, since nothing is left.
 #[derive(Clone, Copy, PartialEq, Eq, Debug)]
 pub(crate) enum Made {
-    Counted,
+    ProcessStep,
+    LaneStep,
     Uncounted,
     Nothing,
 }
@@ -31,7 +33,7 @@ fn counted(made: Made) -> u32
     ensures { result ≡ steps_made made }
 {
     match made {
-        Made::Counted => 1,
+        Made::ProcessStep | Made::LaneStep => 1,
         Made::Uncounted | Made::Nothing => 0,
     }
 }
@@ -72,7 +74,8 @@ impl<'d> Machine<'d> {
     fn turn_move(&mut self, log: &mut SlotLog) -> Result<Made, NoMemory>
         requires moving { IsMovingIn self.old log.old }
         requires idle { IsIdle (state_kept self.old) }
-        ensures { IfOk result (λ made. MakesMove made self.old self.new log.old log.new) }
+        ensures makes { IfOk result (λ made. MakesMove made self.old self.new log.old log.new) }
+        ensures ticks { IfOk result (λ made. ticks_made made ≡ 0) }
     {
         match slot_turn(&self.table) {
             Some(turn) => {
@@ -96,12 +99,13 @@ impl<'d> Machine<'d> {
         requires moving { IsMovingIn self.old log.old }
         requires nodes { NoNodeWorks (state_kept self.old) }
         requires lanes { first_lane (state_kept self.old) ≡ None }
-        ensures { IfOk result (λ made. MakesMove made self.old self.new log.old log.new) }
+        ensures makes { IfOk result (λ made. MakesMove made self.old self.new log.old log.new) }
+        ensures ticks { IfOk result (λ made. steps.new ≡ raised_by (ticks_made made) steps.old) }
     {
         match self.table.first_ready() {
             Some(process) => {
                 self.process_step(process, steps)?;
-                Ok(Made::Counted)
+                Ok(Made::ProcessStep)
             }
             None => {
                 let made = self.turn_move(log)?;
@@ -122,12 +126,13 @@ impl<'d> Machine<'d> {
     ) -> Result<Made, NoMemory>
         requires moving { IsMovingIn self.old log.old }
         requires nodes { NoNodeWorks (state_kept self.old) }
-        ensures { IfOk result (λ made. MakesMove made self.old self.new log.old log.new) }
+        ensures makes { IfOk result (λ made. MakesMove made self.old self.new log.old log.new) }
+        ensures ticks { IfOk result (λ made. steps.new ≡ raised_by (ticks_made made) steps.old) }
     {
         match self.table.first_lane() {
             Some(process) => {
                 self.lane_step(process)?;
-                Ok(Made::Counted)
+                Ok(Made::LaneStep)
             }
             None => {
                 let made = self.ready_move(log, steps)?;
@@ -147,7 +152,8 @@ impl<'d> Machine<'d> {
         steps: &mut Steps<L>,
     ) -> Result<Made, NoMemory>
         requires { IsMovingIn self.old log.old }
-        ensures { IfOk result (λ made. MakesMove made self.old self.new log.old log.new) }
+        ensures makes { IfOk result (λ made. MakesMove made self.old self.new log.old log.new) }
+        ensures ticks { IfOk result (λ made. steps.new ≡ raised_by (ticks_made made) steps.old) }
     {
         match self.least_node() {
             Some(node) => {
@@ -172,11 +178,12 @@ impl<'d> Machine<'d> {
         steps: &mut Steps<L>,
     ) -> Result<bool, NoMemory>
         requires { IsBegun self.old log.old }
-        ensures { IfOk result (λ hyper. ComesToEnd hyper self.old self.new log.old log.new) }
+        ensures end { IfOk result (λ hyper. ComesToEnd hyper self.old self.new log.old log.new) }
+        ensures ticks { IfOk result (λ _. CountsSlot self.old log.old steps.old steps.new) }
     {
         machine_laws::slot_ends();
         let mut taken = 0u32;
-        'moves: for _ in 0..u64::MAX {
+        'moves: for _move in 0..u64::MAX {
             if taken > MAX_SLOT_STEPS {
                 return Ok(true);
             }
@@ -186,6 +193,6 @@ impl<'d> Machine<'d> {
             }
             taken += counted(made);
         }
-        Err(NoMemory)
+        unreachable!()
     }
 }

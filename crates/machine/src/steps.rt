@@ -2,6 +2,7 @@
 
 ghost use Rattle.std.specs.Prelude.{◌≡◌, Some, None, OnOk};
 ghost use Rattle.vf_base.specs.Base.{process_number};
+ghost use Rattle.vf_base.specs.Counts.{raised};
 ghost use Rattle.v_design.specs.States.{Step, LaneStep};
 ghost use Rattle.machine_laws.specs.SlotLoop.{NoNodeWorks, first_lane, first_ready, after_event};
 ghost use Rattle.machine.specs.Standing.{state_kept};
@@ -28,7 +29,8 @@ impl<'d> Machine<'d> {
         requires nodes { NoNodeWorks (state_kept self.old) }
         requires lanes { first_lane (state_kept self.old) ≡ None }
         requires ready { first_ready (state_kept self.old) ≡ Some (process_number process) }
-        ensures { OnOk result (GoesOn (λ machine at. after_event machine (Step (process_number process)) at) self.old self.new) }
+        ensures goes_on { OnOk result (GoesOn (λ machine at. after_event machine (Step (process_number process)) at) self.old self.new) }
+        ensures ticks { OnOk result (steps.new ≡ raised steps.old) }
     {
         machine_laws::slot_goes_on();
         let stepped = self.table.step(process, &self.nets, steps)?;

@@ -11,7 +11,7 @@ returns-clause-read g c = λ line claim site graded claimed.
     let bench = c.args.bench.now in
     is-read c.certificates_are_read.ensures.read c.races_name_parts.ensures (bench_design bench) (bench_plan bench) (fault_of c.args.fault) (grade_of c.in_ok-end.end) line claim
     c.in_ok-text.text.items (rules_hold (bench_design bench) bench.design.now.rules) (plan_rules_hold (bench_plan bench) bench.plan.now.rules)
-    c.in_ok-end.ensures c.in_ok-text.ensures site graded claimed
+    c.in_ok-end.ensures.grade c.in_ok-text.ensures site graded claimed
 
 pub returns-clause-no_loop : goal.returns-clause-no_loop
 returns-clause-no_loop g c = no-loop (bench_design c.args.bench.now) (bench_plan c.args.bench.now) c.args.good.now.race c.requires.good.stop_is

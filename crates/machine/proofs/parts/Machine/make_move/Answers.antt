@@ -9,8 +9,8 @@ node_work-requires-clause-moving g c = moving-any _ c.args.log.now (moving-stays
 pub process_move-requires-clause-moving : goal.process_move-requires-clause-moving
 process_move-requires-clause-moving g c = moving-stays c.args.self.now _ c.args.log.now c.least_node.ensures.stays c.requires
 
-pub returns-in_ok-node_work-in-Some : goal.returns-in_ok-node_work-in-Some
-returns-in_ok-node_work-in-Some g c = node-made (node_number c.in-Some.node) c.args.self.now c.least_node.new.self _ c.args.log.now c.least_node.ensures.stays c.in_ok-node_work-in-Some.ensures
+pub returns-in_ok-node_work-in-Some-clause-makes : goal.returns-in_ok-node_work-in-Some-clause-makes
+returns-in_ok-node_work-in-Some-clause-makes g c = node-made (node_number c.in-Some.node) c.args.self.now c.least_node.new.self _ c.args.log.now c.least_node.ensures.stays c.in_ok-node_work-in-Some.ensures
 
-pub returns-in_ok-made-in-None : goal.returns-in_ok-made-in-None
-returns-in_ok-made-in-None g c = move-after c.in_ok-made-in-None.made c.args.self.now c.least_node.new.self _ c.args.log.now _ c.least_node.ensures.stays c.in_ok-made-in-None.ensures
+pub returns-in_ok-made-in-None-clause-makes : goal.returns-in_ok-made-in-None-clause-makes
+returns-in_ok-made-in-None-clause-makes g c = move-after c.in_ok-made-in-None.made c.args.self.now c.least_node.new.self _ c.args.log.now _ c.least_node.ensures.stays c.in_ok-made-in-None.ensures.makes

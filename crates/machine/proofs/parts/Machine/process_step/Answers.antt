@@ -47,8 +47,8 @@ finish_step-requires-clause-stands g c =
       recorded = moving.is.recorded;
     }
 
-pub returns : goal.returns
-returns g c =
+pub returns-clause-goes_on : goal.returns-clause-goes_on
+returns-clause-goes_on g c =
     step-moved c.slot_goes_on.ensures.step c.args.self.now _ (process_number c.args.process) c.number.result c.in_ok-stepped.stepped c.step.new.self c.requires.nodes c.requires.lanes
     c.requires.ready c.in_ok-stepped.ensures.step
     c.in_ok-finish_step.ensures refl c.number.ensures c.in_ok-note_run.ensures refl

@@ -7,8 +7,8 @@ use Rattle.machine.proofs.parts.Machine.turn_move.Goals as goal
 pub turn_phase-requires-clause-turn : goal.turn_phase-requires-clause-turn
 turn_phase-requires-clause-turn c = c.in-Some.ensures (machine_kept c.args.self.now) (state_kept c.args.self.now) (record { design = c.requires.moving.is.parts.design; time = refl; processes = refl })
 
-pub returns-in-None : goal.returns-in-None
-returns-in-None c = nothing-made c.args.self.now c.args.log.now (record {
+pub returns-in-None-clause-makes : goal.returns-in-None-clause-makes
+returns-in-None-clause-makes c = nothing-made c.args.self.now c.args.log.now (record {
   idle = c.requires.idle;
   no_turn = c.in-None.ensures (machine_kept c.args.self.now) (state_kept c.args.self.now) (record { design = c.requires.moving.is.parts.design; time = refl; processes = refl });
 })
