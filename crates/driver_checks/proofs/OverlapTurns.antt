@@ -13,7 +13,7 @@ use Rattle.elab_parts.specs.PartViews.{places_of}
 use Rattle.elab_parts.specs.BitLaws.{bits-driven}
 use Rattle.elab_parts.specs.declared.bits.DrivenBits.{DrivenBits}
 use Rattle.elab_wires.specs.DriveViews.{object_drive_of}
-use Rattle.elab_wires.specs.declared.drives.ObjectDrive.{ObjectDrive}
+use Rattle.elab_wires.specs.declared.object_drive.ObjectDrive.{ObjectDrive}
 use Rattle.driver_checks.specs.Overlaps.{bits_of, lesser, among-either}
 
 -- one run more

@@ -1,6 +1,6 @@
 // The assignments that connections stand for.
 
-ghost use Rattle.std.specs.Prelude.{◌≡◌, ◌++◌, OnOk, map, option_map};
+ghost use Rattle.std.specs.Prelude.{◌≡◌, ◌++◌, false, Some, OnOk, map, option_map};
 ghost use Rattle.v_tree.specs.Views.{connection_of, expression_in, expression_of};
 ghost use Rattle.v_width.specs.Targets.{target_of as target_spelled};
 ghost use Rattle.v_elab.specs.Connections as plain;
@@ -9,6 +9,7 @@ ghost use Rattle.elab_parts.specs.PartViews.{parts_of};
 ghost use Rattle.instance_checks.specs.Children.{IsChild};
 ghost use Rattle.instance_checks.specs.Offered.{name_seen};
 ghost use Rattle.elab_connections.specs.PathViews.{ArePaths};
+ghost use Rattle.elab_connections.specs.WidePorts.{connects_wide_port, is_wide};
 
 use crate::part::{input_part, output_part};
 use crate::paths::Paths;
@@ -49,7 +50,7 @@ fn push_actual<'u>(
     expr: &Expr,
     parts: &mut Vec<Part<'u>>,
 ) -> Result<(), NoMemory>
-    ensures { OnOk result ((c : plain.Child) → IsChild c child.entry → (p : plain.Paths) → ArePaths p paths.now →
+    ensures { OnOk result ((c : plain.Child) → IsChild c child.entry → is_wide c (Some port.now) ≡ false → (p : plain.Paths) → ArePaths p paths.now →
         parts_of parts.new.items ≡ parts_of parts.old.items ++ actual_parts c p port.now (expression_of expr.now) (joined_name c port.now
         (expression_of expr.now)) (port_direction c.inner port.now)) }
 {
@@ -78,7 +79,7 @@ fn push_connection<'u>(
     connection: &Connection,
     parts: &mut Vec<Part<'u>>,
 ) -> Result<(), NoMemory>
-    ensures { OnOk result ((c : plain.Child) → IsChild c child.entry → (p : plain.Paths) → ArePaths p paths.now →
+    ensures { OnOk result ((c : plain.Child) → IsChild c child.entry → is_wide c (option_map name_seen port.entry) ≡ false → (p : plain.Paths) → ArePaths p paths.now →
         parts_of parts.new.items ≡ parts_of parts.old.items ++ connection_parts c p (option_map name_seen port.entry) (expression_in connection.now.actual)) }
 {
     let Some(port) = port else {
@@ -93,7 +94,7 @@ fn push_connection<'u>(
     }
 }
 
-/// Puts the assignments of the connections of an instance behind other parts, in the order of the connections.
+/// Puts the assignments of the connections of an instance behind other parts, in the order of the connections. None of the ports may be wider than a vector may be.
 pub fn push_connection_parts<'u>(
     alloc: Global,
     child: Child<'_, 'u>,
@@ -101,7 +102,7 @@ pub fn push_connection_parts<'u>(
     connections: &'u [Connection],
     parts: &mut Vec<Part<'u>>,
 ) -> Result<(), NoMemory>
-    ensures { OnOk result ((c : plain.Child) → IsChild c child.entry → (p : plain.Paths) → ArePaths p paths.now →
+    ensures { OnOk result ((c : plain.Child) → IsChild c child.entry → connects_wide_port c 0 (map connection_of connections.now) ≡ false → (p : plain.Paths) → ArePaths p paths.now →
         parts_of parts.new.items ≡ parts_of parts.old.items ++ connections_parts c p 0 (map connection_of connections.now)) }
 {
     'connections: for (position, connection) in connections.iter().enumerate() {

@@ -1,7 +1,8 @@
 // The assignment of a port.
 
-ghost use Rattle.std.specs.Prelude.{◌≡◌, ◌++◌, ◌∷◌, [], IfOk};
+ghost use Rattle.std.specs.Prelude.{◌≡◌, ◌≤◌, ◌++◌, ◌∷◌, [], false, Some, IfOk};
 ghost use Rattle.vf_base.specs.Base.{source_place};
+ghost use Rattle.v_design.specs.Sized.{most_bits};
 ghost use Rattle.v_tree.specs.Trees.{Selected, NoIndex};
 ghost use Rattle.v_tree.specs.Views as views;
 ghost use Rattle.v_tree.specs.Views.{expression_of};
@@ -12,6 +13,7 @@ ghost use Rattle.v_elab.specs.Connections.{input_part, output_part};
 ghost use Rattle.elab_parts.specs.PartViews.{drives_of, part_of, places_of, value_of};
 ghost use Rattle.instance_checks.specs.Children.{IsChild};
 ghost use Rattle.elab_connections.specs.PathViews.{ArePaths};
+ghost use Rattle.elab_connections.specs.WidePorts.{is_wide};
 
 use crate::paths::Paths;
 use elab_items::{drives_of, hierarchical};
@@ -25,14 +27,11 @@ use v_names::{Scope, place_of_expr};
 use v_tree::{Expr, Target};
 use vf_base::{MAX_BITS, NoMemory, Place, Seq, Text};
 
-/// The width of a port, which no value can have where it is wider than a vector may be.
-fn sizing_width(width: u64) -> Result<u8, NoMemory>
-    ensures { IfOk result (λ same. same ≡ width) }
+/// The width of a port that is no wider than a vector may be.
+fn sizing_width(width: u64) -> u8
+    ensures { width ≤ most_bits → result ≡ width }
 {
-    if width > u64::from(MAX_BITS) {
-        return Err(NoMemory);
-    }
-    Ok(width as u8)
+    width.min(u64::from(MAX_BITS)) as u8
 }
 
 /// All bits of a vector.
@@ -84,7 +83,7 @@ fn value_in(
     Ok(ValueIn { path, value })
 }
 
-/// An input is assigned its actual, sized for the port.
+/// An input that is no wider than a vector may be is assigned its actual, sized for the port.
 pub fn input_part<'u>(
     alloc: Global,
     child: Child<'_, '_>,
@@ -92,9 +91,10 @@ pub fn input_part<'u>(
     port: &Text,
     expr: &Expr,
 ) -> Result<Part<'u>, NoMemory>
-    ensures { IfOk result (λ part. (c : plain.Child) → IsChild c child.entry → (p : plain.Paths) → ArePaths p paths.now → part_of part ≡ input_part c p port.now (expression_of expr.now)) }
+    ensures { IfOk result (λ part. (c : plain.Child) → IsChild c child.entry → is_wide c (Some port.now) ≡ false → (p : plain.Paths) → ArePaths p paths.now →
+        part_of part ≡ input_part c p port.now (expression_of expr.now)) }
 {
-    let width = sizing_width(child.port_width(port))?;
+    let width = sizing_width(child.port_width(port));
     let value = value_in(alloc, &paths.outer, child.outer, expr, width)?;
     let drives = whole_drive(alloc, &paths.inner, port, width, place_of_expr(expr))?;
     Ok(Part::Assign { drives, value })

@@ -1,9 +1,9 @@
 -- The turns of the loops over outputs and nodes.
 use Rattle.std.proofs.Common.{◌≡◌, ℕ, zero, suc, ◌+◌, ◌<◌, ◌≤◌, Bool, true, false, List, [], ◌∷◌, ◌++◌, Vec, length, map, drop, get_or, refl, sym, ap, ap₂, ◌∙◌, arith}
-use Rattle.std.specs.Prelude.{cond, ◌||◌, slice_get, Option, Some, None}
+use Rattle.std.specs.Prelude.{cond, ◌||◌, slice_get, Some, None}
 use Rattle.std.specs.declared.alloc.Global.{Global}
 use Rattle.std.proofs.Math.Seq.{drop-cons}
-use Rattle.std.proofs.lemmas.List.{append_assoc, map_push}
+use Rattle.std.proofs.lemmas.List.{append_assoc}
 use Rattle.std.proofs.lemmas.Bool.{eqb-true}
 use Rattle.std.specs.Prelude.{nat_eq}
 use Rattle.vf_base.specs.Lists.{has}
@@ -12,7 +12,7 @@ use Rattle.graph_order.specs.ListLaws.{has-append}
 use Rattle.object_waits.specs.ObjectLists.{with_object}
 use Rattle.v_elab.specs.Flat as plain
 use Rattle.v_elab.specs.Objects.{HeldObject}
-use Rattle.object_names.specs.OutputViews.{output_of, outputs_seen, output_lists}
+use Rattle.object_names.specs.OutputViews.{outputs_seen, output_lists}
 use Rattle.object_names.specs.declared.outputs.NodeOutput.{NodeOutput}
 
 -- an object more is that object alone

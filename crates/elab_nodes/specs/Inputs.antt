@@ -1,5 +1,5 @@
 -- The objects that a node reads, from those that are named where it reads (IEEE 1364-2001, clause 9.7.5: what a block reads but doesn't write).
-use Rattle.std.proofs.Common.{◌≡◌, ℕ, Bool, true, false, not, List, [], ◌∷◌, map, refl, ap, ◌∙◌}
+use Rattle.std.proofs.Common.{◌≡◌, ℕ, Bool, not, List, [], ◌∷◌, map, refl, ap, ◌∙◌}
 use Rattle.std.specs.Prelude.{filter, cond}
 use Rattle.vf_base.specs.Lists.{has}
 use Rattle.v_design.specs.Expressions.{objects_of, parts_objects}

@@ -1,5 +1,5 @@
 -- Processes of the code as plain ones (nothing of the language).
-use Rattle.std.specs.Prelude.{◌≡◌, List}
+use Rattle.std.specs.Prelude.{List}
 use Rattle.v_elab.specs.Parts as plain
 use Rattle.v_elab.specs.Parts.{Part}
 use Rattle.v_elab.specs.Objects.{HeldObject}

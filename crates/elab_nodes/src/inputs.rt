@@ -7,6 +7,7 @@ ghost use Rattle.v_design.specs.Expressions.{up_from};
 ghost use Rattle.v_design.specs.Plain.{node_kind_of};
 ghost use Rattle.v_design.specs.Reads.{node_reads};
 ghost use Rattle.object_names.specs.OutputViews.{output_of};
+ghost use Rattle.flat_laws.specs.Sizes.WalkedNodes.{IsSizedKind};
 ghost use Rattle.elab_nodes.specs.Inputs.{kind_reads, objects_written, own_objects, is_other};
 
 use object_names::NodeOutput;
@@ -16,8 +17,9 @@ use std::alloc::Global;
 use v_design::NodeKind;
 use vf_base::{NoMemory, ObjectId};
 
-/// The objects that are named where a node reads, its own outputs among them.
+/// The objects that are named where a sized node reads, its own outputs among them.
 fn kind_reads(alloc: Global, kind: &NodeKind) -> Result<Vec<ObjectId>, NoMemory>
+    requires { IsSizedKind (node_kind_of kind.now) }
     ensures { IfOk result (λ objects. map object_number objects.items ≡ kind_reads (node_kind_of kind.now)) }
 {
     let mut objects = Vec::new(alloc);
@@ -78,13 +80,14 @@ fn others(alloc: Global, objects: &[ObjectId], own: &ObjectList) -> Result<Vec<O
     Ok(left)
 }
 
-/// The objects that a node with some outputs reads, of a design with so many objects: in ascending order.
+/// The objects that a sized node with some outputs reads, of a design with so many objects: in ascending order.
 pub fn node_inputs(
     alloc: Global,
     kind: &NodeKind,
     outputs: &[NodeOutput],
     objects: u32,
 ) -> Result<Vec<ObjectId>, NoMemory>
+    requires { IsSizedKind (node_kind_of kind.now) }
     ensures { IfOk result (λ inputs. map object_number inputs.items ≡ filter (has (node_reads (node_kind_of kind.now) (objects_written (map output_of outputs.now)))) (up_from 0 objects)) }
 {
     let named = kind_reads(alloc, kind)?;

@@ -1,6 +1,6 @@
 // The nodes of a design.
 
-ghost use Rattle.std.specs.Prelude.{◌≡◌, ℕ, ◌<◌, ◌≤◌, IfOk, List, length, map};
+ghost use Rattle.std.specs.Prelude.{◌≡◌, ℕ, ◌<◌, ◌≤◌, IfOk, List, [], ◌∷◌, length, map};
 ghost use Rattle.v_design.specs.Plain.{node_of};
 ghost use Rattle.v_design.specs.Expressions.{up_from};
 ghost use Rattle.v_design.specs.WellFormed.{most_parts};
@@ -10,7 +10,7 @@ ghost use Rattle.v_elab.specs.Flat as plain;
 ghost use Rattle.elab_parts.specs.BehaviourViews as walked;
 ghost use Rattle.object_names.specs.OutputViews.{output_of, output_lists};
 ghost use Rattle.elab_nodes.specs.Bases.{IsBasis};
-ghost use Rattle.elab_nodes.specs.Nodes.{node_by};
+ghost use Rattle.elab_nodes.specs.Nodes.{node_by, HasSizedNodes};
 ghost use Rattle.elab_nodes.specs.Inputs.{objects_written};
 ghost use Rattle.vf_base.specs.Base.{object_number};
 
@@ -47,14 +47,15 @@ fn name_of(alloc: Global, name: Option<&Text>) -> Result<Text, NoMemory>
     }
 }
 
-/// A node with its outputs.
+/// A sized node with its outputs.
 fn flat_node(
     alloc: Global,
     basis: Basis<'_>,
     outputs: &[NodeOutput],
     node: &WalkedNode<'_, '_>,
 ) -> Result<Node, NoMemory>
-    requires { length basis.widths.now ≤ most_parts }
+    requires few { length basis.widths.now ≤ most_parts }
+    requires sized { HasSizedNodes basis (walked.node_of node.now ∷ []) }
     ensures { IfOk result (λ flat. (parts : List Part) (objects : List HeldObject) → IsBasis parts objects basis.entry →
         node_of flat ≡ node_by parts objects (map output_of outputs.now) (walked.node_of node.now)) }
 {
@@ -79,7 +80,7 @@ fn outputs_at(outputs: &[Vec<NodeOutput>], number: usize) -> &[NodeOutput]
     }
 }
 
-/// The nodes of a walk in their order, with the outputs of each, of a design with at most 65,536 objects.
+/// The nodes of a walk in their order, with the outputs of each, of a design with at most 65,536 objects over which the nodes are sized.
 ///
 /// # Errors
 ///
@@ -90,7 +91,8 @@ pub fn walked_nodes(
     outputs: &[Vec<NodeOutput>],
     nodes: &[WalkedNode<'_, '_>],
 ) -> Result<Vec<Node>, NoMemory>
-    requires { length basis.widths.now ≤ most_parts }
+    requires few { length basis.widths.now ≤ most_parts }
+    requires sized { HasSizedNodes basis (map walked.node_of nodes.now) }
     ensures { IfOk result (λ flats. (parts : List Part) (objects : List HeldObject) → IsBasis parts objects basis.entry →
         output_lists outputs.now ≡ map (plain.outputs_of objects) (up_from 0 (length nodes.now)) → map node_of flats.items ≡ plain.walked_nodes parts objects (map walked.node_of nodes.now)) }
 {

@@ -1,5 +1,5 @@
 -- The place of a bit in a drive's value.
-use Rattle.std.proofs.Common.{◌≡◌, ℕ, ◌+◌, ◌-◌, ◌<◌, ◌≤◌, List, [], ◌∷◌, ◌++◌, length, map, get_or, take, Option, Some, None, Result, Ok, sym, ap, ◌∙◌, subst, ◌⊎◌}
+use Rattle.std.proofs.Common.{◌≡◌, ℕ, ◌+◌, ◌-◌, ◌<◌, ◌≤◌, List, [], ◌∷◌, ◌++◌, length, map, get_or, take, Option, Some, None, Result, Ok, Err, sym, ap, ◌∙◌, subst, ◌⊎◌}
 use Rattle.std.specs.Prelude.{option_and_then, option_map}
 use Rattle.std.specs.declared.alloc.Global.{Global}
 use Rattle.std.specs.declared.vec.Vec.{Vec}
@@ -10,10 +10,12 @@ use Rattle.v_ports.specs.Pieces.{CutPiece, DrivenRun, second_driver, pieces_of, 
 use Rattle.v_ports.specs.Cuts.{piece_of, PiecesGive}
 use Rattle.v_ports.specs.declared.cut.Piece.{Piece}
 use Rattle.v_ports.specs.declared.fault.PortFault.{PortFault}
+use Rattle.v_ports.specs.declared.fault.PortFault.TheVariants.{TwoDrivers}
+use Rattle.vf_base.specs.declared.ids.Place.{Place}
 use Rattle.v_elab.specs.Drivers.{run_of}
 use Rattle.v_elab.specs.Objects.{HeldObject, PieceDriver, value_place, piece_driver, drive_numbered}
 use Rattle.elab_wires.specs.DriveViews.{object_drive_of}
-use Rattle.elab_wires.specs.declared.drives.ObjectDrive.{ObjectDrive}
+use Rattle.elab_wires.specs.declared.object_drive.ObjectDrive.{ObjectDrive}
 use Rattle.std.proofs.lemmas.List.{map-append}
 use Rattle.elab_wires.specs.Turns.{turn}
 use Rattle.elab_wires.specs.Clipped.{clipped, bit-place, no-place, EndsBy, pieces-within}
@@ -57,6 +59,15 @@ pub pieces-given : (width : ℕ) (drives : List ObjectDrive) (cut : Vec Piece Gl
 pieces-given width drives cut result left none is ok gives =
     let given : PiecesGive (cut_pieces width left) (Ok cut) = subst (PiecesGive (cut_pieces width left)) ok gives in
     subst (λ r. PiecesGive r (Ok cut)) (ap (cut_pieces width) is ∙ cut-is width drives none) given
+
+-- where no bit has two drivers, none is told of
+pub never-twice : (width : ℕ) (drives : List ObjectDrive) (result : Result (Vec Piece Global) PortFault) (left : List DriveOfRun) (fault : PortFault) (place : Place) (bit : ℕ) →
+    second_driver [] (map run_of (map object_drive_of drives)) ≡ None →
+    left ≡ map (clipped width) (map run_drive drives) → result ≡ Err fault → fault ≡ TwoDrivers place bit → PiecesGive (cut_pieces width left) result → ⊥
+never-twice width drives result left fault place bit none is at which gives =
+    let given : PiecesGive (cut_pieces width left) (Err (TwoDrivers place bit)) = subst (λ (f : PortFault). PiecesGive (cut_pieces width left) (Err f)) which
+    (subst (PiecesGive (cut_pieces width left)) at gives) in
+    subst (λ r. PiecesGive r (Err (TwoDrivers place bit))) (ap (cut_pieces width) is ∙ cut-is width drives none) given
 
 -- Going through the pieces
 

@@ -1,5 +1,5 @@
 -- The objects of parts, from the drives and the driving variables under the names of objects (IEEE 1364-2001, clause 6.1).
-use Rattle.std.proofs.Common.{◌≡◌, ℕ, ◌+◌, Bool, true, false, List, [], ◌∷◌, ◌++◌, map, Option, Some, None, refl, sym, ap, ap₂, ◌∙◌}
+use Rattle.std.proofs.Common.{◌≡◌, ℕ, Bool, true, false, List, [], ◌∷◌, ◌++◌, map, Option, Some, None, refl, sym, ap, ap₂, ◌∙◌}
 use Rattle.std.specs.Prelude.{nat_lt, flat_map, filter, cond}
 use Rattle.std.specs.Borrow.{Bor}
 use Rattle.vf_base.specs.Lists.{AllHold}

@@ -6,7 +6,7 @@ use Rattle.key_index.specs.Groups.{item_if, items_under}
 use Rattle.elab_parts.specs.declared.signal.Signal.{Signal}
 use Rattle.elab_wires.specs.SignalTables.{signal_borrowed}
 use Rattle.elab_wires.specs.DriveViews.{object_drive_of, drive_keyed}
-use Rattle.elab_wires.specs.declared.drives.ObjectDrive.{ObjectDrive}
+use Rattle.elab_wires.specs.declared.object_drive.ObjectDrive.{ObjectDrive}
 use Rattle.elab_objects.specs.Driven.{driving_keyed}
 
 pub viewed-under : {A B : Type 0} (view : A → B) (ps : List (List ℕ × A)) (key : List ℕ) → items_under (map (λ (p : List ℕ × A). (p.0, view p.1)) ps) key ≡ map view (items_under ps key)

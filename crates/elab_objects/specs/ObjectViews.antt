@@ -1,10 +1,10 @@
 -- Objects of the code as those of a walk.
-use Rattle.std.specs.Prelude.{ℕ, List, map, option_map}
+use Rattle.std.specs.Prelude.{List, map, option_map}
 use Rattle.vf_base.specs.Base.{source_place}
 use Rattle.v_design.specs.Plain.{object_of}
 use Rattle.v_ports.specs.Pieces.{DriveOfRun}
 use Rattle.v_elab.specs.Objects as plain
-use Rattle.elab_wires.specs.declared.drives.ObjectDrive.{ObjectDrive}
+use Rattle.elab_wires.specs.declared.object_drive.ObjectDrive.{ObjectDrive}
 use Rattle.elab_objects.specs.declared.object.PieceDriver.{PieceDriver}
 use Rattle.elab_objects.specs.declared.object.HeldObject.{HeldObject}
 

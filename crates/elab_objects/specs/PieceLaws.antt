@@ -1,16 +1,14 @@
 -- A net of the code is cut into pieces as the definition cuts it (IEEE 1364-2001, clause 6.1).
-use Rattle.std.proofs.Common.{◌≡◌, ℕ, zero, suc, ◌+◌, ◌<◌, ◌≤◌, List, [], ◌∷◌, length, map, get_or, Option, Some, None, Ok, Result, refl, sym, ap, ap₂, ◌∙◌, subst, arith}
-use Rattle.std.specs.Prelude.{slice_get, option_map, option_and_then}
+use Rattle.std.proofs.Common.{◌≡◌, ℕ, ◌<◌, ◌≤◌, List, [], ◌∷◌, length, map, get_or, Some, None, Ok, refl, sym, ap, ap₂, ◌∙◌}
+use Rattle.std.specs.Prelude.{option_map}
 use Rattle.std.proofs.lemmas.Option.{slice_get-map, slice_get-get_or, slice_get_past}
 use Rattle.vf_base.specs.Base.{source_place}
-use Rattle.vf_base.specs.Lists.{AllHold}
-use Rattle.v_ports.specs.Pieces.{CutPiece, second_driver, pieces_of, run_of_drive, cut_pieces}
-use Rattle.v_elab.specs.Drivers as drivers
+use Rattle.v_ports.specs.Pieces.{second_driver, pieces_of, run_of_drive, cut_pieces}
 use Rattle.v_elab.specs.Drivers.{run_of}
 use Rattle.v_elab.specs.Objects.{drive_numbered}
 use Rattle.elab_wires.specs.DriveViews.{object_drive_of}
-use Rattle.elab_wires.specs.declared.drives.ObjectDrive.{ObjectDrive}
-use Rattle.elab_wires.specs.Clipped.{run-bits, clipped, pieces-are, pieces-within, EndsBy, numbered-at}
+use Rattle.elab_wires.specs.declared.object_drive.ObjectDrive.{ObjectDrive}
+use Rattle.elab_wires.specs.Clipped.{run-bits, clipped, pieces-are, numbered-at}
 use Rattle.elab_objects.specs.ObjectViews.{run_drive}
 
 run-is : (d : ObjectDrive) → run_of (object_drive_of d) ≡ run_of_drive (run_drive d)

@@ -6,7 +6,7 @@ use v_design::Object;
 #[derive(Clone, Copy, Debug, PartialEq, Eq)]
 pub struct PieceDriver {
     pub node: usize,
-    pub place: usize,
+    pub place: u128,
 }
 
 /// An object, with the node that writes it. It has the name of the net, the variable or the memory whose bits it holds.

@@ -17,7 +17,7 @@ use elab_wires::ObjectDrive;
 use four_value::{Bit, Vec4};
 use std::alloc::Global;
 use v_design::{Object, ObjectKind};
-use v_ports::{Drive, Piece, pieces};
+use v_ports::{Drive, Piece, PortFault, pieces};
 use vf_base::{NoMemory, Text};
 
 /// The declared index of a bit of a net, which is counted from the least significant.
@@ -32,40 +32,37 @@ fn index_at(range: DeclaredRange, bit: u8) -> u32
     }
 }
 
-/// Where a bit of a net stands in the value of the node whose select drives it. A place beyond all numbers is that of a value in no memory.
-fn value_place(drive: ObjectDrive, bit: u8) -> Result<Option<usize>, NoMemory>
-    ensures { IfOk result (λ place. place ≡ plain.value_place bit (object_drive_of drive)) }
+/// Where a bit of a net stands in the value of the node whose select drives it.
+fn value_place(drive: ObjectDrive, bit: u8) -> Option<u128>
+    ensures { result ≡ plain.value_place bit (object_drive_of drive) }
 {
     let bits = drive.bits;
     let bit = u64::from(bit);
     if bit < bits.low || bits.low + bits.width <= bit {
-        return Ok(None);
+        return None;
     }
-    let within = bits.outside_below + (bit - bits.low);
-    match drive.offset.checked_add(within as usize) {
-        Some(place) => Ok(Some(place)),
-        None => Err(NoMemory),
-    }
+    let within = u128::from(bits.outside_below + (bit - bits.low));
+    Some(drive.offset + within)
 }
 
 /// The node that writes a piece.
-fn piece_driver(drives: &[ObjectDrive], piece: Piece) -> Result<Option<PieceDriver>, NoMemory>
-    ensures { IfOk result (λ driver. option_map driver_of driver ≡ plain.piece_driver piece.low (option_and_then (plain.drive_numbered (map object_drive_of drives.now)) piece.driver)) }
+fn piece_driver(drives: &[ObjectDrive], piece: Piece) -> Option<PieceDriver>
+    ensures { option_map driver_of result ≡ plain.piece_driver piece.low (option_and_then (plain.drive_numbered (map object_drive_of drives.now)) piece.driver) }
 {
     let Some(number) = piece.driver else {
-        return Ok(None);
+        return None;
     };
     let number = number as usize;
     if drives.len() <= number {
-        return Ok(None);
+        return None;
     }
     let drive = drives[number];
-    match value_place(drive, piece.low)? {
-        None => Ok(None),
-        Some(place) => Ok(Some(PieceDriver {
+    match value_place(drive, piece.low) {
+        None => None,
+        Some(place) => Some(PieceDriver {
             node: drive.node,
             place,
-        })),
+        }),
     }
 }
 
@@ -80,7 +77,7 @@ fn piece_object(
     requires within { piece.low + piece.width ≤ span signal.now.range.high signal.now.range.low }
     ensures { IfOk result (λ held. held_of held ≡ plain.piece_object (signal_of signal.now) (map object_drive_of drives.now) (piece_of piece)) }
 {
-    let driver = piece_driver(drives, piece)?;
+    let driver = piece_driver(drives, piece);
     let object = Object {
         name: Text::from_bytes(alloc, signal.name.as_bytes())?,
         kind: ObjectKind::Net,
@@ -129,7 +126,9 @@ fn cut(alloc: Global, width: u8, drives: &[ObjectDrive]) -> Result<Vec<Piece>, N
     let left = clip_all(alloc, drives, width)?;
     match pieces(alloc, width, &left) {
         Ok(cut) => Ok(cut),
-        Err(_) => Err(NoMemory),
+        Err(PortFault::NoMemory) => Err(NoMemory),
+        Err(PortFault::TwoDrivers(_, _)) => unreachable!(),
+        Err(PortFault::PortMismatch(_)) => unreachable!(),
     }
 }
 

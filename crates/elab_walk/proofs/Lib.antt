@@ -3,3 +3,4 @@ pub mod ReadLaws
 pub mod Counting
 pub mod Steps
 pub mod Named
+pub mod WideLaws

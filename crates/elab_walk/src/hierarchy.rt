@@ -1,13 +1,14 @@
 // The walk from instance to instance.
 
-ghost use Rattle.std.specs.Prelude.{◌≡◌, ◌+◌, ◌≤◌, List, Some, Ok, IfOk, MatchResult, map};
+ghost use Rattle.std.specs.Prelude.{◌≡◌, ◌+◌, List, [], Some, Ok, IfOk, MatchResult, map, flat_map};
 ghost use Rattle.vf_base.specs.Base.{SourcePlace};
 ghost use Rattle.v_tree.specs.Trees.{SourceModule};
 ghost use Rattle.v_tree.specs.Views.{module_of, item_of, connection_of, instance_of};
 ghost use Rattle.v_names.specs.Names.{GivenParameter};
 ghost use Rattle.v_elab.specs.Parts as parts;
 ghost use Rattle.v_elab.specs.Walk as plain;
-ghost use Rattle.v_elab.specs.Walk.{gates_in, paths_of, entered, walked_module, walked_items, walked_item, walked_instance_item, walked_instances, walked_instance, walked_from};
+ghost use Rattle.v_elab.specs.Connections.{instance_faults};
+ghost use Rattle.v_elab.specs.Walk.{gates_in, child_of, paths_of, entered, walked_module, walked_items, walked_item, walked_instance_item, walked_instances, walked_instance, walked_from};
 ghost use Rattle.elab_parts.specs.PartViews.{parts_of};
 ghost use Rattle.instance_checks.specs.Offered.{AreFormals};
 ghost use Rattle.elab_connections.specs.PathViews.{ArePaths};
@@ -67,7 +68,7 @@ fn walk_inside<'u>(
     instance: &'u Instance,
     walked: &mut Walked<'u>,
 ) -> Result<(), WalkFault>
-    requires { site.here.now.depth + levels ≤ 64 }
+    requires { site.here.now.depth + levels ≡ 64 }
     ensures { (h : plain.Here) (m : SourceModule) (given : List GivenParameter) → IsSite h site.entry → IsInner h m given inner.entry →
         ArePaths (paths_of h (instance_of instance.now)) paths.now → (before : List parts.Part) → AreCounts before walked.old.counts →
         Leaves before (plain.walked h.modules h.mode levels (entered h m given (instance_of instance.now)) before) result walked.old walked.new }
@@ -92,8 +93,8 @@ fn walk_inside<'u>(
     )
 }
 
-/// Walks an instance: its connections, and what stands in it. A port that is wider than any vector may be is refused where its module declares it,
-/// so what assigns it counts, and isn't made.
+/// Walks an instance of which nothing is wrong: its connections, and what stands in it. A port that is wider than any vector may be is refused where its
+/// module declares it, so what assigns it counts, and isn't made.
 #[cycle(walk)]
 fn walk_instance<'u>(
     alloc: Global,
@@ -103,9 +104,9 @@ fn walk_instance<'u>(
     instance: &'u Instance,
     walked: &mut Walked<'u>,
 ) -> Result<(), WalkFault>
-    requires { site.here.now.depth + levels ≤ 64 }
+    requires { site.here.now.depth + levels ≡ 64 }
     ensures { (h : plain.Here) (m : SourceModule) (given : List GivenParameter) → IsSite h site.entry → IsInner h m given inner.entry →
-        (before : List parts.Part) → AreCounts before walked.old.counts →
+        instance_faults (child_of h m given) (h.instance.depth + 1) (instance_of instance.now) ≡ [] → (before : List parts.Part) → AreCounts before walked.old.counts →
         Leaves before (walked_instance (plain.walked h.modules h.mode levels) h m given (instance_of instance.now) before) result walked.old walked.new }
 {
     let connections = instance.connections.as_slice();
@@ -113,8 +114,7 @@ fn walk_instance<'u>(
     let paths = instance_paths(alloc, &site.here.path, instance)?;
     if connects_wide_port(inner.child, connections) {
         walked.count_instance(connection_nodes(alloc, inner.child, connections)?)?;
-        walk_inside(alloc, site, levels, inner, &paths, instance, walked)?;
-        return Err(WalkFault::NoMemory);
+        return walk_inside(alloc, site, levels, inner, &paths, instance, walked);
     }
     let start = walked.parts.len();
     walked.parts.push(Part::Instance)?;
@@ -123,7 +123,7 @@ fn walk_instance<'u>(
     walk_inside(alloc, site, levels, inner, &paths, instance, walked)
 }
 
-/// Walks instances of one module.
+/// Walks instances of one module, of which nothing is wrong.
 #[cycle(walk)]
 fn walk_instances<'u>(
     alloc: Global,
@@ -133,9 +133,10 @@ fn walk_instances<'u>(
     instances: &'u [Instance],
     walked: &mut Walked<'u>,
 ) -> Result<(), WalkFault>
-    requires { site.here.now.depth + levels ≤ 64 }
+    requires { site.here.now.depth + levels ≡ 64 }
     ensures { (h : plain.Here) (m : SourceModule) (given : List GivenParameter) → IsSite h site.entry → IsInner h m given inner.entry →
-        (before : List parts.Part) → AreCounts before walked.old.counts →
+        flat_map (instance_faults (child_of h m given) (h.instance.depth + 1)) (map instance_of instances.now) ≡ [] → (before : List parts.Part) →
+        AreCounts before walked.old.counts →
         Leaves before (walked_instances (plain.walked h.modules h.mode levels) h m given (map instance_of instances.now) before) result walked.old walked.new }
 {
     'instances: for instance in instances {
@@ -155,7 +156,7 @@ fn walk_instance_item<'u>(
     instances: &'u [Instance],
     walked: &mut Walked<'u>,
 ) -> Result<(), WalkFault>
-    requires { site.here.now.depth + levels ≤ 64 }
+    requires { site.here.now.depth + levels ≡ 64 }
     ensures { (h : plain.Here) → IsSite h site.entry → (before : List parts.Part) (place : SourcePlace) → AreCounts before walked.old.counts →
         Leaves before (walked_instance_item (plain.walked h.modules h.mode levels) h (Some (module_of «module».now)) place (map connection_of parameters.now)
         (map instance_of instances.now) before) result walked.old walked.new }
@@ -188,7 +189,7 @@ fn walk_item<'u>(
     item: &'u Item,
     walked: &mut Walked<'u>,
 ) -> Result<(), WalkFault>
-    requires { site.here.now.depth + levels ≤ 64 }
+    requires { site.here.now.depth + levels ≡ 64 }
     ensures { (h : plain.Here) → IsSite h site.entry → (before : List parts.Part) → AreCounts before walked.old.counts →
         Leaves before (walked_item (plain.walked h.modules h.mode levels) h gates (item_of item.now) before) result walked.old walked.new }
 {
@@ -222,7 +223,7 @@ fn walk_items<'u>(
     items: &'u [Item],
     walked: &mut Walked<'u>,
 ) -> Result<(), WalkFault>
-    requires { site.here.now.depth + levels ≤ 64 }
+    requires { site.here.now.depth + levels ≡ 64 }
     ensures { (h : plain.Here) → IsSite h site.entry → (before : List parts.Part) → AreCounts before walked.old.counts →
         Leaves before (walked_items (plain.walked h.modules h.mode levels) h 0 (map item_of items.now) before) result walked.old walked.new }
 {
@@ -244,7 +245,7 @@ fn walk_module<'u>(
     formals: &Formals<'u>,
     walked: &mut Walked<'u>,
 ) -> Result<(), WalkFault>
-    requires { site.here.now.depth + levels ≤ 64 }
+    requires { site.here.now.depth + levels ≡ 64 }
     ensures { (h : plain.Here) → IsSite h site.entry → AreFormals (module_of «module».now) formals.now → (before : List parts.Part) →
         AreCounts before walked.old.counts →
         Leaves before (walked_module (plain.walked h.modules h.mode levels) h (module_of «module».now) before) result walked.old walked.new }
@@ -265,7 +266,7 @@ fn enter<'u>(
     entrance: Entrance<'_, 'u>,
     walked: &mut Walked<'u>,
 ) -> Result<(), WalkFault>
-    requires { entrance.depth + levels ≤ 65 }
+    requires { entrance.depth + levels ≡ 65 }
     ensures { (all : List SourceModule) (e : plain.Entered) → AreModules all modules.now → IsEntrance e entrance.entry → (before : List parts.Part) →
         AreCounts before walked.old.counts → Leaves before (plain.walked all mode levels e before) result walked.old walked.new }
 {

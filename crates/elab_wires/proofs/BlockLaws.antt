@@ -1,14 +1,14 @@
 -- Names that stand in an index, and what blocks read by other names.
-use Rattle.std.proofs.Common.{◌≡◌, ℕ, zero, suc, ◌+◌, ◌<◌, length, get_or, arith, Bor, Bool, true, false, not, ◌&&◌, ◌||◌, List, [], ◌∷◌, ◌++◌, map, filter, Option, Some, None, is_some, drop, refl}
+use Rattle.std.proofs.Common.{◌≡◌, ℕ, zero, suc, ◌<◌, length, get_or, arith, Bor, Bool, true, false, not, ◌&&◌, ◌||◌, List, [], ◌∷◌, ◌++◌, map, filter, Option, is_some, refl}
 use Rattle.std.proofs.Common.{sym, ap, ap₂, ◌∙◌}
 use Rattle.std.specs.List.{list_all, list_any}
 use Rattle.key_index.specs.Places.{keys_of, key_from}
-use Rattle.v_tree.specs.Trees.{Identifier, same_name, has_name}
+use Rattle.v_tree.specs.Trees.{Identifier, has_name}
 use Rattle.v_elab.specs.Parts.{Signal, WalkedProcess, Part}
-use Rattle.v_elab.specs.Drivers.{signals_of, outermost, port_writes, other_writes, is_own_target, target_signals, names_only_read, reads_by_other_name}
+use Rattle.v_elab.specs.Drivers.{signals_of, outermost, port_writes, other_writes, is_own_target, target_signals, reads_by_other_name}
 use Rattle.v_comb.specs.CombinationalForm.{names_read}
 use Rattle.v_elab.specs.Statements.{block_body}
-use Rattle.elab_wires.specs.WrittenNames.{written_from, objects_written, has_other_writer, output_names}
+use Rattle.elab_wires.specs.WrittenNames.{written_from, objects_written, has_other_writer}
 use Rattle.elab_wires.specs.WrittenLaws.{other-written, port-written}
 use Rattle.elab_wires.specs.IndexLaws.{key-there}
 use Rattle.elab_parts.specs.PartViews.{parts_of}

@@ -1,5 +1,5 @@
 -- The drives of a node and of all nodes, one more at a time.
-use Rattle.std.proofs.Common.{◌≡◌, ℕ, zero, suc, ◌+◌, ◌-◌, ◌<◌, ◌≤◌, List, [], ◌∷◌, ◌++◌, length, get_or, take, drop, map, replicate, Option, Some, None, refl, sym, ap, ap₂, ◌∙◌, append_assoc}
+use Rattle.std.proofs.Common.{◌≡◌, ℕ, zero, suc, ◌+◌, ◌<◌, ◌≤◌, List, [], ◌∷◌, ◌++◌, length, get_or, take, drop, map, replicate, Option, Some, None, refl, sym, ap, ap₂, ◌∙◌, append_assoc}
 use Rattle.std.proofs.Common.{append-nil, arith, drop-cons}
 use Rattle.std.proofs.lemmas.List.{map_push, take_more, length-map, length-take-le}
 use Rattle.v_design.specs.Expressions.{up_from}
@@ -16,7 +16,7 @@ use Rattle.elab_parts.specs.declared.part.Drive.{Drive}
 use Rattle.elab_parts.specs.declared.behaviour.WalkedNode.{WalkedNode}
 use Rattle.elab_wires.specs.Drives.{keyed_drives, all_drives}
 use Rattle.elab_wires.specs.DriveViews.{object_drive_of, drive_keyed, drives_listed}
-use Rattle.elab_wires.specs.declared.drives.ObjectDrive.{ObjectDrive}
+use Rattle.elab_wires.specs.declared.object_drive.ObjectDrive.{ObjectDrive}
 
 -- Widths
 

@@ -1,5 +1,5 @@
 -- Signals that are found by their names, and ways along what they are joined into.
-use Rattle.std.proofs.Common.{◌≡◌, ℕ, zero, suc, ◌+◌, ◌<◌, ◌≤◌, Bool, true, false, List, [], ◌∷◌, ◌++◌, map, Option, Some, None, option_map, refl, sym, ap, ◌∙◌, arith, append_assoc, subst}
+use Rattle.std.proofs.Common.{◌≡◌, ℕ, zero, suc, ◌+◌, ◌<◌, ◌≤◌, Bool, true, false, List, [], ◌∷◌, ◌++◌, map, Some, None, option_map, refl, sym, ap, ◌∙◌, arith, subst}
 use Rattle.std.specs.Borrow.{Bor}
 use Rattle.std.specs.Str.{bytes_eq}
 use Rattle.std.proofs.lemmas.List.{map_push}
@@ -9,8 +9,7 @@ use Rattle.key_index.specs.declared.grouped.Keyed.{Keyed}
 use Rattle.v_tree.specs.Trees.{Identifier, same_name}
 use Rattle.v_elab.specs.Parts as plain
 use Rattle.v_elab.specs.Parts.{Joining, Part, SignalPart, MemoryPart, AssignPart, GatePart, ProcessPart, InstancePart}
-use Rattle.v_elab.specs.Drivers.{signals_of, signal_if, signal_named, joined_into, up_or, outermost_within}
-use Rattle.elab_parts.specs.PartViews.{signal_of}
+use Rattle.v_elab.specs.Drivers.{signal_if, signal_named, joined_into, up_or, outermost_within}
 use Rattle.elab_parts.specs.declared.signal.Signal.{Signal}
 use Rattle.elab_wires.specs.SignalTables.{signal_seen, signal_borrowed, signals_listed, IsOwn}
 use Rattle.elab_wires.specs.Keyed.{key-name}

@@ -5,7 +5,7 @@ use Rattle.v_elab.specs.Drivers as plain
 use Rattle.key_index.specs.Groups.{keyed_of}
 use Rattle.key_index.specs.declared.grouped.Keyed.{Keyed}
 use Rattle.elab_parts.specs.PartViews.{places_of}
-use Rattle.elab_wires.specs.declared.drives.ObjectDrive.{ObjectDrive}
+use Rattle.elab_wires.specs.declared.object_drive.ObjectDrive.{ObjectDrive}
 
 abbrev pub object_drive_of : ObjectDrive → plain.ObjectDrive
 object_drive_of d = record { node = d.node; offset = d.offset; places = places_of d.bits; place = source_place d.place }

@@ -1,6 +1,5 @@
 -- The drives of each object of a walk are the items under its name among all drives (IEEE 1364-2001, clause 6.1).
-use Rattle.std.proofs.Common.{◌≡◌, ℕ, ◌+◌, Bool, true, false, List, [], ◌∷◌, ◌++◌, length, map, refl, sym, ap, ap₂, ◌∙◌}
-use Rattle.std.specs.Str.{bytes_eq}
+use Rattle.std.proofs.Common.{◌≡◌, ℕ, ◌+◌, Bool, true, false, List, [], ◌∷◌, ◌++◌, refl, ap, ap₂, ◌∙◌}
 use Rattle.v_tree.specs.Trees.{Identifier, same_name}
 use Rattle.v_elab.specs.Parts.{Signal, Drive}
 use Rattle.v_elab.specs.Drivers.{outermost, WalkedNode, ObjectDrive, drive_if, drives_width, node_drives, drives_from, object_drives}

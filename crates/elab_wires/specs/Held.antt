@@ -1,11 +1,10 @@
 -- What names mean in objects, and what nodes write, by one pass over the objects (IEEE 1364-2001, clause 12.4 for names).
-use Rattle.std.proofs.Common.{◌≡◌, ℕ, ◌+◌, Bool, true, false, List, [], ◌∷◌, ◌++◌, length, map, Option, Some, None, refl, sym, ap, ap₂, ◌∙◌, arith, append_assoc}
-use Rattle.std.specs.Prelude.{nat_eq}
+use Rattle.std.proofs.Common.{◌≡◌, ℕ, ◌+◌, Bool, true, false, List, [], ◌∷◌, ◌++◌, length, refl, sym, ap, ◌∙◌, arith, append_assoc}
 use Rattle.vf_base.specs.Lists.{map_numbered, joined}
 use Rattle.v_design.specs.Trees.{Piece}
 use Rattle.v_tree.specs.Trees.{Identifier, same_name}
-use Rattle.v_elab.specs.Objects.{HeldObject, PieceDriver, piece_if, pieces_held}
-use Rattle.v_elab.specs.Flat.{NodeOutput, output_if, output_of_object, outputs_of}
+use Rattle.v_elab.specs.Objects.{HeldObject, piece_if, pieces_held}
+use Rattle.v_elab.specs.Flat.{NodeOutput, output_of_object, outputs_of}
 use Rattle.key_index.specs.Groups.{item_if, items_under}
 use Rattle.elab_wires.specs.Keyed.{key-name}
 

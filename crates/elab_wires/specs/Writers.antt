@@ -1,12 +1,11 @@
 -- Whether another part or a port writes an object, from the parts that write it (IEEE 1364-2001, clause 6.1; that names which are joined are one object is own).
-use Rattle.std.proofs.Common.{◌≡◌, ℕ, ◌+◌, Bool, true, false, ◌&&◌, ◌||◌, List, [], ◌∷◌, ◌++◌, map, Option, Some, None, refl, sym, ap, ap₂, ◌∙◌, inl, inr}
+use Rattle.std.proofs.Common.{◌≡◌, ℕ, ◌+◌, Bool, true, false, ◌&&◌, ◌||◌, List, [], ◌∷◌, ◌++◌, map, Option, Some, None, refl, sym, ap, ap₂, ◌∙◌}
 use Rattle.std.specs.Prelude.{nat_eq, not}
 use Rattle.std.specs.List.{list_any}
-use Rattle.std.proofs.lemmas.Bool.{cases_Bool, eqb-true}
-use Rattle.v_tree.specs.declared.item.Direction.{Direction}
+use Rattle.std.proofs.lemmas.Bool.{eqb-true}
 use Rattle.v_tree.specs.Trees.{Identifier, same_name, has_name}
 use Rattle.v_elab.specs.Parts.{Joining, Signal, Part}
-use Rattle.v_elab.specs.Drivers.{outermost, signals_written, writes_object, other_writes, is_output, joins_output, port_writes}
+use Rattle.v_elab.specs.Drivers.{outermost, signals_written, other_writes, is_output, joins_output, port_writes}
 use Rattle.key_index.specs.Groups.{item_if, items_under}
 use Rattle.elab_wires.specs.Keyed.{key-name, under-append, any-append}
 

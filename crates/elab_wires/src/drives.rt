@@ -1,6 +1,6 @@
 // The selects that nodes drive, under the objects that they are of.
 
-ghost use Rattle.std.specs.Prelude.{◌≡◌, ◌+◌, ◌++◌, IfOk, OnOk, length, map};
+ghost use Rattle.std.specs.Prelude.{◌≡◌, ◌+◌, ◌<◌, ◌^◌, ◌++◌, IfOk, OnOk, length, map};
 ghost use Rattle.key_index.specs.Groups.{keyed_of};
 ghost use Rattle.v_elab.specs.Drivers.{drives_width};
 ghost use Rattle.elab_parts.specs.PartViews.{places_of, drives_of};
@@ -8,40 +8,30 @@ ghost use Rattle.elab_parts.specs.BehaviourViews.{node_of, node_drives_of};
 ghost use Rattle.elab_wires.specs.Drives.{keyed_drives, all_drives};
 ghost use Rattle.elab_wires.specs.DriveViews.{drives_listed};
 
-use crate::Signals;
+use crate::{ObjectDrive, Signals};
 use elab_parts::{Drive, DrivenBits, WalkedNode};
 use key_index::Keyed;
 use std::alloc::Global;
-use vf_base::{NoMemory, Place};
-
-/// A select that a node drives: the node's number in the walk, where the select's least bit stands in the node's value, its bits and its place.
-#[derive(Clone, Copy, Debug)]
-pub struct ObjectDrive {
-    pub node: usize,
-    pub offset: usize,
-    pub bits: DrivenBits,
-    pub place: Place,
-}
+use vf_base::NoMemory;
 
 /// How many bits a select has.
-fn select_width(bits: DrivenBits) -> usize
-    ensures { result ≡ length (places_of bits) }
+fn select_width(bits: DrivenBits) -> u128
+    ensures bits { result ≡ length (places_of bits) }
+    ensures few { result < 2 ^ 34 }
 {
-    (bits.outside_below + bits.width + bits.outside_above) as usize
+    u128::from(bits.outside_below + bits.width + bits.outside_above)
 }
 
-/// How many bits some selects have together; more than a number counts are in no memory.
-fn selects_width(drives: &[Drive]) -> Result<usize, NoMemory>
-    ensures { IfOk result (λ width. width ≡ drives_width (drives_of drives.now)) }
+/// How many bits some selects have together.
+fn selects_width(drives: &[Drive]) -> u128
+    ensures bits { result ≡ drives_width (drives_of drives.now) }
+    ensures few { result < 2 ^ 99 }
 {
-    let mut width: usize = 0;
+    let mut width: u128 = 0;
     'drives: for drive in drives {
-        match width.checked_add(select_width(drive.bits)) {
-            Some(sum) => width = sum,
-            None => return Err(NoMemory),
-        }
+        width += select_width(drive.bits);
     }
-    Ok(width)
+    width
 }
 
 /// Adds the drives of a node under the outermost names of their signals. The rightmost select has the least bits of the node's value.
@@ -53,7 +43,7 @@ fn push_drives<'w>(
 ) -> Result<(), NoMemory>
     ensures { OnOk result (drives_listed items.new.items ≡ drives_listed items.old.items ++ keyed_drives signals.now node (drives_of drives.now)) }
 {
-    let mut offset = selects_width(drives)?;
+    let mut offset = selects_width(drives);
     'drives: for drive in drives {
         offset -= select_width(drive.bits);
         items.push(Keyed {

@@ -9,13 +9,15 @@
 
 mod blocks;
 mod drives;
+mod object_drive;
 mod signals;
 mod wiring;
 mod writers;
 mod written;
 
 pub use blocks::is_block_node;
-pub use drives::{ObjectDrive, list_drives};
+pub use drives::list_drives;
+pub use object_drive::ObjectDrive;
 pub use signals::Signals;
 pub use wiring::Wiring;
 pub use writers::{PortWriters, Writers};

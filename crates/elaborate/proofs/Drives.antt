@@ -1,9 +1,8 @@
 -- What the tables of drives and driving variables say of the parts (IEEE 1364-2001, clause 6.1).
-use Rattle.std.proofs.Common.{◌≡◌, ℕ, List, Option, None, Some, sym, ap, ap₂, subst, ◌∙◌}
+use Rattle.std.proofs.Common.{◌≡◌, List, None, sym, ap, ap₂, subst, ◌∙◌}
 use Rattle.std.specs.Prelude.{flat_map}
 use Rattle.vf_base.specs.Lists.{AllHold}
 use Rattle.v_tree.specs.Trees.{Identifier}
-use Rattle.v_elab.specs.Refusals.{Refusal}
 use Rattle.v_elab.specs.Parts.{Signal, Part}
 use Rattle.v_elab.specs.Drivers.{signals_of, WalkedNode, ObjectDrive, two_drivers}
 use Rattle.v_elab.specs.Objects.{objects_of_parts}

@@ -1,5 +1,5 @@
 -- What a fault says of a unit. (Own: IEEE 1364-2001 names no order of errors.)
-use Rattle.std.specs.Prelude.{◌≡◌, ℕ, Option, Some, None, Result, Ok, Err}
+use Rattle.std.specs.Prelude.{◌≡◌, Option, Some, None, Result, Err}
 use Rattle.vf_base.specs.Base.{source_place}
 use Rattle.v_design.specs.Designs.{FlatDesign}
 use Rattle.v_names.specs.Faults.{UnknownName, DeclaredTwice, NoConstant, BadWidth, BadConnection, WrongKind as KindOfName, TooDeep as DeepInstance, fault_at}

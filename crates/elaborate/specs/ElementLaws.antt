@@ -1,6 +1,6 @@
 -- Elements one after the other make the design of the parts (IEEE 1364-2001, clause 12).
-use Rattle.std.proofs.Common.{◌≡◌, ℕ, zero, suc, ◌+◌, ◌<◌, ◌≤◌, Bool, true, false, List, [], ◌∷◌, ◌++◌, length, map, Option, Some, None, Result, Ok, Err, refl, sym, ap, ap₂, ◌∙◌, subst, arith}
-use Rattle.std.specs.Prelude.{slice_get, nat_lt, nat_eq}
+use Rattle.std.proofs.Common.{◌≡◌, ℕ, ◌+◌, ◌<◌, ◌≤◌, Bool, true, false, List, [], ◌∷◌, length, map, Option, Some, None, Result, Ok, Err, refl, sym, ap, ap₂, ◌∙◌, subst, arith}
+use Rattle.std.specs.Prelude.{nat_lt, nat_eq}
 use Rattle.std.proofs.lemmas.Bool.{ltb-true, lt-ltb}
 use Rattle.std.proofs.lemmas.List.{map-append, length-map}
 use Rattle.vf_base.specs.Lists.{AllHold, has, map_numbered, joined}
@@ -12,7 +12,7 @@ use Rattle.net_graph.specs.Loops.{AreAmong}
 use Rattle.v_elab.specs.declared.What.TheVariants.{Objects}
 use Rattle.v_elab.specs.Refusals.{Refusal, TooMany, then_go, unless_refused}
 use Rattle.v_elab.specs.Parts.{Part, WalkedProcess, over_limit, too_many_if}
-use Rattle.v_elab.specs.Drivers.{signals_of, WalkedNode, Behaviour, behaviours_of, nodes_of, processes_of, two_drivers}
+use Rattle.v_elab.specs.Drivers.{signals_of, WalkedNode, behaviours_of, nodes_of, processes_of, two_drivers}
 use Rattle.v_elab.specs.Objects.{HeldObject, PieceDriver, objects_of_parts, names_joined}
 use Rattle.v_elab.specs.Flat.{NodeOutput, output_if, output_of_object, outputs_of, inputs_of, node_kind, flat_node, flat_process, walked_nodes, too_many_behaviours, over_nodes, over_parts}
 use Rattle.v_elab.specs.Flat.{over_behaviours, flat_of_parts, second_module, flat_from}

@@ -1,11 +1,10 @@
 -- The elements of a flat design, from the parts of a walk (IEEE 1364-2001, clause 12).
-use Rattle.std.specs.Prelude.{◌≡◌, ℕ, List, length, map, Option, Some, None, Result, Ok, Err, Vec}
+use Rattle.std.specs.Prelude.{◌≡◌, ℕ, List, length, map, None, Result, Ok, Err, Vec}
 use Rattle.std.specs.declared.alloc.Global.{Global}
 use Rattle.v_design.specs.Designs.{FlatObject, FlatNode, FlatDesign}
 use Rattle.v_design.specs.Plain as flats
 use Rattle.v_design.specs.declared.plan.Node.{Node}
 use Rattle.v_design.specs.declared.plan.JoinedName.{JoinedName}
-use Rattle.v_design.specs.declared.plan.Process.{Process}
 use Rattle.v_elab.specs.Refusals.{Refusal}
 use Rattle.v_design.specs.Expressions.{up_from}
 use Rattle.v_elab.specs.Parts.{Part, WalkedProcess}
@@ -15,6 +14,7 @@ use Rattle.v_elab.specs.Flat.{NodeOutput, outputs_of, widths_of, walked_nodes, f
 use Rattle.elab_objects.specs.ObjectViews.{held_objects}
 use Rattle.elab_objects.specs.declared.object.HeldObject as code
 use Rattle.object_names.specs.NameTables.{NameTables, AreNamesOf}
+use Rattle.elab_nodes.specs.Nodes.{AreSizedOver}
 use Rattle.elaborate.specs.ElabFaults.{refusal_of, IsFaultOf, IsElabFault, IsTold}
 use Rattle.elaborate.specs.declared.elements.Elements.{Elements}
 use Rattle.elaborate.specs.declared.elements.Made.{Made}
@@ -55,3 +55,11 @@ pub record AreMade (parts : List Part) (objects : List HeldObject) (nodes : List
 abbrev pub Holds : List Part → List WalkedNode → Result (Vec code.HeldObject Global) ElabFault → Type 0
 Holds parts nodes (Ok held) = (two_drivers (signals_of parts) nodes ≡ None) × (held_objects held.items ≡ objects_of_parts parts nodes)
 Holds parts nodes (Err fault) = IsTold (two_drivers (signals_of parts) nodes) (refusal_of fault)
+
+-- the nodes are sized over the objects to which names and widths belong
+pub record HasSizedNodes (names : NameTables) (widths : List ℕ) (nodes : List WalkedNode) : Type 0 where
+  pub parts : List Part
+  pub objects : List HeldObject
+  pub names_are : AreNamesOf parts objects names
+  pub widths_are : widths ≡ widths_of objects
+  pub sized : AreSizedOver parts objects nodes

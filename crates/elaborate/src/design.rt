@@ -8,6 +8,8 @@ ghost use Rattle.v_scan.specs.Texts.{AreTokens};
 ghost use Rattle.v_parse.specs.Spelling.{SpellsUnit};
 ghost use Rattle.v_parse.specs.Heights.{unit_height};
 ghost use Rattle.v_elab.specs.Flat.{flat};
+ghost use Rattle.flat_laws.specs.Source.{IsSourceUnit};
+ghost use Rattle.flat_laws.specs.Names.OnceDeclared.{IsNamedUnit};
 ghost use Rattle.elaborate.specs.ElabFaults.{IsElabFault};
 ghost use Rattle.elaborate.specs.Elements.{Gives};
 
@@ -22,8 +24,10 @@ use v_elab::Mode;
 use v_tree::Unit;
 use vf_base::Seq;
 
-/// The elements of the flat design of a unit.
+/// The elements of the flat design of a unit that a text spells.
 fn elements_from(alloc: Global, unit: &Unit, top: &[u8], mode: Mode) -> Result<Elements, ElabFault>
+    requires items { IsSourceUnit (unit_of unit.now).modules }
+    requires names { IsNamedUnit (unit_of unit.now).modules }
     ensures { Gives (flat (unit_of unit.now) top.now mode) result }
 {
     let modules = Modules::new(alloc, unit)?;

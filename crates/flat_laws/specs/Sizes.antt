@@ -10,3 +10,4 @@ pub mod NodeSizes
 pub mod Narrow
 pub mod Widths
 pub mod SizedDesigns
+pub mod WalkedNodes

@@ -1,7 +1,7 @@
 -- The shape of what has some parts, so often.
 use Rattle.std.proofs.Common.{arith, ◌≡◌, ℕ, ◌*◌, Bool, false, Option, Some, None, IfSome, refl, sym, ap, subst, ◌∙◌}
 use Rattle.v_design.specs.Trees.{Expression, Concatenation, Replication, Expressions}
-use Rattle.v_design.specs.Sized.{HasRoom, own_width_of_parts}
+use Rattle.v_design.specs.Sized.{HasRoom}
 use Rattle.object_reads.specs.Shapes.{HasShape, HaveWidth}
 use Rattle.object_reads.specs.declared.shape.Shape.{Shape}
 

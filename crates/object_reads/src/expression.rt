@@ -4,8 +4,8 @@ ghost use Rattle.std.specs.Prelude.{◌≡◌, ◌++◌, OnOk, map};
 ghost use Rattle.vf_base.specs.Base.{object_number};
 ghost use Rattle.v_design.specs.Plain.{expression_of, piece_of};
 ghost use Rattle.v_design.specs.Expressions.{objects_of, piece_objects};
+ghost use Rattle.v_design.specs.Sized.{IsSized};
 
-use crate::shape::shape_of;
 use process_operands::pieces_read;
 use std::alloc::Global;
 use v_design::{FlatExpr, PieceRef};
@@ -21,24 +21,20 @@ fn push_objects(pieces: &[PieceRef], objects: &mut Vec<ObjectId>) -> Result<(), 
     Ok(())
 }
 
-/// Adds the objects that an expression reads.
+/// Adds the objects that an expression reads whose parts have the sizes that they take from each other.
 ///
 /// # Errors
 ///
-/// Want of memory; it is answered as well where a part of the expression has another size than it takes, which no flat design has.
+/// Want of memory.
 pub fn push_reads(
     alloc: Global,
     expr: &FlatExpr,
     objects: &mut Vec<ObjectId>,
 ) -> Result<(), NoMemory>
+    requires { IsSized (expression_of expr.now) }
     ensures { OnOk result (map object_number objects.new.items ≡ map object_number objects.old.items ++ objects_of (expression_of expr.now)) }
 {
-    match shape_of(expr) {
-        None => Err(NoMemory),
-        Some(_) => {
-            let pieces = pieces_read(alloc, expr)?;
-            push_objects(&pieces, objects)?;
-            Ok(())
-        }
-    }
+    let pieces = pieces_read(alloc, expr)?;
+    push_objects(&pieces, objects)?;
+    Ok(())
 }

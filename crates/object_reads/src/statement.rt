@@ -1,23 +1,31 @@
 // The objects that a statement reads.
 
-ghost use Rattle.std.specs.Prelude.{◌≡◌, ◌++◌, OnOk, map};
+ghost use Rattle.std.specs.Prelude.{◌≡◌, ℕ, Bool, ◌++◌, OnOk, map};
 ghost use Rattle.vf_base.specs.Base.{object_number};
 ghost use Rattle.v_design.specs.Plain.{expression_of, expressions_of, target_of, statement_of};
 ghost use Rattle.v_design.specs.PlainLemmas.{statements_of, items_of};
 ghost use Rattle.v_design.specs.Expressions.{objects_of, parts_objects};
 ghost use Rattle.v_design.specs.Reads.{index_objects, indexes_objects, read_objects, all_read, items_read};
+ghost use Rattle.v_design.specs.Sized.{IsSizedTarget, IsSizedAssignment, IsSizedStatement, AreSizedStatements, AreSizedItems};
+ghost use Rattle.vf_base.specs.Lists.{AllHold};
+ghost use Rattle.object_reads.specs.SizedReads.{AreSized};
 
 use crate::expression::push_reads;
 use std::alloc::Global;
 use v_design::{CaseItem, FlatExpr, FlatStmt, FlatTarget};
 use vf_base::{NoMemory, ObjectId};
 
-/// Adds the objects that some expressions read.
+/// Adds the objects that some expressions read, each sized by itself.
+///
+/// # Errors
+///
+/// Want of memory.
 pub fn push_all_reads(
     alloc: Global,
     exprs: &[FlatExpr],
     objects: &mut Vec<ObjectId>,
 ) -> Result<(), NoMemory>
+    requires { AreSized (expressions_of exprs.now) }
     ensures { OnOk result (map object_number objects.new.items ≡ map object_number objects.old.items ++ parts_objects (expressions_of exprs.now)) }
 {
     'exprs: for expr in exprs {
@@ -32,6 +40,7 @@ fn push_index_reads(
     target: &FlatTarget,
     objects: &mut Vec<ObjectId>,
 ) -> Result<(), NoMemory>
+    requires { IsSizedTarget (target_of target.now) }
     ensures { OnOk result (map object_number objects.new.items ≡ map object_number objects.old.items ++ index_objects (target_of target.now)) }
 {
     match target {
@@ -49,6 +58,7 @@ fn push_indexes_reads(
     targets: &[FlatTarget],
     objects: &mut Vec<ObjectId>,
 ) -> Result<(), NoMemory>
+    requires { AllHold IsSizedTarget (map target_of targets.now) }
     ensures { OnOk result (map object_number objects.new.items ≡ map object_number objects.old.items ++ indexes_objects (map target_of targets.now)) }
 {
     'targets: for target in targets {
@@ -64,6 +74,7 @@ fn push_assignment_reads(
     value: &FlatExpr,
     objects: &mut Vec<ObjectId>,
 ) -> Result<(), NoMemory>
+    requires { IsSizedAssignment (map target_of targets.now) (expression_of value.now) }
     ensures { OnOk result (map object_number objects.new.items ≡ map object_number objects.old.items ++ (indexes_objects (map target_of targets.now) ++ objects_of (expression_of value.now))) }
 {
     push_indexes_reads(alloc, targets, objects)?;
@@ -71,18 +82,19 @@ fn push_assignment_reads(
     Ok(())
 }
 
-/// Adds the objects that a statement reads, in the order of the text, a case's default last. One that is read nowhere but in the condition of a wait or
-/// in an event control isn't among them.
+/// Adds the objects that a sized statement reads, in the order of the text, a case's default last. One that is read nowhere but in the condition of a wait
+/// or in an event control isn't among them.
 ///
 /// # Errors
 ///
-/// Want of memory; it is answered as well where a part of an expression has another size than it takes, which no flat design has.
+/// Want of memory.
 #[cycle(statements)]
 pub fn push_statement_reads(
     alloc: Global,
     statement: &FlatStmt,
     objects: &mut Vec<ObjectId>,
 ) -> Result<(), NoMemory>
+    requires { IsSizedStatement (statement_of statement.now) }
     ensures { OnOk result (map object_number objects.new.items ≡ map object_number objects.old.items ++ read_objects (statement_of statement.now)) }
 {
     match statement {
@@ -177,6 +189,7 @@ fn push_statements_reads(
     statements: &[FlatStmt],
     objects: &mut Vec<ObjectId>,
 ) -> Result<(), NoMemory>
+    requires { AreSizedStatements (statements_of statements.now) }
     ensures { OnOk result (map object_number objects.new.items ≡ map object_number objects.old.items ++ all_read (statements_of statements.now)) }
 {
     'statements: for statement in statements {
@@ -192,6 +205,7 @@ fn push_items_reads(
     items: &[CaseItem],
     objects: &mut Vec<ObjectId>,
 ) -> Result<(), NoMemory>
+    requires { (width : ℕ) × (signed : Bool) × AreSizedItems width signed (items_of items.now) }
     ensures { OnOk result (map object_number objects.new.items ≡ map object_number objects.old.items ++ items_read (items_of items.now)) }
 {
     'items: for item in items {

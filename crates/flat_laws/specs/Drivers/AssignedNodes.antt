@@ -14,7 +14,7 @@ use Rattle.v_names.specs.SizedTrees.{SizedExpression, over_objects}
 use Rattle.v_names.specs.Readings.{Size, size_or_bit, tree_in, reading_of}
 use Rattle.v_names.specs.SizedLaws.{IsSizedTo}
 use Rattle.v_elab.specs.declared.Mode.{Mode}
-use Rattle.v_elab.specs.Parts.{Signal, Drive, WalkedProcess, Part, SignalPart, MemoryPart, AssignPart, GatePart, ProcessPart, InstancePart}
+use Rattle.v_elab.specs.Parts.{Signal, Drive, ValueIn, WalkedProcess, Part, SignalPart, MemoryPart, AssignPart, GatePart, ProcessPart, InstancePart}
 use Rattle.v_elab.specs.Walk.{walked_from}
 use Rattle.v_elab.specs.Drivers.{signals_of, NodeFunction, AssignFunction, GateFunction, BlockFunction, WalkedNode, drives_width, Behaviour, IsNode, IsProcess, block_or_process, process_behaviour}
 use Rattle.v_elab.specs.Drivers.{part_behaviour, behaviours_of, nodes_of}
@@ -23,7 +23,7 @@ use Rattle.v_elab.specs.Flat.{NodeOutput, output_if, output_of_object, outputs_o
 use Rattle.graph_order.specs.ListLaws.{AllHold-slice_get}
 use Rattle.flat_laws.specs.Made.{nodes_in, objects_in, flat_nodes_in, IsMadeOf}
 use Rattle.flat_laws.specs.Lists.{same_some, AllHold-from}
-use Rattle.flat_laws.specs.Numbered.{at-numbered, AllHold-append}
+use Rattle.flat_laws.specs.Numbered.{AllHold-each, at-numbered, AllHold-append}
 use Rattle.flat_laws.specs.Limits.{design-objects, each-node}
 use Rattle.flat_laws.specs.Hierarchy.Given.{IsHierarchy}
 use Rattle.flat_laws.specs.Sizes.Sized.{complete-size}
@@ -39,6 +39,12 @@ abbrev pub IsAssignSized : FlatDesign → FlatNodeKind → List ℕ → Type 0
 IsAssignSized design (AssignNode value places) outputs = IsSized value × AllZip (λ object place. place + width_in design object ≤ width_of value) outputs places
 IsAssignSized design (GateNode kind terminals) outputs = Unit {0}
 IsAssignSized design (BlockNode statement) outputs = Unit {0}
+
+-- an assignment's value is sized
+abbrev pub IsSizedValue : FlatNodeKind → Type 0
+IsSizedValue (AssignNode value places) = IsSized value
+IsSizedValue (GateNode kind terminals) = Unit {0}
+IsSizedValue (BlockNode statement) = Unit {0}
 
 -- Outputs
 
@@ -141,6 +147,36 @@ module _ (modules : List SourceModule) (mode : Mode) (top : SourceModule) where
   abbrev process_at : Identifier → Scope → WalkedProcess
   process_at path scope = let place : SourcePlace = record { line = 0; column = 0 } in record { always = false; place = place; path = path; scope = scope; body = NullStatement place; targets = None }
 
+  -- the value of an assignment is sized
+  record ValueSized (value : ValueIn) (parts : List Part) (width : ℕ) : Type 0 where
+    size : Size
+    some : 1 ≤ size.width
+    sized : IsSizedTo (over_objects (holders_at parts (objects_in parts) value.path) value.value) size.width (max width size.width) size.signed
+
+  value-sized : (parts : List Part) → walked_from modules mode top ≡ Ok parts → IsHierarchy parts → (drives : List Drive) (value : ValueIn) → (h : IsReadAssign modules mode top drives value) →
+      ValueSized value parts h.width
+  value-sized parts e hierarchy drives value h =
+      let process = process_at value.path h.scope in
+      let meaning = meaning_in parts (objects_in parts) process in
+      let meant = process-meant parts hierarchy process (record {
+        at = scope-at modules mode top parts e value.path h.scope h.at;
+        settled = walk-settled modules mode top parts e value.path h.scope h.at;
+      }) in
+      let reading = reading_of h.scope h.e in
+      let holders = holders_at parts (objects_in parts) value.path in
+      let size = complete-size meaning meant h.e h.complete in
+      let most = size.most in
+      let few = h.few in
+      let T : Option Size → Type 0 = λ z. IsSizedTo (over_objects holders (reading.tree (max h.width (size_or_bit z).width) (size_or_bit z).signed)) size.size.width
+      (max h.width size.size.width) size.size.signed in
+      let tree : IsSizedTo (over_objects holders (tree_in h.width reading)) size.size.width (max h.width size.size.width) size.size.signed =
+      subst T (sym size.size_is) (size.gives (max h.width size.size.width) size.size.signed (omega arith) (omega (arith, few, most)) (λ s. s)) in
+      record {
+        size = size.size;
+        some = size.some;
+        sized = subst (λ (t : SizedExpression). IsSizedTo (over_objects holders t) size.size.width (max h.width size.size.width) size.size.signed) h.is tree;
+      }
+
   function-sized : (parts : List Part) (design : FlatDesign) → walked_from modules mode top ≡ Ok parts → IsMadeOf parts design → IsHierarchy parts → (number : ℕ) (node : WalkedNode) →
       slice_get (nodes_in parts) number ≡ Some node → (function : NodeFunction) →
       IsReadBy modules mode top node.drives function →
@@ -148,31 +184,30 @@ module _ (modules : List SourceModule) (mode : Mode) (top : SourceModule) where
   function-sized parts design e made hierarchy number node at (GateFunction kind path terminals) h = tt
   function-sized parts design e made hierarchy number node at (BlockFunction process) h = tt
   function-sized parts design e made hierarchy number node at (AssignFunction value) h =
-      let process = process_at value.path h.scope in
-      let meaning = meaning_in parts (objects_in parts) process in
-      let meant = process-meant parts design made hierarchy process (record {
-        at = scope-at modules mode top parts e value.path h.scope h.at;
-        settled = walk-settled modules mode top parts e value.path h.scope h.at;
-      }) in
-      let reading = reading_of h.scope h.e in
       let holders = holders_at parts (objects_in parts) value.path in
-      let size = complete-size meaning meant h.e h.complete in
-      let some = size.some in
-      let most = size.most in
-      let few = h.few in
+      let is = value-sized parts e hierarchy node.drives value h in
+      let some = is.some in
       let covers = h.covers in
-      let T : Option Size → Type 0 = λ z. IsSizedTo (over_objects holders (reading.tree (max h.width (size_or_bit z).width) (size_or_bit z).signed)) size.size.width
-      (max h.width size.size.width) size.size.signed in
-      let tree : IsSizedTo (over_objects holders (tree_in h.width reading)) size.size.width (max h.width size.size.width) size.size.signed =
-      subst T (sym size.size_is) (size.gives (max h.width size.size.width) size.size.signed (omega arith) (omega (arith, few, most)) (λ s. s)) in
-      let sized : IsSizedTo (over_objects holders value.value) size.size.width (max h.width size.size.width) size.size.signed =
-      subst (λ (t : SizedExpression). IsSizedTo (over_objects holders t) size.size.width (max h.width size.size.width) size.size.signed) h.is tree in
-      let width = sized.width_is in
+      let width = is.sized.width_is in
       let fits = outputs-fit parts design made number node at h.ascends (width_of (over_objects holders value.value)) (omega (arith, covers, width, some)) in (
-        sized.sized,
+        is.sized.sized,
         all-zip (λ object place. place + width_in design object ≤ width_of (over_objects holders value.value)) (λ (o : NodeOutput). o.object) (λ (o : NodeOutput). o.place)
             (outputs_of (objects_in parts) number) fits,
       )
+
+  function-value : (parts : List Part) → walked_from modules mode top ≡ Ok parts → IsHierarchy parts → (outputs : List NodeOutput) (drives : List Drive) (function : NodeFunction) →
+      IsReadBy modules mode top drives function → IsSizedValue (node_kind parts (objects_in parts) outputs function)
+  function-value parts e hierarchy outputs drives (GateFunction kind path terminals) h = tt
+  function-value parts e hierarchy outputs drives (BlockFunction process) h = tt
+  function-value parts e hierarchy outputs drives (AssignFunction value) h = (value-sized parts e hierarchy drives value h).sized.sized
+
+  -- the values of a walk's assignments are sized, over the objects of its parts
+  pub values-sized : (parts : List Part) → walked_from modules mode top ≡ Ok parts → IsHierarchy parts → (outputs : List NodeOutput) →
+      AllHold (λ (node : WalkedNode). IsSizedValue (node_kind parts (objects_in parts) outputs node.function)) (nodes_in parts)
+  values-sized parts e hierarchy outputs =
+      AllHold-each (λ (node : WalkedNode). IsReadBy modules mode top node.drives node.function) (λ (node : WalkedNode). IsSizedValue (node_kind parts (objects_in parts) outputs node.function))
+      (nodes_in parts) (λ node h. function-value parts e hierarchy outputs node.drives node.function h)
+      (nodes-read (behaviours_of parts) (behaviours-read parts 0 parts (assignments-read modules mode top parts e)))
 
   -- the assignments of a design are sized
   pub assigns-sized : (parts : List Part) (design : FlatDesign) → walked_from modules mode top ≡ Ok parts → IsMadeOf parts design → IsHierarchy parts →

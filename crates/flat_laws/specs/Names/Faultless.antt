@@ -14,6 +14,7 @@ use Rattle.v_names.specs.Constants.{ParameterValue, BoundUpTo, most_bound, excee
 use Rattle.v_names.specs.Constants.{constant_faults, optional_faults, bound_faults}
 use Rattle.v_names.specs.Names.{Bounds, Unbounded, IntegerBounds, RangeBounds, bounds_of, Declared, DeclaredParameter, DeclaredPort, DeclaredNet, DeclaredReg, DeclaredMemory, DeclaredGate}
 use Rattle.v_names.specs.Names.{DeclaredInstance, Declaration, reg_declared, reg_declarations, gate_declarations, item_declarations, declarations_of, plain_of_name, joined_declared, names_declared}
+use Rattle.v_names.specs.Names.{GivenParameter}
 use Rattle.v_names.specs.Names.{bound_number, range_of, most_kept, kept_bound, kept_range, bounds_wait, context_width, parameter_faults_within, item_name_faults, content_faults, names}
 use Rattle.v_elab.specs.declared.Mode.{Mode}
 use Rattle.v_elab.specs.ItemFaults.{size_faults, bounds_size_faults, bound_of, range_faults, declared_range_faults, wire_faults, content_size_faults, item_faults}
@@ -155,19 +156,23 @@ item-faultless modules mode top parts e instance visited scope named (InitialIte
 item-faultless modules mode top parts e instance visited scope named (AlwaysItem place body) of =
     (item-there modules mode top parts e instance visited scope named (AlwaysItem place body) of tt).faultless
 
+-- nothing is wrong with what a module declares, if nothing is with its items
+pub module-faultless : (m : SourceModule) (given : List GivenParameter) (scope : Scope) → names m given ≡ Ok scope → ((item : SourceItem) → IsOf m item → item_faults scope item ≡ []) →
+    (number : ℕ) (d : Declaration) → slice_get (names_declared m) number ≡ Some d → IsFaultless scope d.declared
+module-faultless m given scope named none number d at =
+    let own = first-of (declarations_of m) [] (declarations_of m) number d at in
+    let item = declaration-item m own.0 own.1 own.2 in
+    let names_none = items-named m given scope named item.0 item.1 in
+    let own_none = AllHold-slice_get (λ (other : Declaration). IsFaultless scope other.declared) (item_declarations item.0) item.2.0 own.1
+    (item-declares scope item.0 names_none (none item.0 item.1)) item.2.1 in
+    subst (λ (other : Declaration). IsFaultless scope other.declared) own.3 (joined-faultless scope own.1.declared (plain_of_name own.1.name (declarations_of m)) own_none)
+
 -- nor with what its module declares
 pub declared-faultless : (modules : List SourceModule) (mode : Mode) (top : SourceModule) (parts : List Part) → walked_from modules mode top ≡ Ok parts → (instance : Entered) →
     IsVisited modules mode top instance → (scope : Scope) →
     names instance.inner instance.given ≡ Ok scope → (number : ℕ) (d : Declaration) → slice_get (names_declared instance.inner) number ≡ Some d → IsFaultless scope d.declared
 declared-faultless modules mode top parts e instance visited scope named number d at =
-    let m = instance.inner in
-    let own = first-of (declarations_of m) [] (declarations_of m) number d at in
-    let item = declaration-item m own.0 own.1 own.2 in
-    let names_none = items-named m instance.given scope named item.0 item.1 in
-    let sizes_none = item-faultless modules mode top parts e instance visited scope named item.0 item.1 in
-    let own_none = AllHold-slice_get (λ (other : Declaration). IsFaultless scope other.declared) (item_declarations item.0) item.2.0 own.1
-    (item-declares scope item.0 names_none sizes_none) item.2.1 in
-    subst (λ (other : Declaration). IsFaultless scope other.declared) own.3 (joined-faultless scope own.1.declared (plain_of_name own.1.name (declarations_of m)) own_none)
+    module-faultless instance.inner instance.given scope named (item-faultless modules mode top parts e instance visited scope named) number d at
 
 -- Bounds
 

@@ -56,28 +56,36 @@ widths-are : (objects : List HeldObject) → map (λ (o : FlatObject). o.width) 
 widths-are [] = refl
 widths-are (held ∷ objects) = ap (λ l. held.object.width ∷ l) (widths-are objects)
 
-design-sized : (parts : List Part) (design : FlatDesign) → IsMadeOf parts design → IsHierarchy parts → AllHold IsSizedObject design.objects
-design-sized parts design made hierarchy = subst (AllHold IsSizedObject) (design-objects parts design made) (objects-sized parts (nodes_in parts) hierarchy)
+-- a design has the objects of some parts
+abbrev HasObjects : List Part → FlatDesign → Type 0
+HasObjects parts design = map (λ (held : HeldObject). held.object) (objects_in parts) ≡ design.objects
+
+design-sized : (parts : List Part) (design : FlatDesign) → HasObjects parts design → IsHierarchy parts → AllHold IsSizedObject design.objects
+design-sized parts design same hierarchy = subst (AllHold IsSizedObject) same (objects-sized parts (nodes_in parts) hierarchy)
 
 -- what a process of the hierarchy waits for
-process-waits : (parts : List Part) (design : FlatDesign) → IsMadeOf parts design → IsHierarchy parts → (process : WalkedProcess) → IsPlaced parts process.path process.scope →
+process-waits : (parts : List Part) (design : FlatDesign) → HasObjects parts design → IsHierarchy parts → (process : WalkedProcess) → IsPlaced parts process.path process.scope →
     (waits : SourceWaits) (body : SourceStatement) →
     entry_faults process.scope waits ≡ [] → waits_faults process.scope waits ≡ [] → AllHold (IsEntryThere design) (wait_entries (meaning_in parts (objects_in parts) process) waits body)
-process-waits parts design made hierarchy process placed waits body names wrong =
-    waits-there design (meaning_in parts (objects_in parts) process) (design-sized parts design made hierarchy)
-    (holders-there design parts (nodes_in parts) hierarchy (design-objects parts design made) process.path) placed.settled
-    (ap (map (λ (o : FlatObject). o.width)) (sym (design-objects parts design made)) ∙ widths-are (objects_in parts)) waits body names wrong
+process-waits parts design same hierarchy process placed waits body names wrong =
+    waits-there design (meaning_in parts (objects_in parts) process) (design-sized parts design same hierarchy)
+    (holders-there design parts (nodes_in parts) hierarchy same process.path) placed.settled
+    (ap (map (λ (o : FlatObject). o.width)) (sym same) ∙ widths-are (objects_in parts)) waits body names wrong
+
+-- the objects of some parts, as a design
+abbrev objects_alone : List Part → FlatDesign
+objects_alone parts = record { objects = map (λ (held : HeldObject). held.object) (objects_in parts); joined = []; nodes = []; processes = [] }
 
 -- the names of a process of the hierarchy are held by objects
-pub process-meant : (parts : List Part) (design : FlatDesign) → IsMadeOf parts design → IsHierarchy parts → (process : WalkedProcess) → IsPlaced parts process.path process.scope →
+pub process-meant : (parts : List Part) → IsHierarchy parts → (process : WalkedProcess) → IsPlaced parts process.path process.scope →
     IsMeant (meaning_in parts (objects_in parts) process)
-process-meant parts design made hierarchy process placed = record {
+process-meant parts hierarchy process placed = record {
   held = λ name. entry-held parts (nodes_in parts) hierarchy process.path name (looked_up process.scope name) (placed.at name);
   settled = placed.settled;
   fits = λ name. entry-fits parts hierarchy (process.path ++ name) (looked_up process.scope name) (placed.at name);
   entries = λ waits body names wrong.
-      AllHold-each (IsEntryThere design) IsSizedEntry (wait_entries (meaning_in parts (objects_in parts) process) waits body) (λ entry h. h.sized)
-      (process-waits parts design made hierarchy process placed waits body names wrong);
+      AllHold-each (IsEntryThere (objects_alone parts)) IsSizedEntry (wait_entries (meaning_in parts (objects_in parts) process) waits body) (λ entry h. h.sized)
+      (process-waits parts (objects_alone parts) refl hierarchy process placed waits body names wrong);
 }
 
 -- Entries
@@ -221,7 +229,7 @@ processes-there parts design made hierarchy placed faultless =
     (behaviours-of (λ process. IsPlaced parts process.path process.scope) parts 0 parts (AllHold-each (IsPlacedPart parts) (OfPart (λ process. IsPlaced parts process.path process.scope)) parts
     (placed-of parts) placed)) in
     let meant = AllHold-each (λ (process : WalkedProcess). IsPlaced parts process.path process.scope) (λ process. IsMeant (meaning_in parts (objects_in parts) process)) (processes_in parts)
-    (process-meant parts design made hierarchy) at in
+    (process-meant parts hierarchy) at in
     both design design.processes (processes-sized parts design made faultless meant)
     (subst (AllHold (λ (process : FlatProcess). AllHold (IsEntryOf design) (entries_in process.body))) (design-processes parts design made)
     (AllHold-map (λ (process : FlatProcess). AllHold (IsEntryOf design) (entries_in process.body)) (flat_process parts (objects_in parts)) (processes_in parts)
@@ -229,4 +237,4 @@ processes-there parts design made hierarchy placed faultless =
     (λ i process found.
     let text = AllHold-slice_get IsFaultless (processes_in parts) i process none found in
     let place = AllHold-slice_get (λ (p : WalkedProcess). IsPlaced parts p.path p.scope) (processes_in parts) i process at found in
-    statement-entries design (meaning_in parts (objects_in parts) process) (process-waits parts design made hierarchy process place) process.body text.names text.sizes))))
+    statement-entries design (meaning_in parts (objects_in parts) process) (process-waits parts design (design-objects parts design made) hierarchy process place) process.body text.names text.sizes))))

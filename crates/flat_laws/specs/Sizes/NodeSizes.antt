@@ -32,7 +32,7 @@ use Rattle.v_elab.specs.Flat.{NodeOutput, meaning_in, node_kind, outputs_of, fla
 use Rattle.graph_order.specs.ListLaws.{AllHold-slice_get}
 use Rattle.flat_laws.specs.Made.{nodes_in, objects_in, flat_nodes_in, IsMadeOf}
 use Rattle.flat_laws.specs.Lists.{AllHold-from}
-use Rattle.flat_laws.specs.Numbered.{at-numbered, AllHold-append}
+use Rattle.flat_laws.specs.Numbered.{AllHold-each, at-numbered, AllHold-append}
 use Rattle.flat_laws.specs.Limits.{each-node}
 use Rattle.flat_laws.specs.Hierarchy.Given.{IsHierarchy}
 use Rattle.flat_laws.specs.Sizes.Complete.{append-none, expression-complete, fault_if-none}
@@ -191,12 +191,12 @@ module _ (modules : List SourceModule) (mode : Mode) (top : SourceModule) where
   abbrev process_at : Identifier → Scope → WalkedProcess
   process_at path scope = let place : SourcePlace = record { line = 0; column = 0 } in record { always = false; place = place; path = path; scope = scope; body = NullStatement place; targets = None }
 
-  function-sized : (parts : List Part) (design : FlatDesign) → IsMadeOf parts design → IsHierarchy parts → AllPlaced modules mode top parts → (outputs : List NodeOutput) (function : NodeFunction) →
+  function-sized : (parts : List Part) → IsHierarchy parts → AllPlaced modules mode top parts → (outputs : List NodeOutput) (function : NodeFunction) →
       IsReadFunction modules mode top function →
       IsSizedInside (node_kind parts (objects_in parts) outputs function)
-  function-sized parts design made hierarchy placed outputs (AssignFunction value) h = tt
-  function-sized parts design made hierarchy placed outputs (GateFunction kind path terminals) h =
-      let meant = process-meant parts design made hierarchy (process_at path h.scope) (placed path h.scope h.at) in
+  function-sized parts hierarchy placed outputs (AssignFunction value) h = tt
+  function-sized parts hierarchy placed outputs (GateFunction kind path terminals) h =
+      let meant = process-meant parts hierarchy (process_at path h.scope) (placed path h.scope h.at) in
       let holders = holders_at parts (objects_in parts) path in
       let count = terminals-count holders h.scope h.inputs in
       subst (λ t. TerminalsFit kind (expressions_count (all_over_objects holders t)) × AreTerminals (all_over_objects holders t) × (expressions_count (all_over_objects holders t) < 2 ^ 64)) h.is (
@@ -204,10 +204,17 @@ module _ (modules : List SourceModule) (mode : Mode) (top : SourceModule) where
         terminals-are (meaning_in parts (objects_in parts) (process_at path h.scope)) meant h.inputs h.names h.sizes,
         subst (λ n. n < 2 ^ 64) (sym count) h.few,
       )
-  function-sized parts design made hierarchy placed outputs (BlockFunction process) h =
-      statement-sound (meaning_in parts (objects_in parts) process) (process-meant parts design made hierarchy process (placed process.path process.scope h.at)) (block_body process.body)
+  function-sized parts hierarchy placed outputs (BlockFunction process) h =
+      statement-sound (meaning_in parts (objects_in parts) process) (process-meant parts hierarchy process (placed process.path process.scope h.at)) (block_body process.body)
       (body-selects process.body h.selects)
       (body-names process.scope process.body h.names) (body-sizes process.scope process.body h.sizes)
+
+  -- the gates and blocks of a walk are sized inside, over the objects of its parts
+  pub walked-sized : (parts : List Part) → IsHierarchy parts → AllPlaced modules mode top parts → AllHold (IsReadPart modules mode top) parts → (outputs : List NodeOutput) →
+      AllHold (λ (node : WalkedNode). IsSizedInside (node_kind parts (objects_in parts) outputs node.function)) (nodes_in parts)
+  walked-sized parts hierarchy placed read outputs =
+      AllHold-each (λ (node : WalkedNode). IsReadFunction modules mode top node.function) (λ (node : WalkedNode). IsSizedInside (node_kind parts (objects_in parts) outputs node.function)) (nodes_in parts)
+      (λ node h. function-sized parts hierarchy placed outputs node.function h) (nodes-read (behaviours_of parts) (behaviours-read parts 0 parts read))
 
   -- the gates and blocks of a design are sized inside
   pub nodes-sized : (parts : List Part) (design : FlatDesign) → IsMadeOf parts design → IsHierarchy parts → AllPlaced modules mode top parts → AllHold (IsReadPart modules mode top) parts →
@@ -218,4 +225,4 @@ module _ (modules : List SourceModule) (mode : Mode) (top : SourceModule) where
       (λ i node at.
       let r = at-numbered (flat_node parts (objects_in parts)) 0 (nodes_in parts) i node at in
       let own = AllHold-slice_get (λ (n : WalkedNode). IsReadFunction modules mode top n.function) (nodes_in parts) i r.0 (nodes-read (behaviours_of parts) (behaviours-read parts 0 parts read)) r.1 in
-      subst (λ (n : FlatNode). IsSizedInside n.kind) r.2 (function-sized parts design made hierarchy placed (outputs_of (objects_in parts) (0 + i)) r.0.function own)))
+      subst (λ (n : FlatNode). IsSizedInside n.kind) r.2 (function-sized parts hierarchy placed (outputs_of (objects_in parts) (0 + i)) r.0.function own)))

@@ -1,5 +1,5 @@
 -- No net, variable or memory of a walk is wider than a vector may be (IEEE 1364-2001, clause 3.3; the most bits are own).
-use Rattle.std.proofs.Common.{◌≡◌, ℕ, ◌+◌, ◌≤◌, true, false, List, [], ◌∷◌, Option, Some, None, Ok, option_map, refl, sym, ap, ◌∙◌, subst, arith}
+use Rattle.std.proofs.Common.{◌≡◌, ℕ, suc, ◌+◌, ◌≤◌, true, false, List, [], ◌∷◌, Option, Some, None, Ok, option_map, refl, sym, ap, ◌∙◌, subst, arith}
 use Rattle.std.specs.Prelude.{slice_get, filter, flat_map}
 use Rattle.four_value.specs.declared.operator.GateKind.{GateKind}
 use Rattle.vf_base.specs.Lists.{AllHold}
@@ -17,16 +17,21 @@ use Rattle.v_width.specs.Targets.{target_of}
 use Rattle.v_elab.specs.declared.Mode.{Mode}
 use Rattle.v_elab.specs.Parts.{Signal, WalkedMemory, Part, SignalPart, MemoryPart}
 use Rattle.v_elab.specs.Connections.{Child, Paths, joined_name, port_direction, actual_parts, output_parts, connection_parts, connections_parts, connected_name, head_names}
+use Rattle.v_elab.specs.Refusals.{as_refusal, then_go}
+use Rattle.v_elab.specs.ItemFaults.{item_faults}
 use Rattle.v_elab.specs.Walk.{Entered, Here, part_by_entry, parts_of_own, declared_parts, assign_part, wire_parts, gate_parts, item_parts, child_of, paths_of, walked_from}
+use Rattle.v_elab.specs.Walk.{Walker, checked_item, added, walked_item, walked_module, walked}
 use Rattle.graph_order.specs.ListLaws.{AllHold-slice_get}
 use Rattle.flat_laws.specs.Numbered.{AllHold-append, AllHold-flat_map, AllHold-map, AllHold-all}
 use Rattle.flat_laws.specs.Hierarchy.Processes.{unless_faulty-ok}
-use Rattle.flat_laws.specs.Hierarchy.Walks.{walk-holds}
+use Rattle.flat_laws.specs.Made.{then_go-ok}
+use Rattle.flat_laws.specs.Hierarchy.Walks.{IsOf, as_refusal-ok, checked_item-ok, walk-holds}
+use Rattle.flat_laws.specs.Hierarchy.Visited.{walked-grows, module-at}
 use Rattle.flat_laws.specs.Hierarchy.Visits.{IsVisited, at_top, below}
 use Rattle.flat_laws.specs.Names.Placed.{is-parameter}
 use Rattle.flat_laws.specs.Names.Rounds.{found-in, scope-fixed}
 use Rattle.v_names.specs.Meanings.{found, in-meanings}
-use Rattle.flat_laws.specs.Names.Faultless.{IsFaultless, bounds-fit, declared-faultless}
+use Rattle.flat_laws.specs.Names.Faultless.{IsFaultless, bounds-fit, item-faultless, module-faultless}
 
 -- Scopes
 
@@ -67,17 +72,51 @@ module-narrow m given faultless name =
     (option-narrow (λ (d : Declaration). meaning_of scope given d.name d.declared) (found all name)
     (λ d e. let place = found-in all name d e in meaning-narrow scope given d.name d.declared (faultless place.0 d place.1)))
 
+-- no name of a module is wider than a vector may be, if nothing is wrong with its items
+names-narrow : (m : SourceModule) (given : List GivenParameter) (scope : Scope) → names m given ≡ Ok scope → ((item : SourceItem) → IsOf m item → item_faults scope item ≡ []) →
+    (name : Identifier) → declared_width (looked_up scope name) ≤ most_bits
+names-narrow m given scope named none name =
+    let scope_is : scope_of m given ≡ scope = (unless_faulty-ok (module_name_faults (scope_of m given) m) (scope_of m given) scope named).1 in
+    let faultless = module-faultless m given scope named none in
+    subst (λ (s : Scope). declared_width (looked_up s name) ≤ most_bits) scope_is
+    (module-narrow m given (subst (λ (s : Scope). (number : ℕ) (d : Declaration) → slice_get (names_declared m) number ≡ Some d → IsFaultless s d.declared) (sym scope_is) faultless) name)
+
+plain-clean : (here : Here) (gates : ℕ) (item : SourceItem) (parts result : List Part) → then_go (checked_item here gates item) (added parts) ≡ Ok result → item_faults here.scope item ≡ []
+plain-clean here gates item parts result e = let step = then_go-ok (checked_item here gates item) (added parts) result e in (checked_item-ok here gates item step.0 step.1).0
+
+-- nothing is wrong with an item that is walked
+item-clean : (walker : Walker) (here : Here) (gates : ℕ) (item : SourceItem) (parts result : List Part) → walked_item walker here gates item parts ≡ Ok result → item_faults here.scope item ≡ []
+item-clean walker here gates (InstanceItem place module_name parameters instances) parts result e = refl
+item-clean walker here gates (ParameterItem group) parts result e = plain-clean here gates (ParameterItem group) parts result e
+item-clean walker here gates (PortItem group) parts result e = plain-clean here gates (PortItem group) parts result e
+item-clean walker here gates (WireItem place signed range wires) parts result e = plain-clean here gates (WireItem place signed range wires) parts result e
+item-clean walker here gates (RegItem place signed range regs) parts result e = plain-clean here gates (RegItem place signed range regs) parts result e
+item-clean walker here gates (IntegerItem place regs) parts result e = plain-clean here gates (IntegerItem place regs) parts result e
+item-clean walker here gates (AssignItem place assignments) parts result e = plain-clean here gates (AssignItem place assignments) parts result e
+item-clean walker here gates (GateItem place kind all) parts result e = plain-clean here gates (GateItem place kind all) parts result e
+item-clean walker here gates (InitialItem place body) parts result e = plain-clean here gates (InitialItem place body) parts result e
+item-clean walker here gates (AlwaysItem place body) parts result e = plain-clean here gates (AlwaysItem place body) parts result e
+
+-- no name of an instance that is walked is wider than a vector may be
+pub walked-narrow : (modules : List SourceModule) (mode : Mode) (levels : ℕ) (instance : Entered) (before after : List Part) → walked modules mode (suc levels) instance before ≡ Ok after →
+    (name : Identifier) → declared_width (looked_up (scope_of instance.inner instance.given) name) ≤ most_bits
+walked-narrow modules mode levels instance before after e name =
+    let m = instance.inner in
+    let walker = walked modules mode levels in
+    let step = then_go-ok (as_refusal (names m instance.given)) (λ scope. walked_module walker (record { modules = modules; mode = mode; instance = instance; scope = scope }) m before) after e in
+    let named = as_refusal-ok (names m instance.given) step.0 step.1 in
+    let here : Here = record { modules = modules; mode = mode; instance = instance; scope = step.0 } in
+    let scope_is : scope_of m instance.given ≡ step.0 = (unless_faulty-ok (module_name_faults (scope_of m instance.given) m) (scope_of m instance.given) step.0 named).1 in
+    subst (λ (s : Scope). declared_width (looked_up s name) ≤ most_bits) (sym scope_is)
+    (names-narrow m instance.given step.0 named
+    (λ item of. let at = module-at walker (walked-grows modules mode levels) here m before after step.2 item of in item-clean walker here at.gates item at.before at.after at.is) name)
+
 -- no name of an instance that a walk comes to is wider than a vector may be
 pub scope-narrow : (modules : List SourceModule) (mode : Mode) (top : SourceModule) (parts : List Part) → walked_from modules mode top ≡ Ok parts → (instance : Entered) →
     IsVisited modules mode top instance → (scope : Scope) →
     names instance.inner instance.given ≡ Ok scope → (name : Identifier) → declared_width (looked_up scope name) ≤ most_bits
 scope-narrow modules mode top parts e instance visited scope named name =
-    let m = instance.inner in
-    let given = instance.given in
-    let scope_is : scope_of m given ≡ scope = (unless_faulty-ok (module_name_faults (scope_of m given) m) (scope_of m given) scope named).1 in
-    let none = declared-faultless modules mode top parts e instance visited scope named in
-    subst (λ (s : Scope). declared_width (looked_up s name) ≤ most_bits) scope_is
-    (module-narrow m given (subst (λ (s : Scope). (number : ℕ) (d : Declaration) → slice_get (names_declared m) number ≡ Some d → IsFaultless s d.declared) (sym scope_is) none) name)
+    names-narrow instance.inner instance.given scope named (item-faultless modules mode top parts e instance visited scope named) name
 
 -- Parts
 

@@ -1,4 +1,4 @@
-use Rattle.std.proofs.Common.{map, ap, sym, ◌∙◌}
+use Rattle.std.proofs.Common.{map, ap, ◌∙◌}
 use Rattle.std.specs.Prelude.{filter}
 use Rattle.vf_base.specs.Base.{object_number}
 use Rattle.vf_base.specs.Lists.{has}

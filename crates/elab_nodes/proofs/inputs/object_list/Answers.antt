@@ -1,4 +1,4 @@
-use Rattle.std.proofs.Common.{map, ap, sym, ◌∙◌}
+use Rattle.std.proofs.Common.{map, ap}
 use Rattle.object_names.specs.OutputViews.{output_of}
 use Rattle.elab_nodes.specs.Inputs.{objects_written}
 use Rattle.elab_nodes.proofs.Turns.{put-turn, here-at}

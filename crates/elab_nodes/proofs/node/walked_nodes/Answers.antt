@@ -4,9 +4,26 @@ use Rattle.vf_base.specs.Lists.{map_numbered}
 use Rattle.v_design.specs.Plain.{node_of}
 use Rattle.v_elab.specs.Flat as plain
 use Rattle.elab_parts.specs.BehaviourViews as walked
+use Rattle.object_reads.specs.SizedReads.{holds-at}
+use Rattle.flat_laws.specs.Sizes.WalkedNodes.{IsSizedKind}
+use Rattle.v_elab.specs.Drivers.{WalkedNode}
 use Rattle.elab_nodes.specs.Nodes.{node_by}
 use Rattle.elab_nodes.proofs.Turns.{push-turn, here}
 use Rattle.elab_nodes.proofs.node.walked_nodes.Goals as goal
+
+pub flat_node-requires-clause-sized : goal.flat_node-requires-clause-sized
+flat_node-requires-clause-sized c =
+    let over = c.requires.sized in
+    record {
+      parts = over.parts;
+      objects = over.objects;
+      basis_is = over.basis_is;
+      sized = λ outputs. (
+        holds-at (λ (node : WalkedNode). IsSizedKind (plain.node_kind over.parts over.objects outputs node.function)) walked.node_of c.args.nodes.now c.nodes.number c.index-nodes-number.result
+            (over.sized outputs) c.nodes-test.true c.index-nodes-number.is,
+        tt,
+      );
+    }
 
 pub nodes-preserved : goal.nodes-preserved
 nodes-preserved c parts objects are all =

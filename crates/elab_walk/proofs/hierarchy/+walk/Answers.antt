@@ -1,4 +1,4 @@
-use Rattle.std.proofs.Common.{◌≡◌, ◌<◌, ◌+◌, ℕ, false, ◌-◌, List, [], ◌∷◌, ◌++◌, Some, Ok, length, map, flat_map, drop, refl, sym, ap, subst, ◌∙◌, arith}
+use Rattle.std.proofs.Common.{◌≡◌, ◌<◌, ◌+◌, ℕ, true, false, None, ◌-◌, List, [], ◌∷◌, ◌++◌, Some, Ok, length, map, flat_map, drop, refl, sym, ap, subst, ◌∙◌, arith}
 use Rattle.std.proofs.lemmas.List.{length-map}
 use Rattle.std.proofs.lemmas.Result.{err_from_is_err_and}
 use Rattle.vf_base.specs.Base.{source_place}
@@ -8,7 +8,7 @@ use Rattle.v_tree.specs.declared.item.Instance.{Instance}
 use Rattle.v_tree.specs.declared.item.Connection.{Connection}
 use Rattle.v_tree.specs.declared.item.Params.{Params}
 use Rattle.v_tree.specs.declared.item.Item.{Item}
-use Rattle.v_names.specs.Faults.{Fault}
+use Rattle.v_names.specs.Faults.{Fault, first_fault}
 use Rattle.v_names.specs.Scopes.{Scope}
 use Rattle.v_names.specs.Names.{GivenParameter, names, scope_of}
 use Rattle.v_elab.specs.Parts.{Part, InstancePart}
@@ -23,9 +23,14 @@ use Rattle.instance_checks.specs.Offered.{AreFormals}
 use Rattle.elab_parts.specs.PartViews.{part_of}
 use Rattle.elab_items.specs.Heres.{IsHere}
 use Rattle.elab_connections.specs.PathViews.{ArePaths}
+use Rattle.elab_connections.specs.NodeCounts.{CountsNodes}
+use Rattle.elab_connections.specs.WidePorts.{connects_wide_port}
+use Rattle.flat_laws.specs.Hierarchy.Visited.{instance-depth}
 use Rattle.elab_walk.specs.WalkFaults.{IsWalkFault}
 use Rattle.elab_walk.specs.Leaves.{parts_in, Grows}
-use Rattle.elab_walk.proofs.Turns.{goes-first, goes-turn, goes-wrong, turn-of, then-clean, clean-of, wrong-of, grows-counted, leaves-last, leaves-same, leaves-memory}
+use Rattle.name_checks.specs.Rows.{drop-past}
+use Rattle.elab_walk.proofs.Turns.{goes-end, goes-first, goes-turn, goes-wrong, turn-of, then-clean, clean-of, wrong-of, grows-counted, leaves-last, leaves-same, leaves-memory}
+use Rattle.elab_walk.proofs.WideLaws.{wide-leaves, never-wide, instance-clean, faults-none}
 use Rattle.elab_walk.proofs.ReadLaws.{instance-few, instance-over, reads-wrong}
 use Rattle.elab_walk.proofs.Steps.{enter-is, enter-wrong, heads-split, item-plain, item-known, pushed-instance, behind_parameters}
 use Rattle.elab_walk.proofs.hierarchy.+walk.Goals as goal
@@ -53,7 +58,7 @@ enter-returns t c all e modules is before counted =
     (c.walk_module.ensures h (record { modules_are = modules; here_is = here }) formals before counted)
 
 pub walk_instance-returns-in_err-refuse_reads : goal.walk_instance-returns-in_err-refuse_reads
-walk_instance-returns-in_err-refuse_reads t c h m given is inner before counted =
+walk_instance-returns-in_err-refuse_reads t c h m given is inner faultless before counted =
     let p = err_from_is_err_and c.from_residual-in_err-refuse_reads.result c.from_residual-in_err-refuse_reads.ensures.1 in
     let walker : Walker = walked h.modules h.mode c.args.levels in
     let i : SourceInstance = instance_of c.args.instance.now in
@@ -64,7 +69,7 @@ walk_instance-returns-in_err-refuse_reads t c h m given is inner before counted 
     (reads-wrong (walked_instance walker h m given i before) c.in_ok-connection_reads_over.field-0 _ c.in_err-refuse_reads.ensures (λ e. instance-over walker h m given i before (sym reads ∙ e)))
 
 pub walk_instance-returns : goal.walk_instance-returns
-walk_instance-returns t c h m given is inner before counted =
+walk_instance-returns t c h m given is inner faultless before counted =
     let walker : Walker = walked h.modules h.mode c.args.levels in
     let i : SourceInstance = instance_of c.args.instance.now in
     let paths : ArePaths (paths_of h i) c.in_ok-paths.paths = c.in_ok-paths.ensures h is.here_is.path_is in
@@ -72,7 +77,7 @@ walk_instance-returns t c h m given is inner before counted =
     let pushed : parts_in (record c.args.walked.now { parts = c.push_connection_parts.new.parts }) ≡ parts_in c.args.walked.now ++ more =
     pushed-instance c.args.walked.now.parts.items c.push.new.self.items (parts_in (record c.args.walked.now { parts = c.push_connection_parts.new.parts }))
     (connections_parts (child_of h m given) (paths_of h i) 0 i.connections) c.in_ok-push.ensures.items
-    (c.in_ok-push_connection_parts.ensures (child_of h m given) inner.child_is (paths_of h i) paths
+    (c.in_ok-push_connection_parts.ensures (child_of h m given) inner.child_is (sym (c.connects_wide_port.ensures (child_of h m given) inner.child_is) ∙ c.if-connects_wide_port.false) (paths_of h i) paths
     ∙ ap (λ (cs : List Connection). parts_in (record c.args.walked.now { parts = c.push.new.self }) ++ connections_parts (child_of h m given) (paths_of h i) 0 (map connection_of cs))
     c.as_slice-connections.ensures) in
     let at : c.len-start.result ≡ length (parts_in c.args.walked.now) = omega (arith, length-map c.args.walked.now.parts.items part_of) in
@@ -86,6 +91,30 @@ walk_instance-returns t c h m given is inner before counted =
     (λ all k. grows-counted all more c.args.walked.now (record c.args.walked.now { parts = c.push_connection_parts.new.parts }) c.count_from.new.self pushed
     (c.in_ok-count_from.ensures all (parts_in c.args.walked.now) more k pushed at))
     (goes-first before (walked_instance walker h m given i) c.args.walked.now counted))
+
+pub walk_instance-returns-then-connects_wide_port : goal.walk_instance-returns-then-connects_wide_port
+walk_instance-returns-then-connects_wide_port t c h m given is inner faultless before counted =
+    let walker : Walker = walked h.modules h.mode c.args.levels in
+    let i : SourceInstance = instance_of c.args.instance.now in
+    let child : plain.Child = child_of h m given in
+    let paths : ArePaths (paths_of h i) c.in_ok-paths.paths = c.in_ok-paths.ensures h is.here_is.path_is in
+    let more : List Part = InstancePart ∷ connections_parts child (paths_of h i) 0 i.connections in
+    let few : some_reads_over h.scope (connections_reads child 0 i.connections) ≡ false =
+    ap (λ (cs : List Connection). some_reads_over h.scope (connections_reads child 0 (map connection_of cs))) (sym c.as_slice-connections.ensures)
+    ∙ sym (c.in_ok-connection_reads_over.ensures child inner.child_is) ∙ c.in_ok-refuse_reads.ensures in
+    let nodes : CountsNodes (connections_parts child (paths_of h i) 0 i.connections) c.in_ok-connection_nodes.field-0 =
+    subst (λ (cs : List Connection). CountsNodes (connections_parts child (paths_of h i) 0 (map connection_of cs)) c.in_ok-connection_nodes.field-0) c.as_slice-connections.ensures
+    (c.in_ok-connection_nodes.ensures child inner.child_is (paths_of h i)) in
+    let within = c.in_ok-count_instance.ensures before (connections_parts child (paths_of h i) 0 i.connections) counted nodes in
+    let wide : connects_wide_port child 0 i.connections ≡ true =
+    ap (λ (cs : List Connection). connects_wide_port child 0 (map connection_of cs)) (sym c.as_slice-connections.ensures)
+    ∙ sym (c.connects_wide_port.ensures child inner.child_is) ∙ c.if-connects_wide_port.true in
+    let low = instance-depth child (h.instance.depth + 1) i faultless in
+    let depth = is.here_is.depth_is in
+    let some : 0 < c.args.levels = omega (arith, low, depth, c.requires) in
+    wide-leaves before _ (walker (entered h m given i)) more c.args.walked.now c.count_instance.new.self c.walk_inside.new.walked c.walk_inside.result
+    (instance-few walker h m given i before few) within.few
+    (never-wide h.modules h.mode c.args.levels h m given i (before ++ more) wide some) (c.walk_inside.ensures h m given is inner paths (before ++ more) within.counted)
 
 pub walk_instance_item-returns-in_err-given : goal.walk_instance_item-returns-in_err-given
 walk_instance_item-returns-in_err-given t c h is before place counted =
@@ -129,18 +158,19 @@ walk_instance_item-returns t c h is before place counted =
     let scope-is : c.in_ok-scope.scope ≡ scope_of m given = c.in_ok-scope.ensures ∙ ap (λ (gs : List Given). scope_of m (map given_parameter gs)) c.deref-2.ensures.value ∙ ap (scope_of m) given-is in
     let child : plain.Child = child_of h m given in
     let faults : ℕ → List Fault = λ depth. given_faults h.scope (open_parameters m) 0 [] parameters ++ flat_map (instance_faults child depth) instances in
+    let clean : first_fault (faults (h.instance.depth + 1)) ≡ None = clean-of _ faults (c.from-depth.result + 1) (h.instance.depth + 1) (ap (λ (n : ℕ). n + 1)
+    (c.from-depth.ensures ∙ is.here_is.depth_is))
+    (c.in_ok-instance_fault.ensures child (record { formals_are = c.in_ok-formals.ensures; inner_is = scope-is; outer_is = c.deref-3.ensures ∙ is.here_is.scope_is })) c.in_ok-refuse.ensures in
     leaves-same before _ _ _ _ _
-    (sym (then-clean (faults (h.instance.depth + 1)) given (λ gs. walked_instances (walked h.modules h.mode c.args.levels) h m gs instances before)
-    (clean-of _ faults (c.from-depth.result + 1) (h.instance.depth + 1) (ap (λ (n : ℕ). n + 1) (c.from-depth.ensures ∙ is.here_is.depth_is))
-    (c.in_ok-instance_fault.ensures child (record { formals_are = c.in_ok-formals.ensures; inner_is = scope-is; outer_is = c.deref-3.ensures ∙ is.here_is.scope_is })) c.in_ok-refuse.ensures)))
+    (sym (then-clean (faults (h.instance.depth + 1)) given (λ gs. walked_instances (walked h.modules h.mode c.args.levels) h m gs instances before) clean))
     (c.walk_instances.ensures h m given is (record {
       inner_is = refl;
       given_are = ap (map given_parameter) c.deref-4.ensures.value ∙ given-is;
       child_is = record { formals_are = c.in_ok-formals.ensures; inner_is = scope-is; outer_is = c.deref-3.ensures ∙ is.here_is.scope_is };
-    }) before counted)
+    }) (faults-none (given_faults h.scope (open_parameters m) 0 [] parameters) (flat_map (instance_faults child (h.instance.depth + 1)) instances) clean) before counted)
 
 pub walk_instances-returns-in_err-walk_instance : goal.walk_instances-returns-in_err-walk_instance
-walk_instances-returns-in_err-walk_instance t c h m given is inner before counted =
+walk_instances-returns-in_err-walk_instance t c h m given is inner faultless before counted =
     let p = err_from_is_err_and c.from_residual.result c.from_residual.ensures.1 in
     let walker : Walker = walked h.modules h.mode c.args.levels in
     rw (p.1, p.2)
@@ -150,10 +180,18 @@ walk_instances-returns-in_err-walk_instance t c h m given is inner before counte
     (turn-of (λ (i : Instance). walked_instance walker h m given (instance_of i)) (λ (is : List Instance). walked_instances walker h m given (map instance_of is))
     (λ (is : List Instance). walked_instances walker h m given (map instance_of is))
     c.args.instances.now c.instances.instance-index c.instance-item.result (λ ys all. refl) c.instances-test.true c.instance-item.is)
-    (c.in_err-walk_instance.ensures h m given is inner) (c.instances.invariant h m given is inner before counted))
+    (c.in_err-walk_instance.ensures h m given is inner
+    (instance-clean (child_of h m given) (h.instance.depth + 1) c.args.instances.now c.instances.instance-index c.instance-item.result faultless c.instances-test.true c.instance-item.is)) (c.instances.invariant h m given is inner faultless before counted))
+
+pub walk_instances-returns : goal.walk_instances-returns
+walk_instances-returns t c h m given is inner faultless before counted =
+    let walker : Walker = walked h.modules h.mode c.args.levels in
+    goes-end before _ (walked_instances walker h m given (map instance_of (drop c.instances.instance-index c.args.instances.now))) c.args.walked.now c.instances.walked
+    (λ all. ap (λ (is : List Instance). walked_instances walker h m given (map instance_of is) all) (drop-past c.args.instances.now c.instances.instance-index c.instances-test.false))
+    (c.instances.invariant h m given is inner faultless before counted)
 
 pub walk_instances-instances-preserved : goal.walk_instances-instances-preserved
-walk_instances-instances-preserved t c h m given is inner before counted =
+walk_instances-instances-preserved t c h m given is inner faultless before counted =
     let walker : Walker = walked h.modules h.mode c.args.levels in
     goes-turn before _ (walked_instances walker h m given (map instance_of (drop c.instances.instance-index c.args.instances.now)))
     (walked_instances walker h m given (map instance_of (drop (c.instances.instance-index + 1) c.args.instances.now)))
@@ -161,7 +199,8 @@ walk_instances-instances-preserved t c h m given is inner before counted =
     (turn-of (λ (i : Instance). walked_instance walker h m given (instance_of i)) (λ (is : List Instance). walked_instances walker h m given (map instance_of is))
     (λ (is : List Instance). walked_instances walker h m given (map instance_of is))
     c.args.instances.now c.instances.instance-index c.instance-item.result (λ ys all. refl) c.instances-test.true c.instance-item.is)
-    (c.in_ok-walk_instance.ensures h m given is inner) (c.instances.invariant h m given is inner before counted)
+    (c.in_ok-walk_instance.ensures h m given is inner
+    (instance-clean (child_of h m given) (h.instance.depth + 1) c.args.instances.now c.instances.instance-index c.instance-item.result faultless c.instances-test.true c.instance-item.is)) (c.instances.invariant h m given is inner faultless before counted)
 
 pub walk_item-returns-in-Some : goal.walk_item-returns-in-Some
 walk_item-returns-in-Some t c h is before counted =

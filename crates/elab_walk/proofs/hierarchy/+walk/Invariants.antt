@@ -1,9 +1,10 @@
-use Rattle.std.proofs.Common.{◌+◌, ◌*◌, List, map, drop}
+use Rattle.std.proofs.Common.{◌≡◌, ◌+◌, ◌*◌, List, [], map, flat_map, drop}
 use Rattle.v_tree.specs.Trees.{SourceModule}
 use Rattle.v_tree.specs.Views.{item_of, instance_of}
 use Rattle.v_names.specs.Names.{GivenParameter}
 use Rattle.v_elab.specs.Parts.{Part}
-use Rattle.v_elab.specs.Walk.{Here, walked, walked_items, walked_instances}
+use Rattle.v_elab.specs.Connections.{instance_faults}
+use Rattle.v_elab.specs.Walk.{Here, child_of, walked, walked_items, walked_instances}
 use Rattle.elab_walk.specs.CountViews.{AreCounts}
 use Rattle.elab_walk.specs.Sites.{IsSite, IsInner}
 use Rattle.elab_walk.proofs.Turns.{GoesOn}
@@ -11,7 +12,8 @@ use Rattle.elab_walk.proofs.hierarchy.+walk.Given as goal
 
 abbrev pub invariant-walk_instances-instances : goal.invariant-walk_instances-instances
 invariant-walk_instances-instances l =
-    (h : Here) (m : SourceModule) (given : List GivenParameter) → IsSite h l.site → IsInner h m given l.inner → (before : List Part) → AreCounts before l.initial.walked.counts
+    (h : Here) (m : SourceModule) (given : List GivenParameter) → IsSite h l.site → IsInner h m given l.inner
+    → flat_map (instance_faults (child_of h m given) (h.instance.depth + 1)) (map instance_of l.instances) ≡ [] → (before : List Part) → AreCounts before l.initial.walked.counts
     → GoesOn before (walked_instances (walked h.modules h.mode l.levels) h m given (map instance_of l.instances) before)
     (walked_instances (walked h.modules h.mode l.levels) h m given (map instance_of (drop l.instance-index l.instances))) l.initial.walked l.walked
 

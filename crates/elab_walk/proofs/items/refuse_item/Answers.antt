@@ -1,4 +1,4 @@
-use Rattle.std.proofs.Common.{◌≡◌, Bool, sym, ap₂, subst, ◌∙◌, None}
+use Rattle.std.proofs.Common.{◌≡◌, sym, ap₂, subst, ◌∙◌, None}
 use Rattle.std.proofs.lemmas.Result.{err_from_is_err_and}
 use Rattle.v_tree.specs.Trees.{SourceItem}
 use Rattle.v_tree.specs.Views.{item_of}

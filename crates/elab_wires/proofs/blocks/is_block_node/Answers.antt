@@ -1,6 +1,4 @@
-use Rattle.std.proofs.Common.{◌≡◌, true, false, ap, ◌∙◌, rules}
-use Rattle.std.specs.List.{list_all}
-use Rattle.v_elab.specs.Drivers.{is_own_target}
+use Rattle.std.proofs.Common.{◌≡◌, true, false, rules}
 use Rattle.elab_parts.specs.PartViews.{process_of, parts_of}
 use Rattle.elab_wires.proofs.BlockLaws.{not-own, all-own}
 use Rattle.elab_wires.proofs.blocks.is_block_node.Goals as goal

@@ -1,8 +1,5 @@
-use Rattle.std.proofs.Common.{[], map, ap₂, ◌∙◌, ap, ◌∷◌, ◌++◌, refl, map}
-use Rattle.std.proofs.lemmas.List.{map_push}
-use Rattle.key_index.specs.Groups.{keyed_of}
+use Rattle.std.proofs.Common.{◌∙◌, ap, refl}
 use Rattle.v_elab.specs.Drivers.{outermost}
-use Rattle.elab_wires.specs.WrittenNames.{written_of, objects_written}
 use Rattle.elab_wires.proofs.WrittenTurns.{objects-turn}
 use Rattle.elab_wires.proofs.writers.list_objects.Goals as goal
 

@@ -1,4 +1,4 @@
-use Rattle.std.proofs.Common.{◌≡◌, map, refl, ap, sym, ◌∙◌, rules}
+use Rattle.std.proofs.Common.{◌≡◌, map, refl, ◌∙◌, rules}
 use Rattle.elab_wires.specs.WrittenNames.{written_of}
 use Rattle.elab_wires.proofs.WrittenTurns.{no-drive, one-drive}
 use Rattle.elab_wires.proofs.written.push_drive.Goals as goal

@@ -1,4 +1,4 @@
-use Rattle.std.proofs.Common.{◌≡◌, ◌++◌, true, false, map, refl, ap, sym, ◌∙◌, rules}
+use Rattle.std.proofs.Common.{◌≡◌, ◌++◌, true, false, map, refl, ap, ◌∙◌, rules}
 use Rattle.v_names.specs.Scopes.{is_reg, looked_up}
 use Rattle.elab_parts.specs.PartViews.{process_of}
 use Rattle.elab_wires.specs.WrittenNames.{written_of}

@@ -1,14 +1,22 @@
 use Rattle.std.proofs.Common.{◌≡◌, None, map, ap, sym, subst, ◌∙◌}
 use Rattle.v_elab.specs.Drivers.{signals_of, nodes_of, processes_of, behaviours_of, two_drivers}
 use Rattle.v_elab.specs.Objects.{objects_of_parts}
-use Rattle.v_elab.specs.Flat.{flat_of_parts}
 use Rattle.elab_parts.specs.PartViews.{part_of, parts_of}
 use Rattle.elab_parts.specs.BehaviourViews.{node_of, process_in}
 use Rattle.elab_objects.specs.ObjectViews.{held_objects}
-use Rattle.elaborate.specs.ElabFaults.{refusal_of, IsTold}
+use Rattle.elab_nodes.specs.Nodes.{AreSizedOver}
 use Rattle.elaborate.specs.Elements.{Gives}
-use Rattle.elaborate.specs.ElementLaws.{whole-over, told-over, counted-over}
+use Rattle.elaborate.specs.ElementLaws.{whole-over}
 use Rattle.elaborate.proofs.elements.over_written.Goals as goal
+
+pub over_objects-requires-clause-sized : goal.over_objects-requires-clause-sized
+over_objects-requires-clause-sized c =
+    let parts = parts_of c.args.parts.now in
+    let nodes_are = c.in_ok-behaviours.ensures.nodes ∙ ap (λ ps. nodes_of (behaviours_of (map part_of ps))) c.in_ok-wiring.ensures.parts in
+    let same = c.deref.ensures.value ∙ sym c.deref-in-Ok.ensures.value in
+    let nodes = ap (map node_of) c.deref-in-Ok.ensures.value ∙ nodes_are in
+    let held = subst (λ ns. held_objects c.in-Ok.held.items ≡ objects_of_parts parts (map node_of ns)) same c.in-Ok.ensures.1 ∙ ap (objects_of_parts parts) nodes in
+    subst (λ ns. AreSizedOver parts (held_objects c.in-Ok.held.items) ns) (sym nodes) (subst (λ objects. AreSizedOver parts objects (nodes_of (behaviours_of parts))) (sym held) c.requires.sized)
 
 pub returns : goal.returns
 returns c =

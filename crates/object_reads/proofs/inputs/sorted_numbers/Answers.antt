@@ -1,4 +1,4 @@
-use Rattle.std.proofs.Common.{ℕ, map, ◌∙◌, ap}
+use Rattle.std.proofs.Common.{ℕ, ◌∙◌, ap}
 use Rattle.std.proofs.lemmas.List.Sorted.{IsNonDecreasingBy-from_sort}
 use Rattle.vf_base.specs.Lists.{has}
 use Rattle.object_reads.proofs.Ascents.{has-either-order}

@@ -1,4 +1,4 @@
-use Rattle.std.proofs.Common.{◌≡◌, ◌∙◌, ap, subst}
+use Rattle.std.proofs.Common.{◌∙◌, ap, subst}
 use Rattle.v_design.specs.Plain.{expression_of, expressions_of}
 use Rattle.v_design.specs.PlainLemmas.{expression_of-Concatenation, expression_of-Replication}
 use Rattle.object_reads.specs.Shapes.{HaveWidth}

@@ -1,0 +1,9 @@
+use Rattle.std.proofs.Common.{map, sym, subst}
+use Rattle.flat_laws.specs.Sizes.WalkedNodes.{IsSizedKind}
+use Rattle.object_names.specs.OutputViews.{output_of}
+use Rattle.elab_nodes.proofs.node.flat_node.Goals as goal
+
+pub node_inputs-requires : goal.node_inputs-requires
+node_inputs-requires c =
+    let over = c.requires.sized in
+    subst IsSizedKind (sym (c.in_ok-kind.ensures over.parts over.objects over.basis_is)) (over.sized (map output_of c.args.outputs.now)).0
