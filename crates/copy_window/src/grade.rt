@@ -30,7 +30,7 @@ fn end_by_strobes(verdict: Grade) -> End
 }
 
 /// How a grading ends behind a window, if it does, that hasn't ended before.
-fn end_behind(ending: GoodEnd, grader: &Grader<'_>) -> Option<End>
+pub fn end_behind(ending: GoodEnd, grader: &Grader<'_>) -> Option<End>
     ensures { EndsBehind (end_of ending) grader.now result }
 {
     match ending {

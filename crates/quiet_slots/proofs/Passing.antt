@@ -13,6 +13,7 @@ use Rattle.machine_laws.specs.SlotLoop.{slot_from}
 use Rattle.copy_laws.specs.Beside.{Keeps}
 use Rattle.copy_laws.specs.Differences.{Differences, apart_of, StandsFor, KeepsNothingEqual}
 use Rattle.copy_laws.specs.Moves.{IsWithin}
+use Rattle.copy_laws.specs.OwnRuns.{EventsTakeNoTime}
 use Rattle.copy_laws.specs.Rest.{within_of, DifferencesAreWithin, WithinAreDifferences}
 use Rattle.copy_laws.specs.Turns.{ComesAfter}
 use Rattle.copy_laws.specs.Windows.{IsCopyAt, good_slots, state_at}
@@ -21,13 +22,14 @@ use Rattle.grade_laws.specs.Grading.{good_stop}
 use Rattle.beside_laws.specs.Stands.{RunsGoOn, RunsStand}
 use Rattle.trace_window.specs.Moments.{slot_seen}
 use Rattle.quiet_slots.specs.FirstSlots.{RestsAfterSlot, FirstSlotsStand}
-use Rattle.quiet_slots.specs.Quiet.{IsFreeBeside, SleepsInBoth, GoesWithGood, QuietSlotsPass}
+use Rattle.quiet_slots.specs.Quiet.{IsFreeBeside, SleepsInBoth, HaveOneTime, GoesWithGood, QuietSlotsPass}
+use Rattle.quiet_slots.specs.SlotTimes.{slot-time}
 use Rattle.quiet_slots.proofs.Between.{GoOnTo, goes-on-to, jump-there, next-late, stands-so, nothing-equal}
 use Rattle.quiet_slots.proofs.Lockstep.{WalkLaws, Kept}
 use Rattle.quiet_slots.proofs.Rests.{none-turns, turn-next}
 use Rattle.quiet_slots.proofs.Slots.{PassesSlot, slot-passes}
-use Rattle.quiet_slots.proofs.Stands.{Stand, stand-rests, stand-slot, stand-more, stand-later, stand-fine, stand-passes, stand-again, next-later, turned-later, quiet-ready, quiet-lane, empty-lane}
-use Rattle.quiet_slots.proofs.Stands.{through-stop}
+use Rattle.quiet_slots.proofs.Stands.{Stand, stand-rests, stand-slot, stand-more, stand-later, stand-fine, stand-here, stand-passes, stand-again, next-later, turned-later, quiet-ready}
+use Rattle.quiet_slots.proofs.Stands.{quiet-lane, empty-lane, through-stop}
 
 -- all laws on which this stands
 pub record PassLaws : Type 0 where
@@ -38,6 +40,7 @@ pub record PassLaws : Type 0 where
   pub stand : RunsStand
   pub begins : DifferencesAreWithin
   pub ends : WithinAreDifferences
+  pub times : EventsTakeNoTime
 
 -- What holds all the time
 
@@ -73,6 +76,13 @@ own-rests : PassLaws → (design : FlatDesign) (plan : TestPlan) (fault : StuckA
     RestsAfterSlot (faulty_machine design fault) faulty
 own-rests laws design plan fault rules now faulty s = stand-rests laws.slots (faulty_machine design fault) rules plan.end now faulty s
 
+-- where both machines stand in the same states at two times
+one-time : (design : FlatDesign) (plan : TestPlan) (fault : StuckAt) (good faulty : State) (now time : ℕ) → state_at (good_machine design) plan.end now ≡ good →
+    state_at (faulty_machine design fault) plan.end now ≡ faulty → state_at (good_machine design) plan.end time ≡ good → state_at (faulty_machine design fault) plan.end time ≡ faulty →
+    HaveOneTime design plan fault now → HaveOneTime design plan fault time
+one-time design plan fault good faulty now time good_now own_now good_then own_then one =
+    ap (λ (s : State). s.time) (own_then ∙ sym own_now) ∙ one ∙ ap (λ (s : State). s.time) (good_now ∙ sym good_then)
+
 -- No slot comes by then
 
 late-goes : PassLaws → (design : FlatDesign) (plan : TestPlan) (fault : StuckAt) (d : Differences) (from until : ℕ) (good0 faulty0 : State) →
@@ -81,6 +91,8 @@ late-goes : PassLaws → (design : FlatDesign) (plan : TestPlan) (fault : StuckA
 late-goes laws design plan fault d from until good0 faulty0 pass now good faulty both low late = record {
   goes_on = (own-passes until low (omega arith)).1;
   copy = λ time since by. copy-here laws design plan fault d good0 pass.differ now good faulty both time (good-passes time since by).0 (own-passes time since by).0;
+  same_time = λ time since by.
+      one-time design plan fault good faulty now time (good-passes now (omega arith) low).0 (own-passes now (omega arith) low).0 (good-passes time since by).0 (own-passes time since by).0;
 }
   where
     lower : (time : ℕ) (next : Option ℕ) → time ≤ until → ComesAfter until next → ComesAfter time next
@@ -167,12 +179,39 @@ next-goes : PassLaws → (design : FlatDesign) (plan : TestPlan) (fault : StuckA
 next-goes laws design plan fault d good0 differ until now good faulty both time next after = record {
   goes_on = after.goes_on;
   copy = λ u since by. elim (cases_lt u time) [
-    | inl before ↦ copy-here laws design plan fault d good0 differ now good faulty both u
-        (stand-passes laws.runs (good_machine design) plan.end now good both.good_stands u since (turned-later plan.end good u time next.good_turn before)).0
-        (stand-passes laws.runs (faulty_machine design fault) plan.end now faulty both.own_stands u since (turned-later plan.end faulty u time next.own_turn before)).0
+    | inl before ↦ copy-here laws design plan fault d good0 differ now good faulty both u (good-passes u since before).0 (own-passes u since before).0
     | inr then ↦ after.copy u then by
   ];
+  same_time = λ u since by one. elim (cases_lt u time) [
+    | inl before ↦ one-time design plan fault good faulty now u (good-passes now (omega arith) next.later).0 (own-passes now (omega arith) next.later).0 (good-passes u since before).0
+        (own-passes u since before).0 one
+    | inr then ↦ after.same_time u then by at-next
+  ];
 }
+  where
+    good-passes : (u : ℕ) → now ≤ u → u < time →
+        (state_at (good_machine design) plan.end u ≡ good) × StopsAfter u (first_stop (good_machine design) (first_run (good_machine design) plan.end))
+    good-passes u since before =
+        stand-passes laws.runs (good_machine design) plan.end now good both.good_stands u since (turned-later plan.end good u time next.good_turn before)
+
+    own-passes : (u : ℕ) → now ≤ u → u < time →
+        (state_at (faulty_machine design fault) plan.end u ≡ faulty) × StopsAfter u (first_stop (faulty_machine design fault) (first_run (faulty_machine design fault) plan.end))
+    own-passes u since before =
+        stand-passes laws.runs (faulty_machine design fault) plan.end now faulty both.own_stands u since (turned-later plan.end faulty u time next.own_turn before)
+
+    own-time : (state_at (faulty_machine design fault) plan.end time).time ≡ time
+    own-time =
+        ap (λ (s : State). s.time) (stand-here laws.runs (faulty_machine design fault) plan.end time _ next.both.own_stands)
+        ∙ slot-time laws.times (faulty_machine design fault) (time_turn time faulty)
+
+    good-time : (state_at (good_machine design) plan.end time).time ≡ time
+    good-time =
+        ap (λ (s : State). s.time) (stand-here laws.runs (good_machine design) plan.end time _ next.both.good_stands)
+        ∙ slot-time laws.times (good_machine design) (time_turn time good)
+
+    -- behind the slot both machines are at its time
+    at-next : HaveOneTime design plan fault time
+    at-next = own-time ∙ sym good-time
 
 -- All slots
 

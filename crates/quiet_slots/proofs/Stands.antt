@@ -92,6 +92,10 @@ pub stand-passes : RunsGoOn → (machine : Machine) (end now : ℕ) (state : Sta
 stand-passes runs machine end now state s time low late =
     runs.stands machine end time (next_slot_at end state (turn_of state)) state (runs.passes machine end (Some now) (next_slot_at end state (turn_of state)) state time s.run low late)
 
+-- at its time the run is in that state
+pub stand-here : RunsGoOn → (machine : Machine) (end time : ℕ) (state : State) → Stand machine end time state → state_at machine end time ≡ state
+stand-here runs machine end time state s = (runs.stands machine end time (next_slot_at end state (turn_of state)) state s.run).0
+
 pub stand-again : RunsStand → (machine : Machine) → KeepsRules machine.design → (end time : ℕ) → StopsAfter time (first_stop machine (first_run machine end)) →
     Stand machine end time (state_at machine end time)
 stand-again law machine rules end time stops =

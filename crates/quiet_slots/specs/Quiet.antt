@@ -31,10 +31,15 @@ pub record IsQuiet (design : FlatDesign) (plan : TestPlan) (fault : StuckAt) (d 
   pub sleep : (process : ℕ) → (apart_of d).processes process ≡ true →
       SleepsInBoth design until process (process_at (state_at (good_machine design) plan.end from) process) (process_at (state_at (faulty_machine design fault) plan.end from) process)
 
--- the faulty machine goes on to a time with the good one: it doesn't stop, and all the time its state is the good one's with these differences
+-- both machines ran their last slots up to a time at one time
+abbrev pub HaveOneTime : FlatDesign → TestPlan → StuckAt → ℕ → Type 0
+HaveOneTime design plan fault time = (state_at (faulty_machine design fault) plan.end time).time ≡ (state_at (good_machine design) plan.end time).time
+
+-- the faulty machine goes on to a time with the good one: it doesn't stop, all the time its state is the good one's with these differences, and it has no slots but at the good one's times
 pub record GoesWithGood (design : FlatDesign) (plan : TestPlan) (fault : StuckAt) (d : Differences) (from until : ℕ) : Type 0 where
   pub goes_on : StopsAfter until (faulty_stop design plan fault)
   pub copy : (time : ℕ) → from ≤ time → time ≤ until → IsCopyAt design plan fault time d
+  pub same_time : (time : ℕ) → from ≤ time → time ≤ until → HaveOneTime design plan fault from → HaveOneTime design plan fault time
 
 -- The law
 

@@ -33,6 +33,7 @@ pub fn quiet_slots_pass()
     copy_laws::moves();
     copy_laws::turns();
     copy_laws::rests();
+    copy_laws::own_runs();
     order_laws::nodes_rest();
     order_laws::first_run_goes_on();
     machine_laws::slot_goes_on();

@@ -23,6 +23,7 @@ use Rattle.process_table.specs.Waited.{IsWaitable, body_of}
 use Rattle.machine.specs.Standing.{StandsBetween, following, slot_after}
 use Rattle.quiet_slots.specs.FirstSlots.{RestsAfterSlot, FirstSlotsStand}
 use Rattle.quiet_slots.specs.Pending.{begun-widths}
+use Rattle.quiet_slots.specs.SlotTimes.{slot-time}
 use Rattle.run_stands.specs.Standing.{StatesStandBetween}
 use Rattle.run_stands.proofs.Bodies.{bodies-waitable}
 use Rattle.run_stands.proofs.Reached.{next-in-each}
@@ -37,35 +38,10 @@ pub record StandLaws : Type 0 where
 
 -- A slot takes no time
 
-abbrev moves_from : ℕ → ℕ → Machine → State → Option Move → List Move
-moves_from most left machine state None = []
-moves_from most left machine state (Some move) = move ∷ slot_moves most (less_one_if (is_counted move) (suc left)) machine (made machine state move)
-
-abbrev TakeNoTime : Machine → ℕ → Type 0
-TakeNoTime machine most = (left : ℕ) (state : State) → (all_made machine state (slot_moves most left machine state)).time ≡ state.time
-
-turn-time : (machine : Machine) (most left : ℕ) (state : State) → TakeNoTime machine most → (turn : Option TurnKind) → turn_of state ≡ turn →
-    (all_made machine state (moves_from most left machine state (turn_in_slot turn))).time ≡ state.time
-turn-time machine most left state rest None t = refl
-turn-time machine most left state rest (Some (TimeTurn time)) t = refl
-turn-time machine most left state rest (Some PostponedTurn) t = rest (suc left) (turned_by (turn_of state) state) ∙ ap (λ o. (turned_by o state).time) t
-turn-time machine most left state rest (Some UpdatesTurn) t = rest (suc left) (turned_by (turn_of state) state) ∙ ap (λ o. (turned_by o state).time) t
-
-move-time : EventsTakeNoTime → (machine : Machine) (most left : ℕ) (state : State) → TakeNoTime machine most → (found : Option Event) →
-    (all_made machine state (moves_from most left machine state (event_or_turn found (turn_of state)))).time ≡ state.time
-move-time law machine most left state rest (Some event) =
-    rest (less_one_if (is_counted (Happens event)) (suc left)) (after machine state event) ∙ law machine state (event ∷ [])
-move-time law machine most left state rest None = turn-time machine most left state rest (turn_of state) refl
-
-moves-time : EventsTakeNoTime → (machine : Machine) (most : ℕ) → TakeNoTime machine most
-moves-time law machine zero left state = refl
-moves-time law machine (suc most) zero state = refl
-moves-time law machine (suc most) (suc left) state = move-time law machine most left state (moves-time law machine most) (first_event state)
-
 end-time : StandLaws → (machine : Machine) → KeepsRules machine.design → (end number : ℕ) (slot : FirstSlot) → slice_get (first_run machine end) number ≡ Some slot →
     (slot_end machine slot).time ≡ slot.begins.time
 end-time laws machine rules end number slot here =
-    ap (λ (s : FirstSlot). (slot_end machine s).time) (laws.slots.moves machine end number slot rules here) ∙ moves-time laws.times machine (most_moves machine) (most_steps + 1) slot.begins
+    ap (λ (s : FirstSlot). (slot_end machine s).time) (laws.slots.moves machine end number slot rules here) ∙ slot-time laws.times machine slot.begins
 
 -- Waits
 

@@ -26,4 +26,5 @@ returns c = quiet_slots_pass (record {
   stand = c.runs_stand.ensures;
   begins = c.rests.ensures.begins;
   ends = c.rests.ensures.ends;
+  times = c.own_runs.ensures.time;
 })

@@ -1,0 +1,257 @@
+-- A fault over a window that touches nothing of its copy (slots by IEEE 1364-2001, clause 5).
+use Rattle.std.proofs.Common.{◌≡◌, ℕ, suc, ◌+◌, ◌<◌, ◌≤◌, List, [], ◌∷◌, ◌++◌, length, map, take, drop, refl, sym, ap, subst, ◌∙◌, arith}
+use Rattle.std.specs.Prelude.{Option, Some, None, option_map, slice_get}
+use Rattle.std.proofs.lemmas.List.{append_cancel_right, drop-drop, take-append-drop}
+use Rattle.vf_base.specs.Base.{ReportedPair, WatchedBit}
+use Rattle.vf_base.specs.Lists.{AllHold}
+use Rattle.vf_base.specs.declared.finding.End.{End}
+use Rattle.vf_base.specs.declared.finding.Side.TheVariants.{Good}
+use Rattle.v_design.specs.Designs.{FlatDesign, StuckAt, TestPlan, good_machine, faulty_machine}
+use Rattle.v_design.specs.Grades.{FaultGrade, Judged, Race, Raced, Sample, Stop, verdict_by}
+use Rattle.v_design.specs.Plain.{grade_of}
+use Rattle.v_design.specs.Runs.{FirstSlot}
+use Rattle.v_design.specs.WellFormed.{IsPlan, KeepsRules}
+use Rattle.strobe_detect.specs.Graders.{GraderState, IsShown}
+use Rattle.kept_samples.specs.Plain.{sample_of}
+use Rattle.between_slots.specs.Updates.{SlotsTakeNoTime}
+use Rattle.copy_laws.specs.Differences.{Differences, own_of}
+use Rattle.copy_laws.specs.Windows.{IsBesideAt, IsCopyAt, IsOpen, IsRaced, IsThrough, WindowEnd, good_slots, time_at}
+use Rattle.copy_state.specs.Entries.{each_by}
+use Rattle.copy_state.specs.Kept.{AreStatesOf}
+use Rattle.grade_laws.specs.Ahead.{StopsAfter}
+use Rattle.grade_laws.specs.Decisions.{NotBefore}
+use Rattle.grade_laws.specs.Grading.{good_seen, faulty_seen, good_stop, faulty_stop, times}
+use Rattle.beside_laws.specs.GoodRuns.{GoodRunGoesOn, IsAllAt, IsOpenAt}
+use Rattle.beside_laws.specs.Gradings.{GradingGoesOn, GradingsEnd, GradingsGoOn}
+use Rattle.beside_laws.specs.Shards.{FaultsGoOn, found_fault}
+use Rattle.beside_laws.specs.Stands.{IsSince, RunsStand}
+use Rattle.quiet_slots.specs.Quiet.{GoesWithGood, HaveOneTime}
+use Rattle.quiet_slots.specs.Strobes.{StrobesSeeCopies}
+use Rattle.quiet_index.specs.PassOver.{CanPassOver, CopiesPassOver, SlotsLeaveAlone}
+use Rattle.run_stands.specs.Standing.{StatesStandBetween}
+use Rattle.window_strobes.specs.Leading.{EndsSo, IsLed}
+use Rattle.window_strobes.specs.Seen.{AreSeen, AreSeenIf}
+use Rattle.window_strobes.specs.Strobes.{passed_behind}
+use Rattle.window_strobes.specs.declared.strobes.WindowStrobes.{WindowStrobes}
+use Rattle.copy_window.specs.Copies.{done_in, differences_in}
+use Rattle.copy_window.specs.Passing.{CanResume, EndsBehind}
+use Rattle.copy_window.specs.ShardFaults.{GoesOnAt, IsShardFault, beside_by, grader_by}
+use Rattle.copy_window.specs.declared.fault.ShardFault.{ShardFault}
+use Rattle.copy_pass.specs.Alone.{IsAlone, values_alone}
+use Rattle.copy_pass.proofs.Slots.{IsLast, good-time, just-before, last-slot}
+use Rattle.copy_pass.proofs.Strobes.{GoesOnBehind, alike-strobes}
+
+some-is : {A : Type 0} (one other : A) → Some one ≡ Some other → one ≡ other
+some-is one other e = cc
+
+-- all come by the end, and all after it: there are none
+none-left : (end : ℕ) (strobes : List ℕ) → AllHold (λ strobe. strobe ≤ end) strobes → AllHold (λ strobe. end < strobe) strobes → strobes ≡ []
+none-left end [] all after = refl
+none-left end (strobe ∷ strobes) all after = (let low : strobe ≤ end = all.0 in let high : end < strobe = after.0 in absurd (omega (arith, low, high)))
+
+-- those after a time come no earlier than the next one
+since-next : (time : ℕ) (strobes : List ℕ) → AllHold (λ strobe. time < strobe) strobes → AllHold (λ strobe. suc time ≤ strobe) strobes
+since-next time [] all = tt
+since-next time (strobe ∷ strobes) all = (let high : time < strobe = all.0 in omega (arith, high), since-next time strobes all.1)
+
+not-before-next : (time : ℕ) (stop : Option Stop) → StopsAfter time stop → NotBefore (suc time) stop
+not-before-next time None after = tt
+not-before-next time (Some stop) after = omega (arith, after)
+
+all-right : (P : ℕ → Type 0) (xs ys : List ℕ) → AllHold P (xs ++ ys) → AllHold P ys
+all-right P [] ys all = all
+all-right P (x ∷ xs) ys all = all-right P xs ys all.1
+
+all-left : (P : ℕ → Type 0) (xs ys : List ℕ) → AllHold P (xs ++ ys) → AllHold P xs
+all-left P [] ys all = tt
+all-left P (x ∷ xs) ys all = (all.0, all-left P xs ys all.1)
+
+-- what comes before the strobes from a number on are so many strobes
+passed-take : (strobes passed : List ℕ) (count : ℕ) → strobes ≡ passed ++ drop count strobes → passed ≡ take count strobes
+passed-take strobes passed count e = append_cancel_right passed (take count strobes) (drop count strobes) (sym e ∙ sym (take-append-drop count strobes))
+
+-- all laws on which this stands
+pub record PassLaws : Type 0 where
+  pub grading : GradingsGoOn
+  pub faults : FaultsGoOn
+  pub good : GoodRunGoesOn
+  pub over : CopiesPassOver
+  pub see : StrobesSeeCopies
+  pub stand : StatesStandBetween
+  pub times : SlotsTakeNoTime
+  pub ends : GradingsEnd
+  pub runs : RunsStand
+
+-- a fault behind so many slots of which nothing was found, and the time of the last of them
+module _ (laws : PassLaws) (design : FlatDesign) (plan : TestPlan) (rules : KeepsRules design) (of_plan : IsPlan plan) (fault : StuckAt) (before through : ℕ) (strobes : WindowStrobes)
+    (own : ShardFault) (of : CanResume design plan before through strobes fault own) (more : before < length (good_slots design plan)) (now : ℕ) (now_is : time_at design plan before ≡ Some now) where
+  fault_is : of.stands.fault ≡ fault
+  fault_is = some-is of.stands.fault fault (sym of.stands.listed ∙ of.listed)
+
+  pub goes-on : GoesOnAt design plan before strobes.passed fault now own
+  goes-on = subst (λ (f : StuckAt). GoesOnAt design plan before strobes.passed f now own) fault_is (of.stands.goes_on now now_is more of.none)
+
+  beside : IsBesideAt design plan before (beside_by design fault own)
+  beside = subst (λ (f : StuckAt). IsBesideAt design plan before (beside_by design f own)) fault_is of.stands.beside
+
+  none-found : option_map grade_of own.end ≡ None
+  none-found = ap (λ (end : Option End). option_map grade_of end) of.none
+
+  pub copy-now : IsCopyAt design plan fault now (differences_in design own.copy)
+  copy-now = beside.copy now now_is none-found
+
+  grading : GradingGoesOn design plan fault (Some now) (take strobes.passed plan.strobes) (drop strobes.passed plan.strobes) (grader_by plan own)
+  grading =
+      laws.grading.again design plan fault now (take strobes.passed plan.strobes) (drop strobes.passed plan.strobes) (grader_by plan own)
+      (laws.faults.is_open design plan before now (beside_by design fault own) beside none-found now_is) (sym (take-append-drop strobes.passed plan.strobes))
+      (of.are.has_passed.early now now_is more) (of.are.has_passed.later now now_is more) refl goes-on.shown
+
+  -- a window leads to a time, up to which its slots leave the copy alone, and the strobes don't see that
+  module _ (until : ℕ) (until_is : strobes.until ≡ Some until) (ends : ℕ) (next_later : (next : FirstSlot) → slice_get (good_slots design plan) ends ≡ Some next → until < next.begins.time)
+      (alone : IsAlone design plan fault before ends own.copy) (unseen : AllHold (λ (w : WatchedBit). own_of own.copy.values w.object ≡ None) plan.watched) (same : own.time ≡ now) where
+    abbrev d : Differences
+    d = values_alone own.copy
+
+    d_is : differences_in design own.copy ≡ d
+    d_is =
+        λ i. record {
+          values = own.copy.values;
+          activities = each_by (done_in design) (alone.states i);
+          updates = alone.updates i;
+        }
+
+    led : IsLed design plan before through until
+    led = of.are.leads.led until until_is
+
+    since : now ≤ until
+    since = (let P : Option ℕ → Type 0 = λ o. IsSince o until in subst P now_is led.since)
+
+    last : IsLast design plan before now
+    last = last-slot design plan before now now_is more
+
+    can-pass : CanPassOver design plan fault d last.last ends now until
+    can-pass = record {
+      rules = rules;
+      slot = last.slot;
+      stands = last.stands;
+      behind = (let at : last.slot.begins.time ≡ now = last.time_is in omega (arith, at));
+      alone = subst (λ n. SlotsLeaveAlone design plan fault d n ends) last.number_is alone.alone;
+      before = next_later;
+      low = since;
+      by_end = led.within;
+      copy = subst (IsCopyAt design plan fault now) d_is copy-now;
+      activities = refl;
+      updates = refl;
+      good_on = led.goes_on;
+      own_on = grading.faulty;
+    }
+
+    over : GoesWithGood design plan fault d now until
+    over = laws.over design plan fault d last.last ends now until can-pass
+
+    seen : AreSeen design plan until (drop strobes.passed plan.strobes) strobes.samples.items
+    seen = subst (λ (o : Option ℕ). AreSeenIf design plan o (drop strobes.passed plan.strobes) strobes.samples.items) until_is of.are.seen
+
+    abbrev samples : List Sample
+    samples = map sample_of strobes.samples.items
+
+    abbrev passed : List ℕ
+    passed = take strobes.passed plan.strobes ++ times samples
+
+    abbrev later : List ℕ
+    later = drop (length strobes.samples.items) (drop strobes.passed plan.strobes)
+
+    behind : GoesOnBehind design plan fault passed later (grader_by plan own)
+    behind =
+        alike-strobes laws.grading design plan of_plan fault (grader_by plan own) refl now until led.goes_on over.goes_on
+        (λ time after by. (laws.see design plan fault d time rules (over.copy time after by)).same unseen) samples (Some now) (take strobes.passed plan.strobes) later
+        (subst (λ (l : List ℕ). GradingGoesOn design plan fault (Some now) (take strobes.passed plan.strobes) l (grader_by plan own)) seen.next_are grading)
+        (all-left (λ strobe. now < strobe) (times samples) later (subst (AllHold (λ strobe. now < strobe)) seen.next_are (of.are.has_passed.later now now_is more))) seen.by_then
+
+    goes : GradingGoesOn design plan fault (Some until) passed later (grader_by plan own)
+    goes = laws.grading.passes design plan fault behind.now passed later (grader_by plan own) until behind.goes seen.after led.goes_on over.goes_on
+
+    passed_is : passed ≡ take (passed_behind strobes) plan.strobes
+    passed_is =
+        passed-take plan.strobes passed (passed_behind strobes)
+        (goes.strobes ∙ ap (λ (l : List ℕ). passed ++ l) (drop-drop (length strobes.samples.items) strobes.passed plan.strobes))
+
+    -- Slots come behind the window
+
+    abbrev new : ShardFault
+    new = record own { time = until; end = None }
+
+    module _ (runs_on : IsOpenAt design plan through until) where
+      stands : IsBesideAt design plan through (beside_by design fault new)
+      stands =
+          laws.faults.goes_on design plan fault through until passed later (grader_by plan own) (differences_in design own.copy) runs_on goes
+          (subst (IsCopyAt design plan fault until) (sym d_is) (over.copy until since (omega arith)))
+
+      one-time : HaveOneTime design plan fault now
+      one-time = goes-on.time_is ∙ same ∙ sym (good-time design plan rules before now goes-on.runs_on laws.times)
+
+      goes-on-behind : GoesOnAt design plan through (passed_behind strobes) fault until new
+      goes-on-behind = record {
+        runs_on = runs_on;
+        between = laws.stand (faulty_machine design fault) plan.end until rules led.within over.goes_on;
+        time_is = over.same_time until since (omega arith) one-time ∙ good-time design plan rules through until runs_on laws.times;
+        states = λ codes are. subst (AreStatesOf codes) (sym alone.states) tt;
+        shown = subst (λ (l : List ℕ). IsShown (good_seen design plan) (faulty_seen design plan fault) l (grader_by plan own)) passed_is goes.shown;
+      }
+
+      stays-open : IsShardFault design plan through (passed_behind strobes) new
+      stays-open = record {
+        fault = fault;
+        listed = of.listed;
+        beside = stands;
+        within = of.stands.within;
+        goes_on = λ time e further none.
+            subst (λ t. GoesOnAt design plan through (passed_behind strobes) fault t new) (some-is until time (sym runs_on.time_is ∙ e)) goes-on-behind;
+      }
+
+    -- The good first run is over
+
+    ended : (end : End) (found : FaultGrade) → grade_of end ≡ found → IsBesideAt design plan through (found_fault fault (differences_in design own.copy) found) →
+        IsShardFault design plan through (passed_behind strobes) (record own { time = until; end = Some end })
+    ended end found is stands = record {
+      fault = fault;
+      listed = of.listed;
+      beside = subst (λ (g : FaultGrade). IsBesideAt design plan through (found_fault fault (differences_in design own.copy) g)) (sym is) stands;
+      within = of.stands.within;
+      goes_on = λ time e further none. cc;
+    }
+
+    -- by the verdict of the strobes
+    by-strobes : IsAllAt design plan through → good_stop design plan ≡ None → until ≡ plan.end →
+        IsBesideAt design plan through (found_fault fault (differences_in design own.copy) (Judged (verdict_by None own.possible)))
+    by-strobes all stop at_end =
+        let none : later ≡ [] =
+        none-left plan.end later (all-right (λ strobe. strobe ≤ plan.end) passed later (subst (AllHold (λ strobe. strobe ≤ plan.end)) goes.strobes of_plan.in_time))
+        (subst (λ t. AllHold (λ strobe. t < strobe) later) at_end seen.after) in
+        let never : faulty_stop design plan fault ≡ None =
+        laws.runs.never (faulty_machine design fault) plan.end rules (subst (λ t. StopsAfter t (faulty_stop design plan fault)) at_end over.goes_on) in
+        laws.faults.ends_all design plan fault through plan.end (Judged (verdict_by None own.possible)) (differences_in design own.copy) rules of_plan all
+        (laws.ends.verdict design plan fault (Some until) passed (grader_by plan own) rules of_plan
+        (subst (λ (l : List ℕ). GradingGoesOn design plan fault (Some until) passed l (grader_by plan own)) none goes) stop never)
+
+    -- by the good machine's race
+    by-race : (pair : ReportedPair) → IsAllAt design plan through → good_stop design plan ≡ Some (record { time = pair.time; outcome = Race pair }) → pair.time ≡ suc until →
+        IsBesideAt design plan through (found_fault fault (differences_in design own.copy) (Raced Good pair))
+    by-race pair all stop at =
+        laws.faults.ends_all design plan fault through pair.time (Raced Good pair) (differences_in design own.copy) rules of_plan all
+        (laws.ends.good design plan fault (Some until) passed later (grader_by plan own) (record { time = pair.time; outcome = Race pair }) (Raced Good pair) goes stop
+        (subst (λ t. AllHold (λ strobe. t ≤ strobe) later) (sym at) (since-next until later seen.after))
+        (subst (λ t. NotBefore t (faulty_stop design plan fault)) (sym at) (not-before-next until (faulty_stop design plan fault) over.goes_on)) refl)
+
+    -- so it stands behind the window, however that ends
+    pub passes : (ending : WindowEnd) (end : Option End) → EndsSo design plan through ending (Some until) → EndsBehind ending (grader_by plan own) end →
+        IsShardFault design plan through (passed_behind strobes) (record own { time = until; end = end })
+    passes IsOpen end so behind =
+        subst (λ (e : Option End). IsShardFault design plan through (passed_behind strobes) (record own { time = until; end = e })) (sym behind)
+        (stays-open (subst (IsOpenAt design plan through) (sym (some-is until so.0 so.1)) so.2))
+    passes IsThrough end so behind =
+        subst (λ (e : Option End). IsShardFault design plan through (passed_behind strobes) (record own { time = until; end = e })) (sym behind.1)
+        (ended behind.0 (Judged (verdict_by None own.possible)) behind.2 (by-strobes so.0 so.1 (some-is until plan.end so.2)))
+    passes (IsRaced pair) end so behind =
+        subst (λ (e : Option End). IsShardFault design plan through (passed_behind strobes) (record own { time = until; end = e })) (sym behind.1)
+        (ended behind.0 (Raced Good pair) behind.2 (by-race pair so.0 so.1 (just-before pair.time until so.2)))

@@ -1,0 +1,52 @@
+// Whether a window leaves a copy alone.
+
+ghost use Rattle.std.specs.Prelude.{◌≡◌, ◌+◌, ◌<◌, ◌≤◌, true};
+ghost use Rattle.v_design.specs.Plain.{fault_of, site_of};
+ghost use Rattle.good_trace.specs.Slots.{end_of};
+ghost use Rattle.copy_skip.specs.Limits.{AreThere, SiteIsThere};
+ghost use Rattle.copy_pass.specs.Alone.{IsAlone, fine_slots};
+
+use copy_skip::next_touched;
+use copy_state::FaultCopy;
+use good_trace::{GoodEnd, Setup, TraceWindow};
+use v_design::{Fault, World};
+
+/// How many slots of a window of so many come before the good machine's race, if the last one has a race.
+pub(crate) fn fine_slots(ending: GoodEnd, count: u32) -> u32
+    requires { 0 < count }
+    ensures { result ≡ fine_slots (end_of ending) count }
+{
+    match ending {
+        GoodEnd::Open => count,
+        GoodEnd::Through => count,
+        GoodEnd::Raced(_) => count - 1,
+    }
+}
+
+/// Copies with more values than this are run: so many searches would cost more than a run.
+const MOST_VALUES: usize = 256;
+
+/// Whether no event of so many first slots of a window, of which there is one at least, touches what a copy of a fault keeps, and this is values alone.
+pub(crate) fn is_left_alone<N: World>(
+    setup: &Setup<'_, N>,
+    window: &TraceWindow<N>,
+    fault: Fault,
+    copy: &FaultCopy,
+    slots: u32,
+) -> bool
+    requires objects { AreThere N.design copy.now.values }
+    requires site { SiteIsThere N.design (site_of fault.site) }
+    ensures { result ≡ true → IsAlone N.design N.plan (fault_of fault) window.now.before (window.now.before + slots) copy.now }
+{
+    let _first = window.begins();
+    if slots == 0 {
+        return false;
+    }
+    if copy.size() > MOST_VALUES {
+        return false;
+    }
+    if next_touched(setup, window, copy, fault, 0) < slots {
+        return false;
+    }
+    true
+}

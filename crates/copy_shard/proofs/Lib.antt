@@ -1,0 +1,5 @@
+pub mod Lists
+pub mod Places
+pub mod Starting
+pub mod Through
+pub mod Standing

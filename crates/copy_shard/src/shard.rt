@@ -1,0 +1,202 @@
+// A shard of faults.
+
+ghost use Rattle.std.specs.Prelude.{◌≡◌, ◌≢◌, ◌<◌, ◌++◌, ℕ, [], All, Contains, IfNone, IfOk, IfSome, OnErr, OnOk, length, map, slice_get};
+ghost use Rattle.std.specs.List.{AllZip};
+ghost use Rattle.std.specs.Option.{option_to_list};
+ghost use Rattle.vf_base.specs.Base.{fault_number};
+ghost use Rattle.copy_laws.specs.Windows.{good_slots};
+ghost use Rattle.fault_shards.specs.Found.{IsFinding, found_faults};
+ghost use Rattle.copy_shard.specs.Kept.{fault_kept};
+ghost use Rattle.copy_shard.specs.Shards.{FaultKept, StandsBeside, StaysEnded, finding_of, findings_of, fresh_shard, places_of};
+
+use crate::advance::advance_all;
+use crate::fresh::fresh_faults;
+use crate::reached::Reached;
+use crate::room::ShardRoom;
+use copy_state::FaultCopy;
+use copy_window::ShardFault;
+use good_trace::{Setup, TraceWindow};
+use std::alloc::Global;
+use std::marker::{Model, PhantomData};
+use std::mem;
+use std::sync::ledger::Ledger;
+use v_design::World;
+use vf_base::{FaultId, Finding, NoMemory, Steps};
+
+/// Faults of the world `N` that go beside the good first run from window to window. Contracts see through how many slots of the good first run they have gone, and of
+/// each fault its copy and its end.
+#[derive(Drop)]
+pub struct Shard<N: World> {
+    /// So many slots of the good first run.
+    gone: u64,
+    reached: Reached,
+    numbers: Vec<FaultId>,
+    faults: Vec<ShardFault>,
+    world: PhantomData<N>,
+}
+
+impl<N: World> Model for Shard<N> {
+    ghost use Rattle.std.specs.Prelude.{map};
+    ghost use Rattle.copy_shard.specs.Kept.{IsShard, fault_kept};
+    ghost use Rattle.copy_shard.specs.Shards.{ShardKept};
+
+    ghost Value = { ShardKept };
+
+    ghost view = { λ s. record { gone = s.gone; faults = map fault_kept s.faults.items } };
+
+    ghost invariant = { λ s. IsShard N.design N.plan s.gone s.reached s.numbers.items s.faults.items };
+}
+
+/// Puts the finding on a fault behind others, if its grading ended.
+fn push_finding(own: &ShardFault, found: &mut Vec<Finding>) -> Result<(), NoMemory>
+    ensures { OnOk result (found.new.items ≡ found.old.items ++ option_to_list (finding_of (fault_kept own.now))) }
+{
+    match own.end {
+        None => Ok(()),
+        Some(end) => {
+            let fault = own.copy.fault();
+            found.push(Finding { fault, end })?;
+            Ok(())
+        }
+    }
+}
+
+/// The same of each of some faults whose grading ended, in order.
+fn push_each(faults: &[ShardFault], found: &mut Vec<Finding>) -> Result<(), NoMemory>
+    ensures { OnOk result (found.new.items ≡ found.old.items ++ findings_of (map fault_kept faults.now)) }
+{
+    'faults: for own in faults {
+        push_finding(own, found)?;
+    }
+    Ok(())
+}
+
+/// The place of a fault among some of a shard, if it is one of them.
+fn place_of(faults: &[ShardFault], fault: FaultId) -> Option<usize>
+    ensures found { IfSome result (λ place. slice_get (places_of (map fault_kept faults.now)) place ≡ Some (fault_number fault)) }
+    ensures none { IfNone result (All (λ number. number ≢ fault_number fault) (places_of (map fault_kept faults.now))) }
+{
+    'faults: for (place, own) in faults.iter().enumerate() {
+        if own.copy.fault().0 == fault.0 {
+            return Some(place);
+        }
+    }
+    None
+}
+
+impl<N: World> Shard<N> {
+    /// A shard of some listed faults, which have the given places in the plan, before the first slot.
+    ///
+    /// # Errors
+    ///
+    /// Want of memory.
+    pub fn new(
+        alloc: Global,
+        setup: &Setup<'_, N>,
+        faults: &[FaultId],
+    ) -> Result<Shard<N>, NoMemory>
+        requires { All (λ number. number < length N.plan.faults) (map fault_number faults.now) }
+        ensures { IfOk result (λ shard. shard ≡ fresh_shard (map fault_number faults.now)) }
+    {
+        beside_laws::faults_go_on();
+        let design = setup.design();
+        let numbers = Vec::from_slice(alloc, faults)?;
+        let fresh = fresh_faults(alloc, faults)?;
+        Ok(Shard {
+            gone: 0,
+            reached: Reached { passed: 0, time: 0 },
+            numbers,
+            faults: fresh,
+            world: PhantomData,
+        })
+    }
+
+    /// Takes the shard through the next window of the good first run.
+    ///
+    /// # Errors
+    ///
+    /// Want of memory. The shard has no faults then.
+    pub fn advance<'d, L: Ledger>(
+        &mut self,
+        alloc: Global,
+        setup: &Setup<'d, N>,
+        window: &TraceWindow<N>,
+        room: &mut ShardRoom<'d, N>,
+        steps: &mut Steps<L>,
+    ) -> Result<(), NoMemory>
+        requires { window.now.before ≡ self.old.gone }
+        ensures gone { OnOk result (self.new.gone ≡ window.now.through) }
+        ensures places { OnOk result (places_of self.new.faults ≡ places_of self.old.faults) }
+        ensures ended { OnOk result (AllZip StaysEnded self.old.faults self.new.faults) }
+        ensures stands { OnOk result (StandsBeside N.design N.plan self.new) }
+        ensures err { OnErr result (self.new ≡ record self.old { faults = [] }) }
+    {
+        let numbers = mem::replace(&mut self.numbers, Vec::new(alloc));
+        let mut faults = mem::replace(&mut self.faults, Vec::new(alloc));
+        let reached = advance_all(alloc, setup, window, self.reached, room, &mut faults, steps)?;
+        self.gone = window.ends();
+        self.reached = reached;
+        self.numbers = numbers;
+        self.faults = faults;
+        Ok(())
+    }
+
+    /// Through how many slots of the good first run the shard has gone.
+    pub fn at(&self) -> u64
+        ensures { result ≡ self.now.gone }
+    {
+        self.gone
+    }
+
+    /// The places of its faults in the plan, in order.
+    pub fn faults(&self) -> &[FaultId]
+        ensures { map fault_number result.now ≡ places_of self.now.faults }
+    {
+        &self.numbers
+    }
+
+    /// Puts the findings on the faults whose gradings ended behind others, in the order of the faults.
+    ///
+    /// # Errors
+    ///
+    /// Want of memory.
+    pub fn push_findings(&self, found: &mut Vec<Finding>) -> Result<(), NoMemory>
+        ensures { OnOk result (found.new.items ≡ found.old.items ++ findings_of self.now.faults) }
+    {
+        push_each(&self.faults, found)
+    }
+
+    /// The findings on the faults whose gradings ended, in the order of the faults.
+    ///
+    /// # Errors
+    ///
+    /// Want of memory.
+    pub fn findings(&self, alloc: Global) -> Result<Vec<Finding>, NoMemory>
+        ensures { IfOk result (λ found. found.items ≡ findings_of self.now.faults) }
+    {
+        let mut found = Vec::new(alloc);
+        self.push_findings(&mut found)?;
+        Ok(found)
+    }
+
+    /// The copy of a fault; none where it isn't one of the shard's.
+    pub fn copy_of(&self, fault: FaultId) -> Option<&FaultCopy>
+        ensures copy { IfSome result (λ copy. (copy.now.fault ≡ fault_number fault) × Contains (map (λ (kept : FaultKept). kept.copy) self.now.faults) copy.now) }
+        ensures none { IfNone result (All (λ number. number ≢ fault_number fault) (places_of self.now.faults)) }
+    {
+        match place_of(&self.faults, fault) {
+            None => None,
+            Some(place) => Some(&self.faults[place].copy),
+        }
+    }
+
+    /// Each fault of a shard stands as a fault does behind so many slots of the good first run, so what was found is its grade; once that run is through, something was
+    /// found of each. The function does nothing when it runs; its contract is the law.
+    pub fn stands(&self)
+        ensures stands { StandsBeside N.design N.plan self.now }
+        ensures graded { All (IsFinding N.design N.plan) (findings_of self.now.faults) }
+        ensures complete { length (good_slots N.design N.plan) ≡ self.now.gone → found_faults (findings_of self.now.faults) ≡ places_of self.now.faults }
+    {
+        let _count = self.faults.len();
+    }
+}
