@@ -2,3 +2,5 @@ pub mod Puts
 pub mod OneAnswer
 pub mod Making
 pub mod OverTest
+pub mod Existing
+pub mod Completing

@@ -22,7 +22,9 @@ use Rattle.plan_report.specs.declared.fault.ReportFault.{ReportFault}
 use Rattle.plan_report.specs.declared.fault.ReportFault.TheVariants as reported
 use Rattle.plan_report.specs.Reports as reports
 use Rattle.plan_report.specs.declared.extent.Extent.TheVariants.{Lines, Totals}
+use Rattle.plan_report.specs.OneMeaning.{no-reason}
 use Rattle.soak_text.specs.Soak as soaks
+use Rattle.soak_meanings.specs.SoakMeanings.{TextsAreAccepted}
 use Rattle.v_elab.specs.declared.Mode.TheVariants.{Usual}
 use Rattle.vf_words.specs.Words.{Source, Form, Grade, Check, Faults, Soak, Dict, Diagnose, Certify, Audit, Pick}
 use Rattle.vf_status.specs.declared.status.Which.{Which}
@@ -35,8 +37,8 @@ use Rattle.top_call.specs.Answers.{Answer, Outputs, Refuses, Lacks, Exceeds, Loo
 use Rattle.std.specs.Prelude.{IfSome, IfErr}
 use Rattle.top_call.specs.Outside.{Answers, IsOutput, IfTold, ShelfCounts, reads_to, refused_file, IsReason, ComesTo, ReadFailed, ToldLong, PutGives, PutsInFew, Keeps, Names}
 use Rattle.top_call.specs.Outside.{CanRefuse, CanEnd, files_of, files_named, files_for, as_answered, no_memory, no_read, no_put}
-use Rattle.top_call.specs.Making.{IsLongFile, FileGives, IsReasonOf, TextFails, HoldRefused, DesignGives, status_if, design_status, report_status, soak_status, OutputGives}
-use Rattle.top_call.proofs.OneAnswer.{The, source-lacks, source-exceeds, source-refused, plan-lacks, plan-exceeds, plan-tells, check-tells, faults-tell, soak-tells}
+use Rattle.top_call.specs.Making.{IsLongFile, FileGives, IsReasonOf, TextFails, HoldRefused, DesignGives, status_if, design_status, report_status, OutputGives}
+use Rattle.top_call.proofs.OneAnswer.{The, source-lacks, source-exceeds, source-refused, plan-lacks, plan-exceeds, plan-tells, check-tells, faults-tell, generated-design, soak-tells}
 
 -- what is handed on
 pub err-gives : (form : Form) (held : Option Files) (old new : ShelfCounts) (r : Result (Vec ℕ Global) Status) (status : Status) → IsErrAnd r (λ e. e ≡ status) →
@@ -107,14 +109,6 @@ report-ends source plan workers design bytes text fault status short same is e =
     by (reported.Plan f) (inr m) = (lit< tt, plan-reason design text f (subst (λ t. length t ≤ most_of whiches.Plan) (sym same) short) m.means.0 m.means.1)
     by (reported.GoodLoop time) h = tt
     by reported.NoMemory h = tt
-
-pub soak-ends : (number size workers : ℕ) (fault : ReportFault) (status : Status) → status ≡ soak_status fault → CanEnd (Soak number size workers) status
-soak-ends number size workers fault status e = subst (CanEnd (Soak number size workers)) (sym e) (by fault)
-  where
-    by : (f : ReportFault) → CanEnd (Soak number size workers) (soak_status f)
-    by (reported.Plan f) = tt
-    by (reported.GoodLoop time) = tt
-    by reported.NoMemory = tt
 
 -- Designs
 
@@ -311,20 +305,53 @@ faults-made (Some files) source design text d e = record { answers = faults-tell
 
 -- A generated design
 
-module _ (number size workers : ℕ) (design : FlatDesign) (is : texts.IsTheMeaning (soaks.design_text number size) (codes "top") Usual (Ok design)) (old new : ShelfCounts) where
-  soak-at : (fault : ReportFault) → (fault ≡ reported.NoMemory) ⊎ reports.IsTheMeaning Totals design (soaks.plan_text size) (Err fault) →
-      OutputGives (Soak number size workers) (Some []) old new (Err (soak_status fault))
-  soak-at (reported.Plan fault) h = tt
-  soak-at (reported.GoodLoop time) (inl e) = absurd (cc)
-  soak-at (reported.GoodLoop time) (inr m) = soak-tells number size workers [] design (Err (reported.GoodLoop time)) (Loops time) is m refl
-  soak-at reported.NoMemory h = tt
+-- its text is never refused
+pub soak-memory : (number size : ℕ) → (1 ≤ size) × (size ≤ 4000) → TextsAreAccepted → (text top : List ℕ) (fault : DesignFault) (status : Status) → text ≡ soaks.design_text number size →
+    top ≡ codes "top" →
+    (fault ≡ designs.NoMemory) ⊎ texts.IsTheMeaning text top Usual (Err fault) → status ≡ design_status fault → status ≡ NoMemory
+soak-memory number size fits accepted text top fault status same_text same_top (inl none) told = told ∙ ap design_status none
+soak-memory number size fits accepted text top fault status same_text same_top (inr m) told =
+    let said = accepted number size fits.0 fits.1 in
+    let here = subst (λ t. texts.IsDesignOf t top Usual said.0) (sym same_text) (subst (λ w. texts.IsDesignOf (soaks.design_text number size) w Usual said.0) (sym same_top) said.1) in
+    let same : Ok said.0 ≡ Err fault = m.only (Ok said.0) here in absurd (cc)
 
-  pub soak-faulty : (text : List ℕ) (fault : ReportFault) (status : Status) → text ≡ soaks.plan_text size → (fault ≡ reported.NoMemory) ⊎ reports.IsTheMeaning Totals design text (Err fault) →
-      status ≡ soak_status fault →
+module _ (number size workers : ℕ) (fits : (1 ≤ size) × (size ≤ 4000)) (accepted : TextsAreAccepted) (design : FlatDesign)
+    (is : texts.IsTheMeaning (soaks.design_text number size) (codes "top") Usual (Ok design)) where
+  -- nor is the plan's
+  plan-accepted : (fault : PlanFault) → plans.Refuses design (soaks.plan_text size) fault → fault ≢ plan_faults.NoMemory → ⊥
+  plan-accepted fault refuses other =
+      let said = accepted number size fits.0 fits.1 in
+      let same : said.0 ≡ design = generated-design number size design is said.0 said.1 in
+      no-reason design (soaks.plan_text size) said.2 fault (subst (λ d. plans.Spells d (soaks.plan_text size) said.2) same said.3) refuses other
+
+  abbrev NoTotals : ReportFault → Type 0
+  NoTotals fault = (fault ≡ reported.NoMemory) ⊎ reports.IsTheMeaning Totals design (soaks.plan_text size) (Err fault)
+
+  totals-given : (text : List ℕ) (fault : ReportFault) → text ≡ soaks.plan_text size → (fault ≡ reported.NoMemory) ⊎ reports.IsTheMeaning Totals design text (Err fault) → NoTotals fault
+  totals-given text fault same h = subst (λ t. (fault ≡ reported.NoMemory) ⊎ reports.IsTheMeaning Totals design t (Err fault)) same h
+
+  soak-at : (old new : ShelfCounts) (fault : ReportFault) → NoTotals fault → OutputGives (Soak number size workers) (Some []) old new (Err (report_status fault))
+  soak-at old new (reported.Plan fault) (inl e) = absurd (cc)
+  soak-at old new (reported.Plan fault) (inr m) = absurd (plan-accepted fault m.means.0 m.means.1)
+  soak-at old new (reported.GoodLoop time) (inl e) = absurd (cc)
+  soak-at old new (reported.GoodLoop time) (inr m) = soak-tells number size workers [] design (Err (reported.GoodLoop time)) (Loops time) is m refl
+  soak-at old new reported.NoMemory h = tt
+
+  pub soak-faulty : (old new : ShelfCounts) (text : List ℕ) (fault : ReportFault) (status : Status) → text ≡ soaks.plan_text size →
+      (fault ≡ reported.NoMemory) ⊎ reports.IsTheMeaning Totals design text (Err fault) → status ≡ report_status fault →
       OutputGives (Soak number size workers) (Some []) old new (Err status)
-  soak-faulty text fault status same h told =
-      subst (λ s. OutputGives (Soak number size workers) (Some []) old new (Err s)) (sym told)
-      (soak-at fault (subst (λ t. (fault ≡ reported.NoMemory) ⊎ reports.IsTheMeaning Totals design t (Err fault)) same h))
+  soak-faulty old new text fault status same h told =
+      subst (λ s. OutputGives (Soak number size workers) (Some []) old new (Err s)) (sym told) (soak-at old new fault (totals-given text fault same h))
+
+  ends-at : (fault : ReportFault) → NoTotals fault → CanEnd (Soak number size workers) (report_status fault)
+  ends-at (reported.Plan fault) (inl e) = absurd (cc)
+  ends-at (reported.Plan fault) (inr m) = absurd (plan-accepted fault m.means.0 m.means.1)
+  ends-at (reported.GoodLoop time) h = tt
+  ends-at reported.NoMemory h = tt
+
+  pub soak-ends : (text : List ℕ) (fault : ReportFault) (status : Status) → text ≡ soaks.plan_text size →
+      (fault ≡ reported.NoMemory) ⊎ reports.IsTheMeaning Totals design text (Err fault) → status ≡ report_status fault → CanEnd (Soak number size workers) status
+  soak-ends text fault status same h told = subst (CanEnd (Soak number size workers)) (sym told) (ends-at fault (totals-given text fault same h))
 
   pub soak-made : (text totals : List ℕ) → text ≡ soaks.plan_text size → reports.IsTheMeaning Totals design text (Ok totals) → reports.HoldsInEveryOrder Totals design text totals →
       IsOutput (Soak number size workers) [] totals
@@ -332,6 +359,13 @@ module _ (number size workers : ℕ) (design : FlatDesign) (is : texts.IsTheMean
     answers = soak-tells number size workers [] design (Ok totals) (Outputs totals) is (subst (λ t. reports.IsTheMeaning Totals design t (Ok totals)) same m) refl;
     every_order = record { design = design; is_design = is.means; holds = subst (λ t. reports.HoldsInEveryOrder Totals design t totals) same holds };
   }
+
+-- where the design wants memory
+pub soak-wants : (number size workers : ℕ) (old new : ShelfCounts) (status : Status) → status ≡ NoMemory → OutputGives (Soak number size workers) (Some []) old new (Err status)
+soak-wants number size workers old new status e = subst (λ s. OutputGives (Soak number size workers) (Some []) old new (Err s)) (sym e) tt
+
+pub soak-wants-ends : (number size workers : ℕ) (status : Status) → status ≡ NoMemory → CanEnd (Soak number size workers) status
+soak-wants-ends number size workers status e = subst (CanEnd (Soak number size workers)) (sym e) tt
 
 -- The status at last
 
@@ -382,13 +416,13 @@ one-output form files text m workers other is = let same : Outputs other ≡ Out
 -- The call at its end
 
 module _ (asked : Option Form) (form : Form) (is_form : Some form ≡ asked) (held : Option Files) (old new : ShelfCounts) where
-  same-form : (other : Form) → asked ≡ Some other → other ≡ form
+  pub same-form : (other : Form) → asked ≡ Some other → other ≡ form
   same-form other e = let same : Some other ≡ Some form = sym (is_form ∙ e) in cc
 
   as-asked : (other : Form) (files : Files) (answer : Answer) → asked ≡ Some other → IsAnswer other files answer → IsAnswer form files answer
   as-asked other files answer e is = subst (λ f. IsAnswer f files answer) (same-form other e) is
 
-  as-told-for : (other : Form) (files : Files) → asked ≡ Some other → files_for other held ≡ Some files → files_for form held ≡ Some files
+  pub as-told-for : (other : Form) (files : Files) → asked ≡ Some other → files_for other held ≡ Some files → files_for form held ≡ Some files
   as-told-for other files e told = subst (λ f. files_for f held ≡ Some files) (same-form other e) told
 
   pub keeps-at-err : (sink_old sink_new : ℕ) (status : Status) → OutputGives form (files_for form held) old new (Err status) → (other : Form) (files : Files) (answer : Answer) → asked ≡ Some other →

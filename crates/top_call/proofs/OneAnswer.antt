@@ -396,16 +396,18 @@ abbrev design_or : FlatDesign → Result FlatDesign DesignFault → FlatDesign
 design_or none (Ok design) = design
 design_or none (Err fault) = none
 
+-- a generated text says one design
+pub generated-design : (number size : ℕ) (design : FlatDesign) → texts.IsTheMeaning (soaks.design_text number size) (codes "top") Usual (Ok design) → (other : FlatDesign) →
+    texts.IsDesignOf (soaks.design_text number size) (codes "top") Usual other → other ≡ design
+generated-design number size design d other is = ap (design_or design) (d.only (Ok other) is)
+
 pub soak-tells : (number size workers : ℕ) (files : Files) (design : FlatDesign) (meaning : Result (List ℕ) ReportFault) (answer : Answer) →
     texts.IsTheMeaning (soaks.design_text number size) (codes "top") Usual (Ok design) → reports.IsTheMeaning Totals design (soaks.plan_text size) meaning → IsCounted meaning answer →
     IsTheAnswer (Soak number size workers) files answer
 soak-tells number size workers files design meaning answer d m told =
     record { is = record { design = design; is_design = d.means; meaning = meaning; means = m.means; counted = told }; only = only }
   where
-    same-design : (other : FlatDesign) → texts.IsDesignOf (soaks.design_text number size) (codes "top") Usual other → other ≡ design
-    same-design other is = ap (design_or design) (d.only (Ok other) is)
-
     only : (other : Answer) → IsSoaked number size other → other ≡ answer
     only other h =
-        let means = subst (λ x. reports.Means Totals x (soaks.plan_text size) h.meaning) (same-design h.design h.is_design) h.means in
+        let means = subst (λ x. reports.Means Totals x (soaks.plan_text size) h.meaning) (generated-design number size design d h.design h.is_design) h.means in
         counted-one meaning answer other told (subst (λ x. IsCounted x other) (m.only h.meaning means) h.counted)

@@ -1,3 +1,4 @@
 pub mod Answers
+pub mod Inputs
 pub mod Outside
 pub mod Making

@@ -194,12 +194,6 @@ report_status (reported.Plan fault) = Refused (refusals.Plan fault)
 report_status (reported.GoodLoop time) = GoodLoop time
 report_status reported.NoMemory = NoMemory
 
--- the status of a generated plan's text without totals
-abbrev pub soak_status : ReportFault → Status
-soak_status (reported.Plan fault) = NoMemory
-soak_status (reported.GoodLoop time) = GoodLoop time
-soak_status reported.NoMemory = NoMemory
-
 -- the status of an output over a dictionary that isn't made
 abbrev pub output_status : OutputFault → Status
 output_status (output_faults.GoodLoop time) = GoodLoop time

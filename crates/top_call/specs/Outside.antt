@@ -275,3 +275,14 @@ pub data Keeps (form : Form) (files : Files) (answer : Answer) (old new : ShelfC
   no_memory : status ≡ NoMemory → Keeps form files answer old new sink_old sink_new status
   no_read : (which : Which) → status ≡ ReadFault which → ReadFailed form (Some files) which old new → Keeps form files answer old new sink_old sink_new status
   no_put : status ≡ WriteFault → status_of answer ≡ Done → Rose sink_old sink_new → Keeps form files answer old new sink_old sink_new status
+
+-- how a form ends that has what it needs: it is done, unless memory is wanting, a read failed before anything else had decided, or a put of the output failed
+abbrev pub EndsDone : Form → Files → ShelfCounts → ShelfCounts → ℕ → ℕ → Status → Type 0
+EndsDone form files old new sink_old sink_new Done = Unit {0}
+EndsDone form files old new sink_old sink_new (Refused why) = ⊥
+EndsDone form files old new sink_old sink_new Usage = ⊥
+EndsDone form files old new sink_old sink_new (ReadFault which) = ReadFailed form (Some files) which old new
+EndsDone form files old new sink_old sink_new WriteFault = Rose sink_old sink_new
+EndsDone form files old new sink_old sink_new NoMemory = Unit {0}
+EndsDone form files old new sink_old sink_new (GoodLoop time) = ⊥
+EndsDone form files old new sink_old sink_new (TooLong which) = ⊥

@@ -16,7 +16,7 @@ use vf_status::{Refusal, Status, Which};
 use vf_words::Source;
 
 /// The status of a plan's text without a report.
-fn report_status(fault: ReportFault) -> Status
+pub(crate) fn report_status(fault: ReportFault) -> Status
     ensures { result ≡ making.report_status fault }
 {
     match fault {

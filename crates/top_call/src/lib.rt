@@ -12,6 +12,7 @@ mod counting;
 mod diagnosis;
 mod dictionary;
 mod grade;
+mod law;
 mod make;
 mod output;
 mod plan;

@@ -9,41 +9,37 @@ ghost use Rattle.vf_words.specs.Words.{Soak};
 ghost use Rattle.top_call.specs.Outside.{ShelfCounts, CanEnd};
 ghost use Rattle.top_call.specs.Making as making;
 
+use crate::grade::report_status;
+use crate::source::design_status;
 use elaborate::read_design;
-use plan_report::{Extent, ReportFault, plan_report};
+use plan_report::{Extent, plan_report};
+use soak_meanings::texts_accepted;
 use soak_text::{design_text, plan_text};
 use std::alloc::Global;
 use std::sync::ledger::Ledger;
 use std::thread::Threads;
 use v_design::Design;
 use v_elab::Mode;
-use vf_base::{Gate, NoMemory, Steps};
+use vf_base::{Gate, Steps};
 use vf_status::Status;
 
-/// The generated design of a number and a size. Were its text refused, this would be told as want of memory.
-fn soak_design(alloc: Global, number: u32, size: u32) -> Result<Design, NoMemory>
+/// The generated design of a number and a size; its text is never refused, so that memory alone can be wanting.
+fn soak_design(alloc: Global, number: u32, size: u32) -> Result<Design, Status>
     requires { (1 ≤ size) × (size ≤ 4000) }
-    ensures { IfOk result (λ design. IsTheMeaning (soaks.design_text number size) (codes "top") Usual (Ok (design_of design))) }
+    ensures design { IfOk result (λ design. IsTheMeaning (soaks.design_text number size) (codes "top") Usual (Ok (design_of design))) }
+    ensures memory { IfErr result (λ status. status ≡ Status.NoMemory) }
 {
-    let text = design_text(alloc, number, size)?;
+    texts_accepted();
+    let Ok(text) = design_text(alloc, number, size) else {
+        return Err(Status::NoMemory);
+    };
     match read_design(alloc, text.as_slice(), b"top", Mode::Usual) {
         Ok(design) => Ok(design),
-        Err(_) => Err(NoMemory),
+        Err(fault) => Err(design_status(fault)),
     }
 }
 
-/// The status of a generated plan's text without totals. Were the text refused, this would be told as want of memory.
-fn soak_status(fault: ReportFault) -> Status
-    ensures { result ≡ making.soak_status fault }
-{
-    match fault {
-        ReportFault::GoodLoop(time) => Status::GoodLoop(time),
-        ReportFault::Plan(_) => Status::NoMemory,
-        ReportFault::NoMemory => Status::NoMemory,
-    }
-}
-
-/// The totals over the generated design and plan of a number and a size.
+/// The totals over the generated design and plan of a number and a size; neither text is ever refused.
 pub(crate) fn soak_output<R: Threads + Sync, G: Gate + Sync, L: Ledger + Send + Sync>(
     rt: &R,
     alloc: Global,
@@ -59,9 +55,8 @@ pub(crate) fn soak_output<R: Threads + Sync, G: Gate + Sync, L: Ledger + Send + 
     ensures gives { (old new : ShelfCounts) → making.OutputGives (Soak number size workers) (Some []) old new result }
     ensures ends { IfErr result (CanEnd (Soak number size workers)) }
 {
-    let Ok(design) = soak_design(alloc, number, size) else {
-        return Err(Status::NoMemory);
-    };
+    texts_accepted();
+    let design = soak_design(alloc, number, size)?;
     let Ok(plan) = plan_text(alloc, size) else {
         return Err(Status::NoMemory);
     };
@@ -76,6 +71,6 @@ pub(crate) fn soak_output<R: Threads + Sync, G: Gate + Sync, L: Ledger + Send + 
         steps,
     ) {
         Ok(totals) => Ok(totals),
-        Err(fault) => Err(soak_status(fault)),
+        Err(fault) => Err(report_status(fault)),
     }
 }

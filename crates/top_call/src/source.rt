@@ -51,7 +51,7 @@ pub(crate) fn read_file<S: Shelf>(
 }
 
 /// The status of a text without a design.
-fn design_status(fault: DesignFault) -> Status
+pub(crate) fn design_status(fault: DesignFault) -> Status
     ensures { result ≡ making.design_status fault }
 {
     match fault {

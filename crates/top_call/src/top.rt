@@ -8,8 +8,10 @@ ghost use Rattle.vf_status.specs.declared.status.Which.{Which};
 ghost use Rattle.vf_words.specs.Words.{Form as Asked, form_of, bytes_of};
 ghost use Rattle.vf_words.specs.Forms.{plain_form};
 ghost use Rattle.top_call.specs.Answers.{Answer, Outputs, Refuses, Lacks, Exceeds, Loops, by_workers, IsAnswer};
-ghost use Rattle.top_call.specs.Outside.{IfTold, counts_of, ReadFailed, ToldLong, Answers, IsOutput, PutsSome, PutsInFew, PutsNothing, Keeps, CanEnd, files_named, files_for};
+ghost use Rattle.top_call.specs.Inputs.{HasInput};
+ghost use Rattle.top_call.specs.Outside.{IfTold, counts_of, ReadFailed, ToldLong, Answers, IsOutput, PutsSome, PutsInFew, PutsNothing, Keeps, CanEnd, EndsDone, files_named, files_for};
 
+use crate::law::answers_exist;
 use crate::make::make_output;
 use crate::output::put_all;
 use std::alloc::Global;
@@ -86,6 +88,11 @@ pub fn vfault<R: Threads + Sync, S: Shelf, K: Sink, G: Gate + Sync, L: Ledger + 
     ensures exactly { (form : Asked) (files : Files) (answer : Answer) → form_of (bytes_of words.now) ≡ Some form → files_for form (S.held shelf.old) ≡ Some files → IsAnswer form files answer →
         Keeps form files answer (counts_of ⟦<S as Shelf>⟧ shelf.old) (counts_of ⟦<S as Shelf>⟧ shelf.new) (K.faults sink.old) (K.faults sink.new) result }
 
+    // An answer exists: where the files say a design and spell a plan, as far as the form needs them, and the good machine doesn't loop where it runs, the form is done, unless memory is wanting, a
+    // read failed before anything else had decided, or a put of the output failed. Of `soak` nothing is asked of files.
+    ensures completes { (form : Asked) (files : Files) → form_of (bytes_of words.now) ≡ Some form → files_for form (S.held shelf.old) ≡ Some files → HasInput form files →
+        EndsDone form files (counts_of ⟦<S as Shelf>⟧ shelf.old) (counts_of ⟦<S as Shelf>⟧ shelf.new) (K.faults sink.old) (K.faults sink.new) result }
+
     // The sink is put to at most as often as the text has bytes, and once more at most than it took bytes; where the shelf tells its files, the text is the output.
     ensures few_puts { IfSome (form_of (bytes_of words.now)) (λ form. (K.puts sink.new ≡ K.puts sink.old)
         ⊎ ((text : List ℕ) × IfTold (files_for form (S.held shelf.old)) (λ files. IsOutput form files text)
@@ -94,6 +101,7 @@ pub fn vfault<R: Threads + Sync, S: Shelf, K: Sink, G: Gate + Sync, L: Ledger + 
     // The shelf is read at most as often as the form names files: `soak` reads none, and where the words are of no form nothing is read.
     ensures few_reads { (S.reads shelf.old ≤ S.reads shelf.new) × (S.reads shelf.new ≤ S.reads shelf.old + files_named (form_of (bytes_of words.now))) }
 {
+    answers_exist();
     let Some(form) = read_words(words) else {
         return Status::Usage;
     };

@@ -3,6 +3,7 @@ use Rattle.vf_words.specs.Words.{form_of, bytes_of}
 use Rattle.vf_words.specs.Forms.{plain_form}
 use Rattle.top_call.specs.Outside.{IfTold, counts_of, files_for, IsOutput}
 use Rattle.top_call.proofs.Making.{keeps-at-err, loops-at-err, keeps-at-end, same-at-end, reads-at-end, puts-at-err, puts-at-end}
+use Rattle.top_call.proofs.Completing.{done-at-err, done-at-end}
 use Rattle.top_call.proofs.top.vfault.Goals as goal
 
 pub returns-in-Err-clause-exactly : goal.returns-in-Err-clause-exactly
@@ -60,3 +61,14 @@ returns-in-Err-clause-loops g c =
     let old = counts_of g.S.Shelf c.args.shelf.now in
     let new = counts_of g.S.Shelf c.make_output.new.shelf in
     loops-at-err (form_of (bytes_of c.args.words.now)) (plain_form c.in-Some.form) c.in-Some.ensures.form (g.S.Shelf.held c.args.shelf.now) old new c.in-Err.status c.in-Err.ensures.gives
+
+pub returns-in-Err-clause-completes : goal.returns-in-Err-clause-completes
+returns-in-Err-clause-completes g c =
+    done-at-err (form_of (bytes_of c.args.words.now)) (plain_form c.in-Some.form) c.in-Some.ensures.form c.in-Some.ensures.fits c.answers_exist.ensures (g.S.Shelf.held c.args.shelf.now)
+    (counts_of g.S.Shelf c.args.shelf.now) (counts_of g.S.Shelf c.make_output.new.shelf) (g.K.Sink.faults c.args.sink.now) (g.K.Sink.faults c.args.sink.now) c.in-Err.status c.in-Err.ensures.gives
+
+pub returns-clause-completes : goal.returns-clause-completes
+returns-clause-completes g c =
+    done-at-end (form_of (bytes_of c.args.words.now)) (plain_form c.in-Some.form) c.in-Some.ensures.form c.in-Some.ensures.fits c.answers_exist.ensures (g.S.Shelf.held c.args.shelf.now)
+    (counts_of g.S.Shelf c.args.shelf.now) (counts_of g.S.Shelf c.make_output.new.shelf) c.as_slice.result.now (g.K.Sink.contents c.args.sink.now) (g.K.Sink.contents c.put_all.new.sink)
+    (g.K.Sink.faults c.args.sink.now) (g.K.Sink.faults c.put_all.new.sink) c.put_all.result c.put_all.ensures.gives

@@ -1,0 +1,3 @@
+mod Woken
+mod Told
+mod One

@@ -1,0 +1,17 @@
+-- The step is taken and told.
+use Rattle.v_design.specs.States.{ProcessState, idle_process, is_ready}
+use Rattle.vf_base.specs.Base.{process_number}
+use Rattle.process_table.specs.Arranged.{table_of}
+use Rattle.machine_laws.proofs.Places.{placed}
+use Rattle.block_events.proofs.Taken.{step-goes}
+use Rattle.block_events.proofs.runner.Runner.take_step.Goals as goal
+
+pub step_alone-requires-clause-ready : goal.step_alone-requires-clause-ready
+step_alone-requires-clause-ready g c =
+    placed (λ (p : ProcessState). is_ready p.activity) idle_process (table_of c.args.self.now.table).processes (process_number c.args.process) c.requires.ready
+
+pub returns : goal.returns
+returns g c =
+    step-goes c.phases_go_on.ensures.notes c.moves.ensures.events c.args.self.now _ c.args.process c.in_ok-stepped.stepped.line c.step_alone.new.told c.args.told.now c.count_step.new.self
+    c.add_step.new.self c.in_ok-begins.begins c.is_ready-ready.result c.requires.whole c.requires.nodes c.requires.lanes c.requires.ready c.in_ok-stepped.ensures c.is_ready-ready.ensures
+    c.in_ok-begins.ensures.begins c.in_ok-begins.ensures.running c.in_ok-count_step.ensures c.in_ok-add_step.ensures

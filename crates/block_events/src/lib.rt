@@ -1,0 +1,14 @@
+//! One machine of which no record is kept, event by event: its values, its nodes and its processes, which a caller may exchange between two blocks (IEEE 1364-2001,
+//! clause 5).
+//!
+//! A `Runner` stands for a machine and a state of it. `take_lane` and `take_step` take the event of the first order where no node has work, `settle` those of nodes until
+//! none has. Main contract: each comes to the state behind its events, and where the events before them are told of a block, so are they. `put_value`, `put_process`,
+//! `put_updates` and `wake_process` exchange parts of the state, `set_fault` the fault, `updates_of`, `lane_of` and `stands_at` read it, and `turn` takes a turn between two
+//! phases.
+#![tactic(auto)]
+
+mod events;
+mod exchange;
+mod runner;
+
+pub use runner::Runner;

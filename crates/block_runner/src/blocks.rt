@@ -1,0 +1,99 @@
+// Blocks.
+
+ghost use Rattle.std.specs.Prelude.{◌≡◌, ◌≤◌, ◌^◌, ℕ, Some, None, IfOk, IsSome};
+ghost use Rattle.vf_base.specs.Base.{process_number};
+ghost use Rattle.machine_laws.specs.SlotLoop.{NoNodeWorks, first_lane, first_ready};
+ghost use Rattle.block_events.specs.Runners.{IsWhole, machine_of, state_of};
+ghost use Rattle.block_told.specs.Tells.{IsUntold};
+ghost use Rattle.block_runner.specs.Ends.{GoesOn};
+
+use block_events::Runner;
+use block_told::BlockTold;
+use std::sync::ledger::Ledger;
+use vf_base::{NoMemory, ProcId, Steps};
+
+/// How the run of a block ended: no process event was possible, the block was run to its end, or it was given up.
+#[derive(Clone, Copy, PartialEq, Eq, Debug)]
+pub enum BlockEnd {
+    Idle,
+    Ran,
+    GivenUp,
+}
+
+/// Runs a block that the least lane begins.
+fn lane_block(
+    runner: &mut Runner,
+    process: ProcId,
+    told: &mut BlockTold,
+) -> Result<BlockEnd, NoMemory>
+    requires whole { IsWhole runner.old }
+    requires nodes { NoNodeWorks (state_of runner.old) }
+    requires lanes { first_lane (state_of runner.old) ≡ Some (process_number process) }
+    requires told { IsUntold told.old }
+    ensures { IfOk result (λ end. (most : ℕ) → GoesOn (machine_of runner.old) (state_of runner.old) most end runner.new told.new) }
+{
+    let line = runner.take_lane(process, told)?;
+    if runner.settle(told, process, line)? {
+        return Ok(BlockEnd::Ran);
+    }
+    Ok(BlockEnd::GivenUp)
+}
+
+/// Runs a block that the least ready process begins.
+fn run_of<L: Ledger>(
+    runner: &mut Runner,
+    told: &mut BlockTold,
+    most: u32,
+    steps: &mut Steps<L>,
+) -> Result<BlockEnd, NoMemory>
+    requires whole { IsWhole runner.old }
+    requires nodes { NoNodeWorks (state_of runner.old) }
+    requires lanes { first_lane (state_of runner.old) ≡ None }
+    requires ready { IsSome (first_ready (state_of runner.old)) }
+    requires time { (state_of runner.old).time ≤ 2 ^ 63 }
+    requires told { IsUntold told.old }
+    ensures { IfOk result (λ end. GoesOn (machine_of runner.old) (state_of runner.old) most end runner.new told.new) }
+{
+    copy_laws::own_runs();
+    runner.begin_block();
+    'runs: for taken in 0..u64::from(most) + 1 {
+        let Some(process) = runner.first_ready() else {
+            unreachable!();
+        };
+        let line = runner.take_step(process, told, steps)?;
+        if !runner.settle(told, process, line)? {
+            return Ok(BlockEnd::GivenUp);
+        }
+        if !runner.is_in_run() {
+            return Ok(BlockEnd::Ran);
+        }
+    }
+    Ok(BlockEnd::GivenUp)
+}
+
+/// Runs the next block, from a moment between runs; `told` tells it, whatever it told before. Where no process event is possible nothing happens. A block that takes more
+/// than so many process and lane steps, or 2^64 - 1 events, is given up.
+///
+/// # Errors
+///
+/// Want of memory; the runner is then not to be used again.
+pub fn run_block<L: Ledger>(
+    runner: &mut Runner,
+    told: &mut BlockTold,
+    most: u32,
+    steps: &mut Steps<L>,
+) -> Result<BlockEnd, NoMemory>
+    requires whole { IsWhole runner.old }
+    requires nodes { NoNodeWorks (state_of runner.old) }
+    requires time { (state_of runner.old).time ≤ 2 ^ 63 }
+    ensures { IfOk result (λ end. GoesOn (machine_of runner.old) (state_of runner.old) most end runner.new told.new) }
+{
+    told.clear();
+    if let Some(process) = runner.first_lane() {
+        return lane_block(runner, process, told);
+    }
+    if runner.first_ready().is_none() {
+        return Ok(BlockEnd::Idle);
+    }
+    run_of(runner, told, most, steps)
+}

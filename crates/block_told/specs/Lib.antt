@@ -1,0 +1,9 @@
+pub mod Running
+pub mod Tells
+pub mod Blocks
+pub mod Stays
+pub mod Places
+pub mod Prefixes
+pub mod RunsAfter
+pub mod EventTells
+pub mod TellsMore

@@ -1,0 +1,4 @@
+mod Counts
+mod Parted
+mod Told
+mod Stepping

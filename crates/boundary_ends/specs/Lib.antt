@@ -1,0 +1,2 @@
+pub mod BlockEnds
+pub mod Enders

@@ -1,0 +1,5 @@
+pub mod Boundaries
+pub mod Pending
+pub mod Readiness
+pub mod Ends
+pub mod Wakes

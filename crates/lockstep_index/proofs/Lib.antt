@@ -1,0 +1,5 @@
+mod Clean
+mod Freed
+mod Own
+pub mod Kept
+mod Passed

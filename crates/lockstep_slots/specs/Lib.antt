@@ -1,0 +1,5 @@
+pub mod Kept
+pub mod Pairs
+pub mod Places
+pub mod Standing
+pub mod Told

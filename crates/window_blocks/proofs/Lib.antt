@@ -1,0 +1,4 @@
+mod Greatest
+mod Listed
+mod Told
+mod Keeping
