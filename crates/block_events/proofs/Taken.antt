@@ -1,5 +1,5 @@
 -- A runner takes a step of a process or of a lane, and tells it (IEEE 1364-2001, clause 5).
-use Rattle.std.proofs.Common.{◌≡◌, ℕ, ◌+◌, List, [], ◌∷◌, ◌++◌, length, map, Bool, true, false, not, ◌||◌, cond, refl, sym, ap, subst, ◌∙◌, nat_eq}
+use Rattle.std.proofs.Common.{◌≡◌, ℕ, ◌+◌, ◌<◌, List, [], ◌∷◌, ◌++◌, length, map, Bool, true, false, not, ◌||◌, cond, refl, sym, ap, subst, ◌∙◌, nat_eq}
 use Rattle.std.proofs.lemmas.List.{map-append}
 use Rattle.std.specs.Prelude.{Some, None}
 use Rattle.std.proofs.lemmas.Bool.{eqb-true, eq-eqb, ne_eqb, eqb-false}
@@ -8,13 +8,17 @@ use Rattle.vf_base.specs.Base.{object_number, process_number}
 use Rattle.vf_base.specs.Lists.{has}
 use Rattle.vf_base.specs.declared.ids.ProcId.{ProcId}
 use Rattle.v_design.specs.Designs.{Machine}
-use Rattle.v_design.specs.States.{State, Event, Step, LaneStep, after, is_process_event, process_at, is_ready}
+use Rattle.v_design.specs.States.{State, Event, Step, LaneStep, after, first_update, is_process_event, process_at, is_ready, step_of, write_of}
+use Rattle.v_design.specs.WellFormed.{KeepsRules}
+use Rattle.race_laws.specs.Writes.{WritesAreOf, NextWritesAreOf}
+use Rattle.net_state.specs.States.{values_in}
 use Rattle.v_design.specs.Runs.{first_event, or_event, named_event}
 use Rattle.causal_monitor.specs.Notes.{noted_access}
 use Rattle.machine_laws.specs.SlotLoop.{NotesGoOn, NoNodeWorks, first_lane, first_ready}
 use Rattle.copy_laws.specs.Moves.{EventsChangeOnly}
 use Rattle.machine_events.specs.declared.told.Told.{Told}
 use Rattle.machine_events.specs.Alone.{HappensTo}
+use Rattle.machine_events.specs.There.{IsOfObjects, LaneIsThere, StepIsThere, found-holds}
 use Rattle.block_events.specs.declared.runner.Runner.{Runner}
 use Rattle.block_told.specs.declared.told.BlockTold.{BlockTold}
 use Rattle.block_events.specs.Runners.{machine_of, state_of, IsWhole}
@@ -31,6 +35,22 @@ lane-first state process quiet lane = λ i. or_event (quiet i) (or_event (named_
 
 pub step-first : (state : State) (process : ℕ) → NoNodeWorks state → first_lane state ≡ None → first_ready state ≡ Some process → first_event state ≡ Some (Step process)
 step-first state process quiet none ready = λ i. or_event (quiet i) (or_event (named_event LaneStep (none i)) (named_event Step (ready i)))
+
+-- the update that a step writes is of an object that has a value
+pub step-there : NextWritesAreOf → (runner : Runner) (process : ℕ) → KeepsRules (machine_of runner).design → WritesAreOf (machine_of runner).design (state_of runner) →
+    StepIsThere process runner.nets runner.table
+step-there next runner process rules writes machine state both =
+    let same : state_of runner ≡ state = state-is machine state runner both in
+    found-holds (IsOfObjects (length (values_in runner.nets))) (write_of (step_of machine state process).action)
+    (λ update e.
+    subst (λ n. update.object < n) (sym (object-count runner))
+    (next.step (machine_of runner) (state_of runner) process update rules writes ((λ i. write_of (step_of (both.machine_is i) (same i) process).action) ∙ e)))
+
+-- so is the first update of a lane
+pub lane-there : NextWritesAreOf → (runner : Runner) (process : ℕ) → WritesAreOf (machine_of runner).design (state_of runner) → LaneIsThere process runner.nets runner.table
+lane-there next runner process writes =
+    found-holds (IsOfObjects (length (values_in runner.nets))) (first_update (process_at (state_of runner) process).lane)
+    (λ update e. subst (λ n. update.object < n) (sym (object-count runner)) (next.lane (machine_of runner).design (state_of runner) process update writes e))
 
 -- one event is taken
 event-taken : (old new : Runner) (event : Event) (line : ℕ) (told : Told) → IsWhole old → HappensTo event line old.nets new.nets old.table new.table told → first_event (state_of old) ≡ Some event →

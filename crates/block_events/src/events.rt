@@ -4,9 +4,11 @@ ghost use Rattle.std.specs.Prelude.{◌≡◌, ◌≤◌, ◌<◌, ◌^◌, Some
 ghost use Rattle.vf_base.specs.Base.{node_number, process_number};
 ghost use Rattle.v_design.specs.States.{Evaluation};
 ghost use Rattle.v_design.specs.Runs.{work_of};
+ghost use Rattle.v_design.specs.WellFormed.{KeepsRules};
+ghost use Rattle.race_laws.specs.Writes.{WritesAreOf};
 ghost use Rattle.machine_laws.specs.SlotLoop.{NoNodeWorks, first_lane, first_ready};
 ghost use Rattle.net_state.specs.States.{nodes_in};
-ghost use Rattle.block_events.specs.Runners.{IsWhole, state_of};
+ghost use Rattle.block_events.specs.Runners.{IsWhole, machine_of, state_of};
 ghost use Rattle.block_told.specs.Tells.{IsUntold};
 ghost use Rattle.block_events.specs.Going.{WorksOn, Settles, StepsOn, LaneStepsOn, node_events};
 
@@ -60,7 +62,8 @@ impl<'d> Runner<'d> {
         Ok(false)
     }
 
-    /// The least ready process takes a step, where no node has work and no lane has an update. It answers the line of its statement.
+    /// The least ready process takes a step, where no node has work and no lane has an update. It answers the line of its statement. Each process is still to write objects of
+    /// the design alone, and so it is behind the step (`race_laws::writes_stay`).
     ///
     /// # Errors
     ///
@@ -77,10 +80,13 @@ impl<'d> Runner<'d> {
         requires ready { first_ready (state_of self.old) ≡ Some (process_number process) }
         requires time { (state_of self.old).time ≤ 2 ^ 63 }
         requires room { told.old.steps < 2 ^ 63 }
+        requires rules { KeepsRules (machine_of self.old).design }
+        requires writes { WritesAreOf (machine_of self.old).design (state_of self.old) }
         ensures { OnOk result (StepsOn (process_number process) self.old self.new told.old told.new) }
     {
         machine_laws::phases_go_on();
         copy_laws::moves();
+        race_laws::writes_stay();
         let stepped = step_alone(
             &mut self.nets,
             &mut self.table,
@@ -95,7 +101,8 @@ impl<'d> Runner<'d> {
         Ok(stepped.line)
     }
 
-    /// The least lane's first update is written, where no node has work. It is the first event of the block. It answers the line of its statement.
+    /// The least lane's first update is written, where no node has work. It is the first event of the block. It answers the line of its statement. Each process is still to
+    /// write objects of the design alone, and so it is behind the write (`race_laws::writes_stay`).
     ///
     /// # Errors
     ///
@@ -105,10 +112,13 @@ impl<'d> Runner<'d> {
         requires nodes { NoNodeWorks (state_of self.old) }
         requires lanes { first_lane (state_of self.old) ≡ Some (process_number process) }
         requires told { IsUntold told.old }
+        requires rules { KeepsRules (machine_of self.old).design }
+        requires writes { WritesAreOf (machine_of self.old).design (state_of self.old) }
         ensures { OnOk result (LaneStepsOn (process_number process) self.old self.new told.new) }
     {
         machine_laws::phases_go_on();
         copy_laws::moves();
+        race_laws::writes_stay();
         let update = lane_alone(&mut self.nets, &mut self.table, &mut self.told, process)?;
         told.lane = Some(process);
         told.steps = 1;

@@ -129,6 +129,17 @@ impl<'d> Runner<'d> {
         self.table.lane_of(process)
     }
 
+    /// The state at whose point a process stands: it is one of each code of the process, and does what the process does.
+    pub fn state_of(&self, process: ProcId) -> &ProcState
+        requires whole { IsWhole self.now }
+        requires number { process_number process < length (state_of self.now).processes }
+        ensures state { (code : Code) → IsCodeAt (machine_of self.now).design (process_number process) code → IsStateOf code result.now }
+        ensures activity { (code : Code) → IsCodeAt (machine_of self.now).design (process_number process) code →
+            activity_of code result.now ≡ (process_at (state_of self.now) (process_number process)).activity }
+    {
+        self.table.state_of(process)
+    }
+
     /// Whether a process stands at the point of a state, which may be one of any code of the process. Then the state does what the process does; and where no two
     /// statements of the process stand at one place, as in each design that keeps its rules, it is true exactly where it does.
     pub fn stands_at(&self, process: ProcId, state: &ProcState) -> bool

@@ -9,6 +9,8 @@ use Rattle.vf_base.specs.Lists.{AllHold, has}
 use Rattle.v_design.specs.Designs.{Machine}
 use Rattle.v_design.specs.States.{State, ProcessState, Event, Step, LaneStep, Evaluation, NetUpdate, after, found_or, idle_process, is_any, is_process_event, process_at, is_ready}
 use Rattle.v_design.specs.Runs.{happened}
+use Rattle.v_design.specs.WellFormed.{KeepsRules}
+use Rattle.race_laws.specs.Writes.{WritesAreOf, WritesStay}
 use Rattle.machine_laws.specs.SlotLoop.{NoNodeWorks, first_lane, first_ready}
 use Rattle.machine_laws.proofs.Places.{placed}
 use Rattle.copy_laws.specs.Beside.{AreFirst}
@@ -411,6 +413,15 @@ module _ (machine : Machine) (begins : State) (now : Runner) (told : BlockTold) 
   runs-ready none =
       first-there (λ (p : ProcessState). is_ready p.activity) idle_process (happened machine begins so_far.events).processes so_far.next.process refl so_far.next.ready
       (ap first_ready (sym so_far.going.state_is) ∙ none)
+
+  -- each process is still to write objects of the design alone, which keeps its rules
+  pub runs-rules : KeepsRules machine.design → KeepsRules (machine_of now).design
+  runs-rules rules = subst (λ (m : Machine). KeepsRules m.design) (sym so_far.going.machine_is) rules
+
+  pub runs-write : WritesStay → KeepsRules machine.design → WritesAreOf machine.design begins → WritesAreOf (machine_of now).design (state_of now)
+  runs-write law rules writes =
+      subst (λ (m : Machine). WritesAreOf m.design (state_of now)) (sym so_far.going.machine_is)
+      (subst (WritesAreOf machine.design) (sym so_far.going.state_is) (law.after_events machine begins so_far.events rules writes))
 
   -- a step and the work on nodes behind it
   module _ (process : ℕ) (stepped settled : Runner) (told_stepped told_settled : BlockTold) (chosen : first_ready (state_of now) ≡ Some process)

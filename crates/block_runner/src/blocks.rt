@@ -2,6 +2,8 @@
 
 ghost use Rattle.std.specs.Prelude.{◌≡◌, ◌≤◌, ◌^◌, ℕ, Some, None, IfOk, IsSome};
 ghost use Rattle.vf_base.specs.Base.{process_number};
+ghost use Rattle.v_design.specs.WellFormed.{KeepsRules};
+ghost use Rattle.race_laws.specs.Writes.{WritesAreOf};
 ghost use Rattle.machine_laws.specs.SlotLoop.{NoNodeWorks, first_lane, first_ready};
 ghost use Rattle.block_events.specs.Runners.{IsWhole, machine_of, state_of};
 ghost use Rattle.block_told.specs.Tells.{IsUntold};
@@ -30,6 +32,8 @@ fn lane_block(
     requires nodes { NoNodeWorks (state_of runner.old) }
     requires lanes { first_lane (state_of runner.old) ≡ Some (process_number process) }
     requires told { IsUntold told.old }
+    requires rules { KeepsRules (machine_of runner.old).design }
+    requires writes { WritesAreOf (machine_of runner.old).design (state_of runner.old) }
     ensures { IfOk result (λ end. (most : ℕ) → GoesOn (machine_of runner.old) (state_of runner.old) most end runner.new told.new) }
 {
     let line = runner.take_lane(process, told)?;
@@ -52,9 +56,12 @@ fn run_of<L: Ledger>(
     requires ready { IsSome (first_ready (state_of runner.old)) }
     requires time { (state_of runner.old).time ≤ 2 ^ 63 }
     requires told { IsUntold told.old }
+    requires rules { KeepsRules (machine_of runner.old).design }
+    requires writes { WritesAreOf (machine_of runner.old).design (state_of runner.old) }
     ensures { IfOk result (λ end. GoesOn (machine_of runner.old) (state_of runner.old) most end runner.new told.new) }
 {
     copy_laws::own_runs();
+    race_laws::writes_stay();
     runner.begin_block();
     'runs: for taken in 0..u64::from(most) + 1 {
         let Some(process) = runner.first_ready() else {
@@ -72,7 +79,8 @@ fn run_of<L: Ledger>(
 }
 
 /// Runs the next block, from a moment between runs; `told` tells it, whatever it told before. Where no process event is possible nothing happens. A block that takes more
-/// than so many process and lane steps, or 2^64 - 1 events, is given up.
+/// than so many process and lane steps, or 2^64 - 1 events, is given up. Each process is still to write objects of the design alone; what comes of that stays so with the events
+/// of the block (`race_laws::writes_stay`).
 ///
 /// # Errors
 ///
@@ -86,6 +94,8 @@ pub fn run_block<L: Ledger>(
     requires whole { IsWhole runner.old }
     requires nodes { NoNodeWorks (state_of runner.old) }
     requires time { (state_of runner.old).time ≤ 2 ^ 63 }
+    requires rules { KeepsRules (machine_of runner.old).design }
+    requires writes { WritesAreOf (machine_of runner.old).design (state_of runner.old) }
     ensures { IfOk result (λ end. GoesOn (machine_of runner.old) (state_of runner.old) most end runner.new told.new) }
 {
     told.clear();

@@ -1,10 +1,12 @@
 -- A replay goes on with events (IEEE 1364-2001, clause 5).
-use Rattle.std.proofs.Common.{◌≡◌, ℕ, suc, ◌+◌, ◌*◌, ◌<◌, ◌≤◌, ◌^◌, List, [], ◌∷◌, ◌++◌, length, Bool, true, false, ◌&&◌, refl, sym, ap, subst, ◌∙◌, append_assoc, arith}
+use Rattle.std.proofs.Common.{◌≡◌, ℕ, suc, ◌+◌, ◌*◌, ◌<◌, ◌≤◌, ◌^◌, List, [], ◌∷◌, ◌++◌, length, Bool, true, false, ◌&&◌, refl, sym, ap, subst, ◌∙◌, append_assoc, arith, inl, inr}
 use Rattle.std.specs.Prelude.{Option, Some, None, slice_get, nat_lt}
 use Rattle.std.proofs.lemmas.Bool.{lt-ltb, le-ltb}
 use Rattle.v_design.specs.PlainDesigns.{design_of}
 use Rattle.v_design.specs.Designs.{Machine}
-use Rattle.v_design.specs.States.{State, ProcessState, Event, Evaluation, NetUpdate, possible, after, idle_process, found_or, is_ready, is_any}
+use Rattle.v_design.specs.RulesHold.{rules_hold}
+use Rattle.v_design.specs.WellFormed.{KeepsRules}
+use Rattle.v_design.specs.States.{State, ProcessState, Event, Evaluation, NetUpdate, possible, after, idle_process, found_or, is_ready, is_any, first_update, step_of, write_of}
 use Rattle.v_design.specs.Runs.{happened, work_of, only_if, most_steps}
 use Rattle.v_design.specs.Grades.{Phase}
 use Rattle.slot_record.specs.SlotRecords.{one_more, node_more}
@@ -13,11 +15,13 @@ use Rattle.net_state.specs.States.{machine_in, values_in, nodes_in}
 use Rattle.process_table.specs.Arranged.{table_of}
 use Rattle.machine_events.specs.Parts.{IsAmid, IsInSlot, Leads}
 use Rattle.machine_events.specs.PartLaws.{node-there}
+use Rattle.machine_events.specs.There.{IsOfObjects, LaneIsThere, StepIsThere, found-holds}
+use Rattle.race_laws.specs.Writes.{WritesAreOf, WritesStay, NextWritesAreOf}
 use Rattle.cert_laws.specs.Replays.{Replay, with_events, stepped_on, step_on}
 use Rattle.cert_replay.specs.declared.replaying.Replaying.{Replaying}
 use Rattle.cert_replay.specs.declared.replaying.Stepper.{Stepper}
 use Rattle.cert_replay.specs.declared.replaying.Stepper.TheVariants.{Process, Lane}
-use Rattle.cert_replay.specs.Kept.{Keeps, IsReplaying, SameRun, Follows, event_by, present_phase, time_kept}
+use Rattle.cert_replay.specs.Kept.{Keeps, IsReplaying, SameRun, Follows, ArePhasesFew, event_by, present_phase, time_kept}
 use Rattle.cert_replay.specs.Deeds.{may_step, TakesStep, Settles, SettlesOne}
 use Rattle.cert_replay.proofs.Words.{time-happened, happened-append, events-none, events-two}
 
@@ -50,6 +54,9 @@ keeps-alike machine one other r begins events now number steps k = record {
   number_is = number ∙ k.number_is;
   steps_is = steps ∙ k.steps_is;
   graph_is = k.graph_is;
+  writes = subst (WritesAreOf machine.design) (sym begins) k.writes;
+  most = k.most;
+  few = subst (λ (s : State). ArePhasesFew (length k.before) other.steps s) (sym now) (subst (λ n. ArePhasesFew (length k.before) n one.now) (sym steps) k.few);
   clear = k.clear;
 }
 
@@ -71,8 +78,9 @@ keeps-nothing machine replay r k = keeps-alike machine replay (with_events machi
 -- where the parts lead on by some events, the replay goes on by them
 pub keeps-on : (machine : Machine) (replay : Replay) (events : List Event) (old new : Replaying) (k : Keeps machine replay old) →
     IsAmid machine k.first k.before (present_phase k.turn (with_events machine events replay)) new.nets new.table new.record new.log →
-    design_of new.graph.now.design.now ≡ design_of old.graph.now.design.now → new.steps ≡ old.steps → SameRun old new → Keeps machine (with_events machine events replay) new
-keeps-on machine replay events old new k amid graph steps same = record {
+    design_of new.graph.now.design.now ≡ design_of old.graph.now.design.now → new.steps ≡ old.steps → SameRun old new →
+    ArePhasesFew (length k.before) replay.steps (happened machine replay.now events) → Keeps machine (with_events machine events replay) new
+keeps-on machine replay events old new k amid graph steps same few = record {
   first = k.first;
   before = k.before;
   turn = k.turn;
@@ -81,6 +89,9 @@ keeps-on machine replay events old new k amid graph steps same = record {
   number_is = k.number_is;
   steps_is = k.steps_is ∙ sym steps;
   graph_is = graph ∙ k.graph_is;
+  writes = k.writes;
+  most = subst (λ n. n ≤ 100000) (sym steps) k.most;
+  few = few;
   clear = λ none. k.clear (sym same.race ∙ none);
 }
 
@@ -98,47 +109,112 @@ may-is machine replay r Lane process k =
 pub time-is : (machine : Machine) (replay : Replay) (r : Replaying) → Keeps machine replay r → time_kept r ≡ replay.now.time
 time-is machine replay r k = k.amid.both.table_is.time ∙ ap (λ (s : State). s.time) (sym k.now_is)
 
+-- What is written
+
+-- the design keeps its rules
+pub rules-kept : (machine : Machine) (replay : Replay) (r : Replaying) → Keeps machine replay r → KeepsRules machine.design
+rules-kept machine replay r k =
+    subst (λ (m : Machine). KeepsRules m.design) k.amid.both.machine_is
+    (rules_hold (design_of r.nets.objects.settle.graph.now.design.now) r.nets.objects.settle.graph.now.design.now.rules)
+
+-- what is still to be written is of the design
+pub writes-now : WritesStay → (machine : Machine) (replay : Replay) (r : Replaying) → Keeps machine replay r → WritesAreOf machine.design replay.now
+writes-now law machine replay r k =
+    subst (WritesAreOf machine.design) (sym k.now_is) (law.after_events machine replay.begins replay.events (rules-kept machine replay r k) k.writes)
+
+-- there is a value for each object
+count-kept : (machine : Machine) (replay : Replay) (r : Replaying) → Keeps machine replay r → length machine.design.objects ≡ length (values_in r.nets)
+count-kept machine replay r k = ap (λ (m : Machine). length m.design.objects) (sym k.amid.both.machine_is) ∙ sym r.nets.objects.are.count
+
+-- the first update of a lane is of an object that has a value
+pub lane-writes : WritesStay → NextWritesAreOf → (r : Replaying) (is : IsReplaying r) (process : ℕ) → LaneIsThere process r.nets r.table
+lane-writes law next r is process =
+    let k = is.keeps in
+    let now = is.replay.now in
+    let same : (table_of r.table).processes ≡ now.processes = k.amid.both.table_is.processes ∙ ap (λ (s : State). s.processes) (sym k.now_is) in
+    found-holds (IsOfObjects (length (values_in r.nets))) _
+    (λ update e. subst (λ n. update.object < n) (count-kept is.machine is.replay r k)
+    (next.lane is.machine.design now process update (writes-now law is.machine is.replay r k)
+    (ap (λ (ps : List ProcessState). first_update (found_or idle_process (slice_get ps process)).lane) (sym same) ∙ e)))
+
+-- so is the update that a step writes
+pub step-writes : WritesStay → NextWritesAreOf → (r : Replaying) (is : IsReplaying r) (process : ℕ) → StepIsThere process r.nets r.table
+step-writes law next r is process machine state both =
+    let k = is.keeps in
+    let now = is.replay.now in
+    let same_machine : machine ≡ is.machine = sym both.machine_is ∙ k.amid.both.machine_is in
+    let same : state ≡ now =
+    (λ i. record {
+      time = (sym both.table_is.time ∙ k.amid.both.table_is.time) i;
+      values = (sym both.nets_are.values ∙ k.amid.both.nets_are.values) i;
+      nodes = (sym both.nets_are.nodes ∙ k.amid.both.nets_are.nodes) i;
+      processes = (sym both.table_is.processes ∙ k.amid.both.table_is.processes) i;
+    }) ∙ sym k.now_is in
+    found-holds (IsOfObjects (length (values_in r.nets))) _
+    (λ update e. subst (λ n. update.object < n) (count-kept is.machine is.replay r k)
+    (next.step is.machine now process update (rules-kept is.machine is.replay r k) (writes-now law is.machine is.replay r k)
+    ((λ i. write_of (step_of (sym same_machine i) (sym same i) process).action) ∙ e)))
+
 -- a step that the parts took
 pub takes-on : (event : Event) (old new : Replaying) → Leads (one_more event) old.nets new.nets old.table new.table old.record new.record → new.log ≡ old.log →
     design_of new.graph.now.design.now ≡ design_of old.graph.now.design.now → new.steps ≡ old.steps → SameRun old new → TakesStep event old new
 takes-on event old new leads log graph steps same = record {
   same = same;
   steps_are = steps;
-  takes = λ machine replay k.
+  takes = λ machine replay k few.
       keeps-on machine replay (event ∷ []) old new k
       (subst (λ l. IsAmid machine k.first k.before (present_phase k.turn (with_events machine (event ∷ []) replay)) new.nets new.table new.record l) (sym log)
-      (leads machine k.first k.before (present_phase k.turn replay) old.log k.amid)) graph steps same;
+      (leads machine k.first k.before (present_phase k.turn replay) old.log k.amid)) graph steps same (inl few);
 }
 
 -- the steps of the slot are counted
-pub counted-on : (machine : Machine) (replay : Replay) (r : Replaying) → Keeps machine replay r → Keeps machine (record replay { steps = replay.steps + 1 }) (record r { steps = r.steps + 1 })
-counted-on machine replay r k = record {
-  first = k.first;
-  before = k.before;
-  turn = k.turn;
-  amid = k.amid;
-  now_is = k.now_is;
-  number_is = k.number_is;
-  steps_is = ap (λ n. n + 1) k.steps_is;
-  graph_is = k.graph_is;
-  clear = k.clear;
-}
+counted-few : (ended steps : ℕ) (state : State) → ArePhasesFew ended steps state → ended ≤ steps + 1
+counted-few ended steps state (inl h) = omega (arith, h)
+counted-few ended steps state (inr h) = h.0
+
+-- with one step more no more phases ended than the slot has steps
+abbrev pub Counted : Machine → Replay → Replaying → Type 0
+Counted machine replay r = (k : Keeps machine replay r) × (length k.before ≤ replay.steps)
+
+pub counted-on : (machine : Machine) (replay : Replay) (r : Replaying) → r.steps < 100000 → Keeps machine replay r →
+    Counted machine (record replay { steps = replay.steps + 1 }) (record r { steps = r.steps + 1 })
+counted-on machine replay r room k =
+    let few : length k.before ≤ replay.steps + 1 = counted-few (length k.before) replay.steps replay.now k.few in (
+      record {
+        first = k.first;
+        before = k.before;
+        turn = k.turn;
+        amid = k.amid;
+        now_is = k.now_is;
+        number_is = k.number_is;
+        steps_is = ap (λ n. n + 1) k.steps_is;
+        graph_is = k.graph_is;
+        writes = k.writes;
+        most = omega (arith, room);
+        few = inl few;
+        clear = k.clear;
+      },
+      few,
+    )
 
 -- a step that is possible and within the slot's steps, and all node events after it
-pub steps-on : (stepper : Stepper) (process : ℕ) (old mid new : Replaying) → old.steps < 100000 → may_step (table_of old.table) stepper process ≡ true → TakesStep (event_by stepper process) old mid →
-    Settles (record mid { steps = mid.steps + 1 }) new → SameRun old new → Follows (λ machine replay. step_on machine (event_by stepper process) replay) true old new
-steps-on stepper process old mid new few may takes settles same = record {
+pub steps-on : (stepper : Stepper) (process : ℕ) (old mid new : Replaying) → old.steps < 100000 → may_step (table_of old.table) stepper process ≡ true →
+    TakesStep (event_by stepper process) (record old { steps = old.steps + 1 }) mid → Settles mid new → SameRun old new →
+    Follows (λ machine replay. step_on machine (event_by stepper process) replay) true old new
+steps-on stepper process old mid new room may takes settles same = record {
   same = same;
   goes_on = λ machine replay k.
       let event = event_by stepper process in
-      let one = counted-on machine (with_events machine (event ∷ []) replay) mid (takes.takes machine replay k) in
-      let all = settles.settles machine (record (with_events machine (event ∷ []) replay) { steps = replay.steps + 1 }) one in
+      let next : Replay = record replay { steps = replay.steps + 1 } in
+      let counted = counted-on machine replay old room k in
+      let one = takes.takes machine next counted.0 counted.1 in
+      let all = settles.settles machine (with_events machine (event ∷ []) next) one in
       let allowed : (possible replay.now event && nat_lt replay.steps most_steps) ≡ true =
-      (λ i. (sym (may-is machine replay old stepper process k) ∙ may) i && lt-ltb replay.steps 100000 (subst (λ n. n < 100000) (sym k.steps_is) few) i) in (
+      (λ i. (sym (may-is machine replay old stepper process k) ∙ may) i && lt-ltb replay.steps 100000 (subst (λ n. n < 100000) (sym k.steps_is) room) i) in (
         stepped_on machine event replay,
         ap (λ b. only_if b (stepped_on machine event replay)) allowed,
-        keeps-alike machine (with_events machine (settling machine (after machine replay.now event)) (record (with_events machine (event ∷ []) replay) { steps = replay.steps + 1 }))
-            (stepped_on machine event replay) new refl (sym (append_assoc replay.events (event ∷ []) (settling machine (after machine replay.now event)))) refl refl refl all,
+        keeps-alike machine (with_events machine (settling machine (after machine replay.now event)) (with_events machine (event ∷ []) next)) (stepped_on machine event replay) new refl
+            (sym (append_assoc replay.events (event ∷ []) (settling machine (after machine replay.now event)))) refl refl refl all,
       );
 }
 
@@ -184,6 +260,11 @@ stuck-fails stepper process old new stuck same = record {
 work-now : (machine : Machine) (replay : Replay) (r : Replaying) → Keeps machine replay r → (found : Option Event) → work_of 0 (nodes_in r.nets) ≡ found → work_of 0 replay.now.nodes ≡ found
 work-now machine replay r k found work = ap (work_of 0) (ap (λ (s : State). s.nodes) k.now_is ∙ sym k.amid.both.nets_are.nodes) ∙ work
 
+-- where a node has work no step comes first, so that what holds of the phases stays
+few-stays : (ended steps : ℕ) (state next : State) (event : Event) → work_of 0 state.nodes ≡ Some event → ArePhasesFew ended steps state → ArePhasesFew ended steps next
+few-stays ended steps state next event work (inl h) = inl h
+few-stays ended steps state next event work (inr h) = absurd (let no : None ≡ Some event = sym h.1.1 ∙ work in cc)
+
 -- the work on a node that the parts did
 pub works-on : (node : ℕ) (old mid new : Replaying) → work_of 0 (nodes_in old.nets) ≡ Some (Evaluation node) → node < length (nodes_in old.nets) →
     ((machine : Machine) (replay : Replay) → Keeps machine replay old → Keeps machine replay mid) →
@@ -202,7 +283,9 @@ works-on node old mid new work low stays leads log graph steps before after = re
             (subst (λ es. IsAmid machine m.first m.before (record { turn = m.turn; begins = replay.begins; events = es }) new.nets new.table new.record new.log)
             (append_assoc replay.events (Evaluation node ∷ []) (NetUpdate node ∷ []))
             (subst (λ l. IsAmid machine m.first m.before (node_more node (present_phase m.turn replay)) new.nets new.table new.record l) (sym log)
-            (leads machine m.first m.before (present_phase m.turn replay) mid.log m.amid))) graph steps after,
+            (leads machine m.first m.before (present_phase m.turn replay) mid.log m.amid))) graph steps after
+            (few-stays (length m.before) replay.steps replay.now (happened machine replay.now (Evaluation node ∷ NetUpdate node ∷ [])) (Evaluation node)
+            (work-now machine replay old k (Some (Evaluation node)) work) m.few),
       );
 }
 
@@ -234,6 +317,9 @@ stays-on old new machine values nodes is k replay keeps = subst (Keeps k replay)
   number_is = keeps.number_is;
   steps_is = keeps.steps_is;
   graph_is = keeps.graph_is;
+  writes = keeps.writes;
+  most = keeps.most;
+  few = keeps.few;
   clear = keeps.clear;
 })
 

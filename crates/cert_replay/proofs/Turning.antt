@@ -1,5 +1,5 @@
 -- A phase of a replay ends, and a turn begins the next one (IEEE 1364-2001, clause 5).
-use Rattle.std.proofs.Common.{◌≡◌, ℕ, suc, ◌+◌, ◌-◌, ◌<◌, ◌≤◌, List, [], ◌∷◌, ◌++◌, length, get_or, Bool, true, false, not, ◌&&◌, ◌||◌, ◌⊎◌, inl, inr, refl, sym, ap, subst, ◌∙◌, arith}
+use Rattle.std.proofs.Common.{◌≡◌, ℕ, suc, ◌+◌, ◌-◌, ◌<◌, ◌≤◌, List, [], ◌∷◌, ◌++◌, length, get_or, Bool, true, false, not, ◌&&◌, ◌||◌, ◌⊎◌, inl, inr, refl, sym, ap, subst, ◌∙◌, arith, ◌^◌}
 use Rattle.std.specs.Prelude.{Option, Some, None, is_some, nat_eq, nat_le, nat_lt}
 use Rattle.std.specs.Option.{option_map}
 use Rattle.std.proofs.lemmas.Bool.{eq-eqb, ne_eqb, le-leb, lt-ltb, le-ltb}
@@ -16,7 +16,7 @@ use Rattle.vf_base.specs.Lists.{first_place}
 use Rattle.causal_monitor.specs.Phases.{PhaseOfSlot, IsLogOf}
 use Rattle.causal_monitor.specs.declared.slot.Turn.{Turn}
 use Rattle.causal_monitor.specs.declared.slot.Turn.TheVariants.{Start}
-use Rattle.machine_laws.specs.SlotLoop.{RacesGoOn, or_race}
+use Rattle.machine_laws.specs.SlotLoop.{RacesGoOn, TurnsWake, or_race}
 use Rattle.slot_record.specs.Records.{object_count}
 use Rattle.slot_record.specs.SlotLogs.{turn_before, logged_phases, logged_phase_of}
 use Rattle.slot_record.specs.SlotRecords.{BeginsPhase, RecordedSlot, IsEmptyLog}
@@ -27,12 +27,13 @@ use Rattle.process_table.specs.Arranged.{IsKept, table_of}
 use Rattle.machine_events.specs.Parts.{AreBothOf}
 use Rattle.machine_events.specs.Turns.{held_in, TellsTurn, time_in}
 use Rattle.machine_events.specs.PartLaws.{turned-nets, held-is}
+use Rattle.race_laws.specs.Writes.{WritesStay}
 use Rattle.cert_laws.specs.Replays.{Replay, turned_on, phase_on, slot_on}
 use Rattle.cert_replay.specs.declared.replaying.Replaying.{Replaying}
-use Rattle.cert_replay.specs.Kept.{Keeps, HasEnded, IsReplaying, IsAtPhaseEnd, SameRun, GoesOn, EndsIf, EndsPhase, Turns, claims_race, present_phase}
+use Rattle.cert_replay.specs.Kept.{Keeps, HasEnded, IsReplaying, IsAtPhaseEnd, ArePhasesFew, SameRun, GoesOn, EndsIf, EndsPhase, Turns, claims_race, present_phase}
 use Rattle.cert_replay.specs.Deeds.{TellsQuiet, Starts, IsStarting, BeginsSlot}
 use Rattle.cert_replay.proofs.Words.{quiet-is, quiet-processes}
-use Rattle.cert_replay.proofs.Going.{same-run, same-twice}
+use Rattle.cert_replay.proofs.Going.{same-run, same-twice, writes-now}
 
 -- Whether no event is possible
 
@@ -84,11 +85,16 @@ ends-not old new quiet busy tells = record {
       ap (λ b. b && (old.race || not (is_some (phase_race machine replay.begins replay.events)))) (sym (tells.quiet_is machine replay k) ∙ busy);
 }
 
+-- where no event is possible no step comes first
+ended-few : (ended steps : ℕ) (state : State) → is_quiescent state ≡ true → ArePhasesFew ended steps state → ended ≤ steps
+ended-few ended steps state quiet (inl h) = h
+ended-few ended steps state quiet (inr h) = absurd (let no : true ≡ false = sym h.1.0 ∙ quiet-processes state quiet in cc)
+
 length-more : {A : Type 0} (xs : List A) (x : A) → length (xs ++ x ∷ []) ≡ length xs + 1
 length-more [] x = refl
 length-more (y ∷ xs) x = let z : length xs + 1 + 1 ≡ length (y ∷ xs) + 1 = omega arith in ap suc (length-more xs x) ∙ (let w : suc (length xs + 1) ≡ length (y ∷ xs) + 1 = omega arith in w)
 
-module _ (law : RacesGoOn) (machine : Machine) (replay : Replay) (old mid new : Replaying) (k : Keeps machine replay mid) (quiet : is_quiescent replay.now ≡ true)
+module _ (law : RacesGoOn) (stay : WritesStay) (machine : Machine) (replay : Replay) (old mid new : Replaying) (k : Keeps machine replay mid) (quiet : is_quiescent replay.now ≡ true)
     (claim : claims_race mid ≡ claims_race old)
     (phase : slot.EndsPhase (design_of mid.graph.now.design.now) mid.record new.record mid.log new.log) (is : new ≡ record mid { «record» = new.record; log = new.log }) where
   abbrev all : List Phase
@@ -123,6 +129,11 @@ module _ (law : RacesGoOn) (machine : Machine) (replay : Replay) (old mid new : 
     number_is = k.number_is ∙ sym (length-more k.before (present_phase k.turn replay));
     steps_is = k.steps_is;
     graph_is = k.graph_is;
+    writes = writes-now stay machine replay mid k;
+    most = k.most;
+    few =
+        (let count : length (k.before ++ present_phase k.turn replay ∷ []) ≡ length k.before + 1 = length-more k.before (present_phase k.turn replay) in
+        let few : length k.before ≤ replay.steps = ended-few (length k.before) replay.steps replay.now quiet k.few in omega (arith, count, few));
     clear = λ none. sym recorded.race_is ∙ ap (option_map reported_pair) (none-of new.record.race (clear (sym claim ∙ none)));
   })
 
@@ -138,29 +149,39 @@ module _ (law : RacesGoOn) (machine : Machine) (replay : Replay) (old mid new : 
       go false false claimed found false e = cc
 
 -- the phase is logged, and may end or not
-pub ends-told : RacesGoOn → (old mid new : Replaying) (quiet ended : Bool) → quiet ≡ true → TellsQuiet quiet old mid →
+pub ends-told : RacesGoOn → WritesStay → (old mid new : Replaying) (quiet ended : Bool) → quiet ≡ true → TellsQuiet quiet old mid →
     slot.EndsPhase (design_of mid.graph.now.design.now) mid.record new.record mid.log new.log →
     new ≡ record mid { «record» = new.record; log = new.log } → SameRun mid new → ended ≡ (mid.race || not (is_some new.record.race)) → EndsPhase ended old new
-ends-told law old mid new quiet ended calm tells phase is same e = record {
+ends-told law stay old mid new quiet ended calm tells phase is same e = record {
   same = same-twice old mid new tells.same same;
   ends = λ machine replay k.
-      ends-so law machine replay old mid new (tells.stays machine replay k) (sym (tells.quiet_is machine replay k) ∙ calm) tells.same.race phase is ended
+      ends-so law stay machine replay old mid new (tells.stays machine replay k) (sym (tells.quiet_is machine replay k) ∙ calm) tells.same.race phase is ended
       (e ∙ ap (λ b. b || not (is_some new.record.race)) tells.same.race);
 }
 
 -- Turns
+
+-- the next phase has a number
+pub next-number : (r : Replaying) (is : IsAtPhaseEnd r) → r.record.number + 1 < 2 ^ 32
+next-number r is =
+    let h = is.ended in
+    let numbered : r.record.number ≡ length h.before = h.recorded.numbered in
+    let few : length h.before ≤ is.replay.steps + 1 = h.few in
+    let steps : is.replay.steps ≡ r.steps = h.steps_is in
+    let most : r.steps ≤ 100000 = h.most in
+    omega (arith, numbered, few, steps, most)
 
 -- what a turn asks
 pub turn-quiet : (r : Replaying) (is : IsAtPhaseEnd r) → some_in has_event (table_of r.table).processes ≡ false
 turn-quiet r is = ap (some_in has_event) is.ended.both.table_is.processes ∙ quiet-processes is.replay.now is.ended.quiescent
 
 -- a turn within the slot begins the phase of a number
-phase-begun : (machine : Machine) (replay : Replay) (old new : Replaying) (h : HasEnded machine replay old) (kind : TurnKind) (turn : Turn) (number : ℕ) → turn_of replay.now ≡ Some kind →
-    ((first : Turn) → turn ≡ turn_before first (Some kind)) → number ≡ replay.number + 1 → (turned kind replay.now).time ≡ replay.now.time →
+phase-begun : WritesStay → TurnsWake → (machine : Machine) (replay : Replay) (old new : Replaying) (h : HasEnded machine replay old) (kind : TurnKind) (turn : Turn) (number : ℕ) →
+    turn_of replay.now ≡ Some kind → turn_in_slot (Some kind) ≡ Some TurnMove → ((first : Turn) → turn ≡ turn_before first (Some kind)) → number ≡ replay.number + 1 → (turned kind replay.now).time ≡ replay.now.time →
     ((machine : Machine) (state : State) → IsTableOf machine state (table_of old.table) → IsTableOf machine (turned_by (turn_of state) state) (table_of new.table)) → IsKept new.table →
     BeginsPhase turn (table_of new.table).time (held_in (table_of new.table)) old.record new.record →
     new ≡ record old { table = new.table; «record» = new.record; told = new.told } → Keeps machine (turned_on kind number replay.steps replay) new
-phase-begun machine replay old new h kind turn number found before is time turns kept begins same =
+phase-begun stay wake machine replay old new h kind turn number found within before is time turns kept begins same =
     let next : State = turned kind replay.now in
     let table : IsTableOf machine next (table_of new.table) = subst (λ o. IsTableOf machine (turned_by o replay.now) (table_of new.table)) found (turns machine replay.now h.both.table_is) in
     let made : Replaying = record old { table = new.table; «record» = new.record; told = new.told } in
@@ -177,16 +198,20 @@ phase-begun machine replay old new h kind turn number found before is time turns
       number_is = is ∙ ap (λ n. n + 1) h.number_is;
       steps_is = h.steps_is;
       graph_is = h.graph_is;
+      writes = stay.after_turn machine.design replay.now kind h.writes;
+      most = h.most;
+      few = inr (h.few, wake replay.now kind h.quiescent found within);
       clear = h.clear;
     })
 
 -- the phase that a turn within the slot begins is the one that is asked for
-pub phase-goes : (old new : Replaying) (turn : Turn) (number : ℕ) → ((machine : Machine) (state : State) → IsTableOf machine state (table_of old.table) → TellsTurn (Some turn) (turn_of state)) →
+pub phase-goes : WritesStay → TurnsWake → (old new : Replaying) (turn : Turn) (number : ℕ) →
+    ((machine : Machine) (state : State) → IsTableOf machine state (table_of old.table) → TellsTurn (Some turn) (turn_of state)) →
     number ≡ old.record.number + 1 →
     ((machine : Machine) (state : State) → IsTableOf machine state (table_of old.table) → IsTableOf machine (turned_by (turn_of state) state) (table_of new.table)) → IsKept new.table →
     BeginsPhase turn (table_of new.table).time (held_in (table_of new.table)) old.record new.record →
     new ≡ record old { table = new.table; «record» = new.record; told = new.told } → SameRun old new → Turns (λ replay. phase_on (turn_of replay.now) number replay) true old new
-phase-goes old new turn number told is turns kept begins same run = record {
+phase-goes stay wake old new turn number told is turns kept begins same run = record {
   same = run;
   goes_on = λ machine replay h. go machine replay h (turn_of replay.now) refl (told machine replay.now h.both.table_is) (is ∙ ap (λ n. n + 1) (h.recorded.numbered ∙ sym h.number_is));
 }
@@ -197,12 +222,12 @@ phase-goes old new turn number told is turns kept begins same run = record {
     go machine replay h (Some PostponedTurn) f tells e = (
       turned_on PostponedTurn number replay.steps replay,
       ap (λ b. only_if b (turned_on PostponedTurn number replay.steps replay)) (eq-eqb number (replay.number + 1) e),
-      phase-begun machine replay old new h PostponedTurn turn number f tells.1 e refl turns kept begins same,
+      phase-begun stay wake machine replay old new h PostponedTurn turn number f refl tells.1 e refl turns kept begins same,
     )
     go machine replay h (Some UpdatesTurn) f tells e = (
       turned_on UpdatesTurn number replay.steps replay,
       ap (λ b. only_if b (turned_on UpdatesTurn number replay.steps replay)) (eq-eqb number (replay.number + 1) e),
-      phase-begun machine replay old new h UpdatesTurn turn number f tells.1 e refl turns kept begins same,
+      phase-begun stay wake machine replay old new h UpdatesTurn turn number f refl tells.1 e refl turns kept begins same,
     )
     go machine replay h (Some (TimeTurn time)) f tells e = let no : None ≡ Some TurnMove = tells.0 in cc
 
@@ -260,6 +285,9 @@ slot-begun old mid new turn begins empty before phase after = record {
         number_is = refl;
         steps_is = refl;
         graph_is = s.graph_is;
+        writes = s.writes;
+        most = omega arith;
+        few = inl (omega arith);
         clear = λ none. refl;
       });
 }
@@ -270,10 +298,10 @@ slot-room old mid is begins empty =
     (begins is.machine Start is.starts.earlier mid.log is.starts.causes empty).causes.objects ∙ ap (λ d. length d.objects) (sym is.starts.both.table_is.design)
 
 -- where a turn leads to a later time, a slot may begin with the state then
-pub slot-starts : (machine : Machine) (replay : Replay) (old mid : Replaying) (later : ℕ) → HasEnded machine replay old → turn_of replay.now ≡ Some (TimeTurn later) →
+pub slot-starts : WritesStay → (machine : Machine) (replay : Replay) (old mid : Replaying) (later : ℕ) → HasEnded machine replay old → turn_of replay.now ≡ Some (TimeTurn later) →
     ((machine : Machine) (state : State) → IsTableOf machine state (table_of old.table) → IsTableOf machine (turned_by (turn_of state) state) (table_of mid.table)) → IsKept mid.table →
     mid ≡ record old { table = mid.table } → Starts machine (turned (TimeTurn later) replay.now) mid
-slot-starts machine replay old mid later h found turns kept same =
+slot-starts stay machine replay old mid later h found turns kept same =
     let table : IsTableOf machine (turned (TimeTurn later) replay.now) (table_of mid.table) =
     subst (λ o. IsTableOf machine (turned_by o replay.now) (table_of mid.table)) found (turns machine replay.now h.both.table_is) in
     subst (Starts machine (turned (TimeTurn later) replay.now)) (sym same) (record {
@@ -282,6 +310,7 @@ slot-starts machine replay old mid later h found turns kept same =
       earlier = h.recorded.earlier;
       causes = h.recorded.causes;
       graph_is = h.graph_is;
+      writes = stay.after_turn machine.design replay.now (TimeTurn later) h.writes;
     })
 
 -- the time of the turn that comes
@@ -295,30 +324,30 @@ pub later-turn : (r : Replaying) (later : ℕ) → ((machine : Machine) (state :
     (machine : Machine) (replay : Replay) → HasEnded machine replay r → turn_of replay.now ≡ Some (TimeTurn later)
 later-turn r later told machine replay h = time-turn (turn_of replay.now) later (told machine replay.now h.both.table_is)
 
-pub slot-starting : (old mid : Replaying) (later : ℕ) (is : IsAtPhaseEnd old) → ((machine : Machine) (state : State) → IsTableOf machine state (table_of old.table) →
+pub slot-starting : WritesStay → (old mid : Replaying) (later : ℕ) (is : IsAtPhaseEnd old) → ((machine : Machine) (state : State) → IsTableOf machine state (table_of old.table) →
     Some later ≡ time_in (turn_of state)) →
     ((machine : Machine) (state : State) → IsTableOf machine state (table_of old.table) → IsTableOf machine (turned_by (turn_of state) state) (table_of mid.table)) →
     IsKept mid.table →
     mid ≡ record old { table = mid.table } → IsStarting mid
-slot-starting old mid later is told turns kept same = record {
+slot-starting stay old mid later is told turns kept same = record {
   machine = is.machine;
   begins = turned (TimeTurn later) is.replay.now;
-  starts = slot-starts is.machine is.replay old mid later is.ended (later-turn old later told is.machine is.replay is.ended) turns kept same;
+  starts = slot-starts stay is.machine is.replay old mid later is.ended (later-turn old later told is.machine is.replay is.ended) turns kept same;
 }
 
 -- the slot that the turn begins is the one that is asked for
-pub slot-goes : (old mid new : Replaying) (later time : ℕ) → ((machine : Machine) (state : State) → IsTableOf machine state (table_of old.table) → Some later ≡ time_in (turn_of state)) →
+pub slot-goes : WritesStay → (old mid new : Replaying) (later time : ℕ) → ((machine : Machine) (state : State) → IsTableOf machine state (table_of old.table) → Some later ≡ time_in (turn_of state)) →
     later ≡ time → later ≤ old.bound →
     ((machine : Machine) (state : State) → IsTableOf machine state (table_of old.table) → IsTableOf machine (turned_by (turn_of state) state) (table_of mid.table)) → IsKept mid.table →
     mid ≡ record old { table = mid.table } → SameRun old mid → BeginsSlot mid new → Turns (λ replay. slot_on old.bound (turn_of replay.now) time replay) true old new
-slot-goes old mid new later time told is low turns kept same run begins = record {
+slot-goes stay old mid new later time told is low turns kept same run begins = record {
   same = same-twice old mid new run begins.same;
   goes_on = λ machine replay h.
       let found = later-turn old later told machine replay h in (
         turned_on (TimeTurn later) 1 0 replay,
         ap (λ o. slot_on old.bound o time replay) found
             ∙ (λ i. only_if (eq-eqb later time is i && le-leb later old.bound low i) (turned_on (TimeTurn later) 1 0 replay)),
-        begins.begins machine (turned (TimeTurn later) replay.now) (replay.moves ++ TurnMove ∷ []) (slot-starts machine replay old mid later h found turns kept same),
+        begins.begins machine (turned (TimeTurn later) replay.now) (replay.moves ++ TurnMove ∷ []) (slot-starts stay machine replay old mid later h found turns kept same),
       );
 }
 

@@ -1,9 +1,10 @@
 -- What stands for a replay (runs by IEEE 1364-2001, clause 5).
-use Rattle.std.specs.Prelude.{◌≡◌, ℕ, ◌+◌, Bool, true, false, List, [], ◌∷◌, ◌++◌, length, Option, Some, None}
+use Rattle.std.specs.Prelude.{◌≡◌, ℕ, ◌+◌, Bool, true, false, List, [], ◌∷◌, ◌++◌, length, Option, Some, None, ◌≤◌, ◌⊎◌}
 use Rattle.v_design.specs.PlainDesigns.{design_of}
 use Rattle.v_design.specs.Designs.{Machine}
-use Rattle.v_design.specs.States.{Event, Step, LaneStep, TurnKind, is_quiescent}
-use Rattle.v_design.specs.Runs.{happened}
+use Rattle.v_design.specs.States.{State, Event, Step, LaneStep, TurnKind, is_quiescent}
+use Rattle.v_design.specs.Runs.{happened, most_steps}
+use Rattle.machine_laws.specs.SlotLoop.{AwaitsStep}
 use Rattle.v_design.specs.Grades.{Phase, first_race}
 use Rattle.v_design.specs.PhaseLogs.{log_of}
 use Rattle.causal_monitor.specs.Phases.{IsLogOf}
@@ -11,6 +12,7 @@ use Rattle.causal_monitor.specs.declared.slot.Turn.{Turn}
 use Rattle.slot_record.specs.SlotRecords.{RecordedSlot}
 use Rattle.process_table.specs.Arranged.{IsKept, table_of}
 use Rattle.machine_events.specs.Parts.{AreBothOf, IsAmid}
+use Rattle.race_laws.specs.Writes.{WritesAreOf}
 use Rattle.cert_laws.specs.Replays.{RunLine, StepsOf, UpdatesOf, Replay, may_end}
 use Rattle.cert_replay.specs.declared.replaying.Replaying.{Replaying}
 use Rattle.cert_replay.specs.declared.replaying.Stepper.{Stepper}
@@ -40,6 +42,10 @@ time_kept r = (table_of r.table).time
 abbrev pub present_phase : Option TurnKind → Replay → Phase
 present_phase turn replay = record { turn = turn; begins = replay.begins; events = replay.events }
 
+-- so many phases of a slot ended: at most as many as it has steps, or one more where a step comes first in the present phase
+abbrev pub ArePhasesFew : (ended steps : ℕ) → State → Type 0
+ArePhasesFew ended steps state = (ended ≤ steps) ⊎ ((ended ≤ steps + 1) × AwaitsStep state)
+
 -- what is kept stands for a replay but for its moves
 pub record Keeps (machine : Machine) (replay : Replay) (r : Replaying) : Type 0 where
   pub first : Turn
@@ -50,6 +56,10 @@ pub record Keeps (machine : Machine) (replay : Replay) (r : Replaying) : Type 0 
   pub number_is : replay.number ≡ length before + 1
   pub steps_is : replay.steps ≡ r.steps
   pub graph_is : design_of r.graph.now.design.now ≡ machine.design
+  -- what was to be written as the phase began is of the design
+  pub writes : WritesAreOf machine.design replay.begins
+  pub most : r.steps ≤ most_steps
+  pub few : ArePhasesFew (length before) replay.steps replay.now
   -- unless a race is claimed, no phase of the slot that ended has a conflict
   pub clear : r.race ≡ false → first_race machine 1 before ≡ None
 
@@ -68,6 +78,9 @@ pub record HasEnded (machine : Machine) (replay : Replay) (r : Replaying) : Type
   pub number_is : replay.number ≡ length before
   pub steps_is : replay.steps ≡ r.steps
   pub graph_is : design_of r.graph.now.design.now ≡ machine.design
+  pub writes : WritesAreOf machine.design replay.now
+  pub most : r.steps ≤ most_steps
+  pub few : length before ≤ replay.steps + 1
   pub clear : r.race ≡ false → first_race machine 1 before ≡ None
 
 -- what is kept stands for some replay

@@ -62,6 +62,7 @@ impl<'d> Replaying<'d> {
         ensures race { IfOk result (λ replaying. claims_race replaying ≡ race) }
         ensures bound { IfOk result (λ replaying. bound_kept replaying ≡ bound) }
     {
+        race_laws::writes_stay();
         let nets = NetState::new(alloc, View { design, fault }, graph)?;
         let table = ProcessTable::new(alloc, design)?;
         let processes = design.processes.as_slice().len();

@@ -56,6 +56,7 @@ impl<'d> Replaying<'d> {
         ensures { IfOk result (λ ended. EndsPhase ended self.old self.new) }
     {
         machine_laws::phases_go_on();
+        race_laws::writes_stay();
         if !self.is_quiescent() {
             return Ok(false);
         }
@@ -122,6 +123,8 @@ impl<'d> Replaying<'d> {
         requires { IsAtPhaseEnd self.old }
         ensures { IfOk result (λ went. Turns (λ replay. phase_on (turn_of replay.now) number replay) went self.old self.new) }
     {
+        machine_laws::phases_are_few();
+        race_laws::writes_stay();
         let Some(turn) = slot_turn(&self.table) else {
             return Ok(false);
         };
@@ -142,6 +145,7 @@ impl<'d> Replaying<'d> {
         requires { IsAtPhaseEnd self.old }
         ensures { IfOk result (λ went. Turns (λ replay. slot_on (bound_kept self.old) (turn_of replay.now) time replay) went self.old self.new) }
     {
+        race_laws::writes_stay();
         let Some(later) = later_time(&self.table) else {
             return Ok(false);
         };

@@ -25,7 +25,7 @@ fn may_step(table: &ProcessTable, stepper: Stepper, process: ProcId) -> bool
 }
 
 impl<'d> Replaying<'d> {
-    /// A process or its lane takes a step, which is possible; the node events that follow are still to be done.
+    /// A process or its lane takes a step, which is possible and counted; the node events that follow are still to be done.
     ///
     /// # Errors
     ///
@@ -41,6 +41,7 @@ impl<'d> Replaying<'d> {
         requires possible { may_step (table_of self.old.table) stepper (process_number process) ≡ true }
         ensures { OnOk result (TakesStep (event_by stepper (process_number process)) self.old self.new) }
     {
+        race_laws::writes_stay();
         match stepper {
             Stepper::Process => {
                 step_process(
@@ -87,8 +88,8 @@ impl<'d> Replaying<'d> {
         if !may_step(&self.table, stepper, process) {
             return Ok(false);
         }
-        self.take_step(stepper, process, steps)?;
         self.steps += 1;
+        self.take_step(stepper, process, steps)?;
         self.settle()?;
         Ok(true)
     }

@@ -26,6 +26,12 @@ left-alone codes design plan fault before touched slots kept states updates alon
     subst (λ (d : Differences). SlotsLeaveAlone design plan fault d (before + 0) (before + touched)) alike alone in
     record { states = states; updates = updates; alone = λ number slot here since high. same number slot here (omega (arith, since)) (omega (arith, high, low)) }
 
+-- of slots that leave a copy alone the first ones do
+pub fewer-alone : (design : FlatDesign) (plan : TestPlan) (fault : StuckAt) (before fewer slots : ℕ) (kept : CopyKept) → fewer ≤ slots → IsAlone design plan fault before (before + slots) kept →
+    IsAlone design plan fault before (before + fewer) kept
+fewer-alone design plan fault before fewer slots kept low all =
+    record { states = all.states; updates = all.updates; alone = λ number slot here since high. all.alone number slot here since (omega (arith, high, low)) }
+
 all-at : (P : StuckAt → Type 0) (faults : List StuckAt) (number : ℕ) (fault : StuckAt) → AllHold P faults → slice_get faults number ≡ Some fault → P fault
 all-at P [] number fault all here = cc
 all-at P (first ∷ faults) zero fault all here = subst P (some-is first fault here) all.0

@@ -119,6 +119,11 @@ pub just-before : (time until : ℕ) → Some until ≡ last_before time → tim
 just-before zero until is = cc
 just-before (suc time) until is = ap suc (sym (some-is until time is))
 
+pub fine-few : (ending : WindowEnd) (count : ℕ) → fine_slots ending count ≤ count
+fine-few IsOpen count = omega arith
+fine-few IsThrough count = omega arith
+fine-few (IsRaced pair) count = omega arith
+
 -- in a window that leads to a time the slot behind those that come before a race is later than that
 pub fine-next : GoodRunGoesOn → (design : FlatDesign) (plan : TestPlan) → KeepsRules design → (through until : ℕ) (ending : WindowEnd) → EndsSo design plan through ending (Some until) →
     (before count : ℕ) → before + count ≡ through → 0 < count → (next : FirstSlot) → slice_get (good_slots design plan) (before + fine_slots ending count) ≡ Some next → until < next.begins.time

@@ -6,12 +6,12 @@ use Rattle.four_value.specs.declared.logic.Bit.{Bit}
 use Rattle.four_value.specs.declared.logic.Bit.TheVariants.{Zero, One, X, Z}
 use Rattle.vf_base.specs.Lists.{AllHold}
 use Rattle.v_design.specs.Designs.{FlatDesign, StuckAt, TestPlan}
-use Rattle.v_design.specs.Grades.{Sample, Stop, is_hard, is_possible, some_sample}
+use Rattle.v_design.specs.Grades.{Stop, is_hard, is_possible, some_sample}
 use Rattle.v_design.specs.WellFormed.{IsPlan}
 use Rattle.strobe_detect.specs.Firsts.{first_time}
 use Rattle.strobe_detect.specs.Graders.{GraderState, shown_at}
 use Rattle.grade_laws.specs.Ahead.{StopsAfter}
-use Rattle.grade_laws.specs.Grading.{good_seen, faulty_seen, good_stop, faulty_stop, times}
+use Rattle.grade_laws.specs.Grading.{good_seen, faulty_seen, good_stop, faulty_stop}
 use Rattle.beside_laws.specs.Gradings.{GradingGoesOn, GradingsGoOn}
 
 -- Bits that are the same
@@ -60,20 +60,20 @@ module _ (law : GradingsGoOn) (design : FlatDesign) (plan : TestPlan) (of_plan :
     (good_on : StopsAfter until (good_stop design plan)) (own_on : StopsAfter until (faulty_stop design plan fault))
     (same : (time : ℕ) → from ≤ time → time ≤ until → faulty_seen design plan fault time ≡ good_seen design plan time) where
   -- it goes on through strobes at which both machines are seen alike
-  pub alike-strobes : (samples : List Sample) (now : Option ℕ) (passed later : List ℕ) → GradingGoesOn design plan fault now passed (times samples ++ later) grader →
-      AllHold (λ strobe. from < strobe) (times samples) → AllHold (λ (sample : Sample). sample.time ≤ until) samples → GoesOnBehind design plan fault (passed ++ times samples) later grader
+  pub alike-strobes : (strobes : List ℕ) (now : Option ℕ) (passed later : List ℕ) → GradingGoesOn design plan fault now passed (strobes ++ later) grader →
+      AllHold (λ strobe. from < strobe) strobes → AllHold (λ strobe. strobe ≤ until) strobes → GoesOnBehind design plan fault (passed ++ strobes) later grader
   alike-strobes [] now passed later goes since by =
       record { now = now; goes = subst (λ (l : List ℕ). GradingGoesOn design plan fault now l later grader) (sym (append-nil passed)) goes }
-  alike-strobes (sample ∷ samples) now passed later goes since by =
-      let late : from < sample.time = since.0 in
-      let low : sample.time ≤ until = by.0 in
-      let step : GradingGoesOn design plan fault (Some sample.time) (passed ++ sample.time ∷ []) (times samples ++ later) grader =
-      law.strobe design plan fault now passed (times samples ++ later) sample.time grader grader (good_seen design plan sample.time) (faulty_seen design plan fault sample.time) of_plan goes
-      (stops-earlier sample.time until (good_stop design plan) low good_on) (stops-earlier sample.time until (faulty_stop design plan fault) low own_on) refl refl
-      (shown-same sample.time (good_seen design plan sample.time) (faulty_seen design plan fault sample.time) grader (same sample.time (omega (arith, late)) low)) none_hard in
-      let rest = alike-strobes samples (Some sample.time) (passed ++ sample.time ∷ []) later step since.1 by.1 in
+  alike-strobes (strobe ∷ strobes) now passed later goes since by =
+      let late : from < strobe = since.0 in
+      let low : strobe ≤ until = by.0 in
+      let step : GradingGoesOn design plan fault (Some strobe) (passed ++ strobe ∷ []) (strobes ++ later) grader =
+      law.strobe design plan fault now passed (strobes ++ later) strobe grader grader (good_seen design plan strobe) (faulty_seen design plan fault strobe) of_plan goes
+      (stops-earlier strobe until (good_stop design plan) low good_on) (stops-earlier strobe until (faulty_stop design plan fault) low own_on) refl refl
+      (shown-same strobe (good_seen design plan strobe) (faulty_seen design plan fault strobe) grader (same strobe (omega (arith, late)) low)) none_hard in
+      let rest = alike-strobes strobes (Some strobe) (passed ++ strobe ∷ []) later step since.1 by.1 in
       record {
         now = rest.now;
         goes =
-            subst (λ (l : List ℕ). GradingGoesOn design plan fault rest.now l later grader) (append_assoc passed (sample.time ∷ []) (times samples)) rest.goes;
+            subst (λ (l : List ℕ). GradingGoesOn design plan fault rest.now l later grader) (append_assoc passed (strobe ∷ []) strobes) rest.goes;
       }

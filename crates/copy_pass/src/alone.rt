@@ -1,6 +1,6 @@
 // Whether a window leaves a copy alone.
 
-ghost use Rattle.std.specs.Prelude.{◌≡◌, ◌+◌, ◌<◌, ◌≤◌, true};
+ghost use Rattle.std.specs.Prelude.{◌≡◌, ◌+◌, ◌<◌, ◌≤◌};
 ghost use Rattle.v_design.specs.Plain.{fault_of, site_of};
 ghost use Rattle.good_trace.specs.Slots.{end_of};
 ghost use Rattle.copy_skip.specs.Limits.{AreThere, SiteIsThere};
@@ -26,27 +26,21 @@ pub(crate) fn fine_slots(ending: GoodEnd, count: u32) -> u32
 /// Copies with more values than this are run: so many searches would cost more than a run.
 const MOST_VALUES: usize = 256;
 
-/// Whether no event of so many first slots of a window, of which there is one at least, touches what a copy of a fault keeps, and this is values alone.
-pub(crate) fn is_left_alone<N: World>(
+/// How many first slots of a window have no event that touches what a copy of a fault keeps, where this is values alone; none where it isn't.
+pub(crate) fn slots_alone<N: World>(
     setup: &Setup<'_, N>,
     window: &TraceWindow<N>,
     fault: Fault,
     copy: &FaultCopy,
-    slots: u32,
-) -> bool
+) -> u32
     requires objects { AreThere N.design copy.now.values }
     requires site { SiteIsThere N.design (site_of fault.site) }
-    ensures { result ≡ true → IsAlone N.design N.plan (fault_of fault) window.now.before (window.now.before + slots) copy.now }
+    ensures within { window.now.before + result ≤ window.now.through }
+    ensures alone { 0 < result → IsAlone N.design N.plan (fault_of fault) window.now.before (window.now.before + result) copy.now }
 {
     let _first = window.begins();
-    if slots == 0 {
-        return false;
-    }
     if copy.size() > MOST_VALUES {
-        return false;
+        return 0;
     }
-    if next_touched(setup, window, copy, fault, 0) < slots {
-        return false;
-    }
-    true
+    next_touched(setup, window, copy, fault, 0)
 }

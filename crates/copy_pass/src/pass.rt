@@ -1,14 +1,14 @@
 // A fault over a window.
 
-ghost use Rattle.std.specs.Prelude.{◌≡◌, ◌<◌, Some, length};
-ghost use Rattle.std.specs.Bool.{OnFalse, OnTrue};
+ghost use Rattle.std.specs.Prelude.{◌≡◌, ℕ, ◌+◌, ◌<◌, ◌≤◌, None, Some, length};
 ghost use Rattle.v_design.specs.Plain.{fault_of};
 ghost use Rattle.copy_laws.specs.Windows.{good_slots, time_at};
+ghost use Rattle.window_strobes.specs.Passed.{HasPassed};
 ghost use Rattle.window_strobes.specs.Strobes.{passed_behind};
 ghost use Rattle.copy_window.specs.Passing.{CanResume};
 ghost use Rattle.copy_window.specs.ShardFaults.{IsShardFault};
 
-use crate::alone::{fine_slots, is_left_alone};
+use crate::alone::{fine_slots, slots_alone};
 use crate::seen::is_unseen;
 use copy_skip::searches_begin;
 use copy_window::{ShardFault, end_behind};
@@ -20,8 +20,8 @@ use strobe_detect::Grader;
 use v_design::{Fault, World};
 use window_strobes::WindowStrobes;
 
-/// Passes a fault over a window, if the window touches nothing of its copy and its strobes see nothing of it. `now` is the time, in steps, of the last slot before the
-/// window. The answer is whether the fault passed; else it stays as it is.
+/// Passes a fault over the first slots of a window that touch nothing of its copy, if its strobes see nothing of that. `now` is the time, in steps, of the last slot before
+/// the window. The answer is how many slots it passes; with none of them the fault stays as it is.
 pub fn pass_over<N: World>(
     setup: &Setup<'_, N>,
     window: &TraceWindow<N>,
@@ -29,12 +29,16 @@ pub fn pass_over<N: World>(
     fault: Fault,
     now: u64,
     own: &mut ShardFault,
-) -> bool
+) -> u32
     requires fault { CanResume N.design N.plan window.now.before window.now.through strobes.now (fault_of fault) own.old }
     requires now { window.now.before < length (good_slots N.design N.plan) → time_at N.design N.plan window.now.before ≡ Some now }
-    ensures passes { OnTrue result (IsShardFault N.design N.plan window.now.through (passed_behind strobes.now) own.new) }
+    ensures within { window.now.before + result ≤ window.now.through }
+    ensures all { window.now.before + result ≡ window.now.through → IsShardFault N.design N.plan window.now.through (passed_behind strobes.now) own.new }
+    ensures part { 0 < result → window.now.before + result < window.now.through → (passed : ℕ) → strobes.now.passed ≤ passed → HasPassed N.design N.plan (window.now.before + result) passed →
+        IsShardFault N.design N.plan (window.now.before + result) passed own.new }
+    ensures goes_on { window.now.before + result < window.now.through → own.new.end ≡ None }
     ensures place { own.new.copy.fault ≡ own.old.copy.fault }
-    ensures stays { OnFalse result (own.new ≡ own.old) }
+    ensures stays { result ≡ 0 → own.new ≡ own.old }
 {
     beside_laws::faults_go_on();
     beside_laws::good_run_goes_on();
@@ -49,21 +53,25 @@ pub fn pass_over<N: World>(
     let design = setup.design();
     let plan = setup.plan();
     let _first = window.begins();
-    let Some(until) = strobes.until else {
-        return false;
-    };
     if own.time != now {
-        return false;
+        return 0;
     }
-    let slots = fine_slots(strobes.ending, window.slots());
-    if !is_left_alone(setup, window, fault, &own.copy, slots) {
-        return false;
+    let alone = slots_alone(setup, window, fault, &own.copy);
+    if alone == 0 {
+        return 0;
     }
     let watched = plan.watched.as_slice();
     if !is_unseen(watched, &own.copy) {
-        return false;
+        return 0;
     }
+    if alone < fine_slots(strobes.ending, window.slots()) {
+        own.time = window.slot_time(alone - 1);
+        return alone;
+    }
+    let Some(until) = strobes.until else {
+        return 0;
+    };
     own.time = until;
     own.end = end_behind(strobes.ending, &Grader::again(watched, own.possible));
-    true
+    window.slots()
 }

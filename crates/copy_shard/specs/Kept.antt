@@ -1,10 +1,10 @@
 -- What a shard keeps, and how its faults go through a window (slots by IEEE 1364-2001, clause 5).
-use Rattle.std.specs.Prelude.{◌≡◌, ℕ, ◌<◌, Bool, true, List, length, map, Option, None, Some, is_some, not}
+use Rattle.std.specs.Prelude.{◌≡◌, ℕ, ◌<◌, ◌≤◌, Bool, true, List, length, map, Option, None, Some, is_some, not, slice_get}
 use Rattle.std.specs.List.{list_any}
 use Rattle.vf_base.specs.Base.{fault_number}
 use Rattle.vf_base.specs.Lists.{AllHold}
 use Rattle.vf_base.specs.declared.ids.FaultId.{FaultId}
-use Rattle.v_design.specs.Designs.{FlatDesign, TestPlan}
+use Rattle.v_design.specs.Designs.{FlatDesign, StuckAt, TestPlan}
 use Rattle.v_design.specs.WellFormed.{KeepsRules}
 use Rattle.machine.specs.declared.parts.Machine.{Machine as Simulated}
 use Rattle.copy_state.specs.Kept.{nothing_kept}
@@ -47,6 +47,12 @@ pub record IsShard (design : FlatDesign) (plan : TestPlan) (gone : ℕ) (reached
   pub numbers_are : map fault_number numbers ≡ places_of (map fault_kept faults)
   pub reaches : HasReachedIfOpen design plan gone reached faults
   pub each : AllHold (IsShardFault design plan gone reached.passed) faults
+
+-- a fault of which nothing was found stands behind so many slots, with whatever count of strobes passed there
+pub record StandsAfter (design : FlatDesign) (plan : TestPlan) (at before : ℕ) (fault : StuckAt) (own : ShardFault) : Type 0 where
+  pub listed : slice_get plan.faults own.copy.fault ≡ Some fault
+  pub none : own.end ≡ None
+  pub stands : (passed : ℕ) → before ≤ passed → HasPassed design plan at passed → IsShardFault design plan at passed own
 
 -- a fault came through a window to so many slots: it is the same fault, and stays as it is if its grading had ended
 pub record ComesThrough (design : FlatDesign) (plan : TestPlan) (through passed : ℕ) (old new : ShardFault) : Type 0 where

@@ -1,13 +1,14 @@
 // The faults of a shard through a window.
 
-ghost use Rattle.std.specs.Prelude.{◌≡◌, ◌<◌, ◌≤◌, length, None, Some, IfOk, OnOk, slice_get};
+ghost use Rattle.std.specs.Prelude.{◌≡◌, ◌+◌, ◌<◌, ◌≤◌, length, None, Some, IfOk, OnOk, slice_get};
 ghost use Rattle.std.specs.List.{AllZip, list_any};
 ghost use Rattle.vf_base.specs.Lists.{AllHold};
 ghost use Rattle.v_design.specs.Plain.{fault_of};
 ghost use Rattle.copy_room.specs.Rooms.{IsRoom};
 ghost use Rattle.window_strobes.specs.Strobes.{AreStrobesOf, passed_behind};
+ghost use Rattle.copy_window.specs.Passing.{CanResume};
 ghost use Rattle.copy_window.specs.ShardFaults.{IsShardFault};
-ghost use Rattle.copy_shard.specs.Kept.{ComesThrough, HasReachedIfOpen, IsTimeOf, is_open};
+ghost use Rattle.copy_shard.specs.Kept.{ComesThrough, HasReachedIfOpen, IsTimeOf, StandsAfter, is_open};
 
 use crate::reached::{Reached, reached_behind};
 use crate::room::ShardRoom;
@@ -21,7 +22,7 @@ use std::alloc::Global;
 use std::sync::ledger::Ledger;
 use v_design::{Fault, World};
 use vf_base::{NoMemory, Steps};
-use window_strobes::{WindowStrobes, strobes_of};
+use window_strobes::{WindowStrobes, strobes_after, strobes_of};
 
 /// The fault of a copy.
 fn listed_fault<N: World>(setup: &Setup<'_, N>, copy: &FaultCopy) -> Fault
@@ -34,8 +35,43 @@ fn listed_fault<N: World>(setup: &Setup<'_, N>, copy: &FaultCopy) -> Fault
     faults[place]
 }
 
+/// Grades a fault through the slots of a window that come behind so many, over which it passed.
+fn resume_behind<N: World, L: Ledger>(
+    alloc: Global,
+    setup: &Setup<'_, N>,
+    window: &TraceWindow<N>,
+    passed: u32,
+    strobes: &WindowStrobes,
+    fault: Fault,
+    machine: &mut Machine<'_>,
+    log: &mut SlotLog,
+    own: &mut ShardFault,
+    steps: &mut Steps<L>,
+) -> Result<(), NoMemory>
+    requires more { window.now.before + passed < window.now.through }
+    requires room { IsRoom N.design machine.old }
+    requires strobes { AreStrobesOf N.design N.plan window.now.before window.now.through strobes.now }
+    requires none { passed ≡ 0 → CanResume N.design N.plan window.now.before window.now.through strobes.now (fault_of fault) own.old }
+    requires fault { 0 < passed → StandsAfter N.design N.plan (window.now.before + passed) strobes.now.passed (fault_of fault) own.old }
+    ensures fault { OnOk result (IsShardFault N.design N.plan window.now.through (passed_behind strobes.now) own.new) }
+    ensures place { OnOk result (own.new.copy.fault ≡ own.old.copy.fault) }
+    ensures room { OnOk result (IsRoom N.design machine.new) }
+{
+    if passed == 0 {
+        resume_fault(
+            alloc, setup, window, 0, strobes, fault, machine, log, own, steps,
+        )?;
+        return Ok(());
+    }
+    let rest = strobes_after(alloc, setup, window, strobes, passed)?;
+    resume_fault(
+        alloc, setup, window, passed, &rest, fault, machine, log, own, steps,
+    )?;
+    Ok(())
+}
+
 /// Grades a fault of which nothing was found through a window, which may be the first one; `now` is the time, in steps, of the last slot before it. The faulty machine
-/// is run only where the window touches something of the fault's copy.
+/// is run from the first slot on that touches something of the fault's copy.
 fn go_through<N: World, L: Ledger>(
     alloc: Global,
     setup: &Setup<'_, N>,
@@ -61,13 +97,13 @@ fn go_through<N: World, L: Ledger>(
         begin_fault(alloc, setup, window, strobes, fault, log, own, steps)?;
         return Ok(());
     }
-    if pass_over(setup, window, strobes, fault, now, own) {
+    let passed = pass_over(setup, window, strobes, fault, now, own);
+    if passed == window.slots() {
         return Ok(());
     }
-    resume_fault(
-        alloc, setup, window, strobes, fault, machine, log, own, steps,
-    )?;
-    Ok(())
+    resume_behind(
+        alloc, setup, window, passed, strobes, fault, machine, log, own, steps,
+    )
 }
 
 /// Takes a fault through a window.

@@ -1,3 +1,3 @@
 mod Passed
-mod Limited
+pub mod Limited
 mod There

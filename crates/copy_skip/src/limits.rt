@@ -13,7 +13,7 @@ use v_design::{Fault, Site, World};
 use vf_base::{NodeId, ObjectId};
 
 /// The lesser of a limit and a moment, if that is there.
-fn earlier(limit: u32, next: Option<u32>) -> u32
+pub fn earlier(limit: u32, next: Option<u32>) -> u32
     ensures low { result ≤ limit }
     ensures next { (moment : ℕ) → next ≡ Some moment → result ≤ moment }
 {
@@ -83,7 +83,7 @@ fn object_limit<N: World>(
 }
 
 /// The same of all objects of which a copy keeps a value.
-pub(crate) fn values_limit<N: World>(
+pub fn values_limit<N: World>(
     setup: &Setup<'_, N>,
     window: &TraceWindow<N>,
     copy: &FaultCopy,
@@ -107,12 +107,7 @@ pub(crate) fn values_limit<N: World>(
 }
 
 /// The same of the site of a fault.
-pub(crate) fn site_limit<N: World>(
-    window: &TraceWindow<N>,
-    fault: Fault,
-    first: u32,
-    limit: u32,
-) -> u32
+pub fn site_limit<N: World>(window: &TraceWindow<N>, fault: Fault, first: u32, limit: u32) -> u32
     requires there { SiteIsThere N.design (site_of fault.site) }
     requires within { limit ≤ length (window_events N.design N.plan window.now.before window.now.through) }
     ensures low { result ≤ limit }

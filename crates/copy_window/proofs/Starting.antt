@@ -99,13 +99,13 @@ some-time design plan (suc count) some = go (slice_get (good_slots design plan) 
     go (Some later) None = (plan.end, refl)
     go (Some later) (Some slot) = (slot.begins.time, refl)
 
--- slots come behind a window's beginning
-pub more-slots : (design : FlatDesign) (plan : TestPlan) (before through : ℕ) (ending : WindowEnd) → IsWindow design plan before through ending → before < length (good_slots design plan)
-more-slots design plan before zero ending window = (let some : before < 0 = window.some in absurd (omega (arith, some)))
-more-slots design plan before (suc last) ending window =
-    let some : before < suc last = window.some in
+-- before a slot of a window slots come
+pub more-slots : (design : FlatDesign) (plan : TestPlan) (before through : ℕ) (ending : WindowEnd) → IsWindow design plan before through ending → (number : ℕ) → number < through →
+    number < length (good_slots design plan)
+more-slots design plan before zero ending window number within = absurd (omega (arith, within))
+more-slots design plan before (suc last) ending window number within =
     let there : last < length (good_slots design plan) = slice_get_within (good_slots design plan) last window.last (window.stands last refl) in
-    omega (arith, some, there)
+    omega (arith, within, there)
 
 module _ (design : FlatDesign) (plan : TestPlan) (fault : StuckAt) (before through : ℕ) (strobes : WindowStrobes) (own : ShardFault)
     (of : CanResume design plan before through strobes fault own) (more : before < length (good_slots design plan)) where
@@ -131,23 +131,23 @@ module _ (design : FlatDesign) (plan : TestPlan) (fault : StuckAt) (before throu
   copy-at : IsCopyAt design plan fault time (differences_in design own.copy)
   copy-at = beside.copy time time_is none-found
 
-  pub good_is : state_at (good_machine design) plan.end time ≡ state_through design plan (before + 0)
-  good_is = (let same : before ≡ before + 0 = omega arith in goes-on.runs_on.state_is ∙ ap (state_through design plan) same)
+  pub good_is : state_at (good_machine design) plan.end time ≡ state_through design plan before
+  good_is = goes-on.runs_on.state_is
 
   module _ (codes : List Code) (are : AreCodesOf design codes) where
-    pub is-copy : IsCopyOf codes (state_through design plan (before + 0)) (state_at (faulty_machine design fault) plan.end time) own.copy
+    pub is-copy : IsCopyOf codes (state_through design plan before) (state_at (faulty_machine design fault) plan.end time) own.copy
     is-copy = record {
       stands =
-          subst (λ (d : Differences). StandsFor d (state_through design plan (before + 0)) (state_at (faulty_machine design fault) plan.end time)) (sym (differences-are design codes own.copy are))
+          subst (λ (d : Differences). StandsFor d (state_through design plan before) (state_at (faulty_machine design fault) plan.end time)) (sym (differences-are design codes own.copy are))
           (subst (λ (s : State). StandsFor (differences_in design own.copy) s (state_at (faulty_machine design fault) plan.end time)) good_is copy-at.stands);
       nothing_equal =
-          subst (λ (d : Differences). KeepsNothingEqual d (state_through design plan (before + 0))) (sym (differences-are design codes own.copy are))
+          subst (λ (d : Differences). KeepsNothingEqual d (state_through design plan before)) (sym (differences-are design codes own.copy are))
           (subst (λ (s : State). KeepsNothingEqual (differences_in design own.copy) s) good_is copy-at.nothing_equal);
       states = goes-on.states codes are;
     }
 
-    -- its copy may be put into a room before the window's first slot
-    abbrev pub can-enter : CanEnter codes design plan (before + 0) fault own.time own.copy
+    -- its copy may be put into a room there
+    abbrev pub can-enter : CanEnter codes design plan before fault own.time own.copy
     can-enter = record { faulty = state_at (faulty_machine design fault) plan.end time; between = goes-on.between; time_is = goes-on.time_is; copy = is-copy }
 
   -- in the room its grading goes on

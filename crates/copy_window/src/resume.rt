@@ -1,6 +1,6 @@
 // A fault from its copy on.
 
-ghost use Rattle.std.specs.Prelude.{◌≡◌, IfOk, OnOk};
+ghost use Rattle.std.specs.Prelude.{◌≡◌, ◌+◌, ◌<◌, IfOk, OnOk};
 ghost use Rattle.v_design.specs.Plain.{fault_of};
 ghost use Rattle.copy_room.specs.Rooms.{IsRoom};
 ghost use Rattle.window_strobes.specs.Strobes.{passed_behind};
@@ -33,7 +33,8 @@ pub fn new_room<'d, N: World>(alloc: Global, setup: &Setup<'d, N>) -> Result<Mac
     Ok(room)
 }
 
-/// Grades a fault through a window before which its faulty machine ran some slots. `room` is a machine of the design, and `log` room for the log of a slot.
+/// Grades a fault through the slots of a window from the one of a number on, before which its faulty machine ran some slots. The strobes are those of these slots;
+/// `room` is a machine of the design, and `log` room for the log of a slot.
 ///
 /// # Errors
 ///
@@ -42,6 +43,7 @@ pub fn resume_fault<N: World, L: Ledger>(
     alloc: Global,
     setup: &Setup<'_, N>,
     window: &TraceWindow<N>,
+    slot: u32,
     strobes: &WindowStrobes,
     fault: Fault,
     room: &mut Machine<'_>,
@@ -49,8 +51,9 @@ pub fn resume_fault<N: World, L: Ledger>(
     own: &mut ShardFault,
     steps: &mut Steps<L>,
 ) -> Result<(), NoMemory>
+    requires slot { window.now.before + slot < window.now.through }
     requires room { IsRoom N.design room.old }
-    requires fault { CanResume N.design N.plan window.now.before window.now.through strobes.now (fault_of fault) own.old }
+    requires fault { CanResume N.design N.plan (window.now.before + slot) window.now.through strobes.now (fault_of fault) own.old }
     ensures fault { OnOk result (IsShardFault N.design N.plan window.now.through (passed_behind strobes.now) own.new) }
     ensures place { OnOk result (own.new.copy.fault ≡ own.old.copy.fault) }
     ensures room { OnOk result (IsRoom N.design room.new) }
@@ -63,7 +66,7 @@ pub fn resume_fault<N: World, L: Ledger>(
     let design = setup.design();
     let plan = setup.plan();
     enter(
-        alloc, room, log, setup, window, 0, &own.copy, fault, own.time,
+        alloc, room, log, setup, window, slot, &own.copy, fault, own.time,
     )?;
     let mut grader = Grader::again(plan.watched.as_slice(), own.possible);
     settle(

@@ -1,6 +1,6 @@
 // A fault behind a window.
 
-ghost use Rattle.std.specs.Prelude.{◌≡◌, OnOk};
+ghost use Rattle.std.specs.Prelude.{◌≡◌, ℕ, OnOk};
 ghost use Rattle.window_grade.specs.Running.{StaysOn};
 ghost use Rattle.window_strobes.specs.Strobes.{passed_behind};
 ghost use Rattle.copy_window.specs.Passing.{CanSettle, StaysOpen};
@@ -58,7 +58,7 @@ pub(crate) fn settle<N: World, L: Ledger>(
     own: &mut ShardFault,
     steps: &mut Steps<L>,
 ) -> Result<(), NoMemory>
-    requires fault { CanSettle N.design N.plan window.now.before window.now.through strobes.now machine.old grader.old own.old }
+    requires fault { (before : ℕ) × CanSettle N.design N.plan before window.now.through strobes.now machine.old grader.old own.old }
     ensures fault { OnOk result (IsShardFault N.design N.plan window.now.through (passed_behind strobes.now) own.new) }
     ensures place { OnOk result (own.new.copy.fault ≡ own.old.copy.fault) }
     ensures stays { OnOk result (StaysOn machine.old machine.new) }

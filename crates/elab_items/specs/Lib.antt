@@ -4,3 +4,4 @@ pub mod Drives
 pub mod Wholes
 pub mod Gates
 pub mod Forms
+pub mod Narrow

@@ -1,14 +1,11 @@
--- Ranges and memories that are declared, and whole names as targets.
-use Rattle.std.specs.Prelude.{ℕ, Bool, ◌++◌}
+-- Memories that are declared, and whole names as targets.
+use Rattle.std.specs.Prelude.{ℕ, ◌++◌}
 use Rattle.vf_base.specs.Base.{SourcePlace}
 use Rattle.v_tree.specs.Trees.{Identifier, NoIndex, SourceTarget, OneSelect}
 use Rattle.v_names.specs.Scopes.{DeclaredRange}
 use Rattle.v_names.specs.Names.{Declaration}
 use Rattle.v_elab.specs.Parts.{Part, MemoryPart}
 use Rattle.v_elab.specs.Walk.{Here}
-
-abbrev pub range_between : Bool → ℕ → ℕ → DeclaredRange
-range_between ranged high low = record { ranged = ranged; high = high; low = low }
 
 -- a memory with the range of a word and its first and last address
 abbrev pub memory_part : Here → Declaration → DeclaredRange → ℕ → ℕ → Part

@@ -1,29 +1,16 @@
-// Ranges and first contents of what an instance declares.
+// First contents of what an instance declares.
 
 ghost use Rattle.std.specs.Prelude.{◌≡◌, IfOk};
 ghost use Rattle.four_value.specs.Values.{IsWidth};
 ghost use Rattle.v_elab.specs.Walk.{first_content_of, content_of};
-ghost use Rattle.elab_parts.specs.PartViews.{range_of};
 ghost use Rattle.module_scope.specs.Declarations.{first_seen, declared_seen};
-ghost use Rattle.elab_items.specs.Wholes.{range_between};
 
-use elab_parts::DeclaredRange;
 use four_value::Vec4;
 use module_scope::Declared;
 use std::alloc::Global;
-use v_names::{Scope, constant_of, span};
+use v_names::{Scope, constant_of};
 use v_tree::Expr;
 use vf_base::NoMemory;
-
-/// A declared range. One of more than 128 bits was refused before.
-pub fn declared_range(ranged: bool, high: u32, low: u32) -> Result<DeclaredRange, NoMemory>
-    ensures { IfOk result (λ range. range_of range ≡ range_between ranged high low) }
-{
-    if span(high, low) > 128 {
-        return Err(NoMemory);
-    }
-    Ok(DeclaredRange { ranged, high, low })
-}
 
 /// The expression of the first content of what is declared, if it has one.
 pub fn first_content_of<'m>(declared: Declared<'m>) -> Option<&'m Expr>

@@ -1,9 +1,13 @@
 // The nets, variables and memories that an item declares.
 
-ghost use Rattle.std.specs.Prelude.{◌≡◌, ◌∷◌, [], ◌++◌, Some, IfOk, OnOk, map, flat_map, option_map};
+ghost use Rattle.std.specs.Prelude.{◌≡◌, ◌≤◌, ◌∷◌, [], ◌++◌, Some, IfOk, OnOk, map, flat_map, option_map};
 ghost use Rattle.vf_base.specs.Base.{source_place};
+ghost use Rattle.vf_base.specs.Lists.{AllHold};
+ghost use Rattle.v_design.specs.Sized.{most_bits};
+ghost use Rattle.v_tree.specs.Trees.{NamedPlace, SourceWire, SourceReg};
 ghost use Rattle.v_tree.specs.Views.{name_of, wire_of, reg_of};
 ghost use Rattle.v_names.specs.ScopeViews.{entry_of};
+ghost use Rattle.v_names.specs.Scopes.{declared_width};
 ghost use Rattle.v_names.specs.Names as source;
 ghost use Rattle.v_names.specs.Names.{names_declared, Bounds, reg_declarations};
 ghost use Rattle.v_elab.specs.Walk as plain;
@@ -12,8 +16,9 @@ ghost use Rattle.elab_parts.specs.PartViews.{range_of, part_of, parts_of};
 ghost use Rattle.module_scope.specs.Declarations.{declaration_seen, name_declared, wire_declarations};
 ghost use Rattle.elab_items.specs.Heres.{IsHere};
 ghost use Rattle.elab_items.specs.Wholes.{memory_part};
+ghost use Rattle.elab_items.specs.Narrow.{IsNarrow};
 
-use crate::content::{content_of, declared_range, first_content_of};
+use crate::content::{content_of, first_content_of};
 use crate::drives::hierarchical;
 use crate::here::Here;
 use crate::joins::copy_joining;
@@ -82,7 +87,7 @@ fn memory_part<'u>(
     }))
 }
 
-/// Adds what a declaration is whose name means this, if that is a net, a variable or a memory.
+/// Adds what a declaration is whose name means this, if that is a net, a variable or a memory; such a one has 128 bits at most.
 fn push_meaning<'u>(
     alloc: Global,
     here: &Here<'_, 'u>,
@@ -90,6 +95,7 @@ fn push_meaning<'u>(
     meaning: &Entry,
     parts: &mut Vec<Part<'u>>,
 ) -> Result<(), NoMemory>
+    requires { declared_width (Some (entry_of meaning.now)) ≤ most_bits }
     ensures { OnOk result ((h : plain.Here) → IsHere h here.now → parts_of parts.new.items ≡ parts_of parts.old.items ++ part_by_entry h (declaration_seen own.entry) (Some (entry_of meaning.now))) }
 {
     match meaning {
@@ -99,7 +105,11 @@ fn push_meaning<'u>(
             low,
             ..
         } => {
-            let range = declared_range(*ranged, *high, *low)?;
+            let range = DeclaredRange {
+                ranged: *ranged,
+                high: *high,
+                low: *low,
+            };
             let part = signal_part(alloc, here, own, false, range)?;
             push_part(part, parts)?;
             Ok(())
@@ -110,7 +120,11 @@ fn push_meaning<'u>(
             low,
             ..
         } => {
-            let range = declared_range(*ranged, *high, *low)?;
+            let range = DeclaredRange {
+                ranged: *ranged,
+                high: *high,
+                low: *low,
+            };
             let part = signal_part(alloc, here, own, true, range)?;
             push_part(part, parts)?;
             Ok(())
@@ -123,7 +137,11 @@ fn push_meaning<'u>(
             last,
             ..
         } => {
-            let range = declared_range(*ranged, *high, *low)?;
+            let range = DeclaredRange {
+                ranged: *ranged,
+                high: *high,
+                low: *low,
+            };
             let part = memory_part(alloc, here, own, range, *first, *last)?;
             push_part(part, parts)?;
             Ok(())
@@ -144,6 +162,7 @@ fn push_entry<'u>(
     entry: &Option<Entry>,
     parts: &mut Vec<Part<'u>>,
 ) -> Result<(), NoMemory>
+    requires { declared_width (option_map entry_of entry.now) ≤ most_bits }
     ensures { OnOk result ((h : plain.Here) → IsHere h here.now → parts_of parts.new.items ≡ parts_of parts.old.items ++ part_by_entry h (declaration_seen own.entry) (option_map entry_of entry.now)) }
 {
     match entry {
@@ -163,6 +182,7 @@ fn push_own<'u>(
     place: Place,
     parts: &mut Vec<Part<'u>>,
 ) -> Result<(), NoMemory>
+    requires { IsNarrow here.now.scope.value name.now }
     ensures { OnOk result ((h : plain.Here) (d : source.Declaration) → IsHere h here.now → d.name ≡ name.now → d.place ≡ source_place place →
         parts_of parts.new.items ≡ parts_of parts.old.items ++ parts_of_own h (names_declared h.instance.inner) d) }
 {
@@ -172,7 +192,7 @@ fn push_own<'u>(
             if own.place != place {
                 return Ok(());
             }
-            push_entry(alloc, here, own, &here.scope.lookup(own.name), parts)?;
+            push_entry(alloc, here, own, &here.scope.lookup(name), parts)?;
             Ok(())
         }
     }
@@ -185,6 +205,7 @@ pub fn push_names<'u>(
     names: &'u [Name],
     parts: &mut Vec<Part<'u>>,
 ) -> Result<(), NoMemory>
+    requires { AllHold (λ (n : NamedPlace). IsNarrow here.now.scope.value n.name) (map name_of names.now) }
     ensures { OnOk result ((h : plain.Here) (declared : source.Declared) → IsHere h here.now →
         parts_of parts.new.items ≡ parts_of parts.old.items ++ flat_map (parts_of_own h (names_declared h.instance.inner)) (map (name_declared declared) (map name_of names.now))) }
 {
@@ -201,6 +222,7 @@ pub fn push_nets<'u>(
     wires: &'u [Wire],
     parts: &mut Vec<Part<'u>>,
 ) -> Result<(), NoMemory>
+    requires { AllHold (λ (w : SourceWire). IsNarrow here.now.scope.value w.name) (map wire_of wires.now) }
     ensures { OnOk result ((h : plain.Here) (signed : _) (bounds : Bounds) → IsHere h here.now →
         parts_of parts.new.items ≡ parts_of parts.old.items ++ flat_map (parts_of_own h (names_declared h.instance.inner)) (wire_declarations signed bounds (map wire_of wires.now))) }
 {
@@ -217,6 +239,7 @@ pub fn push_regs<'u>(
     regs: &'u [Reg],
     parts: &mut Vec<Part<'u>>,
 ) -> Result<(), NoMemory>
+    requires { AllHold (λ (r : SourceReg). IsNarrow here.now.scope.value r.name) (map reg_of regs.now) }
     ensures { OnOk result ((h : plain.Here) (signed : _) (bounds : Bounds) → IsHere h here.now →
         parts_of parts.new.items ≡ parts_of parts.old.items ++ flat_map (parts_of_own h (names_declared h.instance.inner)) (reg_declarations signed bounds (map reg_of regs.now))) }
 {

@@ -1,6 +1,6 @@
 // Gates.
 
-ghost use Rattle.std.specs.Prelude.{◌≡◌, ◌++◌, ◌+◌, IfOk, OnOk, map};
+ghost use Rattle.std.specs.Prelude.{◌≡◌, ◌≤◌, ◌++◌, ◌+◌, ◌^◌, IfOk, OnOk, map};
 ghost use Rattle.v_tree.specs.Views.{expression_of, name_in, gate_of};
 ghost use Rattle.v_elab.specs.Walk as plain;
 ghost use Rattle.v_elab.specs.Walk.{terminals_of, gate_name, gate_parts};
@@ -85,13 +85,14 @@ pub fn push_gates<'u>(
     alloc: Global,
     here: &Here<'_, 'u>,
     kind: GateKind,
-    before: u64,
+    before: u128,
     gates: &[Gate],
     parts: &mut Vec<Part<'u>>,
 ) -> Result<(), NoMemory>
+    requires { before + 2 ^ 65 ≤ 2 ^ 128 }
     ensures { OnOk result ((h : plain.Here) → IsHere h here.now → parts_of parts.new.items ≡ parts_of parts.old.items ++ gate_parts h kind (before + 1) (map gate_of gates.now)) }
 {
-    let first = before as u128 + 1;
+    let first = before + 1;
     'gates: for (place, gate) in gates.iter().enumerate() {
         let part = gate_part(alloc, here, kind, first + place as u128, gate)?;
         push_part(part, parts)?;

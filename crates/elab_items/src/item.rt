@@ -1,12 +1,14 @@
 // The parts of an item.
 
-ghost use Rattle.std.specs.Prelude.{◌≡◌, ◌++◌, OnOk};
+ghost use Rattle.std.specs.Prelude.{◌≡◌, ◌≤◌, ◌+◌, ◌^◌, ◌++◌, OnOk};
 ghost use Rattle.v_tree.specs.Trees.{PortItem};
 ghost use Rattle.v_tree.specs.Views.{item_of, ports_of};
+ghost use Rattle.v_names.specs.Names.{item_declarations};
 ghost use Rattle.v_elab.specs.Walk as plain;
 ghost use Rattle.v_elab.specs.Walk.{declared_parts, item_parts, gates_in};
 ghost use Rattle.elab_parts.specs.PartViews.{parts_of};
 ghost use Rattle.elab_items.specs.Heres.{IsHere};
+ghost use Rattle.elab_items.specs.Narrow.{AreNarrow};
 
 use crate::blocks::process_part;
 use crate::declared::{push_names, push_nets, push_part, push_regs};
@@ -28,27 +30,30 @@ pub fn gates_in(item: &Item) -> usize
     }
 }
 
-/// Adds the parts of ports that are declared together.
+/// Adds the parts of ports that are declared together, of which none is wider than a vector may be.
 pub fn push_port_parts<'u>(
     alloc: Global,
     here: &Here<'_, 'u>,
     group: &'u Ports,
     parts: &mut Vec<Part<'u>>,
 ) -> Result<(), NoMemory>
+    requires { AreNarrow here.now.scope.value (item_declarations (PortItem (ports_of group.now))) }
     ensures { OnOk result ((h : plain.Here) → IsHere h here.now → parts_of parts.new.items ≡ parts_of parts.old.items ++ declared_parts h (PortItem (ports_of group.now))) }
 {
     push_names(alloc, here, group.names.as_slice(), parts)?;
     Ok(())
 }
 
-/// Adds the parts of an item that is no instance. `gates` counts the gates of the module that stand before the item.
+/// Adds the parts of an item that is no instance and declares nothing wider than a vector may be. `gates` counts the gates of the module that stand before the item, fewer than 2^64 in each item.
 pub fn push_item_parts<'u>(
     alloc: Global,
     here: &Here<'_, 'u>,
-    gates: u64,
+    gates: u128,
     item: &'u Item,
     parts: &mut Vec<Part<'u>>,
 ) -> Result<(), NoMemory>
+    requires gates { gates + 2 ^ 65 ≤ 2 ^ 128 }
+    requires narrow { AreNarrow here.now.scope.value (item_declarations (item_of item.now)) }
     ensures { OnOk result ((h : plain.Here) → IsHere h here.now → parts_of parts.new.items ≡ parts_of parts.old.items ++ item_parts h gates (item_of item.now)) }
 {
     match item {

@@ -2,3 +2,5 @@ pub mod Bases
 pub mod Processes
 pub mod Inputs
 pub mod Nodes
+pub mod Texts
+pub mod TextLaws

@@ -13,6 +13,7 @@ ghost use Rattle.elab_parts.specs.PartViews as walked;
 ghost use Rattle.elab_parts.specs.BehaviourViews.{function_of};
 ghost use Rattle.object_names.specs.OutputViews.{output_of};
 ghost use Rattle.elab_nodes.specs.Bases.{IsBasis};
+ghost use Rattle.elab_nodes.specs.Texts.{HasSizedBlock};
 
 use crate::basis::Basis;
 use crate::process::meaning_of;
@@ -92,6 +93,7 @@ fn block_kind(
     basis: Basis<'_>,
     process: &WalkedProcess<'_>,
 ) -> Result<NodeKind, NoMemory>
+    requires { HasSizedBlock basis (BlockFunction (walked.process_of process.now)) }
     ensures { IfOk result (λ kind. (parts : List Part) (objects : List HeldObject) (outputs : List plain.NodeOutput) → IsBasis parts objects basis.entry →
         node_kind_of kind ≡ plain.node_kind parts objects outputs (BlockFunction (walked.process_of process.now))) }
 {
@@ -107,6 +109,7 @@ pub fn node_kind(
     outputs: &[NodeOutput],
     function: &NodeFunction<'_, '_>,
 ) -> Result<NodeKind, NoMemory>
+    requires { HasSizedBlock basis (function_of function.now) }
     ensures { IfOk result (λ kind. (parts : List Part) (objects : List HeldObject) → IsBasis parts objects basis.entry →
         node_kind_of kind ≡ plain.node_kind parts objects (map output_of outputs.now) (function_of function.now)) }
 {

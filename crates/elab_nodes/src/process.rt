@@ -1,6 +1,6 @@
 // The processes of a design.
 
-ghost use Rattle.std.specs.Prelude.{◌≡◌, IfOk, List, map};
+ghost use Rattle.std.specs.Prelude.{◌≡◌, ◌∷◌, [], IfOk, List, map};
 ghost use Rattle.v_design.specs.Plain.{process_of};
 ghost use Rattle.v_elab.specs.Parts.{Part};
 ghost use Rattle.v_elab.specs.Objects.{HeldObject};
@@ -9,6 +9,7 @@ ghost use Rattle.elab_parts.specs.PartViews as walked;
 ghost use Rattle.elab_parts.specs.BehaviourViews.{process_in};
 ghost use Rattle.elab_nodes.specs.Bases.{IsBasis};
 ghost use Rattle.elab_nodes.specs.Processes.{IsMeantBy};
+ghost use Rattle.elab_nodes.specs.Texts.{HasSizedProcesses};
 
 use crate::basis::Basis;
 use elab_parts::{ProcessPart, WalkedProcess};
@@ -38,6 +39,7 @@ fn flat_process(
     basis: Basis<'_>,
     process: &WalkedProcess<'_>,
 ) -> Result<Process, NoMemory>
+    requires { HasSizedProcesses basis (walked.process_of process.now ∷ []) }
     ensures { IfOk result (λ flat. (parts : List Part) (objects : List HeldObject) → IsBasis parts objects basis.entry →
         process_of flat ≡ plain.flat_process parts objects (walked.process_of process.now)) }
 {
@@ -49,7 +51,7 @@ fn flat_process(
     })
 }
 
-/// Some processes over objects, in their order.
+/// Some processes over objects, in their order; their texts are sized.
 ///
 /// # Errors
 ///
@@ -59,6 +61,7 @@ pub fn flat_processes(
     basis: Basis<'_>,
     processes: &[ProcessPart<'_, '_>],
 ) -> Result<Vec<Process>, NoMemory>
+    requires { HasSizedProcesses basis (map process_in processes.now) }
     ensures { IfOk result (λ flats. (parts : List Part) (objects : List HeldObject) → IsBasis parts objects basis.entry →
         map process_of flats.items ≡ map (plain.flat_process parts objects) (map process_in processes.now)) }
 {

@@ -4,3 +4,5 @@ pub mod Counting
 pub mod Steps
 pub mod Named
 pub mod WideLaws
+pub mod NarrowNames
+pub mod Within

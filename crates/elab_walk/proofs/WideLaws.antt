@@ -58,7 +58,7 @@ wide-leaves {A} before whole rest more old mid new (Err fault) is few never wron
 
 -- Instances of which nothing is wrong
 
-no-faults : (faults : List Fault) → first_fault faults ≡ None → faults ≡ []
+pub no-faults : (faults : List Fault) → first_fault faults ≡ None → faults ≡ []
 no-faults [] e = refl
 no-faults (fault ∷ faults) e = absurd (cc)
 

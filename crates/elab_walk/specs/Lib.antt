@@ -4,3 +4,4 @@ pub mod CountViews
 pub mod ModuleViews
 pub mod Sites
 pub mod Leaves
+pub mod Within

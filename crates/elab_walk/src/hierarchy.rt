@@ -1,6 +1,6 @@
 // The walk from instance to instance.
 
-ghost use Rattle.std.specs.Prelude.{◌≡◌, ◌+◌, List, [], Some, Ok, IfOk, MatchResult, map, flat_map};
+ghost use Rattle.std.specs.Prelude.{◌≡◌, ◌≤◌, ◌+◌, ◌^◌, List, [], Some, Ok, IfOk, MatchResult, map, flat_map};
 ghost use Rattle.vf_base.specs.Base.{SourcePlace};
 ghost use Rattle.v_tree.specs.Trees.{SourceModule};
 ghost use Rattle.v_tree.specs.Views.{module_of, item_of, connection_of, instance_of};
@@ -8,13 +8,14 @@ ghost use Rattle.v_names.specs.Names.{GivenParameter};
 ghost use Rattle.v_elab.specs.Parts as parts;
 ghost use Rattle.v_elab.specs.Walk as plain;
 ghost use Rattle.v_elab.specs.Connections.{instance_faults};
-ghost use Rattle.v_elab.specs.Walk.{gates_in, child_of, paths_of, entered, walked_module, walked_items, walked_item, walked_instance_item, walked_instances, walked_instance, walked_from};
+ghost use Rattle.v_elab.specs.Walk.{child_of, paths_of, entered, walked_module, walked_items, walked_item, walked_instance_item, walked_instances, walked_instance, walked_from};
 ghost use Rattle.elab_parts.specs.PartViews.{parts_of};
 ghost use Rattle.instance_checks.specs.Offered.{AreFormals};
 ghost use Rattle.elab_connections.specs.PathViews.{ArePaths};
 ghost use Rattle.elab_walk.specs.ModuleViews.{AreModules};
 ghost use Rattle.elab_walk.specs.WalkFaults.{IsWalkFault};
 ghost use Rattle.elab_walk.specs.Sites.{IsSite, IsEntrance, IsInner};
+ghost use Rattle.elab_walk.specs.Within.{IsWithin, AreWithin, HasScope};
 ghost use Rattle.elab_walk.specs.CountViews.{AreCounts};
 ghost use Rattle.elab_walk.specs.Leaves.{Leaves};
 
@@ -37,13 +38,6 @@ use v_elab::Mode;
 use v_names::{Found, Reason};
 use v_tree::{Connection, Instance, Item, Module};
 use vf_base::{MAX_NESTED_MODULES, NoMemory, Text};
-
-/// The number of gates up to the end of an item.
-fn gates_behind(gates: u64, item: &Item) -> Result<u64, NoMemory>
-    ensures { IfOk result (λ behind. behind ≡ gates + gates_in (item_of item.now)) }
-{
-    gates.checked_add(gates_in(item) as u64).ok_or(NoMemory)
-}
 
 /// What stands before the names of an instance, and before those of what it stands in.
 fn instance_paths(alloc: Global, path: &Rc<Text>, instance: &Instance) -> Result<Paths, NoMemory>
@@ -185,11 +179,13 @@ fn walk_item<'u>(
     alloc: Global,
     site: Site<'_, '_, '_, 'u>,
     levels: u8,
-    gates: u64,
+    gates: u128,
     item: &'u Item,
     walked: &mut Walked<'u>,
 ) -> Result<(), WalkFault>
-    requires { site.here.now.depth + levels ≡ 64 }
+    requires levels { site.here.now.depth + levels ≡ 64 }
+    requires gates { gates + 2 ^ 65 ≤ 2 ^ 128 }
+    requires within { IsWithin site.here.now.scope.value (item_of item.now) }
     ensures { (h : plain.Here) → IsSite h site.entry → (before : List parts.Part) → AreCounts before walked.old.counts →
         Leaves before (walked_item (plain.walked h.modules h.mode levels) h gates (item_of item.now) before) result walked.old walked.new }
 {
@@ -223,14 +219,15 @@ fn walk_items<'u>(
     items: &'u [Item],
     walked: &mut Walked<'u>,
 ) -> Result<(), WalkFault>
-    requires { site.here.now.depth + levels ≡ 64 }
+    requires levels { site.here.now.depth + levels ≡ 64 }
+    requires within { AreWithin site.here.now.scope.value (map item_of items.now) }
     ensures { (h : plain.Here) → IsSite h site.entry → (before : List parts.Part) → AreCounts before walked.old.counts →
         Leaves before (walked_items (plain.walked h.modules h.mode levels) h 0 (map item_of items.now) before) result walked.old walked.new }
 {
     let mut gates = 0;
     'items: for item in items {
         walk_item(alloc, site, levels, gates, item, walked)?;
-        gates = gates_behind(gates, item)?;
+        gates += gates_in(item) as u128;
     }
     Ok(())
 }
@@ -245,7 +242,8 @@ fn walk_module<'u>(
     formals: &Formals<'u>,
     walked: &mut Walked<'u>,
 ) -> Result<(), WalkFault>
-    requires { site.here.now.depth + levels ≡ 64 }
+    requires levels { site.here.now.depth + levels ≡ 64 }
+    requires scope { HasScope (module_of «module».now) site.here.now.scope.value }
     ensures { (h : plain.Here) → IsSite h site.entry → AreFormals (module_of «module».now) formals.now → (before : List parts.Part) →
         AreCounts before walked.old.counts →
         Leaves before (walked_module (plain.walked h.modules h.mode levels) h (module_of «module».now) before) result walked.old walked.new }

@@ -1,13 +1,15 @@
 // Items that are no instances.
 
-ghost use Rattle.std.specs.Prelude.{◌≡◌, ℕ, List, Ok, MatchResult, map};
+ghost use Rattle.std.specs.Prelude.{◌≡◌, ◌≤◌, ◌+◌, ◌^◌, ℕ, List, [], Ok, IfOk, MatchResult, map};
 ghost use Rattle.v_tree.specs.Trees.{ParameterItem, PortItem};
 ghost use Rattle.v_tree.specs.Views.{parameters_of, ports_of, heads_of, item_of};
+ghost use Rattle.v_elab.specs.ItemFaults.{item_faults};
 ghost use Rattle.v_elab.specs.Parts as parts;
 ghost use Rattle.v_elab.specs.Walk as plain;
 ghost use Rattle.v_elab.specs.Walk.{Walker, walked_item, walked_items, head_items, item_parts, checked_item};
 ghost use Rattle.elab_walk.specs.WalkFaults.{IsWalkFault};
 ghost use Rattle.elab_walk.specs.Sites.{IsSite};
+ghost use Rattle.elab_walk.specs.Within.{IsWithin, AreWithin};
 ghost use Rattle.elab_walk.specs.CountViews.{AreCounts};
 ghost use Rattle.elab_walk.specs.Leaves.{plain_item, Leaves};
 
@@ -59,6 +61,7 @@ fn walk_ports<'u>(
     group: &'u Ports,
     walked: &mut Walked<'u>,
 ) -> Result<(), WalkFault>
+    requires { IsWithin site.here.now.scope.value (PortItem (ports_of group.now)) }
     ensures { (h : plain.Here) (walker : Walker) → IsSite h site.entry → (before : List parts.Part) → AreCounts before walked.old.counts →
         Leaves before (walked_item walker h 0 (PortItem (ports_of group.now)) before) result walked.old walked.new }
 {
@@ -76,6 +79,7 @@ fn walk_port_groups<'u>(
     groups: &'u [Ports],
     walked: &mut Walked<'u>,
 ) -> Result<(), WalkFault>
+    requires { AreWithin site.here.now.scope.value (map PortItem (map ports_of groups.now)) }
     ensures { (h : plain.Here) (walker : Walker) → IsSite h site.entry → (before : List parts.Part) → AreCounts before walked.old.counts →
         Leaves before (walked_items walker h 0 (map PortItem (map ports_of groups.now)) before) result walked.old walked.new }
 {
@@ -92,6 +96,7 @@ pub fn walk_heads<'u>(
     heads: &'u Heads,
     walked: &mut Walked<'u>,
 ) -> Result<(), WalkFault>
+    requires { AreWithin site.here.now.scope.value (head_items (heads_of heads.now)) }
     ensures { (h : plain.Here) (walker : Walker) → IsSite h site.entry → (before : List parts.Part) → AreCounts before walked.old.counts →
         Leaves before (walked_items walker h 0 (head_items (heads_of heads.now)) before) result walked.old walked.new }
 {
@@ -106,7 +111,8 @@ pub fn walk_heads<'u>(
 
 /// Refuses what is wrong with an item that is no instance, and then a node of it that reads too many objects.
 fn refuse_item(alloc: Global, site: Site<'_, '_, '_, '_>, item: &Item) -> Result<(), WalkFault>
-    ensures { (h : plain.Here) → IsSite h site.entry → (gates : ℕ) →
+    ensures clean { IfOk result (λ done. item_faults site.entry.here.now.scope.value (item_of item.now) ≡ []) }
+    ensures checked { (h : plain.Here) → IsSite h site.entry → (gates : ℕ) →
         MatchResult result (λ done. checked_item h gates (item_of item.now) ≡ Ok (item_parts h gates (item_of item.now)))
         (λ fault. IsWalkFault (checked_item h gates (item_of item.now)) fault) }
 {
@@ -120,10 +126,12 @@ fn refuse_item(alloc: Global, site: Site<'_, '_, '_, '_>, item: &Item) -> Result
 pub fn walk_plain_item<'u>(
     alloc: Global,
     site: Site<'_, '_, '_, 'u>,
-    gates: u64,
+    gates: u128,
     item: &'u Item,
     walked: &mut Walked<'u>,
 ) -> Result<(), WalkFault>
+    requires gates { gates + 2 ^ 65 ≤ 2 ^ 128 }
+    requires within { IsWithin site.here.now.scope.value (item_of item.now) }
     ensures { (h : plain.Here) → IsSite h site.entry → (before : List parts.Part) → AreCounts before walked.old.counts →
         Leaves before (plain_item h gates (item_of item.now) before) result walked.old walked.new }
 {

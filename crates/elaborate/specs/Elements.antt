@@ -14,7 +14,9 @@ use Rattle.v_elab.specs.Flat.{NodeOutput, outputs_of, widths_of, walked_nodes, f
 use Rattle.elab_objects.specs.ObjectViews.{held_objects}
 use Rattle.elab_objects.specs.declared.object.HeldObject as code
 use Rattle.object_names.specs.NameTables.{NameTables, AreNamesOf}
+use Rattle.flat_laws.specs.Made.{nodes_in, processes_in, objects_in}
 use Rattle.elab_nodes.specs.Nodes.{AreSizedOver}
+use Rattle.elab_nodes.specs.Texts.{AreSizedBlocks, AreSizedProcesses}
 use Rattle.elaborate.specs.ElabFaults.{refusal_of, IsFaultOf, IsElabFault, IsTold}
 use Rattle.elaborate.specs.declared.elements.Elements.{Elements}
 use Rattle.elaborate.specs.declared.elements.Made.{Made}
@@ -56,10 +58,20 @@ abbrev pub Holds : List Part → List WalkedNode → Result (Vec code.HeldObject
 Holds parts nodes (Ok held) = (two_drivers (signals_of parts) nodes ≡ None) × (held_objects held.items ≡ objects_of_parts parts nodes)
 Holds parts nodes (Err fault) = IsTold (two_drivers (signals_of parts) nodes) (refusal_of fault)
 
--- the nodes are sized over the objects to which names and widths belong
-pub record HasSizedNodes (names : NameTables) (widths : List ℕ) (nodes : List WalkedNode) : Type 0 where
+-- nodes and processes are sized over the objects of some parts
+pub record AreSizedElements (parts : List Part) (objects : List HeldObject) (nodes : List WalkedNode) (processes : List WalkedProcess) : Type 0 where
+  pub nodes_sized : AreSizedOver parts objects nodes
+  pub blocks_sized : AreSizedBlocks parts objects nodes
+  pub processes_sized : AreSizedProcesses parts objects processes
+
+-- those of some parts are
+abbrev pub AreSizedParts : List Part → Type 0
+AreSizedParts parts = AreSizedElements parts (objects_in parts) (nodes_in parts) (processes_in parts)
+
+-- nodes and processes are sized over the objects to which names and widths belong
+pub record HasSizedElements (names : NameTables) (widths : List ℕ) (nodes : List WalkedNode) (processes : List WalkedProcess) : Type 0 where
   pub parts : List Part
   pub objects : List HeldObject
   pub names_are : AreNamesOf parts objects names
   pub widths_are : widths ≡ widths_of objects
-  pub sized : AreSizedOver parts objects nodes
+  pub sized : AreSizedElements parts objects nodes processes

@@ -13,9 +13,7 @@ ghost use Rattle.elab_wires.specs.WrittenNames.{written_from, written_of};
 ghost use Rattle.object_names.specs.OutputViews.{output_lists};
 ghost use Rattle.elab_objects.specs.ObjectViews.{held_objects};
 ghost use Rattle.node_order.specs.NodeOrder.{ordered_nodes};
-ghost use Rattle.flat_laws.specs.Sizes.WalkedNodes.{AreSizedNodes};
-ghost use Rattle.elab_nodes.specs.Nodes.{AreSizedOver};
-ghost use Rattle.elaborate.specs.Elements.{AreMade, AreMadeOver, Orders, Gives, Holds, HasSizedNodes};
+ghost use Rattle.elaborate.specs.Elements.{AreMade, AreMadeOver, Orders, Gives, Holds, AreSizedElements, AreSizedParts, HasSizedElements};
 
 use crate::convert::{INPUTS_OVER, PARTS_OVER, driver_fault};
 use crate::fault::ElabFault;
@@ -74,7 +72,7 @@ fn make_behaviours<'n>(
     processes: &[ProcessPart<'_, '_>],
 ) -> Result<Made, NoMemory>
     requires few { length widths.now ≤ most_parts }
-    requires sized { HasSizedNodes names.now widths.now (map node_of nodes.now) }
+    requires sized { HasSizedElements names.now widths.now (map node_of nodes.now) (map process_in processes.now) }
     ensures { IfOk result (AreMadeOver names.now widths.now (output_lists outputs.now) (map node_of nodes.now) (map process_in processes.now)) }
 {
     let basis = Basis { names, widths };
@@ -94,7 +92,7 @@ fn make_elements<'x>(
 ) -> Result<(Vec<JoinedName>, Made), NoMemory>
     requires signals { signals.now ≡ signals_of (parts_of parts.now) }
     requires few { length held.now ≤ most_parts }
-    requires sized { AreSizedOver (parts_of parts.now) (held_objects held.now) (map node_of nodes.now) }
+    requires sized { AreSizedElements (parts_of parts.now) (held_objects held.now) (map node_of nodes.now) (map process_in processes.now) }
     ensures { IfOk result (AreMade (parts_of parts.now) (held_objects held.now) (map node_of nodes.now) (map process_in processes.now)) }
 {
     let names = ObjectNames::new(alloc, signals, parts, held)?;
@@ -115,7 +113,7 @@ fn over_objects(
     held: Vec<HeldObject>,
 ) -> Result<Elements, ElabFault>
     requires signals { signals.now ≡ signals_of (parts_of parts.now) }
-    requires sized { AreSizedOver (parts_of parts.now) (held_objects held.items) (map node_of nodes.now) }
+    requires sized { AreSizedElements (parts_of parts.now) (held_objects held.items) (map node_of nodes.now) (map process_in processes.now) }
     ensures { Gives (over_parts (parts_of parts.now) (map node_of nodes.now) (map process_in processes.now) (held_objects held.items)) result }
 {
     if held.len() as u64 > MAX_OBJECTS {
@@ -164,7 +162,7 @@ fn over_written(
 ) -> Result<Elements, ElabFault>
     requires signals { signals.now ≡ signals_of (parts_of parts.now) }
     requires written { map written_of written.now ≡ written_from 0 (parts_of parts.now) }
-    requires sized { AreSizedNodes (parts_of parts.now) }
+    requires sized { AreSizedParts (parts_of parts.now) }
     ensures { Gives (flat_of_parts (parts_of parts.now)) result }
 {
     let wiring = Wiring::new(alloc, parts, signals, written)?;
@@ -187,16 +185,16 @@ fn over_signals(
     signals: &Signals<'_>,
 ) -> Result<Elements, ElabFault>
     requires signals { signals.now ≡ signals_of (parts_of parts.now) }
-    requires sized { AreSizedNodes (parts_of parts.now) }
+    requires sized { AreSizedParts (parts_of parts.now) }
     ensures { Gives (flat_of_parts (parts_of parts.now)) result }
 {
     let written = list_written(alloc, parts)?;
     over_written(alloc, parts, signals, &written)
 }
 
-/// The elements of the design of some parts whose nodes are sized, or why there is none.
+/// The elements of the design of some parts whose nodes and processes are sized, or why there is none.
 pub fn elements_of(alloc: Global, parts: &[Part<'_>]) -> Result<Elements, ElabFault>
-    requires { AreSizedNodes (parts_of parts.now) }
+    requires { AreSizedParts (parts_of parts.now) }
     ensures { Gives (flat_of_parts (parts_of parts.now)) result }
 {
     let signals = Signals::new(alloc, &*parts)?;

@@ -16,11 +16,11 @@ use Rattle.slot_record.specs.SlotLogs.{IsSlotLog}
 use Rattle.good_trace.specs.Counted.{is_step, steps_logged}
 
 -- whether an event is a process or lane step
-abbrev is_counted_event : Event → Bool
+abbrev pub is_counted_event : Event → Bool
 is_counted_event event = is_counted (Happens event)
 
 -- how many of some events are
-abbrev count_events : List Event → ℕ
+abbrev pub count_events : List Event → ℕ
 count_events events = count_by is_counted_event events
 
 step-counted : (actor : Actor) → is_step actor ≡ is_counted_event (event_of actor)
@@ -67,11 +67,15 @@ cut-count machine turn begins events state (Turns ∷ moves) =
     ∙ ap (λ n. count_events events + n)
     (cut-count machine (turn_of state) (made machine state Turns) [] (made machine state Turns) moves ∙ sym (sum_by-cons (λ (m : Move). cond (is_counted m) 1 0) Turns moves))
 
+-- the steps of a slot's phases are those of its moves
+pub slot-steps : (machine : Machine) (slot : FirstSlot) → sum_by count_events (map (λ (p : Phase). p.events) (phases machine slot)) ≡ counted_steps slot.moves
+slot-steps machine slot = cut-count machine None slot.begins [] slot.begins slot.moves ∙ zero-add (counted_steps slot.moves)
+
 -- a slot's log tells the steps of its moves
 pub steps-are : (machine : Machine) (first : Turn) (slot : FirstSlot) (log : SlotLog) → IsSlotLog machine first (phases machine slot) log → steps_logged log ≡ counted_steps slot.moves
 steps-are machine first slot log logged =
     sum-actors log.actors ∙ ap (λ (lists : List (List Event)). sum_by count_events lists) logged.actors_are
-    ∙ cut-count machine None slot.begins [] slot.begins slot.moves ∙ zero-add (counted_steps slot.moves)
+    ∙ slot-steps machine slot
 
 -- a slot that isn't hyperactive has few steps
 pub few-steps : (slot : FirstSlot) → is_hyper slot ≡ false → counted_steps slot.moves ≤ 100000

@@ -11,3 +11,5 @@ mod Starting
 mod Boundaries
 mod Unwritten
 mod ClosedWindows
+mod FewPhases
+mod FewRuns

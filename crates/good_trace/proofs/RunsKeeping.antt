@@ -68,7 +68,8 @@ logged-count : (machine : Machine) (number : ℕ) (list : List Phase) → length
 logged-count machine number [] = refl
 logged-count machine number (phase ∷ list) = let e : length (logged_phases machine (number + 1) list) ≡ length list = logged-count machine (number + 1) list in omega arith
 
-log-count : (codes : List Code) (design : FlatDesign) (plan : TestPlan) (pushed : ℕ) (log : SlotLog) (runs : List RunEnd) → (is : IsSlotAt codes design plan pushed log runs) →
+-- a log has as many phases as its slot
+pub log-count : (codes : List Code) (design : FlatDesign) (plan : TestPlan) (pushed : ℕ) (log : SlotLog) (runs : List RunEnd) → (is : IsSlotAt codes design plan pushed log runs) →
     length log.phases ≡ length (phases (good_machine design) is.slot)
 log-count codes design plan pushed log runs is = ap length is.logged.phases_are ∙ logged-count (good_machine design) 1 (phases (good_machine design) is.slot)
 

@@ -1,6 +1,6 @@
 // What a window has once it is closed.
 
-ghost use Rattle.std.specs.Prelude.{◌≡◌, ◌<◌, ◌≤◌, All, length, IfOk, OnOk, OnErr};
+ghost use Rattle.std.specs.Prelude.{◌≡◌, ◌-◌, ◌^◌, ◌<◌, ◌≤◌, All, length, IfOk, OnOk, OnErr};
 ghost use Rattle.std.specs.List.Sorted.{IsNonDecreasingBy};
 ghost use Rattle.trace_window.specs.Gathered.{BeginsAt, IsSameList};
 ghost use Rattle.window_runs.specs.RunsByProcess.{run_process, run_phase};
@@ -28,7 +28,7 @@ pub struct Closed {
 ///
 /// # Errors
 ///
-/// Want of memory, or no further number of a run or a change. The slots are as before then.
+/// Want of memory, or no further number of a change. The slots are as before then.
 pub(crate) fn close_slots(
     alloc: Global,
     sizes: Sizes,
@@ -45,6 +45,7 @@ pub(crate) fn close_slots(
     requires gathered { GathersSome sizes slots.old.list }
     requires within { All (λ run. run_process run < sizes.processes) slots.old.table.runs.items }
     requires rise { IsNonDecreasingBy run_phase slots.old.table.runs.items }
+    requires few { length slots.old.table.runs.items < 2 ^ 32 - 1 }
     ensures closed { IfOk result (λ closed. IsClosed sizes phases before.now slots.old closed) }
     ensures table { slots.new.table ≡ slots.old.table }
     ensures none { OnOk result (BeginsAt 0 slots.new.list) }

@@ -1,10 +1,9 @@
 // A slot of the good first run, by its log.
 
-ghost use Rattle.std.specs.Prelude.{◌≡◌, ◌+◌, ◌^◌, ◌<◌, ◌≤◌, count_by, length, IfOk};
+ghost use Rattle.std.specs.Prelude.{◌≡◌, ◌+◌, ◌^◌, ◌<◌, ◌≤◌, count_by, length};
 ghost use Rattle.good_trace.specs.Counted.{is_step, steps_logged};
 
 use causal_monitor::{Actor, SlotLog};
-use vf_base::NoMemory;
 
 /// Whether an event is a step of a process or of its lane.
 fn is_step(actor: Actor) -> bool
@@ -40,20 +39,10 @@ pub(crate) fn count_steps(log: &SlotLog) -> u32
 }
 
 /// How many phases there are with those of a slot, by its log.
-///
-/// # Errors
-///
-/// No further number of a phase.
-pub(crate) fn phases_after(before: u32, log: &SlotLog) -> Result<u32, NoMemory>
-    ensures count { IfOk result (λ phases. phases ≡ before + length log.now.phases) }
-    ensures fits { IfOk result (λ phases. phases < 2 ^ 32) }
+pub(crate) fn phases_after(before: u32, log: &SlotLog) -> u32
+    requires { before + length log.now.phases < 2 ^ 32 }
+    ensures count { result ≡ before + length log.now.phases }
+    ensures fits { result < 2 ^ 32 }
 {
-    let count = u32::try_from(log.phases.as_slice().len());
-    match count {
-        Err(_) => Err(NoMemory),
-        Ok(more) => match before.checked_add(more) {
-            None => Err(NoMemory),
-            Some(phases) => Ok(phases),
-        },
-    }
+    before + log.phases.as_slice().len() as u32
 }

@@ -100,7 +100,7 @@ impl<'s, 'd, N: World> Trace<'s, 'd, N> {
     ///
     /// # Errors
     ///
-    /// Want of memory, or no further number of a phase or a moment. The trace is as before then.
+    /// Want of memory, or no further number of a moment. The trace is as before then.
     pub fn push(&mut self, log: &SlotLog, mut runs: Vec<RunEnd>) -> Result<bool, NoMemory>
         requires next { IsSlotAt self.old.codes N.design N.plan self.old.pushed log.now runs.items }
         requires room { is_full (self.old.pushed - self.old.closed) (window_steps N.design N.plan self.old.closed self.old.pushed) ≡ false }
@@ -108,9 +108,10 @@ impl<'s, 'd, N: World> Trace<'s, 'd, N> {
         ensures full { IfOk result (λ full. full ≡ is_full (self.new.pushed - self.new.closed) (window_steps N.design N.plan self.new.closed self.new.pushed)) }
         ensures err { OnErr result (self.new ≡ self.old) }
     {
+        machine_laws::phases_are_few();
         window_runs::ends_go_on();
         let steps = count_steps(log);
-        let phases = phases_after(self.phases, log)?;
+        let phases = phases_after(self.phases, log);
         number_from(&mut runs, self.phases);
         let_go(&mut self.spent, runs.len());
         let sizes = self.setup.sizes();
@@ -126,7 +127,7 @@ impl<'s, 'd, N: World> Trace<'s, 'd, N> {
     ///
     /// # Errors
     ///
-    /// Want of memory, or no further number of a change or a run. The trace is as before then.
+    /// Want of memory, or no further number of a change. The trace is as before then.
     pub fn close_window(
         &mut self,
         last: GoodEnd,

@@ -7,7 +7,8 @@ use Rattle.v_design.specs.States.{State, TurnKind, PostponedTurn, UpdatesTurn, T
 use Rattle.causal_monitor.specs.declared.slot.Turn.{Turn}
 use Rattle.causal_monitor.specs.declared.slot.SlotLog.{SlotLog}
 use Rattle.slot_record.specs.Records.{object_count}
-use Rattle.machine_laws.specs.SlotLoop.{SlotsBegin, first_moment}
+use Rattle.race_laws.specs.Writes.{WritesAreOf, WritesStay}
+use Rattle.machine_laws.specs.SlotLoop.{SlotsBegin, first_moment, slot_from}
 use Rattle.slot_record.specs.declared.record.SlotRecord.{SlotRecord}
 use Rattle.slot_record.specs.SlotRecords.{BeginsSlot, BeginsPhase, IsEmptyLog}
 use Rattle.run_record.specs.RunRecords.{runs_so_far, AreAtRest, SlotsBeginNotes}
@@ -24,7 +25,7 @@ use Rattle.machine_events.specs.Parts.{AreBothOf}
 use Rattle.machine_events.specs.Turns.{held_in}
 use Rattle.machine_events.specs.PartLaws.{turned-nets, held-is}
 use Rattle.machine.specs.Phases.{Runs}
-use Rattle.machine.proofs.Moved.{moved}
+use Rattle.machine.proofs.Moved.{moved, rules-of}
 
 pub some-state : (x y : State) → Some x ≡ Some y → x ≡ y
 some-state x y e = ap (found_or x) e
@@ -53,15 +54,21 @@ begins-nets Over nets state begins are e = cc
 pub begins-table : (m : Simulated) → IsStanding m → IsTableOf (machine_kept m) (state_kept m) (table_of m.table)
 begins-table m standing = record { design = standing.design; time = refl; processes = refl }
 
+-- what is to be written in a slot of the first run is of the design
+begins-writes : WritesStay → (m : Simulated) → IsStanding m → (begins : State) → begins_next m ≡ Some begins → WritesAreOf (machine_kept m).design begins
+begins-writes law m standing begins next =
+    let reached = standing.reached begins next in
+    law.slots_begin (machine_kept m) begins.time reached.number (slot_from (machine_kept m) begins) (rules-of m) (reached.stands begins.time (omega arith))
+
 -- the slot begins, and is recorded
-pub slot-begun : SlotsBegin → SlotsBeginNotes → (begins : State) (old new : Simulated) (log : SlotLog) (turn : Turn) (between : SlotRecord) → IsStanding old → begins_next old ≡ Some begins →
-    begins.time ≤ 2 ^ 63 →
+pub slot-begun : SlotsBegin → SlotsBeginNotes → WritesStay → (begins : State) (old new : Simulated) (log : SlotLog) (turn : Turn) (between : SlotRecord) → IsStanding old →
+    begins_next old ≡ Some begins → begins.time ≤ 2 ^ 63 →
     turn ≡ first_turn old.stage → IsTableOf (machine_kept old) begins (table_of new.table) → IsKept new.table → AreNetsOf new.nets (state_kept old) → machine_kept new ≡ machine_kept old →
     design_of new.graph.now.design.now ≡ design_of old.graph.now.design.now → IsEmptyLog log → BeginsSlot old.record between →
     BeginsPhase turn (table_of new.table).time (held_in (table_of new.table)) between new.record → new.runs.ended.items ≡ [] → runs_so_far new.runs ≡ runs_so_far old.runs →
     notes_runs new ≡ notes_runs old →
     Runs (machine_kept old) (first_turn old.stage) begins 0 0 0 new log
-slot-begun law notes begins old new log turn between standing next low first table kept nets same graph empty slot phase none stay noted =
+slot-begun law notes stay_there begins old new log turn between standing next low first table kept nets same graph empty slot phase none stay noted =
     let machine = machine_kept old in
     let both : AreBothOf machine begins new.nets new.table = record { machine_is = same; nets_are = begins-nets old.stage new.nets (state_kept old) begins nets next; table_is = table } in
     record {
@@ -69,6 +76,7 @@ slot-begun law notes begins old new log turn between standing next low first tab
       is = moved machine (first_turn old.stage) (first_moment begins) new log (law machine begins (standing.begins begins next)) both kept (graph ∙ standing.graph)
           (phase machine (first_turn old.stage) [] None begins log (slot machine (first_turn old.stage) standing.earlier log standing.causes empty) first (sym table.time)
           (held-is machine begins (table_of new.table) table)) low
+          (begins-writes stay_there old standing begins next)
           (λ on. notes machine begins new.runs (subst (AreAtRest (length machine.design.processes)) (sym stay) (standing.rests begins next (sym noted ∙ on))) none);
       begins_is = refl;
       steps_is = refl;

@@ -1,10 +1,11 @@
 -- The event of the least node, lane or process leads to the next moment (IEEE 1364-2001, clause 5).
 use Rattle.std.proofs.Common.{◌≡◌, ℕ, ◌<◌, ◌≤◌, ◌^◌, List, length, refl, sym, ap, subst, ◌∙◌}
-use Rattle.std.specs.Prelude.{Some, None, Bool, slice_get, true, false}
+use Rattle.std.specs.Prelude.{Some, None, IfSome, Bool, slice_get, true, false}
 use Rattle.v_design.specs.PlainDesigns.{design_of}
 use Rattle.v_design.specs.WellFormed.{KeepsRules}
 use Rattle.v_design.specs.Designs.{FlatDesign, FlatNode, Machine}
-use Rattle.v_design.specs.States.{State, ProcessState, Event, Step, LaneStep, Evaluation, idle_process, process_at, is_ready, is_any}
+use Rattle.v_design.specs.States.{State, ProcessState, Event, Step, LaneStep, Evaluation, idle_process, process_at, is_ready, is_any, first_update, step_of, write_of}
+use Rattle.race_laws.specs.Writes.{WritesAreOf, WritesStay, NextWritesAreOf}
 use Rattle.v_design.specs.Runs.{Happens as Makes, most_steps, work_of}
 use Rattle.v_design.specs.Grades.{Phase}
 use Rattle.v_design.specs.OwnSteps.{is_process_step}
@@ -17,11 +18,12 @@ use Rattle.run_record.specs.declared.record.RunRecord.{RunRecord}
 use Rattle.net_state.specs.States.{values_in}
 use Rattle.process_table.specs.declared.table.ProcessTable.{ProcessTable}
 use Rattle.process_table.specs.declared.deed.Stepped.{Stepped}
-use Rattle.process_table.specs.Deeds.{IsStepOf}
+use Rattle.process_table.specs.Deeds.{IsStepOf, read_by}
 use Rattle.process_table.specs.Tables.{IsTableOf}
 use Rattle.process_table.specs.Arranged.{IsKept, table_of}
 use Rattle.machine_events.specs.Parts.{Leads}
 use Rattle.machine_events.specs.StepDeeds.{IsStepped, FinishesStep}
+use Rattle.machine_events.specs.There.{IsOfObjects, TouchesBelow, LaneIsThere, found-holds, touches-there}
 use Rattle.machine_events.specs.PartLaws.{table-count}
 use Rattle.machine.specs.declared.parts.Machine.{Machine as Simulated}
 use Rattle.machine.specs.Standing.{machine_kept, state_kept, notes_runs}
@@ -108,6 +110,34 @@ stepped-at machine first at m log process stepped table is ready steps =
       step = steps machine (state_in machine (present_phase at)) both.table_is (sym both.nets_are.values);
     }
 
+-- What is written
+
+-- what is still to be written in the present state is of the design
+writes-now : WritesStay → (m : Simulated) (moving : IsMoving m) → WritesAreOf (machine_kept m).design moving.at.state
+writes-now law m moving =
+    subst (WritesAreOf (machine_kept m).design) (sym moving.is.comes.made_so_far) (law.after_moves (machine_kept m) moving.at.begins moving.is.comes.moves (rules-of m) moving.is.writes)
+
+-- what a step of the least ready process did is to an object that has a value
+pub step-there : WritesStay → NextWritesAreOf → (m : Simulated) (moving : IsMoving m) (process : ℕ) (stepped : Stepped) (table : ProcessTable) → first_ready (state_kept m) ≡ Some process →
+    ((machine : Machine) (state : State) → IsTableOf machine state (table_of m.table) → state.values ≡ values_in m.nets → IsStepOf machine state process stepped (table_of table)) →
+    IfSome (read_by stepped.act) (λ object. object < length (table_of m.table).design.objects) → IfSome stepped.act (TouchesBelow (length (values_in m.nets)))
+step-there law next m moving process stepped table ready steps read =
+    let machine = machine_kept m in
+    let state = state_in machine (present_phase moving.at) in
+    let step = stepped-at machine moving.first moving.at m moving.log process stepped table moving.is ready steps in
+    let writes : WritesAreOf machine.design state = subst (WritesAreOf machine.design) moving.is.comes.happened_so_far (writes-now law m moving) in
+    touches-there (length (values_in m.nets)) stepped.act (write_of (step_of machine state process).action)
+    (subst (λ n. IfSome (read_by stepped.act) (λ object. object < n)) (ap (λ (d : FlatDesign). length d.objects) moving.is.parts.design ∙ sym moving.is.parts.values) read) step.step.write
+    (found-holds (IsOfObjects (length (values_in m.nets))) (write_of (step_of machine state process).action)
+    (λ update e. subst (λ n. update.object < n) (sym moving.is.parts.values) (next.step machine state process update (rules-of m) writes e)))
+
+-- so is the first update of a lane
+pub lane-writes : WritesStay → NextWritesAreOf → (m : Simulated) (moving : IsMoving m) (process : ℕ) → LaneIsThere process m.nets m.table
+lane-writes law next m moving process =
+    let writes : WritesAreOf (machine_kept m).design (state_kept m) = subst (WritesAreOf (machine_kept m).design) (sym moving.is.state_is) (writes-now law m moving) in
+    found-holds (IsOfObjects (length (values_in m.nets))) (first_update (process_at (state_kept m) process).lane)
+    (λ update e. subst (λ n. update.object < n) (sym moving.is.parts.values) (next.lane (machine_kept m).design (state_kept m) process update writes e))
+
 -- a step of the least ready process leads to the next moment
 pub step-moved : StepsGoOn → (old new : Simulated) (process number : ℕ) (stepped : Stepped) (table : ProcessTable) → NoNodeWorks (state_kept old) → first_lane (state_kept old) ≡ None →
     first_ready (state_kept old) ≡ Some process →
@@ -120,7 +150,7 @@ step-moved law old new process number stepped table nodes lanes ready steps fini
   leads = λ machine first at log is few.
       let step = stepped-at machine first at old log process stepped table is ready steps in
       moved-amid machine first (after_event machine (Step process) at) new log (step-comes law machine first at old log process is few nodes lanes ready)
-      (finishes machine first at.ended (present_phase at) log step is.recorded) (graph ∙ graph-of machine first at old log is) is.in_time
+      (finishes machine first at.ended (present_phase at) log step is.recorded) (graph ∙ graph-of machine first at old log is) is.in_time is.writes
       (λ on. noted-step machine first at old log number process stepped table new.runs is numbered step.step notes (sym same ∙ on));
 }
 
@@ -132,6 +162,6 @@ lane-moved law quiet old new process nodes lanes goes graph runs same = record {
   notes_are = same;
   leads = λ machine first at log is few.
       moved-amid machine first (after_event machine (LaneStep process) at) new log (lane-comes law machine first at old log process is few nodes lanes)
-      (goes machine first at.ended (present_phase at) log (amid-at machine first at old log is)) (graph ∙ graph-of machine first at old log is) is.in_time
+      (goes machine first at.ended (present_phase at) log (amid-at machine first at old log is)) (graph ∙ graph-of machine first at old log is) is.in_time is.writes
       (same-runs quiet machine at.ended (present_phase at) (LaneStep process) old.runs new.runs old.noting new.noting refl runs same is.runs);
 }

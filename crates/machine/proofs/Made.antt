@@ -80,6 +80,7 @@ stays-nets old new machine values nodes table kept graph runs notes =
           values = ap length values ∙ is.parts.values ∙ ap (λ (m : Machine). length m.design.objects) (sym machine);
         };
         in_time = is.in_time;
+        writes = is.writes;
         runs = λ on. subst (RecordsRuns k at.ended (present_phase at)) (sym runs) (is.runs (sym notes ∙ on));
       };
     }

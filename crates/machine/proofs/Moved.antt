@@ -7,6 +7,7 @@ use Rattle.v_design.specs.Designs.{Machine}
 use Rattle.v_design.specs.States.{State}
 use Rattle.causal_monitor.specs.declared.slot.Turn.{Turn}
 use Rattle.causal_monitor.specs.declared.slot.SlotLog.{SlotLog}
+use Rattle.race_laws.specs.Writes.{WritesAreOf}
 use Rattle.machine_laws.specs.SlotLoop.{Moment, ComesTo, present_phase}
 use Rattle.slot_record.specs.SlotRecords.{RecordsSlot}
 use Rattle.run_record.specs.RunRecords.{RecordsRuns}
@@ -51,15 +52,16 @@ rules-of m = rules_hold (design_of m.nets.objects.settle.graph.now.design.now) m
 
 -- a machine stands at the next moment
 pub moved : (machine : Machine) (first : Turn) (next : Moment) (m : Simulated) (log : SlotLog) → ComesTo machine next → AreBothOf machine next.state m.nets m.table → IsKept m.table →
-    design_of m.graph.now.design.now ≡ machine.design → RecordsSlot machine first next.ended (present_phase next) m.record log → next.begins.time ≤ 2 ^ 63 →
+    design_of m.graph.now.design.now ≡ machine.design → RecordsSlot machine first next.ended (present_phase next) m.record log → next.begins.time ≤ 2 ^ 63 → WritesAreOf machine.design next.begins →
     (notes_runs m ≡ true → RecordsRuns machine next.ended (present_phase next) m.runs) → IsAt machine first next m log
-moved machine first next m log comes both kept graph recorded in_time runs = record {
+moved machine first next m log comes both kept graph recorded in_time writes runs = record {
   machine_is = both.machine_is;
   comes = comes;
   state_is = state-of machine next.state m both;
   recorded = recorded;
   parts = parts-of machine next.state m both kept graph;
   in_time = in_time;
+  writes = writes;
   runs = runs;
 }
 
@@ -85,6 +87,7 @@ in-slot m moving = record {
 -- and the other way round, where the first order comes to the moment
 pub moved-amid : (machine : Machine) (first : Turn) (next : Moment) (m : Simulated) (log : SlotLog) → ComesTo machine next →
     IsAmid machine first next.ended (present_phase next) m.nets m.table m.record log →
-    design_of m.graph.now.design.now ≡ machine.design → next.begins.time ≤ 2 ^ 63 → (notes_runs m ≡ true → RecordsRuns machine next.ended (present_phase next) m.runs) → IsAt machine first next m log
-moved-amid machine first next m log comes amid graph in_time runs =
-    moved machine first next m log comes (subst (λ s. AreBothOf machine s m.nets m.table) (sym comes.happened_so_far) amid.both) amid.arranged graph amid.recorded in_time runs
+    design_of m.graph.now.design.now ≡ machine.design → next.begins.time ≤ 2 ^ 63 → WritesAreOf machine.design next.begins →
+    (notes_runs m ≡ true → RecordsRuns machine next.ended (present_phase next) m.runs) → IsAt machine first next m log
+moved-amid machine first next m log comes amid graph in_time writes runs =
+    moved machine first next m log comes (subst (λ s. AreBothOf machine s m.nets m.table) (sym comes.happened_so_far) amid.both) amid.arranged graph amid.recorded in_time writes runs

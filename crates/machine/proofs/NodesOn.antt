@@ -37,7 +37,7 @@ node-goes law quiet old new node work goes graph runs notes = record {
       let there = node-there old.nets node (omega (arith, work-low 0 (nodes_in old.nets) node work)) in
       moved-amid machine first (after_node machine node at) new log
       (node-comes law machine first at old log node there.0 is few (subst (λ (k : Machine). slice_get k.design.nodes node ≡ Some there.0) is.machine_is there.1) work)
-      (goes machine first at.ended (present_phase at) log (amid-at machine first at old log is)) (graph ∙ graph-of machine first at old log is) is.in_time
+      (goes machine first at.ended (present_phase at) log (amid-at machine first at old log is)) (graph ∙ graph-of machine first at old log is) is.in_time is.writes
       (same-runs quiet machine at.ended (one_more (Evaluation node) (present_phase at)) (NetUpdate node) old.runs new.runs old.noting new.noting refl runs notes
       (same-runs quiet machine at.ended (present_phase at) (Evaluation node) old.runs old.runs old.noting old.noting refl refl refl is.runs));
 }

@@ -1,5 +1,5 @@
 -- A phase ends, and a turn within the slot begins the next one (IEEE 1364-2001, clauses 5.3 and 5.4).
-use Rattle.std.proofs.Common.{◌≡◌, ℕ, zero, suc, ◌+◌, ◌≤◌, List, [], ◌∷◌, Bool, true, false, ◌||◌, length, refl, sym, subst, ◌∙◌, arith}
+use Rattle.std.proofs.Common.{◌≡◌, ℕ, zero, suc, ◌+◌, ◌≤◌, List, [], ◌∷◌, Bool, true, false, ◌||◌, length, refl, sym, subst, ◌∙◌, arith, ◌^◌, ◌<◌, ◌++◌, length-append}
 use Rattle.std.specs.Prelude.{Option, Some, None, slice_get}
 use Rattle.v_design.specs.PlainDesigns.{design_of}
 use Rattle.vf_base.specs.Lists.{first_place, earlier_place}
@@ -10,7 +10,7 @@ use Rattle.causal_monitor.specs.declared.slot.Turn.{Turn}
 use Rattle.causal_monitor.specs.declared.slot.SlotLog.{SlotLog}
 use Rattle.causal_monitor.specs.Phases.{IsLogOf}
 use Rattle.slot_record.specs.Records.{object_count}
-use Rattle.machine_laws.specs.SlotLoop.{Moment, ComesTo, present_phase, TurnsGoOn, IsIdle, after_turn, phases_so_far}
+use Rattle.machine_laws.specs.SlotLoop.{Moment, ComesTo, present_phase, PhasesAreFew, TurnsGoOn, IsIdle, after_turn, phases_so_far}
 use Rattle.slot_record.specs.declared.record.SlotRecord.{SlotRecord}
 use Rattle.slot_record.specs.SlotRecords.{BeginsPhase, EndsPhase, RecordedSlot, state_in}
 use Rattle.run_record.specs.RunRecords.{RecordsRuns, NoneReady, PhasesNoteNothing}
@@ -85,6 +85,18 @@ pub ended-room : (m : Simulated) (after : SlotRecord) (log logged : SlotLog) →
     object_count after.phase ≡ length (machine_kept m).design.objects
 ended-room m after log logged moving ends = (ends (machine_kept m) moving.first moving.at.ended _ (sym moving.is.parts.graph) moving.is.recorded).causes.objects
 
+-- and a number for the next phase
+pub next-number : PhasesAreFew → (m : Simulated) (after : SlotRecord) (log logged : SlotLog) → IsMovingIn m log → EndsPhase (design_of m.graph.now.design.now) m.record after log logged →
+    after.number + 1 < 2 ^ 32
+next-number law m after log logged moving ends =
+    let at = moving.at in
+    let few : length at.ended ≤ at.steps + 1 = law (machine_kept m) at moving.is.comes in
+    let room : at.steps + moving.is.comes.steps_left ≡ 100001 = moving.is.comes.room in
+    let numbered : after.number ≡ length (at.ended ++ present_phase at ∷ []) =
+    (ends (machine_kept m) moving.first at.ended (present_phase at) (sym moving.is.parts.graph) moving.is.recorded).numbered in
+    let count : length (at.ended ++ present_phase at ∷ []) ≡ length at.ended + 1 = length-append at.ended (present_phase at ∷ []) in
+    omega (arith, few, room, numbered, count)
+
 -- the turn leads to the next moment
 pub turn-moved : TurnsGoOn → PhasesNoteNothing → (machine : Machine) (first : Turn) (begins : State) (steps ticks moves : ℕ) (old new : Simulated) (log logged : SlotLog) (turn : Turn)
     (between : SlotRecord) → Runs machine first begins steps ticks moves old log → steps ≤ most_steps →
@@ -115,6 +127,7 @@ turn-moved law quiet machine first begins steps ticks moves old new log logged t
               (law machine at kind (rules-at machine first at old log runs.is) runs.is.comes (subst (λ n. n ≤ most_steps) (sym runs.steps_is) few) (subst IsIdle runs.is.state_is idle) is tells.0)
               both kept (graph ∙ graph-of machine first at old log runs.is)
               (starts machine first (phases_so_far at) (Some kind) next logged recorded (tells.1 first) (sym table.time) (held-is machine next (table_of new.table) table)) runs.is.in_time
+              runs.is.writes
               (λ on.
               subst (RecordsRuns machine (phases_so_far at) (record { turn = Some kind; begins = next; events = [] })) (sym noted)
               (quiet machine at.ended (present_phase at) (Some kind) next old.runs (none-ready machine at runs.is.comes (subst IsIdle runs.is.state_is idle)) (runs.is.runs (sym notes ∙ on))));

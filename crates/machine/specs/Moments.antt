@@ -6,6 +6,7 @@ use Rattle.v_design.specs.Runs.{most_steps}
 use Rattle.v_design.specs.Grades.{Phase}
 use Rattle.causal_monitor.specs.declared.slot.Turn.{Turn}
 use Rattle.causal_monitor.specs.declared.slot.SlotLog.{SlotLog}
+use Rattle.race_laws.specs.Writes.{WritesAreOf}
 use Rattle.machine_laws.specs.SlotLoop.{Moment, ComesTo, present_phase}
 use Rattle.slot_record.specs.SlotRecords.{RecordsSlot}
 use Rattle.run_record.specs.RunRecords.{RecordsRuns}
@@ -37,6 +38,7 @@ pub record IsAt (machine : Machine) (first : Turn) (at : Moment) (m : Simulated)
   pub recorded : RecordsSlot machine first at.ended (present_phase at) m.record log
   pub parts : AreParts m
   pub in_time : at.begins.time ≤ 2 ^ 63
+  pub writes : WritesAreOf machine.design at.begins
   pub runs : notes_runs m ≡ true → RecordsRuns machine at.ended (present_phase at) m.runs
 
 -- a machine stands at some moment of some slot

@@ -59,6 +59,7 @@ impl<'d> Machine<'d> {
         ensures { OnOk result (TurnsPhase self.old self.new log.old log.new) }
     {
         machine_laws::slot_goes_on();
+        machine_laws::phases_are_few();
         run_record::runs_go_on();
         self.record.end_phase(self.graph, log)?;
         self.table.turn()?;

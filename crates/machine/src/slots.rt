@@ -43,6 +43,7 @@ impl<'d> Machine<'d> {
         ensures { OnOk result (BeginsSlotHere self.old self.new log.new) }
     {
         machine_laws::slot_goes_on();
+        race_laws::writes_stay();
         run_record::runs_go_on();
         let turn = turn_to_slot(self.stage, &mut self.table)?;
         self.record.begin_slot(log)?;

@@ -33,6 +33,7 @@ impl<'d> Machine<'d> {
         ensures ticks { OnOk result (steps.new ≡ raised steps.old) }
     {
         machine_laws::slot_goes_on();
+        race_laws::writes_stay();
         let stepped = self.table.step(process, &self.nets, steps)?;
         note_run(
             &mut self.runs,
@@ -65,6 +66,7 @@ impl<'d> Machine<'d> {
         ensures { OnOk result (GoesOn (λ machine at. after_event machine (LaneStep (process_number process)) at) self.old self.new) }
     {
         machine_laws::slot_goes_on();
+        race_laws::writes_stay();
         run_record::runs_go_on();
         step_lane(
             &mut self.nets,

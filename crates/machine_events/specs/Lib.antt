@@ -3,3 +3,4 @@ pub mod Alone
 pub mod StepDeeds
 pub mod Turns
 pub mod PartLaws
+pub mod There

@@ -8,17 +8,18 @@ ghost use Rattle.process_table.specs.Tables.{process_in};
 ghost use Rattle.slot_record.specs.SlotRecords.{one_more};
 ghost use Rattle.machine_events.specs.Alone.{AreOfOne, HappensTo};
 ghost use Rattle.machine_events.specs.Parts.{IsInSlot, Leads};
+ghost use Rattle.machine_events.specs.There.{LaneIsThere};
 
 use crate::notes::note_lane;
 use crate::told::Told;
-use crate::write::{is_there, write_update};
+use crate::write::write_update;
 use net_state::NetState;
 use process_table::ProcessTable;
 use slot_record::SlotRecord;
 use v_design::Update;
 use vf_base::{NoMemory, ProcId};
 
-/// The first update of a process's lane is written, of which no record is kept: `told` tells it. It answers the update. A process names objects of its design alone.
+/// The first update of a process's lane is written, of which no record is kept: `told` tells it. It answers the update.
 ///
 /// # Errors
 ///
@@ -31,14 +32,12 @@ pub fn lane_alone(
 ) -> Result<Update, NoMemory>
     requires one { AreOfOne nets.old table.old }
     requires lane { is_any (process_in (table_of table.old) (process_number process)).lane ≡ true }
+    requires there { LaneIsThere (process_number process) nets.old table.old }
     ensures { IfOk result (λ update. HappensTo (LaneStep (process_number process)) update.line nets.old nets.new table.old table.new told.new) }
 {
     let Some(update) = table.lane_step(process) else {
         unreachable!();
     };
-    if !is_there(nets, update.object) {
-        return Err(NoMemory);
-    }
     write_update(nets, table, told, &update, process, update.line)?;
     Ok(update)
 }
@@ -57,6 +56,7 @@ pub fn step_lane(
 ) -> Result<(), NoMemory>
     requires stands { IsInSlot nets.old table.old record.old }
     requires lane { is_any (process_in (table_of table.old) (process_number process)).lane ≡ true }
+    requires there { LaneIsThere (process_number process) nets.old table.old }
     ensures { OnOk result (Leads (one_more (LaneStep (process_number process))) nets.old nets.new table.old table.new record.old record.new) }
 {
     let update = lane_alone(nets, table, told, process)?;

@@ -1,6 +1,6 @@
 // The beginning of a phase, and the turn before it or before a slot.
 
-ghost use Rattle.std.specs.Prelude.{◌≡◌, length, OnOk};
+ghost use Rattle.std.specs.Prelude.{◌≡◌, ◌+◌, ◌^◌, ◌<◌, length, OnOk};
 ghost use Rattle.v_design.specs.Designs.{Machine};
 ghost use Rattle.v_design.specs.States.{State, turn_of};
 ghost use Rattle.slot_record.specs.Records.{object_count};
@@ -28,7 +28,7 @@ pub fn slot_turn(table: &ProcessTable) -> Option<Turn>
     }
 }
 
-/// A phase begins after a turn, with the waits that its processes are in.
+/// A phase begins after a turn, with the waits that its processes are in. Its number fits in 32 bits, since a slot has few steps.
 ///
 /// # Errors
 ///
@@ -41,6 +41,7 @@ pub fn begin_phase(
 ) -> Result<(), NoMemory>
     requires kept { IsKept table.now }
     requires room { object_count record.old.phase ≡ length (table_of table.now).design.objects }
+    requires number { record.old.number + 1 < 2 ^ 32 }
     ensures { OnOk result (BeginsPhase turn (table_of table.now).time (held_in (table_of table.now)) record.old record.new) }
 {
     told.clear();

@@ -1,6 +1,6 @@
 // A step of a process.
 
-ghost use Rattle.std.specs.Prelude.{◌≡◌, ◌<◌, ◌≤◌, ◌^◌, Some, None, true, length, IfOk, OnOk};
+ghost use Rattle.std.specs.Prelude.{◌≡◌, ◌<◌, ◌≤◌, ◌^◌, Some, None, true, length, IfOk, IfSome, OnOk};
 ghost use Rattle.vf_base.specs.Base.{object_number, process_number};
 ghost use Rattle.v_design.specs.States.{Step, is_ready};
 ghost use Rattle.v_design.specs.Accesses.{waiting_entries};
@@ -11,10 +11,11 @@ ghost use Rattle.slot_record.specs.SlotRecords.{one_more};
 ghost use Rattle.machine_events.specs.Alone.{AreOfOne, HappensTo};
 ghost use Rattle.machine_events.specs.Parts.{FitsDesign, IsInSlot, Leads};
 ghost use Rattle.machine_events.specs.StepDeeds.{TellsQuiet, CarriesOut, IsMidStep, FinishesStep};
+ghost use Rattle.machine_events.specs.There.{TouchesBelow, StepIsThere};
 
 use crate::notes::note_step;
 use crate::told::Told;
-use crate::write::{is_there, write_update};
+use crate::write::write_update;
 use causal_monitor::Noted;
 use four_value::Vec4;
 use net_state::NetState;
@@ -72,7 +73,7 @@ fn tell_read(
     Ok(())
 }
 
-/// Does to the values and the nodes what a step did to an object, and tells it. A process names objects of its design alone.
+/// Does to the values and the nodes what a step did to an object, and tells it.
 ///
 /// # Errors
 ///
@@ -89,20 +90,15 @@ fn carry_out_act(
     requires design { (table_of table.old).design ≡ (machine_in nets.old).design }
     requires values { length (values_in nets.old) ≡ length (machine_in nets.old).design.objects }
     requires act { stepped.now.act ≡ Some act.now }
+    requires there { TouchesBelow (length (values_in nets.old)) act.now }
     ensures { OnOk result (CarriesOut (process_number process) stepped.now nets.old nets.new table.old table.new told.new) }
 {
     match act {
         Act::Write(update) => {
-            if !is_there(nets, update.object) {
-                return Err(NoMemory);
-            }
             write_update(nets, table, told, update, process, stepped.line)?;
             Ok(())
         }
         Act::Read(object) => {
-            if !is_there(nets, *object) {
-                return Err(NoMemory);
-            }
             tell_read(table, told, *object, process, stepped.line)?;
             Ok(())
         }
@@ -124,6 +120,7 @@ fn carry_out(
     requires kept { IsKept table.old }
     requires design { (table_of table.old).design ≡ (machine_in nets.old).design }
     requires values { length (values_in nets.old) ≡ length (machine_in nets.old).design.objects }
+    requires there { IfSome stepped.now.act (TouchesBelow (length (values_in nets.old))) }
     ensures { OnOk result (CarriesOut (process_number process) stepped.now nets.old nets.new table.old table.new told.new) }
 {
     match &stepped.act {
@@ -154,6 +151,7 @@ pub fn finish_step(
     requires kept { IsKept table.old }
     requires process { process_number process < length (table_of table.old).processes }
     requires stands { IsMidStep (process_number process) stepped.now nets.old table.old record.old }
+    requires there { IfSome stepped.now.act (TouchesBelow (length (values_in nets.old))) }
     ensures { OnOk result (FinishesStep (process_number process) stepped.now nets.old nets.new table.old table.new record.old record.new) }
 {
     carry_out(nets, table, told, process, stepped)?;
@@ -176,6 +174,7 @@ pub fn step_alone<L: Ledger>(
     requires one { AreOfOne nets.old table.old }
     requires ready { is_ready (process_in (table_of table.old) (process_number process)).activity ≡ true }
     requires time { (table_of table.old).time ≤ 2 ^ 63 }
+    requires there { StepIsThere (process_number process) nets.old table.old }
     ensures { IfOk result (λ stepped. HappensTo (Step (process_number process)) stepped.line nets.old nets.new table.old table.new told.new) }
 {
     let stepped = table.step(process, &*nets, steps)?;
@@ -199,6 +198,7 @@ pub fn step_process<L: Ledger>(
     requires stands { IsInSlot nets.old table.old record.old }
     requires ready { is_ready (process_in (table_of table.old) (process_number process)).activity ≡ true }
     requires time { (table_of table.old).time ≤ 2 ^ 63 }
+    requires there { StepIsThere (process_number process) nets.old table.old }
     ensures { OnOk result (Leads (one_more (Step (process_number process))) nets.old nets.new table.old table.new record.old record.new) }
 {
     let stepped = table.step(process, &*nets, steps)?;

@@ -1,6 +1,6 @@
 // A write of an update.
 
-ghost use Rattle.std.specs.Prelude.{◌≡◌, ◌<◌, ◌++◌, ℕ, length, map, OnOk, IsTrue};
+ghost use Rattle.std.specs.Prelude.{◌≡◌, ◌<◌, ◌++◌, ℕ, length, map, OnOk};
 ghost use Rattle.std.specs.List.{All};
 ghost use Rattle.vf_base.specs.Base.{object_number, process_number};
 ghost use Rattle.four_value.specs.Values.{same_value};
@@ -21,13 +21,6 @@ use process_table::ProcessTable;
 use v_design::Update;
 use value_change::Change;
 use vf_base::{Access, AccessKind, NoMemory, ObjectId, ProcId};
-
-/// Whether an object is one of the design.
-pub(crate) fn is_there(nets: &NetState, object: ObjectId) -> bool
-    ensures { IsTrue result → object_number object < length (values_in nets.now) }
-{
-    (object.0 as usize) < nets.object_count()
-}
 
 /// The write of a change, by a process and the line of its statement.
 fn write_of(change: &Change, process: ProcId, line: u32) -> Noted

@@ -2,3 +2,4 @@ pub mod Places
 pub mod Moments
 pub mod Ends
 pub mod Stretches
+pub mod FewPhases

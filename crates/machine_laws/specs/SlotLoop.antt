@@ -2,10 +2,12 @@
 use Rattle.std.specs.Prelude.{◌≡◌, ℕ, ◌+◌, ◌≤◌, Bool, true, false, List, [], ◌∷◌, ◌++◌, length, Option, Some, None, IsTrue, slice_get, sum_by}
 use Rattle.std.specs.Option.{option_map}
 use Rattle.vf_base.specs.Base.{ReportedPair}
-use Rattle.vf_base.specs.Lists.{first_place}
+use Rattle.vf_base.specs.Lists.{AllHold, first_place}
 use Rattle.v_design.specs.Designs.{FlatNode, Machine}
-use Rattle.v_design.specs.States.{State, ProcessState, Event, Step, LaneStep, Evaluation, NetUpdate, TurnKind, TimeTurn, after, is_ready, is_any, turn_of, turned, time_turn}
-use Rattle.v_design.specs.Runs.{Move, Turns, FirstSlot, work_of, first_event, turn_in_slot, all_made, counted_steps, slot_moves, most_steps, first_moves, slot_end, is_hyper, happened, all_possible}
+use Rattle.v_design.specs.States.{State, ProcessState, Event, Step, LaneStep, Evaluation, NetUpdate, TurnKind, TimeTurn, after, is_ready, is_any}
+use Rattle.v_design.specs.States.{has_event, some_in, is_quiescent, turn_of, turned, time_turn}
+use Rattle.v_design.specs.Runs.{Move, Turns, FirstSlot, work_of, first_event, turn_in_slot, all_made, counted_steps, slot_moves, most_steps, first_moves, first_run, slot_end, is_hyper}
+use Rattle.v_design.specs.Runs.{happened, all_possible}
 use Rattle.v_design.specs.WellFormed.{KeepsRules}
 use Rattle.copy_laws.specs.Beside.{AreFirst}
 use Rattle.v_design.specs.Laws.{BeginsPhase}
@@ -142,6 +144,22 @@ StepsGoOn =
 -- no event is possible
 abbrev pub IsIdle : State → Type 0
 IsIdle state = (work_of 0 state.nodes ≡ None) × (first_lane state ≡ None) × (first_ready state ≡ None)
+
+-- the phases of a slot that ended are at most as many as its process and lane steps so far, and one: such a step follows each turn within the slot
+abbrev pub PhasesAreFew : Type 0
+PhasesAreFew = (machine : Machine) (at : Moment) → ComesTo machine at → length at.ended ≤ at.steps + 1
+
+-- so are all phases of a slot of the first run
+abbrev pub SlotPhasesAreFew : Type 0
+SlotPhasesAreFew = (machine : Machine) (time : ℕ) → AllHold (λ (slot : FirstSlot). length (phases machine slot) ≤ counted_steps slot.moves + 2) (first_run machine time)
+
+-- a process or its lane may take a step, and no node has work
+abbrev pub AwaitsStep : State → Type 0
+AwaitsStep state = (some_in has_event state.processes ≡ true) × (work_of 0 state.nodes ≡ None)
+
+-- so it is after a turn within a slot, whatever order led to it
+abbrev pub TurnsWake : Type 0
+TurnsWake = (state : State) (kind : TurnKind) → is_quiescent state ≡ true → turn_of state ≡ Some kind → turn_in_slot (Some kind) ≡ Some Turns → AwaitsStep (turned kind state)
 
 -- where no event is possible, a turn within the slot ends the phase and begins the next one
 abbrev pub TurnsGoOn : Type 0

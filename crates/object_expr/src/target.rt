@@ -3,7 +3,9 @@
 ghost use Rattle.std.specs.Prelude.{◌≡◌, IfOk, List, map};
 ghost use Rattle.v_tree.specs.Views as views;
 ghost use Rattle.v_tree.specs.Views.{index_of, select_of};
+ghost use Rattle.vf_base.specs.Lists.{AllHold};
 ghost use Rattle.v_design.specs.Plain.{target_of};
+ghost use Rattle.v_design.specs.Sized.{IsSizedTarget};
 ghost use Rattle.v_names.specs.Scopes.{looked_up, is_memory};
 ghost use Rattle.v_names.specs.Readings.{number_or, number_of_constant};
 ghost use Rattle.v_elab.specs.Statements.{Meaning, indexed_target, target_by_index, targets_over};
@@ -50,6 +52,8 @@ fn indexed_target(
     name: &Text,
     index: &Expr,
 ) -> Result<FlatTarget, NoMemory>
+    requires { (meaning : Meaning) × IsMeaning meaning scope.now names ×
+        IsSizedTarget (indexed_target (is_memory (looked_up scope.now name.now)) meaning name.now (views.expression_of index.now)) }
     ensures { IfOk result (λ flat. (meaning : Meaning) → IsMeaning meaning scope.now names.entry →
         target_of flat ≡ indexed_target (is_memory (looked_up scope.now name.now)) meaning name.now (views.expression_of index.now)) }
 {
@@ -70,6 +74,7 @@ fn select_over(
     names: InstanceNames<'_>,
     select: &Select,
 ) -> Result<FlatTarget, NoMemory>
+    requires { (meaning : Meaning) × IsMeaning meaning scope.now names × IsSizedTarget (select_over meaning (select_of select.now)) }
     ensures { IfOk result (λ flat. (meaning : Meaning) → IsMeaning meaning scope.now names.entry → target_of flat ≡ select_over meaning (select_of select.now)) }
 {
     let name = &select.name;
@@ -98,6 +103,7 @@ fn selects_over(
     names: InstanceNames<'_>,
     selects: &[Select],
 ) -> Result<Vec<FlatTarget>, NoMemory>
+    requires { (meaning : Meaning) × IsMeaning meaning scope.now names × AllHold IsSizedTarget (map (select_over meaning) (map select_of selects.now)) }
     ensures { IfOk result (λ flats. (meaning : Meaning) → IsMeaning meaning scope.now names.entry → map target_of flats.items ≡ map (select_over meaning) (map select_of selects.now)) }
 {
     let mut flats = Vec::new(alloc);
@@ -108,13 +114,14 @@ fn selects_over(
     Ok(flats)
 }
 
-/// What a process writes: the variables and memories of the target's selects, from the left.
+/// What a process writes: the variables and memories of the target's selects, from the left, which are sized.
 pub fn targets_over(
     alloc: Global,
     scope: &Scope<'_>,
     names: InstanceNames<'_>,
     target: &Target,
 ) -> Result<Vec<FlatTarget>, NoMemory>
+    requires { (meaning : Meaning) × IsMeaning meaning scope.now names × AllHold IsSizedTarget (targets_over meaning (views.target_of target.now)) }
     ensures { IfOk result (λ flats. (meaning : Meaning) → IsMeaning meaning scope.now names.entry → map target_of flats.items ≡ targets_over meaning (views.target_of target.now)) }
 {
     match target {

@@ -1,3 +1,4 @@
 pub mod Items
 pub mod Rows
 pub mod Sizes
+pub mod Levels

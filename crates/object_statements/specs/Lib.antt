@@ -1,3 +1,4 @@
 pub mod Meanings
 pub mod CaseItems
 pub mod Branches
+pub mod Texts

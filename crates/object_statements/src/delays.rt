@@ -6,6 +6,8 @@ ghost use Rattle.v_names.specs.Readings.{number_or};
 ghost use Rattle.v_names.specs.SizeViews.{signed_value};
 ghost use Rattle.v_elab.specs.Statements.{Meaning as PlainMeaning, unsigned_number, delay_number, delay_or_zero};
 ghost use Rattle.object_statements.specs.Meanings.{IsMeaning};
+ghost use Rattle.object_statements.specs.Texts.{HasMeaning};
+ghost use Rattle.v_design.specs.Sized.{IsDelay, IsDelayIf};
 
 use crate::meaning::Meaning;
 use std::alloc::Global;
@@ -26,22 +28,13 @@ fn unsigned_or_zero(constant: Option<Constant>) -> u128
     }
 }
 
-/// A number in 32 bits, which a delay has where nothing is wrong with its size.
-fn in_32_bits(number: u128) -> Result<u32, NoMemory>
-    ensures { IfOk result (λ short. short ≡ number) }
-{
-    match u32::try_from(number) {
-        Ok(short) => Ok(short),
-        Err(_) => Err(NoMemory),
-    }
-}
-
-/// A delay, 0 where it has no number.
+/// A delay of 32 bits, 0 where it has no number.
 pub fn delay_over(alloc: Global, meaning: Meaning<'_, '_>, delay: &Expr) -> Result<u32, NoMemory>
+    requires { HasMeaning meaning (λ (m : PlainMeaning). IsDelay (delay_number m (expression_of delay.now))) }
     ensures { IfOk result (λ units. (plain : PlainMeaning) → IsMeaning plain meaning.entry → units ≡ delay_number plain (expression_of delay.now)) }
 {
     let constant = constant_of(alloc, delay, meaning.scope, 0)?;
-    let units = in_32_bits(unsigned_or_zero(constant))?;
+    let units = unsigned_or_zero(constant) as u32;
     Ok(units)
 }
 
@@ -51,6 +44,7 @@ pub fn delay_if(
     meaning: Meaning<'_, '_>,
     delay: &Option<Expr>,
 ) -> Result<Option<u32>, NoMemory>
+    requires { HasMeaning meaning (λ (m : PlainMeaning). IsDelayIf (option_map (delay_number m) (expression_in delay.now))) }
     ensures { IfOk result (λ units. (plain : PlainMeaning) → IsMeaning plain meaning.entry → units ≡ option_map (delay_number plain) (expression_in delay.now)) }
 {
     match delay {
@@ -68,6 +62,7 @@ pub fn delay_or_zero(
     meaning: Meaning<'_, '_>,
     delay: &Option<Expr>,
 ) -> Result<u32, NoMemory>
+    requires { HasMeaning meaning (λ (m : PlainMeaning). IsDelay (delay_or_zero m (expression_in delay.now))) }
     ensures { IfOk result (λ units. (plain : PlainMeaning) → IsMeaning plain meaning.entry → units ≡ delay_or_zero plain (expression_in delay.now)) }
 {
     match delay {

@@ -4,7 +4,10 @@ ghost use Rattle.std.specs.Prelude.{◌≡◌, IfOk, map};
 ghost use Rattle.v_design.specs.Plain.{expression_of, target_of};
 ghost use Rattle.v_tree.specs.Views as source;
 ghost use Rattle.v_elab.specs.Statements.{Meaning as PlainMeaning, targets_over, alone_expression, assigned_expression};
+ghost use Rattle.vf_base.specs.Lists.{AllHold};
+ghost use Rattle.v_design.specs.Sized.{IsSizedTarget};
 ghost use Rattle.object_statements.specs.Meanings.{IsMeaning};
+ghost use Rattle.object_statements.specs.Texts.{HasMeaning};
 
 use object_names::InstanceNames;
 use std::alloc::Global;
@@ -49,13 +52,14 @@ pub fn expr_assigned(
     Ok(flat)
 }
 
-/// The targets of an assignment, from the left.
+/// The targets of an assignment, from the left, which are sized.
 #[tactic(auto, using(crate::specs::Meanings::names_meant))]
 pub fn targets_over(
     alloc: Global,
     meaning: Meaning<'_, '_>,
     target: &Target,
 ) -> Result<Vec<FlatTarget>, NoMemory>
+    requires { HasMeaning meaning (λ (m : PlainMeaning). AllHold IsSizedTarget (targets_over m (source.target_of target.now))) }
     ensures { IfOk result (λ flats. (plain : PlainMeaning) → IsMeaning plain meaning.entry → map target_of flats.items ≡ targets_over plain (source.target_of target.now)) }
 {
     let flats = object_expr::targets_over(alloc, meaning.scope, meaning.names, target)?;

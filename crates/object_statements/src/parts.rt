@@ -11,6 +11,9 @@ ghost use Rattle.v_names.specs.SizedTrees.{over_objects};
 ghost use Rattle.v_names.specs.SizeViews.{size_of};
 ghost use Rattle.v_elab.specs.Statements.{Meaning as PlainMeaning, targets_over, alone_expression, assigned_expression, delay_number, delay_or_zero, wait_entries};
 ghost use Rattle.object_statements.specs.Meanings.{IsMeaning};
+ghost use Rattle.object_statements.specs.Texts.{HasMeaning, IsSizedText};
+ghost use Rattle.vf_base.specs.Lists.{AllHold};
+ghost use Rattle.v_design.specs.Sized.{IsSizedTarget, IsDelay, IsDelayIf};
 
 use crate::cases::expr_at;
 use crate::delays::{delay_if, delay_or_zero, delay_over};
@@ -48,6 +51,7 @@ fn assigned_over(
     target: &Target,
     value: &Expr,
 ) -> Result<Assigned, NoMemory>
+    requires { HasMeaning meaning (λ (m : PlainMeaning). AllHold IsSizedTarget (targets_over m (source.target_of target.now))) }
     ensures targets { IfOk result (λ assigned. (plain : PlainMeaning) → IsMeaning plain meaning.entry → map target_of assigned.targets.items ≡ targets_over plain (source.target_of target.now)) }
     ensures value { IfOk result (λ assigned. (plain : PlainMeaning) → IsMeaning plain meaning.entry →
         expression_of assigned.value ≡ assigned_expression plain (source.target_of target.now) (source.expression_of value.now)) }
@@ -111,6 +115,7 @@ pub fn for_over(
     head: ForHead<'_>,
     body: Box<FlatStmt>,
 ) -> Result<FlatStmt, NoMemory>
+    requires { HasMeaning meaning (λ (m : PlainMeaning). AllHold IsSizedTarget (targets_over m (source.target_of head.first_target.now)) × AllHold IsSizedTarget (targets_over m (source.target_of head.next_target.now))) }
     ensures { IfOk result (λ flat. (plain : PlainMeaning) → IsMeaning plain meaning.entry → statement_of flat ≡
         For (source_place place) (targets_over plain (source.target_of head.entry.first_target.now))
         (assigned_expression plain (source.target_of head.entry.first_target.now) (source.expression_of head.entry.first.now))
@@ -194,6 +199,7 @@ pub fn event_over(
     text: &Stmt,
     body: Box<FlatStmt>,
 ) -> Result<FlatStmt, NoMemory>
+    requires { HasMeaning meaning (λ (m : PlainMeaning). IsSizedText m (source.statement_of text.now)) }
     ensures { IfOk result (λ flat. (plain : PlainMeaning) → IsMeaning plain meaning.entry →
         statement_of flat ≡ EventControl (source_place place) (wait_entries plain (source.waits_of waits.now) (source.statement_of text.now)) (statement_of body.value)) }
 {
@@ -213,6 +219,7 @@ pub fn delayed_over(
     delay: &Expr,
     body: Box<FlatStmt>,
 ) -> Result<FlatStmt, NoMemory>
+    requires { HasMeaning meaning (λ (m : PlainMeaning). IsDelay (delay_number m (source.expression_of delay.now))) }
     ensures { IfOk result (λ flat. (plain : PlainMeaning) → IsMeaning plain meaning.entry →
         statement_of flat ≡ Delay (source_place place) (delay_number plain (source.expression_of delay.now)) (statement_of body.value)) }
 {
@@ -229,6 +236,7 @@ pub fn blocking_over(
     delay: &Option<Expr>,
     value: &Expr,
 ) -> Result<FlatStmt, NoMemory>
+    requires { HasMeaning meaning (λ (m : PlainMeaning). IsDelayIf (option_map (delay_number m) (source.expression_in delay.now)) × AllHold IsSizedTarget (targets_over m (source.target_of target.now))) }
     ensures { IfOk result (λ flat. (plain : PlainMeaning) → IsMeaning plain meaning.entry → statement_of flat ≡
         Blocking (source_place place) (targets_over plain (source.target_of target.now)) (option_map (delay_number plain) (source.expression_in delay.now))
         (assigned_expression plain (source.target_of target.now) (source.expression_of value.now))) }
@@ -252,6 +260,7 @@ pub fn nonblocking_over(
     delay: &Option<Expr>,
     value: &Expr,
 ) -> Result<FlatStmt, NoMemory>
+    requires { HasMeaning meaning (λ (m : PlainMeaning). IsDelay (delay_or_zero m (source.expression_in delay.now)) × AllHold IsSizedTarget (targets_over m (source.target_of target.now))) }
     ensures { IfOk result (λ flat. (plain : PlainMeaning) → IsMeaning plain meaning.entry → statement_of flat ≡
         Nonblocking (source_place place) (targets_over plain (source.target_of target.now)) (delay_or_zero plain (source.expression_in delay.now))
         (assigned_expression plain (source.target_of target.now) (source.expression_of value.now))) }

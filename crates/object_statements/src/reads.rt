@@ -2,47 +2,42 @@
 
 ghost use Rattle.std.specs.Prelude.{◌≡◌, ◌++◌, IfOk, flat_map, map};
 ghost use Rattle.vf_base.specs.Base.{object_number};
+ghost use Rattle.vf_base.specs.Lists.{AllHold};
+ghost use Rattle.v_design.specs.Sized.{IsSized, IsSizedTarget};
 ghost use Rattle.v_design.specs.Plain.{expression_of, target_of};
 ghost use Rattle.v_tree.specs.Views as source;
 ghost use Rattle.v_elab.specs.Statements.{Meaning as PlainMeaning, objects_in_text, index_objects_in_text, expression_in_text};
 ghost use Rattle.v_elab.specs.Statements.{assignment_in_text, labels_in_text, read_in_text, all_read_in_text, items_read_in_text};
 ghost use Rattle.object_statements.specs.Meanings.{IsMeaning};
 ghost use Rattle.object_statements.specs.CaseItems.{item_read_in_text};
+ghost use Rattle.object_statements.specs.Texts.{HasMeaning, IsSizedRead, IsSizedWrite, AreSizedLabels, IsSizedText, AreSizedTexts, AreSizedItemTexts, IsSizedItemText};
 
 use crate::meaning::{Meaning, expr_alone, targets_over};
-use object_reads::{shape_of, sized_target};
 use std::alloc::Global;
 use v_design::{FlatExpr, FlatTarget};
 use v_tree::{CaseItem, Expr, Stmt, Target};
 use vf_base::{NoMemory, ObjectId};
 
-/// Adds the objects that an expression over objects reads; its sizes agree, since those of the text do.
+/// Adds the objects that an expression over objects reads.
 fn add_flat(alloc: Global, expr: &FlatExpr, objects: &mut Vec<ObjectId>) -> Result<(), NoMemory>
+    requires { IsSized (expression_of expr.now) }
     ensures { IfOk result (λ _. map object_number objects.new.items ≡ map object_number objects.old.items ++ objects_in_text (expression_of expr.now)) }
 {
-    match shape_of(expr) {
-        None => Err(NoMemory),
-        Some(_) => {
-            object_waits::add_objects(alloc, expr, objects)?;
-            Ok(())
-        }
-    }
+    object_waits::add_objects(alloc, expr, objects)?;
+    Ok(())
 }
 
-/// Adds the objects that the index of a target reads; its sizes agree, since those of the text do.
+/// Adds the objects that the index of a target reads.
 fn add_index(
     alloc: Global,
     target: &FlatTarget,
     objects: &mut Vec<ObjectId>,
 ) -> Result<(), NoMemory>
+    requires { IsSizedTarget (target_of target.now) }
     ensures { IfOk result (λ _. map object_number objects.new.items ≡ map object_number objects.old.items ++ index_objects_in_text (target_of target.now)) }
 {
-    if sized_target(target) {
-        object_waits::add_index_objects(alloc, target, objects)?;
-        Ok(())
-    } else {
-        Err(NoMemory)
-    }
+    object_waits::add_index_objects(alloc, target, objects)?;
+    Ok(())
 }
 
 /// Adds the objects that the indexes of some targets read.
@@ -51,6 +46,7 @@ fn add_indexes(
     targets: &[FlatTarget],
     objects: &mut Vec<ObjectId>,
 ) -> Result<(), NoMemory>
+    requires { AllHold IsSizedTarget (map target_of targets.now) }
     ensures { IfOk result (λ _. map object_number objects.new.items ≡ map object_number objects.old.items ++ flat_map index_objects_in_text (map target_of targets.now)) }
 {
     'targets: for target in targets {
@@ -66,6 +62,7 @@ fn add_expr(
     expr: &Expr,
     objects: &mut Vec<ObjectId>,
 ) -> Result<(), NoMemory>
+    requires { HasMeaning meaning (λ (m : PlainMeaning). IsSizedRead m (source.expression_of expr.now)) }
     ensures { IfOk result (λ _. (plain : PlainMeaning) → IsMeaning plain meaning.entry →
         map object_number objects.new.items ≡ map object_number objects.old.items ++ expression_in_text plain (source.expression_of expr.now)) }
 {
@@ -84,6 +81,7 @@ fn add_assignment(
     value: &Expr,
     objects: &mut Vec<ObjectId>,
 ) -> Result<(), NoMemory>
+    requires { HasMeaning meaning (λ (m : PlainMeaning). IsSizedWrite m (source.target_of target.now) (source.expression_of value.now)) }
     ensures { IfOk result (λ _. (plain : PlainMeaning) → IsMeaning plain meaning.entry →
         map object_number objects.new.items ≡ map object_number objects.old.items ++ assignment_in_text plain (source.target_of target.now) (source.expression_of value.now)) }
 {
@@ -100,6 +98,7 @@ fn add_labels(
     labels: &[Expr],
     objects: &mut Vec<ObjectId>,
 ) -> Result<(), NoMemory>
+    requires { HasMeaning meaning (λ (m : PlainMeaning). AreSizedLabels m (source.expressions_of labels.now)) }
     ensures { IfOk result (λ _. (plain : PlainMeaning) → IsMeaning plain meaning.entry →
         map object_number objects.new.items ≡ map object_number objects.old.items ++ labels_in_text plain (source.expressions_of labels.now)) }
 {
@@ -117,6 +116,7 @@ fn add_statement(
     statement: &Stmt,
     objects: &mut Vec<ObjectId>,
 ) -> Result<(), NoMemory>
+    requires { HasMeaning meaning (λ (m : PlainMeaning). IsSizedText m (source.statement_of statement.now)) }
     ensures { IfOk result (λ _. (plain : PlainMeaning) → IsMeaning plain meaning.entry →
         map object_number objects.new.items ≡ map object_number objects.old.items ++ read_in_text plain (source.statement_of statement.now)) }
 {
@@ -211,6 +211,7 @@ fn add_statements(
     statements: &[Stmt],
     objects: &mut Vec<ObjectId>,
 ) -> Result<(), NoMemory>
+    requires { HasMeaning meaning (λ (m : PlainMeaning). AreSizedTexts m (source.statements_of statements.now)) }
     ensures { IfOk result (λ _. (plain : PlainMeaning) → IsMeaning plain meaning.entry →
         map object_number objects.new.items ≡ map object_number objects.old.items ++ all_read_in_text plain (source.statements_of statements.now)) }
 {
@@ -228,6 +229,7 @@ fn add_items(
     items: &[CaseItem],
     objects: &mut Vec<ObjectId>,
 ) -> Result<(), NoMemory>
+    requires { HasMeaning meaning (λ (m : PlainMeaning). AreSizedItemTexts m (source.case_items_of items.now)) }
     ensures { IfOk result (λ _. (plain : PlainMeaning) → IsMeaning plain meaning.entry →
         map object_number objects.new.items ≡ map object_number objects.old.items ++ items_read_in_text plain (source.case_items_of items.now)) }
 {
@@ -245,6 +247,7 @@ fn add_item(
     item: &CaseItem,
     objects: &mut Vec<ObjectId>,
 ) -> Result<(), NoMemory>
+    requires { HasMeaning meaning (λ (m : PlainMeaning). IsSizedItemText m item.now) }
     ensures { IfOk result (λ _. (plain : PlainMeaning) → IsMeaning plain meaning.entry →
         map object_number objects.new.items ≡ map object_number objects.old.items ++ item_read_in_text plain item.now) }
 {
@@ -267,6 +270,7 @@ pub fn objects_read(
     meaning: Meaning<'_, '_>,
     statement: &Stmt,
 ) -> Result<Vec<ObjectId>, NoMemory>
+    requires { HasMeaning meaning (λ (m : PlainMeaning). IsSizedText m (source.statement_of statement.now)) }
     ensures { IfOk result (λ objects. (plain : PlainMeaning) → IsMeaning plain meaning.entry → map object_number objects.items ≡ read_in_text plain (source.statement_of statement.now)) }
 {
     let mut objects = Vec::new(alloc);

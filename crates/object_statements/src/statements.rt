@@ -10,6 +10,7 @@ ghost use Rattle.v_design.specs.Trees.{CaseItems};
 ghost use Rattle.object_statements.specs.Meanings.{IsMeaning};
 ghost use Rattle.object_statements.specs.CaseItems.{item_over, then_items};
 ghost use Rattle.object_statements.specs.Branches.{second_over};
+ghost use Rattle.object_statements.specs.Texts.{HasMeaning, IsSizedText, AreSizedTexts, AreSizedItemTexts, IsSizedItemText, IsSizedSecond};
 
 use crate::cases::{case_size, labels_over};
 use crate::meaning::Meaning;
@@ -24,17 +25,18 @@ use v_names::Size;
 use v_tree::{CaseItem, Stmt};
 use vf_base::NoMemory;
 
-/// A statement over objects, for what the names of its process mean.
+/// A statement over objects, for what the names of its process mean: its text is sized for it.
 ///
 /// # Errors
 ///
-/// Want of memory; also where a number or a size is over what a checked design has, a delay of more than 32 bits or sizes that don't agree.
+/// Want of memory; also where a number is over what a checked design has.
 #[cycle(statement)]
 pub fn statement_over(
     alloc: Global,
     meaning: Meaning<'_, '_>,
     statement: &Stmt,
 ) -> Result<FlatStmt, NoMemory>
+    requires { HasMeaning meaning (λ (m : PlainMeaning). IsSizedText m (source.statement_of statement.now)) }
     ensures { IfOk result (λ flat. (plain : PlainMeaning) → IsMeaning plain meaning.entry → statement_of flat ≡ statement_over plain (source.statement_of statement.now)) }
 {
     match statement {
@@ -147,6 +149,7 @@ fn second_over(
     meaning: Meaning<'_, '_>,
     second: &Option<Box<Stmt>>,
 ) -> Result<Box<FlatStmt>, NoMemory>
+    requires { HasMeaning meaning (λ (m : PlainMeaning). IsSizedSecond m second.now) }
     ensures { IfOk result (λ flat. (plain : PlainMeaning) → IsMeaning plain meaning.entry → statement_of flat.value ≡ second_over plain second.now) }
 {
     match second {
@@ -165,6 +168,7 @@ fn boxed_over(
     meaning: Meaning<'_, '_>,
     statement: &Stmt,
 ) -> Result<Box<FlatStmt>, NoMemory>
+    requires { HasMeaning meaning (λ (m : PlainMeaning). IsSizedText m (source.statement_of statement.now)) }
     ensures { IfOk result (λ flat. (plain : PlainMeaning) → IsMeaning plain meaning.entry → statement_of flat.value ≡ statement_over plain (source.statement_of statement.now)) }
 {
     let flat = statement_over(alloc, meaning, statement)?;
@@ -178,6 +182,7 @@ fn statements_over(
     meaning: Meaning<'_, '_>,
     statements: &[Stmt],
 ) -> Result<Vec<FlatStmt>, NoMemory>
+    requires { HasMeaning meaning (λ (m : PlainMeaning). AreSizedTexts m (source.statements_of statements.now)) }
     ensures { IfOk result (λ flats. (plain : PlainMeaning) → IsMeaning plain meaning.entry → statements_of flats.items ≡ statements_over plain (source.statements_of statements.now)) }
 {
     let mut flats = Vec::new(alloc);
@@ -197,6 +202,7 @@ fn push_item(
     size: Option<Size>,
     flats: &mut Vec<FlatItem>,
 ) -> Result<(), NoMemory>
+    requires { HasMeaning meaning (λ (m : PlainMeaning). IsSizedItemText m item.now) }
     ensures { IfOk result (λ _. (plain : PlainMeaning) → IsMeaning plain meaning.entry → (rest : CaseItems) →
         then_items (items_of flats.new.items) rest ≡ then_items (items_of flats.old.items) (item_over plain (option_map size_of size) item.now rest)) }
 {
@@ -219,6 +225,7 @@ fn items_over(
     items: &[CaseItem],
     size: Option<Size>,
 ) -> Result<Vec<FlatItem>, NoMemory>
+    requires { HasMeaning meaning (λ (m : PlainMeaning). AreSizedItemTexts m (source.case_items_of items.now)) }
     ensures { IfOk result (λ flats. (plain : PlainMeaning) → IsMeaning plain meaning.entry → items_of flats.items ≡ items_over plain (option_map size_of size) (source.case_items_of items.now)) }
 {
     let mut flats = Vec::new(alloc);
@@ -235,6 +242,7 @@ fn default_over(
     meaning: Meaning<'_, '_>,
     items: &[CaseItem],
 ) -> Result<Box<FlatStmt>, NoMemory>
+    requires { HasMeaning meaning (λ (m : PlainMeaning). AreSizedItemTexts m (source.case_items_of items.now)) }
     ensures { IfOk result (λ flat. (plain : PlainMeaning) → IsMeaning plain meaning.entry → statement_of flat.value ≡ default_over plain (source.case_items_of items.now)) }
 {
     'items: for item in items {

@@ -7,6 +7,7 @@ ghost use Rattle.elab_parts.specs.PartViews.{places_of};
 ghost use Rattle.v_elab.specs.Statements.{Meaning as PlainMeaning, entries_of_select, star_entries, wait_entries};
 ghost use Rattle.object_waits.specs.Selects.{run_places};
 ghost use Rattle.object_statements.specs.Meanings.{IsMeaning};
+ghost use Rattle.object_statements.specs.Texts.{HasMeaning, IsSizedText};
 
 use crate::meaning::Meaning;
 use crate::reads::objects_read;
@@ -91,6 +92,7 @@ fn star_entries(
     meaning: Meaning<'_, '_>,
     body: &Stmt,
 ) -> Result<Vec<WaitEntry>, NoMemory>
+    requires { HasMeaning meaning (λ (m : PlainMeaning). IsSizedText m (source.statement_of body.now)) }
     ensures { IfOk result (λ entries. (plain : PlainMeaning) → IsMeaning plain meaning.entry → map entry_of entries.items ≡ star_entries plain (source.statement_of body.now)) }
 {
     let objects = objects_read(alloc, meaning, body)?;
@@ -105,6 +107,7 @@ pub fn wait_entries(
     waits: &Waits,
     body: &Stmt,
 ) -> Result<Vec<WaitEntry>, NoMemory>
+    requires { HasMeaning meaning (λ (m : PlainMeaning). IsSizedText m (source.statement_of body.now)) }
     ensures { IfOk result (λ entries. (plain : PlainMeaning) → IsMeaning plain meaning.entry →
         map entry_of entries.items ≡ wait_entries plain (source.waits_of waits.now) (source.statement_of body.now)) }
 {

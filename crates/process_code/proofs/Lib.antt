@@ -8,3 +8,4 @@ pub mod Reaching
 pub mod Apart
 pub mod CodesAlike
 pub mod FirstLines
+pub mod ReadsThere

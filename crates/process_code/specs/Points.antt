@@ -101,6 +101,17 @@ said_by Zero = SaysZero
 said_by Finished = SaysFinished
 said_by Inner = SaysInner
 
+-- the object that a step reads, if it reads one, has a number below a limit
+abbrev pub ReadsBelow : ℕ → StepSaid → Type 0
+ReadsBelow limit (SaysRead object) = object < limit
+ReadsBelow limit (SaysWrite update) = Unit {0}
+ReadsBelow limit (SaysLater update time) = Unit {0}
+ReadsBelow limit SaysAwait = Unit {0}
+ReadsBelow limit (SaysSleep time) = Unit {0}
+ReadsBelow limit SaysZero = Unit {0}
+ReadsBelow limit SaysFinished = Unit {0}
+ReadsBelow limit SaysInner = Unit {0}
+
 -- how a process goes on
 abbrev pub said_of_activity : Activity → StepSaid
 said_of_activity (activities.Ready tasks operands) = SaysInner

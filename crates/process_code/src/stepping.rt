@@ -14,7 +14,7 @@ ghost use Rattle.vf_base.specs.Base.{object_number, source_place};
 ghost use Rattle.process_operands.specs.Bounds.{reads_most, reads_most_items};
 ghost use Rattle.process_operands.specs.BoundsLaws.{AreBelow};
 ghost use Rattle.process_code.specs.Positions.{part_of_head, loop_part, advance_part, turns_part};
-ghost use Rattle.process_code.specs.Points.{point_of, said_by, SaysRead, TakesUpdate};
+ghost use Rattle.process_code.specs.Points.{point_of, said_by, SaysRead, ReadsBelow, TakesUpdate};
 ghost use Rattle.vf_base.specs.Counts.{raised};
 ghost use Rattle.process_code.specs.Codes.{IsCodeOf};
 ghost use Rattle.process_code.specs.Acts.{GoesTo, IsDone, Acts, Branches, Chooses, Counts, WaitsUnless, Assigns, filled, position_by, ActsBy, ActsPart};
@@ -460,6 +460,7 @@ pub fn step<V: Values, L: Ledger>(
     requires there { AreBelow (length (V.values values.now)) (named_by (statement_of code.now.process.now.body)) }
     requires now { now ≤ 2 ^ 63 }
     ensures step { StepsAsDefined now (V.values values.now) code.now state.old state.new result }
+    ensures reads { ReadsBelow (length (V.values values.now)) (said_by result) }
     ensures state { IsStateOf code.now state.new }
     ensures ticks { steps.new ≡ raised steps.old }
 {

@@ -1,6 +1,6 @@
 // What a table can do.
 
-ghost use Rattle.std.specs.Prelude.{◌≡◌, ◌≤◌, ◌<◌, ◌^◌, ◌++◌, ◌+◌, true, false, length, map, List, ℕ, IfOk, OnOk, OnErr};
+ghost use Rattle.std.specs.Prelude.{◌≡◌, ◌≤◌, ◌<◌, ◌^◌, ◌++◌, ◌+◌, true, false, length, map, List, ℕ, IfOk, IfSome, OnOk, OnErr};
 ghost use Rattle.std.specs.Option.{option_map};
 ghost use Rattle.vf_base.specs.Base.{object_number, process_number};
 ghost use Rattle.vf_base.specs.Counts.{raised};
@@ -14,7 +14,7 @@ ghost use Rattle.process_code.specs.StatesOf.{IsStateOf};
 ghost use Rattle.process_code.specs.declared.code.Code.{Code};
 ghost use Rattle.run_ends.specs.RunEnds.{IsCodeAt};
 ghost use Rattle.process_table.specs.Tables.{IsTableOf, process_in, is_woken};
-ghost use Rattle.process_table.specs.Deeds.{IsStepOf, turn_kind};
+ghost use Rattle.process_table.specs.Deeds.{IsStepOf, read_by, turn_kind};
 ghost use Rattle.process_table.specs.Arranged.{IsKept, table_of};
 
 use crate::deed::{Stepped, TableTurn};
@@ -99,7 +99,7 @@ impl<'d> ProcessTable<'d> {
         self.lanes.contains(process)
     }
 
-    /// One step of a ready process, over the values of all objects. It reads or writes one object at most; what it writes, the caller writes.
+    /// One step of a ready process, over the values of all objects. It reads or writes one object at most, and reads one of the design; what it writes, the caller writes.
     ///
     /// # Errors
     ///
@@ -116,6 +116,7 @@ impl<'d> ProcessTable<'d> {
         requires time { (table_of self.old).time ≤ 2 ^ 63 }
         ensures step { IfOk result (λ stepped. (machine : Machine) (state : State) → IsTableOf machine state (table_of self.old) →
             state.values ≡ V.values values.now → IsStepOf machine state (process_number process) stepped (table_of self.new)) }
+        ensures reads { IfOk result (λ stepped. IfSome (read_by stepped.act) (λ object. object < length (table_of self.old).design.objects)) }
         ensures ticks { steps.new ≡ raised steps.old }
         ensures kept { IfOk result (λ _. IsKept self.new) }
     {

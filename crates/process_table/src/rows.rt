@@ -11,7 +11,7 @@ ghost use Rattle.v_design.specs.Sized.{IsSizedStatement};
 ghost use Rattle.v_design.specs.States.{is_ready, is_any, first_update};
 ghost use Rattle.v_design.specs.declared.plan.Process.{Process};
 ghost use Rattle.process_operands.specs.BoundsLaws.{AreBelow};
-ghost use Rattle.process_code.specs.Points.{activity_of, said_by};
+ghost use Rattle.process_code.specs.Points.{activity_of, said_by, ReadsBelow};
 ghost use Rattle.process_code.specs.StatesOf.{IsStateOf};
 ghost use Rattle.process_table.specs.Puts.{doing, IsStateAt, PutsState, ClearsRows};
 ghost use Rattle.process_table.specs.Rows.{RowState, IsGoodRow, RowChanges, RowsChange, StepsRow, StepsRows, row_state, row_states, row_text, state_at, text_at, made_ready, after_update};
@@ -97,6 +97,7 @@ impl<'d> Row<'d> {
         requires there { AreBelow (length (V.values values.now)) (named_by (statement_of self.old.code.process.now.body)) }
         requires now { now ≤ 2 ^ 63 }
         ensures step { StepsRow now (V.values values.now) self.old self.new result.0 (said_by result.1) }
+        ensures reads { ReadsBelow (length (V.values values.now)) (said_by result.1) }
         ensures ticks { steps.new ≡ raised steps.old }
     {
         let line = self.state.line(&self.code);
@@ -148,6 +149,7 @@ pub fn step_row<V: Values, L: Ledger>(
     requires there { AreBelow (length (V.values values.now)) (named_by (text_at (map row_text rows.old.items) (process_number process)).body) }
     requires now { now ≤ 2 ^ 63 }
     ensures step { StepsRows now (V.values values.now) (process_number process) rows.old.items rows.new.items result.0 (said_by result.1) }
+    ensures reads { ReadsBelow (length (V.values values.now)) (said_by result.1) }
     ensures ticks { steps.new ≡ raised steps.old }
 {
     rows[process.0 as usize].step(values, now, steps)

@@ -6,3 +6,4 @@ pub mod States
 pub mod Logs
 pub mod Runs
 pub mod Races
+pub mod Writes

@@ -130,7 +130,7 @@ three f whole below within above xs ys zs e x y z =
 
 -- the places of a part of a range whose indexes rise
 pub rising-run : (high low from to count below above width place : ℕ) → low ≤ high → to ≤ from → count ≡ from - to + 1
-    → below ≡ min (low - to) count → above ≡ min (from - high) count → width ≡ count - below - above → place ≡ min (to - low) high
+    → below ≡ min (low - to) count → above ≡ min (from - high) count → width ≡ count - below - above → place ≡ min (to - low) (high - low)
     → replicate below None ++ (map Some (up_from place width) ++ replicate above None) ≡ map (place_of high low) (up_from to (from - to + 1))
 rising-run high low from to count below above width place range part c b a w p =
     let total : from - to + 1 ≡ below + (width + above) = omega arith in
@@ -143,7 +143,7 @@ rising-run high low from to count below above width place range part c b a w p =
 
 -- and of one whose indexes fall
 pub falling-run : (high low from to count below above width place : ℕ) → high < low → from ≤ to → count ≡ to - from + 1
-    → below ≡ min (to - low) count → above ≡ min (high - from) count → width ≡ count - below - above → place ≡ low - to
+    → below ≡ min (to - low) count → above ≡ min (high - from) count → width ≡ count - below - above → place ≡ min (low - to) (low - high)
     → replicate below None ++ (map Some (up_from place width) ++ replicate above None) ≡ map (place_of high low) (down_from to (to - from + 1))
 falling-run high low from to count below above width place range part c b a w p =
     let total : to - from + 1 ≡ below + (width + above) = omega arith in

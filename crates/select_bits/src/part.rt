@@ -24,7 +24,7 @@ fn indexes_between(greater: u128, less: u128) -> Option<u64>
     }
 }
 
-/// The part of a signal whose indexes rise with the significance of its bits.
+/// The part of a signal whose indexes rise with the significance of its bits. Where none of its bits is inside, its place is one of the signal's all the same.
 fn rising_part(bounds: Bounds, from: u128, to: u128) -> Option<DrivenBits>
     requires range { bounds.low ≤ bounds.high }
     requires part { to ≤ from }
@@ -37,13 +37,13 @@ fn rising_part(bounds: Bounds, from: u128, to: u128) -> Option<DrivenBits>
     let outside_above = from.saturating_sub(high).min(u128::from(count)) as u64;
     Some(DrivenBits {
         outside_below,
-        low: to.saturating_sub(low).min(high) as u64,
+        low: to.saturating_sub(low).min(high - low) as u64,
         width: count - outside_below - outside_above,
         outside_above,
     })
 }
 
-/// The part of a signal whose indexes fall with the significance of its bits.
+/// The part of a signal whose indexes fall with the significance of its bits, likewise.
 fn falling_part(bounds: Bounds, from: u128, to: u128) -> Option<DrivenBits>
     requires range { bounds.high < bounds.low }
     requires part { from ≤ to }
@@ -56,7 +56,7 @@ fn falling_part(bounds: Bounds, from: u128, to: u128) -> Option<DrivenBits>
     let outside_above = high.saturating_sub(from).min(u128::from(count)) as u64;
     Some(DrivenBits {
         outside_below,
-        low: low.saturating_sub(to) as u64,
+        low: low.saturating_sub(to).min(low - high) as u64,
         width: count - outside_below - outside_above,
         outside_above,
     })

@@ -1,6 +1,6 @@
 // The record of a slot.
 
-ghost use Rattle.std.specs.Prelude.{◌≡◌, ℕ, ◌+◌, ◌<◌, List, [], map, length, IfOk, OnOk};
+ghost use Rattle.std.specs.Prelude.{◌≡◌, ℕ, ◌+◌, ◌^◌, ◌<◌, List, [], map, length, IfOk, OnOk};
 ghost use Rattle.std.specs.Option.{option_map};
 ghost use Rattle.std.specs.List.{All};
 ghost use Rattle.vf_base.specs.Base.{object_number, process_number, node_number, reported_pair};
@@ -31,16 +31,6 @@ pub struct SlotRecord {
     turn: Turn,
     number: u32,
     race: Option<Pair>,
-}
-
-/// The number of the next phase.
-fn next_number(number: u32) -> Result<u32, NoMemory>
-    ensures { IfOk result (λ next. next ≡ number + 1) }
-{
-    match number.checked_add(1) {
-        None => Err(NoMemory),
-        Some(next) => Ok(next),
-    }
 }
 
 /// The race that was found before, else that of a phase.
@@ -90,6 +80,7 @@ impl SlotRecord {
     pub fn begin_slot(&mut self, log: &mut SlotLog) -> Result<(), NoMemory>
         ensures begins { OnOk result (BeginsSlot self.old self.new) }
         ensures empty { OnOk result (IsEmptyLog log.new) }
+        ensures number { OnOk result (self.new.number ≡ 0) }
     {
         self.phase.take_back(log)?;
         self.number = 0;
@@ -101,13 +92,14 @@ impl SlotRecord {
     ///
     /// # Errors
     ///
-    /// Want of memory, or no further number of a phase.
+    /// Want of memory.
     pub fn begin_phase(&mut self, turn: Turn, time: u64, held: &[Noted]) -> Result<(), NoMemory>
+        requires number { self.old.number + 1 < 2 ^ 32 }
         requires held { AllHold IsHeld held.now }
         requires objects { All (λ noted. object_number noted.access.object < object_count self.old.phase) held.now }
         ensures { OnOk result (BeginsPhase turn time (map noted_access held.now) self.old self.new) }
     {
-        let number = next_number(self.number)?;
+        let number = self.number + 1;
         self.phase.begin_phase(time, number, held)?;
         self.turn = turn;
         self.number = number;

@@ -77,7 +77,7 @@ impl RunIndex {
     ///
     /// # Errors
     ///
-    /// Want of memory, or more runs than numbers for them. Nothing is said of the index then.
+    /// Want of memory. Nothing is said of the index then.
     pub fn refill(
         &mut self,
         runs: &[RunEnd],
@@ -86,11 +86,9 @@ impl RunIndex {
         requires same { length self.old.places ≡ length self.old.phases }
         requires within { All (λ run. process_number run.process < length self.old.phases) runs.now }
         requires rise { IsNonDecreasingBy run_phase runs.now }
+        requires few { length runs.now < 2 ^ 32 - 1 }
         ensures { OnOk result (IsRunIndexOf (length self.old.phases) runs.now self.new) }
     {
-        if runs.len() >= u32::MAX as usize {
-            return Err(NoMemory);
-        }
         list_phases(runs, occurrences)?;
         self.phases.refill(occurrences)?;
         put_at_places(occurrences);

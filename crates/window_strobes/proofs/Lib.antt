@@ -5,3 +5,4 @@ pub mod Seeing
 pub mod Beginning
 pub mod Knowing
 pub mod Behind
+pub mod Resting

@@ -8,8 +8,10 @@
 
 mod bits;
 mod ending;
+mod rests;
 mod samples;
 mod slots;
 mod strobes;
 
+pub use rests::strobes_after;
 pub use strobes::{WindowStrobes, strobes_of};

@@ -3,7 +3,7 @@ use Rattle.std.proofs.Common.{◌≡◌, ◌∙◌, true, false, List, [], ◌�
 use Rattle.vf_base.specs.Base.{process_number}
 use Rattle.vf_base.specs.declared.ids.ProcId.{ProcId}
 use Rattle.v_design.specs.States.{is_any}
-use Rattle.block_runner.proofs.Runs.{runs-begin, runs-ready, runs-given_up, runs-ran, runs-more}
+use Rattle.block_runner.proofs.Runs.{runs-begin, runs-ready, runs-rules, runs-write, runs-given_up, runs-ran, runs-more}
 use Rattle.block_runner.proofs.blocks.run_of.Goals as goal
 
 no-elements : (xs : List ProcId) → false ≡ is_any xs → xs ≡ []
@@ -21,6 +21,13 @@ runs-init g c =
 
 pub unreachable-requires : goal.unreachable-requires
 unreachable-requires g c = runs-ready _ _ c.runs.runner c.runs.told c.runs.taken c.runs.invariant (sym c.in_default.ensures)
+
+pub take_step-requires-clause-rules : goal.take_step-requires-clause-rules
+take_step-requires-clause-rules g c = runs-rules _ _ c.runs.runner c.runs.told c.runs.taken c.runs.invariant c.requires.rules
+
+pub take_step-requires-clause-writes : goal.take_step-requires-clause-writes
+take_step-requires-clause-writes g c =
+    runs-write _ _ c.runs.runner c.runs.told c.runs.taken c.runs.invariant c.writes_stay.ensures.stay c.requires.rules c.requires.writes
 
 pub returns-then-not-branch : goal.returns-then-not-branch
 returns-then-not-branch g c =

@@ -15,11 +15,13 @@ fresh watched = record { watched = watched; hard = None; possible = None }
 
 pub settle-requires-clause-fault : goal.settle-requires-clause-fault
 unfolding fresh
-settle-requires-clause-fault g c κs within =
-    starts c.machines_stand.ensures c.gradings_go_on.ensures g.N.World.design g.N.World.plan c.args.window.now.before c.args.window.now.through c.args.strobes.now (fault_of c.args.fault)
-    c.args.own.now c.in_ok-machine.machine c.new-grader.result c.requires
-    (has-rules g.N.World.design g.N.World.plan c.design-design.result.now c.plan-plan.result.now c.design-design.ensures.world c.plan-plan.ensures.world c.plan-plan.ensures.fits)
-    (c.in_ok-machine.ensures.machine ∙ ap (λ (d : FlatDesign). faulty_machine d (fault_of c.args.fault)) (sym c.design-design.ensures.world)) c.in_ok-machine.ensures.standing
-    c.in_ok-machine.ensures.turn
-    (c.in_ok-machine.ensures.begins ∙ ap (λ (d : FlatDesign). Some (start (faulty_machine d (fault_of c.args.fault)))) (sym c.design-design.ensures.world))
-    (c.new-grader.ensures.state ∙ ap (λ (watched : List _). fresh (map watched_bit watched)) c.as_slice.ensures ∙ ap (λ (p : TestPlan). fresh p.watched) (sym c.plan-plan.ensures.world))
+settle-requires-clause-fault g c κs within = (
+  c.args.window.now.before,
+  starts c.machines_stand.ensures c.gradings_go_on.ensures g.N.World.design g.N.World.plan c.args.window.now.before c.args.window.now.through c.args.strobes.now (fault_of c.args.fault)
+      c.args.own.now c.in_ok-machine.machine c.new-grader.result c.requires
+      (has-rules g.N.World.design g.N.World.plan c.design-design.result.now c.plan-plan.result.now c.design-design.ensures.world c.plan-plan.ensures.world c.plan-plan.ensures.fits)
+      (c.in_ok-machine.ensures.machine ∙ ap (λ (d : FlatDesign). faulty_machine d (fault_of c.args.fault)) (sym c.design-design.ensures.world)) c.in_ok-machine.ensures.standing
+      c.in_ok-machine.ensures.turn
+      (c.in_ok-machine.ensures.begins ∙ ap (λ (d : FlatDesign). Some (start (faulty_machine d (fault_of c.args.fault)))) (sym c.design-design.ensures.world))
+      (c.new-grader.ensures.state ∙ ap (λ (watched : List _). fresh (map watched_bit watched)) c.as_slice.ensures ∙ ap (λ (p : TestPlan). fresh p.watched) (sym c.plan-plan.ensures.world)),
+)

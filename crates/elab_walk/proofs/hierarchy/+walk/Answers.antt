@@ -15,7 +15,8 @@ use Rattle.v_elab.specs.Parts.{Part, InstancePart}
 use Rattle.v_elab.specs.Connections as plain
 use Rattle.v_elab.specs.ReadCounts.{some_reads_over, connections_reads}
 use Rattle.v_elab.specs.Connections.{open_parameters, given_faults, given_parameters, instance_faults, connections_parts}
-use Rattle.v_elab.specs.Walk.{Here, Walker, walked, walked_module, walked_items, walked_instance, walked_instances, walked_instance_item, not_port_faults, head_items, module_named, child_of}
+use Rattle.v_elab.specs.Refusals.{then_go}
+use Rattle.v_elab.specs.Walk.{Here, Walker, walked, walked_module, walked_item, walked_items, walked_instance, walked_instances, walked_instance_item, not_port_faults, head_items, module_named, child_of}
 use Rattle.v_elab.specs.Walk.{paths_of, entered, added}
 use Rattle.module_scope.specs.Givens.{given_parameter}
 use Rattle.module_scope.specs.declared.given.Given.{Given}
@@ -33,6 +34,8 @@ use Rattle.elab_walk.proofs.Turns.{goes-end, goes-first, goes-turn, goes-wrong, 
 use Rattle.elab_walk.proofs.WideLaws.{wide-leaves, never-wide, instance-clean, faults-none}
 use Rattle.elab_walk.proofs.ReadLaws.{instance-few, instance-over, reads-wrong}
 use Rattle.elab_walk.proofs.Steps.{enter-is, enter-wrong, heads-split, item-plain, item-known, pushed-instance, behind_parameters}
+use Rattle.elab_walk.proofs.Within.{holds-of, module-within}
+use Rattle.elab_walk.specs.Within.{IsWithin, AreWithin}
 use Rattle.elab_walk.proofs.hierarchy.+walk.Goals as goal
 
 pub enter-returns-in_err-scope : goal.enter-returns-in_err-scope
@@ -262,3 +265,46 @@ walk_module-returns t c h is formals before counted =
     (λ all k. subst (λ (ps : List Params). Grows all (walked_items walker h 0 (map ParameterItem (map parameters_of ps)) all) c.args.walked.now c.walk_param_groups.new.walked) c.as_slice.ensures
     (c.in_ok-walk_param_groups.ensures h walker is all k))
     (goes-first before (walked_module walker h m) c.args.walked.now counted)))
+
+pub walk_items-walk_item-requires : goal.walk_items-walk_item-requires
+walk_items-walk_item-requires t c =
+    let few = c.items.invariant.few in
+    let within = holds-of (IsWithin c.args.site.here.now.scope.value) item_of c.args.items.now c.items.item-index c.item-item.result c.requires.within c.items-test.true c.item-item.is in
+    (omega (arith, c.decreases), (c.requires.levels, (omega (arith, few), within)))
+
+pub walk_items-items-preserved : goal.walk_items-items-preserved
+walk_items-items-preserved t c =
+    let few = c.items.invariant.few in
+    record {
+      few = omega (arith, few);
+      goes = λ h is before counted.
+          let walker : Walker = walked h.modules h.mode c.args.levels in
+          goes-turn before _ (walked_items walker h c.items.gates (map item_of (drop c.items.item-index c.args.items.now)))
+          (walked_items walker h (c.items.gates + c.gates_in.result) (map item_of (drop (c.items.item-index + 1) c.args.items.now)))
+          (walked_item walker h c.items.gates (item_of c.item-item.result)) _ _ _
+          (turn-of (λ (i : Item). walked_item walker h c.items.gates (item_of i)) (λ (is : List Item). walked_items walker h c.items.gates (map item_of is))
+          (λ (is : List Item). walked_items walker h (c.items.gates + c.gates_in.result) (map item_of is))
+          c.args.items.now c.items.item-index c.item-item.result
+          (λ ys all. ap (λ n. then_go (walked_item walker h c.items.gates (item_of c.item-item.result) all) (walked_items walker h (c.items.gates + n) (map item_of ys))) (sym c.gates_in.ensures))
+          c.items-test.true c.item-item.is)
+          (c.in_ok-walk_item.ensures h is) (c.items.invariant.goes h is before counted);
+    }
+
+pub walk_module-walk_heads-requires : goal.walk_module-walk_heads-requires
+walk_module-walk_heads-requires t c = (module-within (module_of c.args.module.now) c.args.site.here.now.scope.value c.requires.scope).0
+
+pub walk_module-walk_items-requires : goal.walk_module-walk_items-requires
+walk_module-walk_items-requires t c =
+    let scope : Scope = c.args.site.here.now.scope.value in
+    let within = subst (λ (is : List Item). AreWithin scope (map item_of is)) (sym c.as_slice-2.ensures) (module-within (module_of c.args.module.now) scope c.requires.scope).1 in
+    (omega (arith, c.decreases), (c.requires.levels, within))
+
+pub enter-walk_module-requires : goal.enter-walk_module-requires
+enter-walk_module-requires t c =
+    let m : SourceModule = module_of c.args.entrance.module.now in
+    let given : List GivenParameter = map given_parameter c.args.entrance.given.now in
+    let named = subst (λ (s : Scope). names m given ≡ Ok s) (sym (c.in_ok-here.ensures.scope ∙ c.in_ok-new.ensures.ok)) c.in_ok-scope.ensures in
+    let deep = c.in_ok-here.ensures.depth in
+    let levels = c.requires in
+    let some : 0 < c.args.levels = omega arith in
+    (omega (arith, some, c.decreases), (omega (arith, some, deep, levels), (given, named)))

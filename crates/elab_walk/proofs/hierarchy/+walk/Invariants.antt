@@ -1,4 +1,4 @@
-use Rattle.std.proofs.Common.{◌≡◌, ◌+◌, ◌*◌, List, [], map, flat_map, drop}
+use Rattle.std.proofs.Common.{◌≡◌, ◌≤◌, ◌+◌, ◌*◌, List, [], map, flat_map, drop}
 use Rattle.v_tree.specs.Trees.{SourceModule}
 use Rattle.v_tree.specs.Views.{item_of, instance_of}
 use Rattle.v_names.specs.Names.{GivenParameter}
@@ -17,11 +17,14 @@ invariant-walk_instances-instances l =
     → GoesOn before (walked_instances (walked h.modules h.mode l.levels) h m given (map instance_of l.instances) before)
     (walked_instances (walked h.modules h.mode l.levels) h m given (map instance_of (drop l.instance-index l.instances))) l.initial.walked l.walked
 
+-- an item has fewer than 2 ^ 64 gates
 abbrev pub invariant-walk_items-items : goal.invariant-walk_items-items
-invariant-walk_items-items l =
-    (h : Here) → IsSite h l.site → (before : List Part) → AreCounts before l.initial.walked.counts
-    → GoesOn before (walked_items (walked h.modules h.mode l.levels) h 0 (map item_of l.items) before)
-    (walked_items (walked h.modules h.mode l.levels) h l.gates (map item_of (drop l.item-index l.items))) l.initial.walked l.walked
+invariant-walk_items-items l = record {
+  few : l.gates ≤ 18446744073709551615 * l.item-index;
+  goes : (h : Here) → IsSite h l.site → (before : List Part) → AreCounts before l.initial.walked.counts →
+      GoesOn before (walked_items (walked h.modules h.mode l.levels) h 0 (map item_of l.items) before)
+      (walked_items (walked h.modules h.mode l.levels) h l.gates (map item_of (drop l.item-index l.items))) l.initial.walked l.walked;
+}
 
 abbrev pub decreases-walk_inside : goal.decreases-walk_inside
 decreases-walk_inside l = 8 * l.levels + 1

@@ -11,18 +11,19 @@ use Rattle.v_elab.specs.Walk.{item_parts, checked_item}
 use Rattle.elab_items.specs.Heres.{FindsParameters}
 use Rattle.elab_walk.proofs.Turns.{clean-of, wrong-of, err-is}
 use Rattle.elab_walk.proofs.ReadLaws.{item-few, item-over, reads-wrong}
+use Rattle.elab_walk.proofs.WideLaws.{no-faults}
 use Rattle.elab_walk.proofs.items.refuse_item.Goals as goal
 
-pub returns-in_err-refuse : goal.returns-in_err-refuse
-returns-in_err-refuse c h is gates =
+pub returns-in_err-refuse-clause-checked : goal.returns-in_err-refuse-clause-checked
+returns-in_err-refuse-clause-checked c h is gates =
     let p = err_from_is_err_and c.from_residual-in_err-refuse.result c.from_residual-in_err-refuse.ensures.1 in
     let item : SourceItem = item_of c.args.item.now in
     err-is (checked_item h gates item) _ c.from_residual-in_err-refuse.result p.0 c.in_err-refuse.field-0.0 p.1 p.2
     (wrong-of _ (λ (s : Scope). item_faults s item) c.deref.result.now h.scope (item_parts h gates item) (unless_refused (reads_refused h.scope (item_reads h.mode h.scope item))) _
     (c.deref.ensures ∙ is.here_is.scope_is) c.in_ok-item_fault.ensures c.in_err-refuse.ensures)
 
-pub returns-in_err-refuse_reads : goal.returns-in_err-refuse_reads
-returns-in_err-refuse_reads c h is gates =
+pub returns-in_err-refuse_reads-clause-checked : goal.returns-in_err-refuse_reads-clause-checked
+returns-in_err-refuse_reads-clause-checked c h is gates =
     let p = err_from_is_err_and c.from_residual-in_err-refuse_reads.result c.from_residual-in_err-refuse_reads.ensures.1 in
     let item : SourceItem = item_of c.args.item.now in
     let scope : c.deref-2.result.now ≡ h.scope = c.deref-2.ensures ∙ is.here_is.scope_is in
@@ -33,8 +34,8 @@ returns-in_err-refuse_reads c h is gates =
     err-is (checked_item h gates item) _ c.from_residual-in_err-refuse_reads.result p.0 c.in_err-refuse_reads.field-0.0 p.1 p.2
     (reads-wrong (checked_item h gates item) c.in_ok-item_reads_over.field-0 _ c.in_err-refuse_reads.ensures (λ e. item-over h gates item clean (sym reads ∙ e)))
 
-pub returns : goal.returns
-returns c h is gates =
+pub returns-clause-checked : goal.returns-clause-checked
+returns-clause-checked c h is gates =
     let item : SourceItem = item_of c.args.item.now in
     let scope : c.deref-2.result.now ≡ h.scope = c.deref-2.ensures ∙ is.here_is.scope_is in
     let reads : c.in_ok-item_reads_over.field-0 ≡ some_reads_over h.scope (item_reads h.mode h.scope item) =
@@ -42,3 +43,9 @@ returns c h is gates =
     let clean : first_fault (item_faults h.scope item) ≡ None = clean-of _ (λ (s : Scope). item_faults s item) c.deref.result.now h.scope
     (c.deref.ensures ∙ is.here_is.scope_is) c.in_ok-item_fault.ensures c.in_ok-refuse.ensures in
     item-few h gates item clean (sym reads ∙ c.in_ok-refuse_reads.ensures)
+
+pub returns-clause-clean : goal.returns-clause-clean
+returns-clause-clean c =
+    let item : SourceItem = item_of c.args.item.now in
+    no-faults (item_faults c.args.site.here.now.scope.value item)
+    (clean-of _ (λ (s : Scope). item_faults s item) c.deref.result.now c.args.site.here.now.scope.value c.deref.ensures c.in_ok-item_fault.ensures c.in_ok-refuse.ensures)

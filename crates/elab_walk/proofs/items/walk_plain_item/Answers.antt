@@ -9,12 +9,13 @@ use Rattle.elab_parts.specs.PartViews.{part_of}
 use Rattle.elab_walk.specs.Leaves.{parts_in, Grows}
 use Rattle.elab_walk.proofs.Turns.{Answer, fault-of, fault-goes, grows-counted}
 use Rattle.elab_walk.proofs.ReadLaws.{item-added}
+use Rattle.elab_walk.proofs.NarrowNames.{item-narrow}
 use Rattle.elab_walk.proofs.items.walk_plain_item.Goals as goal
 
 pub returns-in_err-refuse_item : goal.returns-in_err-refuse_item
 returns-in_err-refuse_item c h is before counted =
     let p = err_from_is_err_and c.from_residual.result c.from_residual.ensures.1 in
-    rw (p.1, p.2) (fault-goes (checked_item h c.args.gates (item_of c.args.item.now)) (added before) c.in_err-refuse_item.field-0.0 (c.in_err-refuse_item.ensures h is c.args.gates))
+    rw (p.1, p.2) (fault-goes (checked_item h c.args.gates (item_of c.args.item.now)) (added before) c.in_err-refuse_item.field-0.0 (c.in_err-refuse_item.ensures.checked h is c.args.gates))
 
 pub returns-in_err-count_from : goal.returns-in_err-count_from
 returns-in_err-count_from c h is before counted =
@@ -23,7 +24,7 @@ returns-in_err-count_from c h is before counted =
     let more : List Part = item_parts h c.args.gates item in
     let at : c.len-start.result ≡ length (parts_in c.args.walked.now) = omega (arith, length-map c.args.walked.now.parts.items part_of) in
     rw (p.1, p.2)
-    (fault-of (added before more) _ _ (sym (item-added h c.args.gates item before (c.in_ok-refuse_item.ensures h is c.args.gates)))
+    (fault-of (added before more) _ _ (sym (item-added h c.args.gates item before (c.in_ok-refuse_item.ensures.checked h is c.args.gates)))
     (c.in_err-count_from.ensures before (parts_in c.args.walked.now) more counted (c.in_ok-push_item_parts.ensures h is.here_is) at))
 
 pub returns : goal.returns
@@ -31,6 +32,10 @@ returns c h is before counted =
     let item : SourceItem = item_of c.args.item.now in
     let more : List Part = item_parts h c.args.gates item in
     let at : c.len-start.result ≡ length (parts_in c.args.walked.now) = omega (arith, length-map c.args.walked.now.parts.items part_of) in
-    subst (λ (a : Answer). Grows before a c.args.walked.now c.count_from.new.self) (sym (item-added h c.args.gates item before (c.in_ok-refuse_item.ensures h is c.args.gates)))
+    subst (λ (a : Answer). Grows before a c.args.walked.now c.count_from.new.self) (sym (item-added h c.args.gates item before (c.in_ok-refuse_item.ensures.checked h is c.args.gates)))
     (grows-counted before more c.args.walked.now _ c.count_from.new.self (c.in_ok-push_item_parts.ensures h is.here_is)
     (c.in_ok-count_from.ensures before (parts_in c.args.walked.now) more counted (c.in_ok-push_item_parts.ensures h is.here_is) at))
+
+pub push_item_parts-requires-clause-narrow : goal.push_item_parts-requires-clause-narrow
+push_item_parts-requires-clause-narrow c =
+    let w = c.requires.within in item-narrow w.inner w.given c.args.site.here.now.scope.value w.named (item_of c.args.item.now) w.of c.in_ok-refuse_item.ensures.clean

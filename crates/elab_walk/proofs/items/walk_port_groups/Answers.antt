@@ -5,6 +5,7 @@ use Rattle.v_tree.specs.Views.{ports_of}
 use Rattle.v_tree.specs.declared.item.Ports.{Ports}
 use Rattle.v_elab.specs.Walk.{walked_item, walked_items}
 use Rattle.elab_walk.proofs.Turns.{goes-turn, goes-wrong, goes-end, turn-of, end-of}
+use Rattle.elab_walk.proofs.Within.{ports-within}
 use Rattle.elab_walk.proofs.items.walk_port_groups.Goals as goal
 
 pub returns-in_err-walk_ports : goal.returns-in_err-walk_ports
@@ -34,3 +35,7 @@ returns c h walker is before counted =
     goes-end before _ (walked_items walker h 0 (map PortItem (map ports_of (drop c.groups.group-index c.args.groups.now)))) _ _
     (end-of (λ (gs : List Ports). walked_items walker h 0 (map PortItem (map ports_of gs))) c.args.groups.now c.groups.group-index (λ all. refl) c.groups-test.false)
     (c.groups.invariant h walker is before counted)
+
+pub walk_ports-requires : goal.walk_ports-requires
+walk_ports-requires c =
+    ports-within c.args.site.here.now.scope.value c.args.groups.now c.groups.group-index c.group-item.result c.requires c.groups-test.true c.group-item.is

@@ -12,6 +12,8 @@ use Rattle.elab_parts.specs.PartViews.{part_of}
 use Rattle.elab_walk.specs.Leaves.{parts_in, Grows}
 use Rattle.elab_walk.proofs.Turns.{Answer, fault-of, clean-of, grows-counted}
 use Rattle.elab_walk.proofs.ReadLaws.{item-few, item-added}
+use Rattle.elab_walk.proofs.NarrowNames.{item-narrow}
+use Rattle.elab_walk.proofs.WideLaws.{no-faults}
 use Rattle.elab_walk.proofs.items.walk_ports.Goals as goal
 
 pub returns-in_err-count_from : goal.returns-in_err-count_from
@@ -37,3 +39,11 @@ returns c h walker is before counted =
     (item-few h 0 (PortItem (ports_of c.args.group.now)) clean refl)))
     (grows-counted before more c.args.walked.now _ c.count_from.new.self (c.in_ok-push_port_parts.ensures h is.here_is)
     (c.in_ok-count_from.ensures before (parts_in c.args.walked.now) more counted (c.in_ok-push_port_parts.ensures h is.here_is) at))
+
+pub push_port_parts-requires : goal.push_port_parts-requires
+push_port_parts-requires c =
+    let w = c.requires in
+    let scope : Scope = c.args.site.here.now.scope.value in
+    let none = no-faults (item_faults scope (PortItem (ports_of c.args.group.now)))
+    (clean-of _ (λ (s : Scope). item_faults s (PortItem (ports_of c.args.group.now))) c.deref.result.now scope c.deref.ensures c.in_ok-ports_fault.ensures c.in_ok-refuse.ensures) in
+    item-narrow w.inner w.given scope w.named (PortItem (ports_of c.args.group.now)) w.of none

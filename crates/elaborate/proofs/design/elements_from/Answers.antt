@@ -8,8 +8,10 @@ use Rattle.v_elab.specs.Flat.{flat_of_parts}
 use Rattle.elab_parts.specs.PartViews.{parts_of}
 use Rattle.elab_parts.specs.declared.part.Part.{Part}
 use Rattle.flat_laws.specs.Hierarchy.Levelled.{named-module}
-use Rattle.flat_laws.specs.Sizes.WalkedNodes.{AreSizedNodes, named-nodes}
+use Rattle.flat_laws.specs.Sizes.WalkedNodes.{named-nodes}
+use Rattle.elab_nodes.specs.TextLaws.{named-blocks, named-processes}
 use Rattle.elaborate.specs.ElabFaults.{refusal_of, IsRefusal}
+use Rattle.elaborate.specs.Elements.{AreSizedParts}
 use Rattle.elaborate.specs.ElementLaws.{top-over, go-refused}
 use Rattle.elaborate.proofs.design.elements_from.Goals as goal
 
@@ -18,8 +20,14 @@ elements_of-requires c =
     let modules = (unit_of c.args.unit.now).modules in
     let named = c.in-Some.ensures modules c.in_ok-modules.ensures in
     let top = named-module modules c.args.top.now (module_of c.in-Some.top.now) (sym named) in
-    subst (λ (parts : List Part). AreSizedNodes (parts_of parts)) (sym c.deref.ensures.value)
-    (named-nodes modules c.requires.items c.requires.names c.args.mode (module_of c.in-Some.top.now) top.0 top.1 (parts_of c.in-Ok.parts.items) (c.in-Ok.ensures modules c.in_ok-modules.ensures))
+    let parts = parts_of c.in-Ok.parts.items in
+    let walk = c.in-Ok.ensures modules c.in_ok-modules.ensures in
+    subst (λ (parts : List Part). AreSizedParts (parts_of parts)) (sym c.deref.ensures.value)
+    (record {
+      nodes_sized = named-nodes modules c.requires.items c.requires.names c.args.mode (module_of c.in-Some.top.now) top.0 top.1 parts walk;
+      blocks_sized = named-blocks modules c.requires.items c.requires.names c.args.mode (module_of c.in-Some.top.now) top.0 top.1 parts walk;
+      processes_sized = named-processes modules c.requires.items c.requires.names c.args.mode (module_of c.in-Some.top.now) top.0 top.1 parts walk;
+    })
 
 pub returns : goal.returns
 returns c =

@@ -3,19 +3,18 @@ use Rattle.std.proofs.lemmas.List.{length-map}
 use Rattle.v_design.specs.WellFormed.{most_parts}
 use Rattle.elab_parts.specs.PartViews.{parts_of}
 use Rattle.elab_parts.specs.BehaviourViews.{node_of, process_in}
-use Rattle.elab_nodes.specs.Nodes.{AreSizedOver}
 use Rattle.elab_objects.specs.ObjectViews.{held_of, held_objects}
 use Rattle.elab_objects.specs.declared.object.HeldObject.{HeldObject}
 use Rattle.v_design.specs.Plain as flats
 use Rattle.node_order.specs.NodeOrder.{ordered_nodes}
 use Rattle.elaborate.specs.ElabFaults.{refusal_of, IsRefusal}
-use Rattle.elaborate.specs.Elements.{AreMade}
+use Rattle.elaborate.specs.Elements.{AreMade, AreSizedElements}
 use Rattle.elaborate.specs.ElementLaws.{among-made, as-many, sorted-over, refused-over}
 use Rattle.elaborate.proofs.elements.over_objects.Goals as goal
 
 pub make_elements-requires-clause-sized : goal.make_elements-requires-clause-sized
 make_elements-requires-clause-sized c =
-    subst (λ (held : List HeldObject). AreSizedOver (parts_of c.args.parts.now) (held_objects held) (map node_of c.args.nodes.now)) (sym c.deref.ensures.value) c.requires.sized
+    subst (λ (held : List HeldObject). AreSizedElements (parts_of c.args.parts.now) (held_objects held) (map node_of c.args.nodes.now) (map process_in c.args.processes.now)) (sym c.deref.ensures.value) c.requires.sized
 
 pub order_nodes-requires-clause-few : goal.order_nodes-requires-clause-few
 order_nodes-requires-clause-few c =

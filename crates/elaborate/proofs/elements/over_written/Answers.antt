@@ -4,8 +4,7 @@ use Rattle.v_elab.specs.Objects.{objects_of_parts}
 use Rattle.elab_parts.specs.PartViews.{part_of, parts_of}
 use Rattle.elab_parts.specs.BehaviourViews.{node_of, process_in}
 use Rattle.elab_objects.specs.ObjectViews.{held_objects}
-use Rattle.elab_nodes.specs.Nodes.{AreSizedOver}
-use Rattle.elaborate.specs.Elements.{Gives}
+use Rattle.elaborate.specs.Elements.{Gives, AreSizedElements}
 use Rattle.elaborate.specs.ElementLaws.{whole-over}
 use Rattle.elaborate.proofs.elements.over_written.Goals as goal
 
@@ -16,7 +15,12 @@ over_objects-requires-clause-sized c =
     let same = c.deref.ensures.value ∙ sym c.deref-in-Ok.ensures.value in
     let nodes = ap (map node_of) c.deref-in-Ok.ensures.value ∙ nodes_are in
     let held = subst (λ ns. held_objects c.in-Ok.held.items ≡ objects_of_parts parts (map node_of ns)) same c.in-Ok.ensures.1 ∙ ap (objects_of_parts parts) nodes in
-    subst (λ ns. AreSizedOver parts (held_objects c.in-Ok.held.items) ns) (sym nodes) (subst (λ objects. AreSizedOver parts objects (nodes_of (behaviours_of parts))) (sym held) c.requires.sized)
+    let processes_are = c.in_ok-behaviours.ensures.processes ∙ ap (λ ps. processes_of (behaviours_of (map part_of ps))) c.in_ok-wiring.ensures.parts in
+    let processes = ap (map process_in) c.deref-in-Ok-2.ensures.value ∙ processes_are in
+    let objects = held_objects c.in-Ok.held.items in
+    let all = processes_of (behaviours_of parts) in
+    subst (λ ps. AreSizedElements parts objects (map node_of c.deref-in-Ok.result.now) ps) (sym processes)
+    (subst (λ ns. AreSizedElements parts objects ns all) (sym nodes) (subst (λ os. AreSizedElements parts os (nodes_of (behaviours_of parts)) all) (sym held) c.requires.sized))
 
 pub returns : goal.returns
 returns c =

@@ -1,6 +1,6 @@
 -- The update is written.
-use Rattle.std.proofs.Common.{◌≡◌, ◌∙◌, true, List, [], ◌∷◌, refl, ap, subst}
-use Rattle.std.specs.Prelude.{Option, Some, None}
+use Rattle.std.proofs.Common.{◌≡◌, ◌∙◌, true, List, [], ◌∷◌, length, refl, sym, ap, subst}
+use Rattle.std.specs.Prelude.{Option, Some, None, IfSome}
 use Rattle.std.specs.Option.{option_map}
 use Rattle.vf_base.specs.Base.{process_number}
 use Rattle.v_design.specs.declared.plan.Update.{Update}
@@ -8,10 +8,11 @@ use Rattle.v_design.specs.Assignments.{ValueUpdate}
 use Rattle.v_design.specs.Designs.{FlatDesign}
 use Rattle.v_design.specs.Plain.{update_of}
 use Rattle.v_design.specs.States.{is_any, first_update}
-use Rattle.net_state.specs.States.{machine_in}
+use Rattle.net_state.specs.States.{machine_in, values_in}
 use Rattle.process_table.specs.Tables.{TableState, process_in}
 use Rattle.process_table.specs.Arranged.{table_of}
 use Rattle.machine_events.specs.Parts.{FitsDesign}
+use Rattle.machine_events.specs.There.{IsOfObjects}
 use Rattle.machine_events.proofs.Recorded.{values-count, lane-low, lane-happens, state_both, both-of, one-after}
 use Rattle.machine_events.proofs.lanes.lane_alone.Goals as goal
 
@@ -36,6 +37,10 @@ write_update-requires-clause-design c = ap (λ (t : TableState). t.design) c.lan
 
 pub write_update-requires-clause-values : goal.write_update-requires-clause-values
 write_update-requires-clause-values c = values-count c.args.nets.now
+
+pub write_update-requires-clause-object : goal.write_update-requires-clause-object
+write_update-requires-clause-object c =
+    subst (λ (o : Option ValueUpdate). IfSome o (IsOfObjects (length (values_in c.args.nets.now)))) (sym c.in-Some.ensures.update) c.requires.there
 
 pub returns : goal.returns
 returns c =

@@ -1,9 +1,12 @@
 -- The step is taken and carried out.
-use Rattle.std.proofs.Common.{◌∙◌, length, sym, ap, subst}
+use Rattle.std.proofs.Common.{◌<◌, ◌∙◌, length, sym, ap, subst}
+use Rattle.std.specs.Prelude.{IfSome}
 use Rattle.vf_base.specs.Base.{process_number}
 use Rattle.v_design.specs.Designs.{FlatDesign}
-use Rattle.net_state.specs.States.{machine_in}
+use Rattle.net_state.specs.States.{machine_in, values_in}
 use Rattle.machine_events.specs.Parts.{FitsDesign}
+use Rattle.machine_events.specs.There.{touches-there}
+use Rattle.process_table.specs.Deeds.{read_by}
 use Rattle.machine_events.proofs.Recorded.{values-count, stepped-both, state_both, both-of, one-after}
 use Rattle.machine_events.proofs.steps.step_alone.Goals as goal
 
@@ -22,6 +25,18 @@ carry_out-requires-clause-design g c =
 
 pub carry_out-requires-clause-values : goal.carry_out-requires-clause-values
 carry_out-requires-clause-values g c = values-count c.args.nets.now
+
+pub carry_out-requires-clause-there : goal.carry_out-requires-clause-there
+carry_out-requires-clause-there g c =
+    let nets = c.args.nets.now in
+    let table = c.args.table.now in
+    let both = both-of nets table c.requires.one in
+    let stepped = stepped-both (machine_in nets) (state_both nets table) nets table c.step.new.self (process_number c.args.process) c.in_ok-stepped.stepped both c.requires.ready
+    c.in_ok-stepped.ensures.step in
+    touches-there (length (values_in nets)) c.in_ok-stepped.stepped.act _
+    (subst (λ n. IfSome (read_by c.in_ok-stepped.stepped.act) (λ object. object < n))
+    (ap (λ (d : FlatDesign). length d.objects) c.requires.one.design ∙ sym (values-count nets)) c.in_ok-stepped.ensures.reads)
+    stepped.step.write (c.requires.there (machine_in nets) (state_both nets table) both)
 
 pub returns : goal.returns
 returns g c =

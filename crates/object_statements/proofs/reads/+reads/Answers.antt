@@ -1,4 +1,4 @@
-use Rattle.std.proofs.Common.{◌++◌, ℕ, List, map, refl, sym, ap, ◌∙◌}
+use Rattle.std.proofs.Common.{◌≡◌, ◌+◌, ◌++◌, ℕ, List, map, refl, sym, ap, subst, ◌∙◌, arith}
 use Rattle.vf_base.specs.Base.{object_number}
 use Rattle.v_tree.specs.Trees.{SourceStatement}
 use Rattle.v_tree.specs.Views.{expressions_of, statement_of, statements_of, case_items_of}
@@ -12,6 +12,8 @@ use Rattle.name_checks.specs.Rows.{list-more}
 use Rattle.object_statements.specs.CaseItems.{item_read_in_text}
 use Rattle.object_statements.proofs.Rows.{then-more, then-same, then-three, then-four}
 use Rattle.object_statements.proofs.Items.{item-read}
+use Rattle.object_statements.specs.Texts.{IsSizedText, AreSizedTexts, AreSizedLabels, AreSizedItemTexts, IsSizedItemText}
+use Rattle.object_statements.proofs.Levels.{levels_of, levels_of_all, levels_of_items, statement-levels, statement-at, item-levels, item-at, items-of}
 use Rattle.object_statements.proofs.reads.+reads.Goals as goal
 
 pub add_statements-statements-preserved : goal.add_statements-statements-preserved
@@ -112,3 +114,41 @@ add_statement-returns-in_ok-add_assignment-in-Blocking t c plain are =
 pub add_statement-returns-in_ok-add_assignment-in-Nonblocking : goal.add_statement-returns-in_ok-add_assignment-in-Nonblocking
 add_statement-returns-in_ok-add_assignment-in-Nonblocking t c plain are =
     c.in_ok-add_assignment-in-Nonblocking.ensures plain are ∙ ap (λ (s : Stmt). map object_number c.args.objects.now.items ++ read_in_text plain (statement_of s)) (sym c.in-Nonblocking.is)
+
+-- Sizes
+
+pub add_statements-add_statement-requires : goal.add_statements-add_statement-requires
+add_statements-add_statement-requires t c =
+    let r = c.requires in
+    let least = statement-levels c.args.statements.now c.statements.statement-index c.statement-item.result c.statements-test.true c.statement-item.is in
+    (omega (arith, least, c.decreases), (r.0, r.1, statement-at r.0 c.args.statements.now c.statements.statement-index c.statement-item.result r.2 c.statements-test.true c.statement-item.is))
+
+pub add_items-add_item-requires : goal.add_items-add_item-requires
+add_items-add_item-requires t c =
+    let r = c.requires in
+    let least = item-levels c.args.items.now c.items.item-index c.item-item.result c.items-test.true c.item-item.is in
+    (omega (arith, least, c.decreases), (r.0, r.1, item-at r.0 c.args.items.now c.items.item-index c.item-item.result r.2 c.items-test.true c.item-item.is))
+
+pub add_statement-add_statements-requires : goal.add_statement-add_statements-requires
+add_statement-add_statements-requires t c =
+    let r = c.requires in
+    let same = ap statement_of c.in-Block.is ∙ statement_of-Block c.in-Block.place c.in-Block.statements in
+    let sized : AreSizedTexts r.0 (statements_of c.in-Block.statements.items) = subst (IsSizedText r.0) same r.2 in
+    let level : levels_of (statement_of c.args.statement.now) ≡ levels_of_all (statements_of c.in-Block.statements.items) + 1 = ap levels_of same in
+    let there = ap (λ (ss : List Stmt). levels_of_all (statements_of ss)) c.deref.ensures.value in
+    (omega (arith, level, there, c.decreases), (r.0, r.1, subst (λ (ss : List Stmt). AreSizedTexts r.0 (statements_of ss)) (sym c.deref.ensures.value) sized))
+
+pub add_statement-add_items-requires : goal.add_statement-add_items-requires
+add_statement-add_items-requires t c =
+    let r = c.requires in
+    let same = ap statement_of c.in-Case.is ∙ statement_of-Case c.in-Case.place c.in-Case.kind c.in-Case.value c.in-Case.items in
+    let sized : AreSizedItemTexts r.0 (case_items_of c.in-Case.items.items) = items-of r.0 _ _ _ _ _ same r.2 in
+    let level : levels_of (statement_of c.args.statement.now) ≡ levels_of_items (case_items_of c.in-Case.items.items) + 1 = ap levels_of same in
+    let there = ap (λ (is : List CaseItem). levels_of_items (case_items_of is)) c.deref-in-Case.ensures.value in
+    (omega (arith, level, there, c.decreases), (r.0, r.1, subst (λ (is : List CaseItem). AreSizedItemTexts r.0 (case_items_of is)) (sym c.deref-in-Case.ensures.value) sized))
+
+pub add_item-add_labels-requires : goal.add_item-add_labels-requires
+add_item-add_labels-requires t c =
+    let r = c.requires in
+    let sized = subst (IsSizedItemText r.0) c.in-Labelled.is r.2 in
+    (r.0, r.1, subst (λ (ls : List Expr). AreSizedLabels r.0 (expressions_of ls)) (sym c.as_slice.ensures) sized.0)

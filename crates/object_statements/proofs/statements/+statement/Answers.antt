@@ -1,4 +1,4 @@
-use Rattle.std.proofs.Common.{◌+◌, List, drop, option_map, refl, sym, ap, ap₂, ◌∙◌}
+use Rattle.std.proofs.Common.{◌≡◌, ◌+◌, List, drop, option_map, refl, sym, ap, ap₂, subst, ◌∙◌, arith}
 use Rattle.vf_base.specs.Base.{source_place}
 use Rattle.v_design.specs.Trees as plain_tree
 use Rattle.v_design.specs.PlainLemmas.{statements_of, items_of, statement_of-Block}
@@ -15,6 +15,8 @@ use Rattle.v_elab.specs.Statements.{statement_over, statements_over, items_size,
 use Rattle.object_statements.specs.CaseItems.{item_over, then_items}
 use Rattle.object_statements.proofs.Rows.{then_statements, statements-push, statements-end, items-push, items-end, made-step, made-end}
 use Rattle.object_statements.proofs.Items.{item-first, case-over}
+use Rattle.object_statements.specs.Texts.{IsSizedText, AreSizedTexts, AreSizedItemTexts, IsSizedItemText}
+use Rattle.object_statements.proofs.Levels.{levels_of, levels_of_all, levels_of_items, levels_of_item, statement-levels, statement-at, item-levels, item-at, items-of}
 use Rattle.object_statements.proofs.statements.+statement.Goals as goal
 
 pub statement_over-returns-in_ok-statements-in-Block : goal.statement_over-returns-in_ok-statements-in-Block
@@ -76,3 +78,52 @@ items_over-returns t c plain are =
     sym (items-end (items_of c.items.flats.items))
     ∙ made-end (λ (xs : List CaseItem). then_items (items_of c.items.flats.items) (items_over plain (option_map size_of c.args.size) (source.case_items_of xs))) c.args.items.now c.items.item-index _
     c.items-test.false (c.items.invariant plain are)
+
+-- Sizes
+
+pub statements_over-statement_over-requires : goal.statements_over-statement_over-requires
+statements_over-statement_over-requires t c =
+    let r = c.requires in
+    let least = statement-levels c.args.statements.now c.statements.statement-index c.statement-item.result c.statements-test.true c.statement-item.is in
+    (omega (arith, least, c.decreases), (r.0, r.1, statement-at r.0 c.args.statements.now c.statements.statement-index c.statement-item.result r.2 c.statements-test.true c.statement-item.is))
+
+pub items_over-push_item-requires : goal.items_over-push_item-requires
+items_over-push_item-requires t c =
+    let r = c.requires in
+    let least = item-levels c.args.items.now c.items.item-index c.item-item.result c.items-test.true c.item-item.is in
+    (omega (arith, least, c.decreases), (r.0, r.1, item-at r.0 c.args.items.now c.items.item-index c.item-item.result r.2 c.items-test.true c.item-item.is))
+
+pub default_over-boxed_over-requires : goal.default_over-boxed_over-requires
+default_over-boxed_over-requires t c =
+    let r = c.requires in
+    let least = item-levels c.args.items.now c.items.item-index c.item-item.result c.items-test.true c.item-item.is in
+    let own : levels_of_item c.item-item.result ≡ levels_of (source.statement_of c.in-Default.statement) = ap levels_of_item c.in-Default.is in
+    let sized = item-at r.0 c.args.items.now c.items.item-index c.item-item.result r.2 c.items-test.true c.item-item.is in
+    (omega (arith, least, own, c.decreases), (r.0, r.1, subst (IsSizedItemText r.0) c.in-Default.is sized))
+
+pub statement_over-statements_over-requires : goal.statement_over-statements_over-requires
+statement_over-statements_over-requires t c =
+    let r = c.requires in
+    let same = ap source.statement_of c.in-Block.is ∙ source_laws.statement_of-Block c.in-Block.place c.in-Block.statements in
+    let sized : AreSizedTexts r.0 (source.statements_of c.in-Block.statements.items) = subst (IsSizedText r.0) same r.2 in
+    let level : levels_of (source.statement_of c.args.statement.now) ≡ levels_of_all (source.statements_of c.in-Block.statements.items) + 1 = ap levels_of same in
+    let there = ap (λ (ss : List Stmt). levels_of_all (source.statements_of ss)) c.deref.ensures.value in
+    (omega (arith, level, there, c.decreases), (r.0, r.1, subst (λ (ss : List Stmt). AreSizedTexts r.0 (source.statements_of ss)) (sym c.deref.ensures.value) sized))
+
+pub statement_over-items_over-requires : goal.statement_over-items_over-requires
+statement_over-items_over-requires t c =
+    let r = c.requires in
+    let same = ap source.statement_of c.in-Case.is ∙ source_laws.statement_of-Case c.in-Case.place c.in-Case.kind c.in-Case.value c.in-Case.items in
+    let sized : AreSizedItemTexts r.0 (source.case_items_of c.in-Case.items.items) = items-of r.0 _ _ _ _ _ same r.2 in
+    let level : levels_of (source.statement_of c.args.statement.now) ≡ levels_of_items (source.case_items_of c.in-Case.items.items) + 1 = ap levels_of same in
+    let there = ap (λ (is : List CaseItem). levels_of_items (source.case_items_of is)) c.deref-in-Case-2.ensures.value in
+    (omega (arith, level, there, c.decreases), (r.0, r.1, subst (λ (is : List CaseItem). AreSizedItemTexts r.0 (source.case_items_of is)) (sym c.deref-in-Case-2.ensures.value) sized))
+
+pub statement_over-default_over-requires : goal.statement_over-default_over-requires
+statement_over-default_over-requires t c =
+    let r = c.requires in
+    let same = ap source.statement_of c.in-Case.is ∙ source_laws.statement_of-Case c.in-Case.place c.in-Case.kind c.in-Case.value c.in-Case.items in
+    let sized : AreSizedItemTexts r.0 (source.case_items_of c.in-Case.items.items) = items-of r.0 _ _ _ _ _ same r.2 in
+    let level : levels_of (source.statement_of c.args.statement.now) ≡ levels_of_items (source.case_items_of c.in-Case.items.items) + 1 = ap levels_of same in
+    let there = ap (λ (is : List CaseItem). levels_of_items (source.case_items_of is)) c.deref-in-Case-3.ensures.value in
+    (omega (arith, level, there, c.decreases), (r.0, r.1, subst (λ (is : List CaseItem). AreSizedItemTexts r.0 (source.case_items_of is)) (sym c.deref-in-Case-3.ensures.value) sized))

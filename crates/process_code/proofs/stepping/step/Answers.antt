@@ -14,6 +14,7 @@ use Rattle.process_code.proofs.Growing.{rests_of-length}
 use Rattle.process_code.proofs.Compiled.{one-rest}
 use Rattle.process_code.proofs.Spots.{rest-end, good-part, step-of-spot, step-of-end, end-ends, spot-within, spot-facts, counts-part, state-kept}
 use Rattle.process_code.proofs.Reaching.{part-reached, end-reached, update-reached}
+use Rattle.process_code.proofs.ReadsThere.{takes-reads, end-reads, part-reads}
 use Rattle.process_code.proofs.stepping.step.Goals as goal
 
 pub returns-then-state-eq0-clause-step : goal.returns-then-state-eq0-clause-step
@@ -102,3 +103,25 @@ returns-then-not-is_empty-clause-state g c =
     (at-same body rests new.position state.position (takes-ends c.args.now (point_of state) (point_of new) (said_by c.next_update.result)
     (map (option_map update_of) state.updates.items) c.next_update.ensures.takes) c.requires.state.rest)
     (update-reached c.args.now rests (point_of state) (point_of new) (said_by c.next_update.result) c.requires.ready c.requires.state.reached c.next_update.ensures.takes)
+
+pub returns-then-not-is_empty-clause-reads : goal.returns-then-not-is_empty-clause-reads
+returns-then-not-is_empty-clause-reads g c =
+    let state = c.args.state.now in
+    takes-reads (length (g.V.Values.values c.args.values.now)) c.args.now (point_of state) (point_of c.next_update.new.self) (said_by c.next_update.result)
+    (map (option_map update_of) state.updates.items) c.next_update.ensures.takes
+
+pub returns-then-state-eq0-clause-reads : goal.returns-then-state-eq0-clause-reads
+returns-then-state-eq0-clause-reads g c =
+    let code = c.args.code.now in
+    end-reads (length (g.V.Values.values c.args.values.now)) code.process.now.always (point_of c.args.state.now) (point_of c.end_body.new.self) code.start (said_by c.end_body.result)
+    c.end_body.ensures.again c.end_body.ensures.done
+
+pub returns-clause-reads : goal.returns-clause-reads
+returns-clause-reads g c =
+    let code = c.args.code.now in
+    let state = c.args.state.now in
+    let limit = length (g.V.Values.values c.args.values.now) in
+    let part = part_of_head c.index-spot.result.now.head in
+    let facts = spot-facts code state.position c.index-spot.result.now c.index-ways.result.now c.requires.code c.if-state-eq0.false c.requires.state.rest c.index-spot.ensures c.index-ways.ensures in
+    part-reads limit c.args.now (g.V.Values.values c.args.values.now) (rests_in_code code) code.repeats part facts.leads.after c.index-ways.result.now c.index-spot.result.now.next (point_of state)
+    (point_of c.step_spot.new.state) (said_by c.step_spot.result) facts.leads.leads (good-part limit (statement_of code.process.now.body) part c.requires.there facts.parts.0) c.step_spot.ensures.acts

@@ -3,12 +3,15 @@ use Rattle.v_design.specs.States.{ProcessState, idle_process, is_ready}
 use Rattle.vf_base.specs.Base.{process_number}
 use Rattle.process_table.specs.Arranged.{table_of}
 use Rattle.machine_laws.proofs.Places.{placed}
-use Rattle.block_events.proofs.Taken.{step-goes}
+use Rattle.block_events.proofs.Taken.{step-there, step-goes}
 use Rattle.block_events.proofs.runner.Runner.take_step.Goals as goal
 
 pub step_alone-requires-clause-ready : goal.step_alone-requires-clause-ready
 step_alone-requires-clause-ready g c =
     placed (λ (p : ProcessState). is_ready p.activity) idle_process (table_of c.args.self.now.table).processes (process_number c.args.process) c.requires.ready
+
+pub step_alone-requires-clause-there : goal.step_alone-requires-clause-there
+step_alone-requires-clause-there g c = step-there c.writes_stay.ensures.next c.args.self.now (process_number c.args.process) c.requires.rules c.requires.writes
 
 pub returns : goal.returns
 returns g c =

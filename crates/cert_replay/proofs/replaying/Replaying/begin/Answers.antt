@@ -1,10 +1,13 @@
 -- The replay stands at the start, with all node events done.
-use Rattle.std.proofs.Common.{◌≡◌, ◌∙◌, [], length, refl, sym, ap}
+use Rattle.std.proofs.Common.{◌≡◌, ◌∙◌, [], length, refl, sym, ap, subst}
 use Rattle.std.proofs.lemmas.List.{length-map}
 use Rattle.v_design.specs.Designs.{Machine}
 use Rattle.v_design.specs.Plain.{process_of}
 use Rattle.v_design.specs.PlainDesigns.{design_of}
+use Rattle.v_design.specs.RulesHold.{rules_hold}
 use Rattle.v_design.specs.Views.{machine_with}
+use Rattle.v_design.specs.WellFormed.{KeepsRules}
+use Rattle.race_laws.specs.Writes.{WritesStay}
 use Rattle.v_design.specs.States.{start}
 use Rattle.event_causes.specs.Causes.{AreCausesOf}
 use Rattle.net_state.specs.States.{machine_in, AreNetsOf}
@@ -19,14 +22,17 @@ use Rattle.cert_replay.proofs.replaying.Replaying.begin.Goals as goal
 abbrev started : Machine → Replay
 started machine = record { begins = start machine; events = []; now = start machine; number = 1; steps = 0; moves = [] }
 
-starts : (machine : Machine) (r : Replaying) → machine_in r.nets ≡ machine → AreNetsOf r.nets (start machine) → IsTableOf machine (start machine) (table_of r.table) → IsKept r.table →
+starts : WritesStay → (machine : Machine) (r : Replaying) → machine_in r.nets ≡ machine → AreNetsOf r.nets (start machine) → IsTableOf machine (start machine) (table_of r.table) → IsKept r.table →
     AreCausesOf machine [] r.record.phase.causes → design_of r.graph.now.design.now ≡ machine.design → Starts machine (start machine) r
-starts machine r same nets table kept causes graph = record {
+starts stay machine r same nets table kept causes graph = record {
   both = record { machine_is = same; nets_are = nets; table_is = table };
   arranged = kept;
   earlier = [];
   causes = causes;
   graph_is = graph;
+  writes =
+      stay.at_start machine
+      (subst (λ (m : Machine). KeepsRules m.design) same (rules_hold (design_of r.nets.objects.settle.graph.now.design.now) r.nets.objects.settle.graph.now.design.now.rules));
 }
 
 pub begin_slot-requires : goal.begin_slot-requires
@@ -35,7 +41,7 @@ begin_slot-requires c =
     record {
       machine = machine;
       begins = start machine;
-      starts = starts machine _ c.in_ok-nets.ensures.machine c.in_ok-nets.ensures.begins (c.in_ok-table.ensures.does machine refl) c.in_ok-table.ensures.kept
+      starts = starts c.writes_stay.ensures.stay machine _ c.in_ok-nets.ensures.machine c.in_ok-nets.ensures.begins (c.in_ok-table.ensures.does machine refl) c.in_ok-table.ensures.kept
           (c.in_ok-record.ensures machine (length-map c.args.design.now.processes process_of ∙ sym (ap length c.as_slice-processes.ensures))
           (sym (c.object_count.ensures.count ∙ c.object_count.ensures.all ∙ ap (λ (k : Machine). length k.design.objects) c.in_ok-nets.ensures.machine)))
           (ap design_of c.requires);
@@ -47,7 +53,7 @@ settle-requires c =
     record {
       machine = machine;
       replay = started machine;
-      keeps = c.in_ok-begin_slot.ensures.begins machine (start machine) [] (starts machine _ c.in_ok-nets.ensures.machine c.in_ok-nets.ensures.begins
+      keeps = c.in_ok-begin_slot.ensures.begins machine (start machine) [] (starts c.writes_stay.ensures.stay machine _ c.in_ok-nets.ensures.machine c.in_ok-nets.ensures.begins
           (c.in_ok-table.ensures.does machine refl) c.in_ok-table.ensures.kept
           (c.in_ok-record.ensures machine (length-map c.args.design.now.processes process_of ∙ sym (ap length c.as_slice-processes.ensures))
           (sym (c.object_count.ensures.count ∙ c.object_count.ensures.all ∙ ap (λ (k : Machine). length k.design.objects) c.in_ok-nets.ensures.machine)))
@@ -58,7 +64,7 @@ pub returns-clause-begins : goal.returns-clause-begins
 returns-clause-begins c =
     let machine = machine_with c.args.design.now c.args.fault in
     c.in_ok-settle.ensures.settles machine (started machine)
-    (c.in_ok-begin_slot.ensures.begins machine (start machine) [] (starts machine _ c.in_ok-nets.ensures.machine c.in_ok-nets.ensures.begins
+    (c.in_ok-begin_slot.ensures.begins machine (start machine) [] (starts c.writes_stay.ensures.stay machine _ c.in_ok-nets.ensures.machine c.in_ok-nets.ensures.begins
     (c.in_ok-table.ensures.does machine refl) c.in_ok-table.ensures.kept
     (c.in_ok-record.ensures machine (length-map c.args.design.now.processes process_of ∙ sym (ap length c.as_slice-processes.ensures))
     (sym (c.object_count.ensures.count ∙ c.object_count.ensures.all ∙ ap (λ (k : Machine). length k.design.objects) c.in_ok-nets.ensures.machine))) (ap design_of c.requires)))

@@ -15,6 +15,6 @@ returns-then-not-is_quiescent c = ends-not c.args.self.now c.is_quiescent.new.se
 
 pub returns : goal.returns
 returns c =
-    ends-told c.phases_go_on.ensures.races c.args.self.now c.is_quiescent.new.self _ c.is_quiescent.result c.may_pass.result c.if-not-is_quiescent.false c.is_quiescent.ensures
-    c.in_ok-end_phase.ensures refl (record { race = refl; bound = refl })
+    ends-told c.phases_go_on.ensures.races c.writes_stay.ensures.stay c.args.self.now c.is_quiescent.new.self _ c.is_quiescent.result c.may_pass.result c.if-not-is_quiescent.false
+    c.is_quiescent.ensures c.in_ok-end_phase.ensures refl (record { race = refl; bound = refl })
     (c.may_pass.ensures ∙ ap (λ (found : Option Pair). c.is_quiescent.new.self.race || not (is_some found)) c.race.ensures)

@@ -7,7 +7,7 @@ use Rattle.cert_replay.specs.declared.replaying.Stepper.{Stepper}
 use Rattle.cert_replay.specs.declared.replaying.Stepper.TheVariants.{Process, Lane}
 use Rattle.cert_replay.specs.Deeds.{may_step, TakesStep}
 use Rattle.cert_replay.specs.Kept.{event_by}
-use Rattle.cert_replay.proofs.Going.{in-slot, takes-on}
+use Rattle.cert_replay.proofs.Going.{in-slot, step-writes, lane-writes, takes-on}
 use Rattle.cert_replay.proofs.replaying.Replaying.take_step.Goals as goal
 
 pub step_process-requires-clause-stands : goal.step_process-requires-clause-stands
@@ -26,6 +26,12 @@ step_lane-requires-clause-stands g c = in-slot c.args.self.now c.requires.replay
 pub step_lane-requires-clause-lane : goal.step_lane-requires-clause-lane
 step_lane-requires-clause-lane g c =
     subst (λ (s : Stepper). may_step (table_of c.args.self.now.table) s (process_number c.args.process) ≡ true) c.in-Lane.is c.requires.possible
+
+pub step_process-requires-clause-there : goal.step_process-requires-clause-there
+step_process-requires-clause-there g c = step-writes c.writes_stay.ensures.stay c.writes_stay.ensures.next c.args.self.now c.requires.replaying (process_number c.args.process)
+
+pub step_lane-requires-clause-there : goal.step_lane-requires-clause-there
+step_lane-requires-clause-there g c = lane-writes c.writes_stay.ensures.stay c.writes_stay.ensures.next c.args.self.now c.requires.replaying (process_number c.args.process)
 
 pub returns-in_ok-step_process-in-Process : goal.returns-in_ok-step_process-in-Process
 returns-in_ok-step_process-in-Process g c =

@@ -1,7 +1,7 @@
 -- The next phase begins.
 use Rattle.std.proofs.Common.{◌+◌, ◌∙◌, length, refl, sym, ap}
 use Rattle.v_design.specs.Designs.{FlatDesign}
-use Rattle.cert_replay.proofs.Turning.{turn-quiet, phase-goes, phase-none}
+use Rattle.cert_replay.proofs.Turning.{turn-quiet, next-number, phase-goes, phase-none}
 use Rattle.cert_replay.proofs.replaying.Replaying.turn_to_phase.Goals as goal
 
 pub slot_turn-requires : goal.slot_turn-requires
@@ -22,7 +22,11 @@ begin_phase-requires-clause-room c =
     is.ended.recorded.causes.objects
     ∙ ap (λ (d : FlatDesign). length d.objects) (sym (c.in_ok-turn.ensures.turned is.machine is.replay.now is.ended.both.table_is).design)
 
+pub begin_phase-requires-clause-number : goal.begin_phase-requires-clause-number
+begin_phase-requires-clause-number c = next-number c.args.self.now c.requires
+
 pub returns : goal.returns
 returns c =
-    phase-goes c.args.self.now _ c.in-Some.turn c.args.number c.in-Some.ensures (c.if-number.false ∙ ap (λ n. n + 1) c.number.ensures) c.in_ok-turn.ensures.turned c.in_ok-turn.ensures.kept
+    phase-goes c.writes_stay.ensures.stay c.phases_are_few.ensures.wake c.args.self.now _ c.in-Some.turn c.args.number c.in-Some.ensures
+    (c.if-number.false ∙ ap (λ n. n + 1) c.number.ensures) c.in_ok-turn.ensures.turned c.in_ok-turn.ensures.kept
     c.in_ok-begin_phase.ensures refl (record { race = refl; bound = refl })

@@ -24,9 +24,9 @@ returns-then-later-time c =
 
 pub begin_slot-requires : goal.begin_slot-requires
 begin_slot-requires c =
-    slot-starting c.args.self.now _ c.in-Some.later c.requires c.in-Some.ensures c.in_ok-turn.ensures.turned c.in_ok-turn.ensures.kept refl
+    slot-starting c.writes_stay.ensures.stay c.args.self.now _ c.in-Some.later c.requires c.in-Some.ensures c.in_ok-turn.ensures.turned c.in_ok-turn.ensures.kept refl
 
 pub returns : goal.returns
 returns c =
-    slot-goes c.args.self.now (record c.args.self.now { table = c.turn.new.self }) c.begin_slot.new.self c.in-Some.later c.args.time c.in-Some.ensures c.if-later-time.false c.if-self-later.false
-    c.in_ok-turn.ensures.turned c.in_ok-turn.ensures.kept refl (record { race = refl; bound = refl }) c.in_ok-begin_slot.ensures
+    slot-goes c.writes_stay.ensures.stay c.args.self.now (record c.args.self.now { table = c.turn.new.self }) c.begin_slot.new.self c.in-Some.later c.args.time c.in-Some.ensures
+    c.if-later-time.false c.if-self-later.false c.in_ok-turn.ensures.turned c.in_ok-turn.ensures.kept refl (record { race = refl; bound = refl }) c.in_ok-begin_slot.ensures

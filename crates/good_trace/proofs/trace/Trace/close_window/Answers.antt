@@ -4,6 +4,7 @@ use Rattle.between_slots.specs.Between.{window_phases}
 use Rattle.good_trace.specs.Pushes.{HasNoSlot}
 use Rattle.good_trace.specs.Slots.{end_of}
 use Rattle.good_trace.proofs.ClosedWindows.{window-kept, trace-kept}
+use Rattle.good_trace.proofs.FewRuns.{runs-few}
 use Rattle.good_trace.proofs.Keeping.{window-is}
 use Rattle.good_trace.proofs.trace.Trace.close_window.Goals as goal
 
@@ -12,6 +13,11 @@ close_slots-requires-clause-rise g c =
     let t = c.self.inside in
     (c.ends_go_on.ensures.ascend t.setup.now.codes (good_machine g.N.World.design) (window_phases g.N.World.design g.N.World.plan t.closed t.pushed) t.slots.table.runs.items
     c.self.invariant.runs_kept.runs_are).0
+
+pub close_slots-requires-clause-few : goal.close_slots-requires-clause-few
+close_slots-requires-clause-few g c =
+    let t = c.self.inside in
+    runs-few t.setup.now.codes g.N.World.design g.N.World.plan t.pushed t.closed t.steps t.phases t.before t.slots c.self.invariant
 
 pub invariant_of-result : goal.invariant_of-result
 invariant_of-result g c =

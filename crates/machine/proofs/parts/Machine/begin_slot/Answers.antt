@@ -1,10 +1,13 @@
 -- The slot begins.
-use Rattle.std.proofs.Common.{◌≤◌, ◌^◌, ◌∙◌, length, refl, sym, ap, subst}
+use Rattle.std.proofs.Common.{◌≤◌, ◌^◌, ◌∙◌, length, refl, sym, ap, subst, arith}
 use Rattle.v_design.specs.Designs.{FlatDesign}
 use Rattle.v_design.specs.States.{State}
 use Rattle.machine.specs.Standing.{machine_kept, state_kept, begins_next}
 use Rattle.machine.proofs.Beginnings.{some-state, found-some, begins-table, slot-begun, begun-room}
 use Rattle.machine.proofs.parts.Machine.begin_slot.Goals as goal
+
+pub begin_phase-requires-clause-number : goal.begin_phase-requires-clause-number
+begin_phase-requires-clause-number c = omega (arith, c.in_ok-begin_slot.ensures.number)
 
 pub begin_phase-requires-clause-room : goal.begin_phase-requires-clause-room
 begin_phase-requires-clause-room c =
@@ -21,7 +24,7 @@ returns c =
       machine_is = refl;
       notes_are = refl;
       runs = λ begins next.
-          slot-begun c.slot_goes_on.ensures.begin c.runs_go_on.ensures.begin begins m _ _ c.in_ok-turn.turn c.begin_slot.new.self c.requires.standing next
+          slot-begun c.slot_goes_on.ensures.begin c.runs_go_on.ensures.begin c.writes_stay.ensures.stay begins m _ _ c.in_ok-turn.turn c.begin_slot.new.self c.requires.standing next
           (subst (λ (s : State). s.time ≤ 2 ^ 63) (some-state f.0 begins (sym f.1 ∙ next)) f.2) c.in_ok-turn.ensures.turn
           (c.in_ok-turn.ensures.begins (machine_kept m) (state_kept m) begins (begins-table m c.requires.standing) next) c.in_ok-turn.ensures.kept (record { values = refl; nodes = refl }) refl refl
           c.in_ok-begin_slot.ensures.empty c.in_ok-begin_slot.ensures.begins c.in_ok-begin_phase.ensures c.begin_slot-2.ensures.none c.begin_slot-2.ensures.stays refl;

@@ -1,5 +1,5 @@
 -- The parts of the cleared machine agree; a phase began in its record, with no event yet.
-use Rattle.std.proofs.Common.{◌≡◌, ◌∙◌, List, [], length, map, refl, sym, ap}
+use Rattle.std.proofs.Common.{◌≡◌, ◌∙◌, List, [], length, map, refl, sym, ap, arith}
 use Rattle.v_design.specs.Designs.{FlatDesign, FlatProcess, Machine}
 use Rattle.v_design.specs.Plain.{fault_of}
 use Rattle.v_design.specs.States.{ProcessState, idle_process}
@@ -11,6 +11,9 @@ use Rattle.machine.specs.Standing.{machine_kept}
 use Rattle.machine.proofs.Beginnings.{begun-room}
 use Rattle.machine.proofs.PutLaws.{same-causes, begun-causes, over-stands}
 use Rattle.machine.proofs.parts.Machine.clear.Goals as goal
+
+pub begin_phase-requires-clause-number : goal.begin_phase-requires-clause-number
+begin_phase-requires-clause-number c = omega (arith, c.in_ok-begin_slot.ensures.number)
 
 pub begin_phase-requires-clause-room : goal.begin_phase-requires-clause-room
 begin_phase-requires-clause-room c =

@@ -3,7 +3,7 @@ use Rattle.std.proofs.Common.{◌<◌, ◌∙◌, refl, sym, subst}
 use Rattle.vf_base.specs.Base.{process_number}
 use Rattle.machine.specs.Standing.{machine_kept, state_kept}
 use Rattle.machine_laws.specs.SlotLoop.{present_phase}
-use Rattle.machine.proofs.Events.{ready-there, ready-low, stepped-count, stepped-at, step-moved}
+use Rattle.machine.proofs.Events.{ready-there, ready-low, stepped-count, stepped-at, step-there, step-moved}
 use Rattle.machine.proofs.parts.Machine.process_step.Goals as goal
 
 pub step-requires-clause-ready : goal.step-requires-clause-ready
@@ -46,6 +46,11 @@ finish_step-requires-clause-stands g c =
           c.in_ok-stepped.ensures.step;
       recorded = moving.is.recorded;
     }
+
+pub finish_step-requires-clause-there : goal.finish_step-requires-clause-there
+finish_step-requires-clause-there g c =
+    step-there c.writes_stay.ensures.stay c.writes_stay.ensures.next c.args.self.now c.requires.moving (process_number c.args.process) c.in_ok-stepped.stepped c.step.new.self c.requires.ready
+    c.in_ok-stepped.ensures.step c.in_ok-stepped.ensures.reads
 
 pub returns-clause-goes_on : goal.returns-clause-goes_on
 returns-clause-goes_on g c =

@@ -2,7 +2,7 @@
 use Rattle.std.proofs.Common.{◌∙◌, length, refl, sym, ap}
 use Rattle.v_design.specs.Designs.{FlatDesign}
 use Rattle.machine.specs.Standing.{machine_kept, state_kept}
-use Rattle.machine.proofs.TurnsOn.{idle-processes, ended-room, turn-moved}
+use Rattle.machine.proofs.TurnsOn.{idle-processes, ended-room, next-number, turn-moved}
 use Rattle.machine.proofs.parts.Machine.turn_phase.Goals as goal
 
 pub turn-requires-clause-quiet : goal.turn-requires-clause-quiet
@@ -13,6 +13,9 @@ begin_phase-requires-clause-room c =
     ended-room c.args.self.now c.end_phase.new.self c.args.log.now _ c.requires.moving c.in_ok-end_phase.ensures
     ∙ ap (λ (d : FlatDesign). length d.objects)
     (sym (c.in_ok-turn.ensures.turned (machine_kept c.args.self.now) (state_kept c.args.self.now) (record { design = c.requires.moving.is.parts.design; time = refl; processes = refl })).design)
+
+pub begin_phase-requires-clause-number : goal.begin_phase-requires-clause-number
+begin_phase-requires-clause-number c = next-number c.phases_are_few.ensures.few c.args.self.now c.end_phase.new.self c.args.log.now _ c.requires.moving c.in_ok-end_phase.ensures
 
 pub returns : goal.returns
 returns c = record {

@@ -1,4 +1,5 @@
 use Rattle.std.proofs.Common.{◌≡◌, ◌<◌, ◌∙◌, ℕ, List, true, length, map, ap, sym, subst, arith, refl}
+use Rattle.std.specs.Prelude.{Option, IfSome}
 use Rattle.std.proofs.lemmas.List.{length-map}
 use Rattle.vf_base.specs.Base.{process_number}
 use Rattle.v_design.specs.Designs.{FlatProcess}
@@ -7,11 +8,12 @@ use Rattle.v_design.specs.Reads.{named_by}
 use Rattle.v_design.specs.RulesHold.{rules_hold}
 use Rattle.v_design.specs.States.{ProcessState, is_ready}
 use Rattle.process_operands.specs.BoundsLaws.{AreBelow}
-use Rattle.process_code.specs.Points.{said_by}
+use Rattle.process_code.specs.Points.{StepSaid, SaysRead, SaysWrite, SaysLater, SaysAwait, SaysSleep, SaysZero, SaysFinished, SaysInner, ReadsBelow, said_by}
 use Rattle.process_table.specs.declared.row.Row.{Row}
 use Rattle.process_table.specs.declared.table.ProcessTable.{ProcessTable}
 use Rattle.process_table.specs.Rows.{row_states, row_text, row_state, state_at, text_at}
 use Rattle.process_table.specs.Arranged.{IsKept, table_of}
+use Rattle.process_table.specs.Deeds.{read_said}
 use Rattle.process_table.specs.Tables.{process_in}
 use Rattle.process_table.proofs.Bodies.{bodies-waitable, bodies-below}
 use Rattle.process_table.proofs.Changed.{ready-low, rows-length, holding-at}
@@ -31,6 +33,21 @@ low t kept p ready = ready-low (row_states t.rows.items) p (ready-row t kept p r
 -- as many rows after a step
 as-many : (old new : List Row) → map row_text new ≡ map row_text old → length (row_states new) ≡ length (row_states old)
 as-many old new texts = length-map new row_state ∙ sym (length-map new row_text) ∙ ap length texts ∙ length-map old row_text ∙ sym (length-map old row_state)
+
+-- the object that is read is there
+reads-there : (count limit : ℕ) (said : StepSaid) (read : Option ℕ) → count ≡ limit → ReadsBelow count said → read ≡ read_said said → IfSome read (λ object. object < limit)
+reads-there count limit said read same below is =
+    subst (λ (r : Option ℕ). IfSome r (λ object. object < limit)) (sym is) (said-there said (subst (λ n. ReadsBelow n said) same below))
+  where
+    said-there : (said : StepSaid) → ReadsBelow limit said → IfSome (read_said said) (λ object. object < limit)
+    said-there (SaysRead object) h = h
+    said-there (SaysWrite update) h = tt
+    said-there (SaysLater update time) h = tt
+    said-there SaysAwait h = tt
+    said-there (SaysSleep time) h = tt
+    said-there SaysZero h = tt
+    said-there SaysFinished h = tt
+    said-there SaysInner h = tt
 
 pub step_row-line-requires-clause-ready : goal.step_row-line-requires-clause-ready
 step_row-line-requires-clause-ready g c = ready-row c.args.self.now c.requires.kept (process_number c.args.process) c.requires.ready
@@ -87,3 +104,8 @@ returns-clause-kept g c =
     c.step_row-line.new.rows.items c.step_row-line.result.0 (said_by c.step_row-line.result.1) c.step_row-line.ensures.step c.standing_of-standing.result.stage c.standing_of-standing.result.ready
     c.standing_of-standing.result.waits c.mark.new.set c.keep.new.queue
     c.standing_of-standing.ensures (low t c.requires.kept p c.requires.ready) c.mark.ensures c.in_ok-keep.ensures
+
+pub returns-clause-reads : goal.returns-clause-reads
+returns-clause-reads g c =
+    reads-there (length (g.V.Values.values c.args.values.now)) (length (design_of c.args.self.now.design.now).objects) (said_by c.step_row-line.result.1) _ c.requires.values
+    c.step_row-line.ensures.reads c.act_of.ensures.read

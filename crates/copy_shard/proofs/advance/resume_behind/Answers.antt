@@ -1,0 +1,33 @@
+-- From the slot behind those that the fault passed.
+use Rattle.std.proofs.Common.{◌≡◌, ◌+◌, ◌<◌, subst, sym, arith}
+use Rattle.v_design.specs.Plain.{fault_of}
+use Rattle.copy_window.specs.Passing.{CanResume}
+use Rattle.copy_window.specs.ShardFaults.{IsShardFault}
+use Rattle.copy_shard.proofs.advance.resume_behind.Goals as goal
+
+pub resume_fault-requires-clause-slot : goal.resume_fault-requires-clause-slot
+resume_fault-requires-clause-slot g c κs within = omega (arith, c.requires.more, c.if-passed-eq0.true)
+
+pub resume_fault-requires-clause-fault : goal.resume_fault-requires-clause-fault
+resume_fault-requires-clause-fault g c κs within =
+    let same : c.args.window.now.before ≡ c.args.window.now.before + 0 = omega arith in
+    subst (λ n. CanResume g.N.World.design g.N.World.plan n c.args.window.now.through c.args.strobes.now (fault_of c.args.fault) c.args.own.now) same (c.requires.none c.if-passed-eq0.true)
+
+pub strobes_after-requires-clause-some : goal.strobes_after-requires-clause-some
+strobes_after-requires-clause-some g c κs within = omega (arith, c.if-passed-eq0.false)
+
+pub resume_fault-requires-2-clause-fault : goal.resume_fault-requires-2-clause-fault
+resume_fault-requires-2-clause-fault g c κs within =
+    let some : 0 < c.args.passed = omega (arith, c.if-passed-eq0.false) in
+    let stands = c.requires.fault some in
+    record {
+      some = omega (arith, some);
+      stands = stands.stands c.in_ok-rest.rest.passed c.in_ok-rest.ensures.since c.in_ok-rest.ensures.strobes.has_passed;
+      listed = stands.listed;
+      none = stands.none;
+      are = c.in_ok-rest.ensures.strobes;
+    }
+
+pub returns-clause-fault : goal.returns-clause-fault
+returns-clause-fault g c =
+    subst (λ n. IsShardFault g.N.World.design g.N.World.plan c.args.window.now.through n c.resume_fault-2.new.own) c.in_ok-rest.ensures.behind c.in_ok-resume_fault-2.ensures.fault

@@ -1,0 +1,14 @@
+-- So many shards have gone through the window.
+use Rattle.std.proofs.Common.{◌≡◌}
+use Rattle.fault_shards.specs.Shards.{representatives_of}
+use Rattle.shard_claims.specs.Workers.{IsClaimed, numbers_of}
+use Rattle.shard_claims.proofs.Passing.{ArePassed}
+use Rattle.shard_claims.proofs.shards.advance_all.Given as goal
+
+abbrev pub invariant-shards : goal.invariant-shards
+invariant-shards g l = record {
+  numbers : numbers_of l.shards.items ≡ numbers_of l.initial.shards.items;
+  passed :
+      ArePassed (IsClaimed (representatives_of l.round.shards.now) l.round.window.now.before) (IsClaimed (representatives_of l.round.shards.now) l.round.window.now.through) l.place
+      l.shards.items;
+}

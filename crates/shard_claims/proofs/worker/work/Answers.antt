@@ -1,0 +1,23 @@
+-- A worker that claimed goes on, and a new one claims.
+use Rattle.fault_shards.specs.Shards.{representatives_of}
+use Rattle.shard_claims.specs.WorkerLaws.{has-claimed, is-new}
+use Rattle.shard_claims.proofs.Claiming.{has-gone, stands-claimed}
+use Rattle.shard_claims.proofs.worker.work.Goals as goal
+
+pub advance_all-requires-after_bounds : goal.advance_all-requires-after_bounds
+advance_all-requires-after_bounds g c κs within =
+    (has-claimed (representatives_of c.args.round.now.shards.now) c.args.round.now.board.now c.args.round.now.window.now.before c.args.worker c.if-dry.true c.requires.at).keeps.each
+
+pub returns-then-dry : goal.returns-then-dry
+returns-then-dry g c =
+    stands-claimed (representatives_of c.args.round.now.shards.now) c.args.round.now.board.now c.args.round.now.window.now.through _ c.if-dry.true
+    (has-gone (representatives_of c.args.round.now.shards.now) c.args.round.now.board.now c.args.round.now.window.now.before c.args.round.now.window.now.through c.args.worker _ c.if-dry.true
+    c.requires.at c.in_ok-advance_all.ensures.numbers c.in_ok-advance_all.ensures.through)
+
+pub claim_all-requires-clause-first : goal.claim_all-requires-clause-first
+claim_all-requires-clause-first g c κs within =
+    (is-new (representatives_of c.args.round.now.shards.now) c.args.round.now.board.now c.args.round.now.window.now.before c.args.worker c.if-dry.false c.requires.at).1
+
+pub claim_all-requires-clause-new : goal.claim_all-requires-clause-new
+claim_all-requires-clause-new g c κs within =
+    (is-new (representatives_of c.args.round.now.shards.now) c.args.round.now.board.now c.args.round.now.window.now.before c.args.worker c.if-dry.false c.requires.at).0

@@ -1,0 +1,25 @@
+// What all workers look at in a round, and a shard that one of them claimed.
+
+use copy_shard::Shard;
+use fault_shards::Shards;
+use good_trace::{Setup, TraceWindow};
+use v_design::World;
+use verdict_words::Board;
+
+/// What all workers look at in a round: the setup of the world `N`, the shards of its faults, the board on which these are claimed, the gate that is called before a
+/// shard is begun, and the window through which the workers go.
+#[derive_where(Clone, Copy)]
+pub struct Round<'r, 'd, N: World, G> {
+    pub setup: &'r Setup<'d, N>,
+    pub shards: &'r Shards,
+    pub board: &'r Board<N>,
+    pub gate: &'r G,
+    pub window: &'r TraceWindow<N>,
+}
+
+/// A shard, with the number by which it was claimed.
+#[derive(Drop)]
+pub struct ClaimedShard<N: World> {
+    pub number: u32,
+    pub shard: Shard<N>,
+}
