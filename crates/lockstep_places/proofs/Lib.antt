@@ -1,0 +1,3 @@
+mod Phases
+mod Blocks
+mod Limits

@@ -1,0 +1,4 @@
+pub mod Going
+pub mod Waiters
+pub mod Texts
+pub mod Begun

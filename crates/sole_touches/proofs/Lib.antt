@@ -1,0 +1,4 @@
+pub mod Counts
+pub mod Unawaited
+pub mod OneRun
+pub mod Readers
