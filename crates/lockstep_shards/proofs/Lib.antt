@@ -1,0 +1,6 @@
+pub mod Laws
+pub mod Keeping
+pub mod Entering
+mod Leaving
+mod Passing
+mod Seeing
