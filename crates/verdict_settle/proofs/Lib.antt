@@ -1,3 +1,0 @@
-pub mod GradeTimes
-pub mod Settling
-pub mod Words
