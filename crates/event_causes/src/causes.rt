@@ -1,14 +1,14 @@
 // The numbers of the latest events.
 
-ghost use Rattle.std.specs.Prelude.{◌≡◌, ℕ, ◌+◌, ◌<◌, ◌++◌, [], ◌∷◌, List, map, length, get_or, replicate, set, max, drop, vec_len, Some, slice_get, IfOk};
+ghost use Rattle.std.specs.Prelude.{◌≡◌, ℕ, ◌+◌, ◌^◌, ◌<◌, ◌≤◌, [], List, map, length, vec_len, Some, slice_get, IfOk};
 ghost use Rattle.std.specs.Option.{ForSome};
 ghost use Rattle.vf_base.specs.Base.{object_number, process_number};
 ghost use Rattle.std.specs.List.{All};
 ghost use Rattle.v_design.specs.Designs.{Machine, FlatNode};
 ghost use Rattle.v_design.specs.States.{Step, LaneStep, Evaluation, NetUpdate};
 ghost use Rattle.v_design.specs.PhaseLogs.{NotedEvent, cause_of, noted_at};
-ghost use Rattle.event_causes.specs.Causes.{AreCausesOf, Notes, NotesEvaluation, NotesUpdate, Marks, Begins, HasSizes, SameSizes, place_within, greatest_number, writer_of, cause_writer};
 
+use crate::marks::{later, mark_objects, mark_processes, place_of};
 use std::alloc::Global;
 use vf_base::{NoMemory, ObjectId, ProcId};
 
@@ -19,9 +19,12 @@ pub struct Writer {
     pub line: u32,
 }
 
+/// The greatest number with which a phase may begin. A phase has an entry in memory for each of its events, so its numbers end before 2^64.
+const MOST_BASE: u64 = 1 << 63;
+
 /// By process and by object the number of the latest event that may cause what comes next, and by event of the phase its process and line.
 ///
-/// Events are numbered from 1 through all phases.
+/// Events are numbered from 1 through all phases, so that no table is gone through between two of them; past 2^63 the next phase begins with 1 again.
 #[derive(Drop)]
 pub struct Causes {
     base: u64,
@@ -30,47 +33,13 @@ pub struct Causes {
     lanes: Vec<u64>,
     changes: Vec<u64>,
     writers: Vec<Writer>,
-}
-
-/// The place within its phase of the event of a number; `None` where the number is that of no event of the phase.
-fn place_of(base: u64, number: u64) -> Option<u64>
-    ensures { result ≡ place_within base number }
-{
-    if number < base {
-        None
-    } else {
-        Some(number - base)
-    }
-}
-
-/// The later of two events, by their numbers.
-fn later(one: u64, other: u64) -> u64
-    ensures { result ≡ max one other }
-{
-    if one < other { other } else { one }
-}
-
-/// Some processes get a number.
-fn mark_processes(table: &mut Vec<u64>, processes: &[ProcId], number: u64)
-    requires { All (λ process. process_number process < length table.old.items) processes.now }
-    ensures { Marks (map process_number processes.now) number table.old.items table.new.items }
-{
-    'processes: for process in processes {
-        table[process.0 as usize] = number;
-    }
-}
-
-/// Some objects get a number.
-fn mark_objects(table: &mut Vec<u64>, objects: &[ObjectId], number: u64)
-    requires { All (λ object. object_number object < length table.old.items) objects.now }
-    ensures { Marks (map object_number objects.now) number table.old.items table.new.items }
-{
-    'objects: for object in objects {
-        table[object.0 as usize] = number;
-    }
+    ghost low: { base ≤ 2 ^ 63 },
+    ghost counted: { next ≡ base + vec_len writers },
 }
 
 impl Causes {
+    ghost use Rattle.event_causes.specs.Causes.{AreCausesOf, Notes, NotesEvaluation, NotesUpdate, Begins, HasSizes, SameSizes, writer_of, cause_writer};
+
     /// What tells the causes of a design's events, before the first of them.
     ///
     /// # Errors
@@ -98,8 +67,16 @@ impl Causes {
         ensures sized { SameSizes self.old self.new }
         ensures causes { (machine : Machine) (earlier : List NotedEvent) → AreCausesOf machine earlier self.old → AreCausesOf machine [] self.new }
     {
-        self.base = self.next;
         self.writers.clear();
+        if self.next > MOST_BASE {
+            self.steps.fill(0);
+            self.lanes.fill(0);
+            self.changes.fill(0);
+            self.base = 1;
+            self.next = 1;
+            return;
+        }
+        self.base = self.next;
     }
 
     /// The cause of the next step of a process, by its place in the phase from 0: its last step, or the event that ended its wait.
@@ -155,21 +132,16 @@ impl Causes {
         ensures sized { IfOk result (λ _. SameSizes self.old self.new) }
     {
         let number = self.next;
-        match number.checked_add(1) {
-            None => Err(NoMemory),
-            Some(next) => {
-                self.writers.push(writer)?;
-                self.next = next;
-                Ok(number)
-            }
-        }
+        self.writers.push(writer)?;
+        self.next = number + 1;
+        Ok(number)
     }
 
     /// Notes a step of a process, with the line of its statement, the objects that it changed and the processes whose waits it ended.
     ///
     /// # Errors
     ///
-    /// Want of memory, or no further number of an event.
+    /// Want of memory.
     pub fn note_step(
         &mut self,
         process: ProcId,
@@ -195,7 +167,7 @@ impl Causes {
     ///
     /// # Errors
     ///
-    /// Want of memory, or no further number of an event.
+    /// Want of memory.
     pub fn note_lane(
         &mut self,
         process: ProcId,
@@ -221,7 +193,7 @@ impl Causes {
     ///
     /// # Errors
     ///
-    /// Want of memory, or no further number of an event.
+    /// Want of memory.
     pub fn note_evaluation(&mut self, cause: Option<u64>) -> Result<(), NoMemory>
         requires { ForSome cause (λ place. place < length self.old.writers.items) }
         ensures sized { IfOk result (λ _. SameSizes self.old self.new) }
@@ -236,7 +208,7 @@ impl Causes {
     ///
     /// # Errors
     ///
-    /// Want of memory, or no further number of an event.
+    /// Want of memory.
     pub fn note_update(
         &mut self,
         cause: Option<u64>,

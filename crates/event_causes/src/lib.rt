@@ -10,5 +10,6 @@
 #![tactic(auto)]
 
 mod causes;
+mod marks;
 
 pub use causes::{Causes, Writer};

@@ -1,7 +1,5 @@
 -- Codes of one process have one layout, and a state rests on nothing else of its code.
-use Rattle.std.proofs.Common.{◌≡◌, ◌<◌, ℕ, suc, ◌+◌, List, [], ◌∷◌, length, get_or, map, Some, sym, ap, ◌∙◌, subst, arith}
-use Rattle.std.specs.List.{slice_get}
-use Rattle.std.proofs.lemmas.Option.{slice_get_within}
+use Rattle.std.proofs.Common.{◌≡◌, ℕ, List, [], map, sym, ap, ◌∙◌, subst}
 use Rattle.four_value.specs.Values.{LogicValue}
 use Rattle.v_design.specs.Plain.{statement_of, process_of, due_of, update_of}
 use Rattle.v_design.specs.Trees.{Statement}
@@ -10,20 +8,16 @@ use Rattle.v_design.specs.Processes.{Task, Activity, process_step}
 use Rattle.v_design.specs.Processes as activities
 use Rattle.v_design.specs.States.{next_activity}
 use Rattle.process_code.specs.Rests.{Part}
-use Rattle.process_code.specs.Positions.{part_of_head, rests_of, StandsAt}
 use Rattle.process_code.specs.Layouts.{Layout, layout_of_body}
 use Rattle.process_code.specs.Codes.{rests_in_code, layout_in_code}
 use Rattle.process_code.specs.Points.{Point, IsStep, point_of, activity_at, activity_by, activity_of, tasks_at, said_of, said_by}
 use Rattle.process_code.specs.SamenessLaws.{activity-same}
-use Rattle.process_code.specs.StatesOf.{IsStateOf, IsRestAt, FitsIn, StepsAsDefined}
+use Rattle.process_code.specs.StatesOf.{IsStateOf, IsRestAt, StepsAsDefined}
 use Rattle.process_code.specs.Reached.{IsReached}
 use Rattle.process_code.specs.RunEnds.{RunTold}
 use Rattle.process_code.specs.OneCode.{AreCodesOfOne, CodesReadAlike, CodesCompareAlike, CodesStepAlike}
-use Rattle.process_code.proofs.Growing.{rest_at}
-use Rattle.process_code.proofs.Spots.{rest-spot}
-use Rattle.process_code.proofs.Apart.{spot-at, same-activity}
+use Rattle.process_code.proofs.Apart.{same-activity}
 use Rattle.process_code.specs.declared.code.Code.{Code}
-use Rattle.process_code.specs.declared.code.Spot.{Spot}
 use Rattle.process_code.specs.declared.state.Did.{Did}
 use Rattle.process_code.specs.declared.state.Stage.{Stage}
 use Rattle.process_code.specs.declared.state.Stage.TheVariants.{Ready, Waiting, Asleep, Postponed, Done}
@@ -40,27 +34,6 @@ rests-alike one other c = ap (λ (l : Layout). l.rests) (layout-alike one other 
 turned-codes : (one other : Code) → AreCodesOfOne one other → AreCodesOfOne other one
 turned-codes one other c = record { same = sym c.same; first = c.second; second = c.first }
 
-first_part : Part → List Part → Part
-first_part part [] = part
-first_part part (first ∷ rest) = first
-
--- where a spot of the one code stands a spot of the other, before the same part
-part-alike : (one other : Code) (i : ℕ) (spot : Spot) → AreCodesOfOne one other → slice_get other.spots.items i ≡ Some spot →
-    (own : Spot) × (slice_get one.spots.items i ≡ Some own) × (part_of_head own.head ≡ part_of_head spot.head)
-unfolding first_part
-part-alike one other i spot c there =
-    let spots = other.spots.items in
-    let low : i < length spots = slice_get_within spots i spot there in
-    let falls = c.second.falls i spot there in
-    let after : List Part = get_or (rests_of spots) spot.next [] in
-    let known : StandsAt (rests_of spots) spot.next after = rest_at spots spot.next (omega (arith, falls, low)) in
-    let n : i + 1 ≡ suc i = omega arith in
-    let here : StandsAt (rests_in_code other) (suc i) (part_of_head spot.head ∷ after) =
-    subst (λ k. StandsAt (rests_of spots) k (part_of_head spot.head ∷ after)) n (rest-spot spots i spot after there falls known) in
-    let same : StandsAt (rests_in_code one) (suc i) (part_of_head spot.head ∷ after) = ap (λ rests. slice_get rests (suc i)) (rests-alike one other c) ∙ here in
-    let found = spot-at one i (part_of_head spot.head ∷ after) c.first same in
-    (found.spot, found.there, sym (ap (first_part (part_of_head spot.head)) found.rest_is))
-
 states-alike : (one other : Code) (state : ProcState) → AreCodesOfOne one other → IsStateOf one state → IsStateOf other state
 states-alike one other state c h =
     let rests = rests-alike one other c in
@@ -70,10 +43,6 @@ states-alike one other state c h =
     record {
       rest = subst B body (subst R rests h.rest);
       counts = h.counts ∙ ap (λ (l : Layout). l.repeats) (layout-alike one other c);
-      room = λ i spot there.
-          let own = part-alike one other i spot c there in
-          let P : Part → Type 0 = λ part. FitsIn state part in
-          subst P own.2 (h.room i own.0 own.1);
       reached = subst (λ (xs : List (List Part)). IsReached xs (point_of state)) rests h.reached;
     }
 

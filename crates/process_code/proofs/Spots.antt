@@ -1,5 +1,5 @@
 -- The rest that stands at each position of code, and what stays of a state.
-use Rattle.std.proofs.Common.{◌≡◌, ◌≤◌, ◌<◌, ℕ, zero, suc, Bool, true, false, ◌+◌, ◌-◌, List, [], ◌∷◌, ◌++◌, length, take, drop, get_or, replicate, Option, Some, None, refl, sym, ap, ◌∙◌, subst}
+use Rattle.std.proofs.Common.{◌≡◌, ◌≤◌, ◌<◌, ℕ, zero, suc, Bool, true, false, ◌+◌, ◌-◌, List, [], ◌∷◌, ◌++◌, length, take, drop, get_or, replicate, Option, Some, refl, sym, ap, ◌∙◌, subst}
 use Rattle.std.proofs.Common.{arith}
 use Rattle.std.specs.List.{slice_get}
 use Rattle.std.specs.Prelude.{vec_capacity, map, option_map}
@@ -13,7 +13,7 @@ use Rattle.v_design.specs.Reads.{named_by}
 use Rattle.process_operands.specs.BoundsLaws.{AreBelow}
 use Rattle.process_code.specs.Rests.{Part, Runs, TurnsLeft, opened_parts, tasks_of}
 use Rattle.process_code.specs.Positions.{part_of_head, rests_of, StandsAt, PartLeads}
-use Rattle.process_code.specs.StatesOf.{IsRestAt, IsPartWithin, IsGoodPart, IsStateOf, CountsPart, HasRoomFor, KeepsRoom, FitsIn}
+use Rattle.process_code.specs.StatesOf.{IsRestAt, IsPartWithin, IsGoodPart, IsStateOf, HasRoom, CountsPart, HasRoomFor, KeepsRoom, FitsIn}
 use Rattle.process_code.proofs.Growing.{Keeps, keeps-spots, keeps-append, rest_at, rest-last, rests_of-length}
 use Rattle.process_code.proofs.Compiled.{one-rest}
 use Rattle.four_value.specs.Values.{LogicValue}
@@ -173,15 +173,19 @@ counts-part rests repeats ways (Runs (Finish place)) after state leads room = tt
 counts-part rests repeats ways (TurnsLeft number place body) after state leads room = omega (arith, leads.0, room)
 
 -- a state of code stays one
-pub state-kept : (code : Code) (old new : ProcState) → IsStateOf code old → KeepsRoom old new → IsRestAt (statement_of code.process.now.body) (rests_in_code code) new.position →
+pub state-kept : (code : Code) (old new : ProcState) → IsStateOf code old → length new.counts.items ≡ length old.counts.items →
+    IsRestAt (statement_of code.process.now.body) (rests_in_code code) new.position →
     IsReached (rests_in_code code) (point_of new) →
     IsStateOf code new
-state-kept code old new h k rest reached = record {
+state-kept code old new h counts rest reached = record {
   reached = reached;
   rest = rest;
-  counts = k.counts ∙ h.counts;
-  room = λ i spot there. fits-kept old new (part_of_head spot.head) k (h.room i spot there);
+  counts = counts ∙ h.counts;
 }
+
+-- there stays room for each part of the code
+pub room-kept : (code : Code) (old new : ProcState) → KeepsRoom old new → HasRoom code old → HasRoom code new
+room-kept code old new k h = λ i spot there. fits-kept old new (part_of_head spot.head) k (h i spot there)
 
 -- among counts of 0 each is 0
 pub zeros : (repeats number : ℕ) → let counts : List ℕ = replicate repeats 0 in get_or counts number 0 ≡ 0
@@ -191,14 +195,13 @@ zeros (suc repeats) (suc number) = zeros repeats number
 
 -- the state in which a process begins
 pub state-new : (code : Code) (state : ProcState) → IsCodeOf code.process.now code → state.position ≡ code.start → state.counts.items ≡ replicate code.repeats 0 → state.stage ≡ Ready →
-    ((i : ℕ) (spot : Spot) → slice_get code.spots.items i ≡ Some spot → FitsIn state (part_of_head spot.head)) → IsStateOf code state
-state-new code state is start counts ready room =
+    IsStateOf code state
+state-new code state is start counts ready =
     let body = statement_of code.process.now.body in
     record {
       rest = subst (IsRestAt body (rests_in_code code)) (sym start)
           (record { rest = opened_parts body []; stands = is.starts; within = opened-within body body [] (record { sized = is.sized; below = λ limit b. b }) tt });
       counts = ap length counts ∙ length-replicate code.repeats 0;
-      room = room;
       reached = record {
         counts = λ number idle. ap (λ (xs : List ℕ). get_or xs number 0) counts ∙ zeros code.repeats number;
         stops = stops-ready (rests_in_code code) state.stage state.operands.items ready;

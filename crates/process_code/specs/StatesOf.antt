@@ -1,7 +1,7 @@
--- States of compiled code: they stand at a rest of the process, and have room for what its statements read and write (IEEE 1364-2001, clause 9).
-use Rattle.std.specs.Prelude.{◌≡◌, ℕ, ◌+◌, ◌≤◌, ◌<◌, List, [], ◌∷◌, length, map, slice_get, Option, Some, vec_capacity}
+-- States of compiled code: they stand at a rest of the process; and which have room for what its statements read and write (IEEE 1364-2001, clause 9).
+use Rattle.std.specs.Prelude.{◌≡◌, ℕ, ◌+◌, ◌≤◌, ◌<◌, List, length, slice_get, Some, vec_capacity}
 use Rattle.vf_base.specs.Lists.{AllHold}
-use Rattle.v_design.specs.Trees.{Piece, Expression, Target, Statement, Null, Block, If, Case, For, While, Repeat, Forever, Delay, EventControl, Wait, Blocking, Nonblocking, Finish}
+use Rattle.v_design.specs.Trees.{Expression, Target, Statement, Null, Block, If, Case, For, While, Repeat, Forever, Delay, EventControl, Wait, Blocking, Nonblocking, Finish}
 use Rattle.v_design.specs.Reads.{named_by}
 use Rattle.v_design.specs.Sized.{IsSizedStatement}
 use Rattle.process_operands.specs.Bounds.{reads_most, reads_most_items, reads_most_targets}
@@ -115,12 +115,15 @@ abbrev pub IsGoodPart : ℕ → Part → Type 0
 IsGoodPart limit (Runs statement) = IsSizedStatement statement × AreBelow limit (named_by statement)
 IsGoodPart limit (TurnsLeft number place body) = Unit {0}
 
--- a state of some code: a rest of the body stands at its position, each repeat has a count, there is room for each part, and steps lead to it
+-- a state of some code: a rest of the body stands at its position, each repeat has a count, and steps lead to it
 pub record IsStateOf (code : Code) (state : ProcState) : Type 0 where
   pub rest : IsRestAt (statement_of code.process.now.body) (rests_in_code code) state.position
   pub counts : length state.counts.items ≡ code.repeats
-  pub room : (i : ℕ) (spot : Spot) → slice_get code.spots.items i ≡ Some spot → FitsIn state (part_of_head spot.head)
   pub reached : IsReached (rests_in_code code) (point_of state)
+
+-- there is room in a state for each part of some code
+abbrev pub HasRoom : Code → ProcState → Type 0
+HasRoom code state = (i : ℕ) (spot : Spot) → slice_get code.spots.items i ≡ Some spot → FitsIn state (part_of_head spot.head)
 
 -- a step of code does what the step of the definition does: it leaves the process doing the same, and says the same
 abbrev pub StepsAsDefined : ℕ → List LogicValue → Code → ProcState → ProcState → Did → Type 0

@@ -3,6 +3,7 @@
 //! `compile` makes of a process's statements a code whose positions are the rests of the body that can be left to run; a `ProcState` is a position with what the
 //! process has read, counts and holds. Contracts speak of the plain process of the definitions: `IsCodeOf` says which code stands for a process and `IsStateOf`
 //! which state of it for an activity, and `step` takes exactly the step that the definition takes there: a read, a write, an append, a wait, a delay, or the end.
+//! A step takes no memory, so it asks for room in the state's lists (`HasRoom`); a state that is only kept has none, and `copy_from` brings it to a state that has.
 //! `ProcState::same` tells whether two states of a code do the same from here on, and `codes_are_one` that two codes of one process have the same states.
 #![tactic(auto)]
 

@@ -1,7 +1,7 @@
 // What a step does to a state, once what it reads is known.
 
 ghost use Rattle.std.specs.Prelude.{◌≡◌, ◌≤◌, ◌<◌, ◌+◌, ◌-◌, ◌^◌, [], ◌∷◌, length, get_or, IsTrue, ◌↔◌, IfOk, OnOk, vec_capacity};
-ghost use Rattle.process_code.specs.StatesOf.{KeepsRoom, IsStateOf};
+ghost use Rattle.process_code.specs.StatesOf.{KeepsRoom, IsStateOf, HasRoom};
 ghost use Rattle.process_code.specs.declared.code.Code.{Code};
 ghost use Rattle.process_code.specs.Points.{point_of, said_by, said_delay, stage_after, after_turn, SaysInner, SaysAwait, SaysFinished, HasUpdates, TakesUpdate};
 
@@ -21,6 +21,7 @@ impl ProcState {
     pub fn wake(&mut self)
         ensures point { point_of self.new ≡ record (point_of self.old) { stage = Stage.Ready } }
         ensures state { (code : Code) → IsStateOf code self.old → IsStateOf code self.new }
+        ensures room { (code : Code) → HasRoom code self.old → HasRoom code self.new }
     {
         self.stage = Stage::Ready;
     }
@@ -111,16 +112,14 @@ impl ProcState {
         }
     }
 
-    /// The same state, with as much room.
+    /// The same state, in no more memory than it needs: no step may be taken from it.
     pub fn copy(&self, alloc: Global) -> Result<ProcState, NoMemory>
         ensures point { IfOk result (λ copy. point_of copy ≡ point_of self.now) }
-        ensures operands { IfOk result (λ copy. vec_capacity self.now.operands ≤ vec_capacity copy.operands) }
-        ensures updates { IfOk result (λ copy. vec_capacity self.now.updates ≤ vec_capacity copy.updates) }
         ensures state { IfOk result (λ copy. (code : Code) → IsStateOf code self.now → IsStateOf code copy) }
     {
-        let operands = copied(alloc, &self.operands)?;
-        let counts = copied(alloc, &self.counts)?;
-        let updates = copied(alloc, &self.updates)?;
+        let operands = Vec::from_slice(alloc, &self.operands)?;
+        let counts = Vec::from_slice(alloc, &self.counts)?;
+        let updates = Vec::from_slice(alloc, &self.updates)?;
         Ok(ProcState {
             stage: self.stage,
             position: self.position,
@@ -140,6 +139,7 @@ impl ProcState {
     pub fn copy_from(&mut self, other: &ProcState) -> Result<(), NoMemory>
         ensures point { OnOk result (point_of self.new ≡ point_of other.now) }
         ensures state { OnOk result ((code : Code) → IsStateOf code self.old → IsStateOf code other.now → IsStateOf code self.new) }
+        ensures room { OnOk result ((code : Code) → HasRoom code self.old → HasRoom code self.new) }
     {
         put_elements(&mut self.operands, &other.operands)?;
         put_elements(&mut self.counts, &other.counts)?;
@@ -160,14 +160,4 @@ fn put_elements<T: Copy>(list: &mut Vec<T>, elements: &[T]) -> Result<(), NoMemo
     list.clear();
     list.extend_from_slice(elements)?;
     Ok(())
-}
-
-/// The same elements, with as much room.
-fn copied<T: Copy>(alloc: Global, elements: &Vec<T>) -> Result<Vec<T>, NoMemory>
-    ensures items { IfOk result (λ copy. copy.items ≡ elements.now.items) }
-    ensures room { IfOk result (λ copy. vec_capacity elements.now ≤ vec_capacity copy) }
-{
-    let mut copy = Vec::with_capacity(alloc, elements.capacity())?;
-    copy.extend_from_slice(elements)?;
-    Ok(copy)
 }

@@ -8,7 +8,7 @@ ghost use Rattle.process_code.specs.Codes.{IsCodeOf};
 ghost use Rattle.process_code.specs.Points.{activity_of};
 ghost use Rattle.process_code.specs.Positions.{part_of_head, loop_part, advance_part, turns_part};
 ghost use Rattle.process_code.specs.declared.code.Spot.{Spot};
-ghost use Rattle.process_code.specs.StatesOf.{IsStateOf, HasRoomFor, most_operands, most_updates};
+ghost use Rattle.process_code.specs.StatesOf.{IsStateOf, HasRoom, HasRoomFor, most_operands, most_updates};
 
 use crate::code::{Code, Head, Spot};
 use crate::state::{ProcState, Stage};
@@ -179,6 +179,7 @@ impl ProcState {
         requires { IsCodeOf code.now.process.now code.now }
         ensures ready { IfOk result (λ state. state.stage ≡ Stage.Ready) }
         ensures state { IfOk result (λ state. IsStateOf code.now state) }
+        ensures room { IfOk result (λ state. HasRoom code.now state) }
         ensures activity { IfOk result (λ state. activity_of code.now state ≡ ReadyTo (opened (statement_of code.now.process.now.body) []) []) }
     {
         let room = room_of_code(&code.spots)?;

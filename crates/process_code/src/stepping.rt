@@ -18,7 +18,7 @@ ghost use Rattle.process_code.specs.Points.{point_of, said_by, SaysRead, ReadsBe
 ghost use Rattle.vf_base.specs.Counts.{raised};
 ghost use Rattle.process_code.specs.Codes.{IsCodeOf};
 ghost use Rattle.process_code.specs.Acts.{GoesTo, IsDone, Acts, Branches, Chooses, Counts, WaitsUnless, Assigns, filled, position_by, ActsBy, ActsPart};
-ghost use Rattle.process_code.specs.StatesOf.{IsStateOf, StepsAsDefined, KeepsRoom, HasRoomFor, FitsIn, IsGoodPart, CountsPart, CountsRepeat, most_of_assignment, most_operands, most_updates};
+ghost use Rattle.process_code.specs.StatesOf.{IsStateOf, HasRoom, StepsAsDefined, KeepsRoom, HasRoomFor, FitsIn, IsGoodPart, CountsPart, CountsRepeat, most_of_assignment, most_operands, most_updates};
 
 use crate::code::{Code, Head, Spot, Ways};
 use crate::state::{Did, ProcState, Stage};
@@ -456,12 +456,14 @@ pub fn step<V: Values, L: Ledger>(
 ) -> Did
     requires code { IsCodeOf code.now.process.now code.now }
     requires state { IsStateOf code.now state.old }
+    requires room { HasRoom code.now state.old }
     requires ready { state.old.stage ≡ Stage.Ready }
     requires there { AreBelow (length (V.values values.now)) (named_by (statement_of code.now.process.now.body)) }
     requires now { now ≤ 2 ^ 63 }
     ensures step { StepsAsDefined now (V.values values.now) code.now state.old state.new result }
     ensures reads { ReadsBelow (length (V.values values.now)) (said_by result) }
     ensures state { IsStateOf code.now state.new }
+    ensures room { HasRoom code.now state.new }
     ensures ticks { steps.new ≡ raised steps.old }
 {
     steps.tick();

@@ -11,7 +11,7 @@ use Rattle.v_design.specs.Processes.{Activity, Ready, Waiting, Asleep, Postponed
 use Rattle.v_design.specs.States.{found_or, rest_of, next_activity}
 use Rattle.process_code.specs.Codes.{IsCodeOf}
 use Rattle.process_code.specs.Points.{StepSaid, activity_of, said_of}
-use Rattle.process_code.specs.StatesOf.{IsStateOf}
+use Rattle.process_code.specs.StatesOf.{IsStateOf, HasRoom}
 use Rattle.process_table.specs.declared.row.Row.{Row}
 
 -- what a process does, and its lane
@@ -51,10 +51,11 @@ text_at texts number = found_or (record { always = false; body = Null; place = r
 abbrev pub new_state : FlatProcess → RowState
 new_state process = record { activity = Ready (opened process.body []) []; lane = [] }
 
--- a row's code stands for its process, and its state is one of the code
+-- a row's code stands for its process, and its state is one of the code, with room for its steps
 pub record IsGoodRow (row : Row) : Type 0 where
   pub code : IsCodeOf row.code.process.now row.code
   pub state : IsStateOf row.code row.state
+  pub room : HasRoom row.code row.state
 
 -- a row gets a state, and stays a good row of the same process
 pub record RowChanges (old new : Row) (becomes : RowState) : Type 0 where

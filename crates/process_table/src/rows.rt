@@ -1,6 +1,6 @@
 // The rows of a table, and changes of one of them.
 
-ghost use Rattle.std.specs.Prelude.{◌≡◌, ◌<◌, ◌≤◌, ◌^◌, [], true, length, map, IfOk};
+ghost use Rattle.std.specs.Prelude.{◌≡◌, ◌<◌, ◌≤◌, ◌^◌, [], true, length, map, IfOk, OnOk};
 ghost use Rattle.std.specs.Option.{option_map};
 ghost use Rattle.vf_base.specs.Base.{process_number};
 ghost use Rattle.vf_base.specs.Counts.{raised};
@@ -77,12 +77,13 @@ impl<'d> Row<'d> {
         self.taken = self.lane.as_slice().len();
     }
 
-    /// The process comes to stand at a state.
-    fn put_state(&mut self, state: ProcState)
+    /// The process comes to stand at a state, in the memory of the row.
+    fn put_state(&mut self, state: ProcState) -> Result<(), NoMemory>
         requires { IsStateOf self.old.code state }
-        ensures { RowChanges self.old self.new (doing (activity_of self.old.code state) (row_state self.old)) }
+        ensures { OnOk result (RowChanges self.old self.new (doing (activity_of self.old.code state) (row_state self.old))) }
     {
-        self.state = state;
+        self.state.copy_from(&state)?;
+        Ok(())
     }
 
     /// One step of a ready process. It answers the line of the step's statement and what the step did.
@@ -190,12 +191,16 @@ pub fn clear_rows(rows: &mut Vec<Row>)
 }
 
 /// A process comes to stand at a state.
-pub fn put_state(rows: &mut Vec<Row>, process: ProcId, state: ProcState)
+///
+/// # Errors
+///
+/// Want of memory.
+pub fn put_state(rows: &mut Vec<Row>, process: ProcId, state: ProcState) -> Result<(), NoMemory>
     requires number { process_number process < length rows.old.items }
     requires state { IsStateAt rows.old.items (process_number process) state }
-    ensures { PutsState rows.old.items rows.new.items (process_number process) state }
+    ensures { OnOk result (PutsState rows.old.items rows.new.items (process_number process) state) }
 {
-    rows[process.0 as usize].put_state(state);
+    rows[process.0 as usize].put_state(state)
 }
 
 /// Whether the lane of a process has an update.

@@ -1,18 +1,14 @@
-use Rattle.std.proofs.Common.{rules, ◌≡◌, ◌≤◌, ◌<◌, ◌+◌, ◌-◌, [], ◌∷◌, length, map, refl, sym, ap, ◌∙◌, subst, arith}
+use Rattle.std.proofs.Common.{◌≡◌, ◌-◌, length, map, ap, ◌∙◌, arith}
 use Rattle.std.specs.Prelude.{option_map}
 use Rattle.std.specs.List.{slice_get}
 use Rattle.std.proofs.lemmas.Grind.{common_steps}
 use Rattle.process_operands.specs.PartReads.{length_none}
 use Rattle.v_design.specs.Plain.{statement_of, process_of, update_of}
-use Rattle.v_design.specs.Reads.{named_by}
 use Rattle.process_code.specs.Positions.{part_of_head}
 use Rattle.process_code.specs.Codes.{rests_in_code}
 use Rattle.process_code.specs.Points.{point_of, said_by}
-use Rattle.process_code.specs.StatesOf.{IsRestAt}
 use Rattle.process_code.specs.WithinLaws.{part-ends, at-same, takes-ends}
-use Rattle.process_code.proofs.Growing.{rests_of-length}
-use Rattle.process_code.proofs.Compiled.{one-rest}
-use Rattle.process_code.proofs.Spots.{rest-end, good-part, step-of-spot, step-of-end, end-ends, spot-within, spot-facts, counts-part, state-kept}
+use Rattle.process_code.proofs.Spots.{rest-end, good-part, step-of-spot, step-of-end, end-ends, spot-within, spot-facts, counts-part, state-kept, room-kept}
 use Rattle.process_code.proofs.Reaching.{part-reached, end-reached, update-reached}
 use Rattle.process_code.proofs.ReadsThere.{takes-reads, end-reads, part-reads}
 use Rattle.process_code.proofs.stepping.step.Goals as goal
@@ -33,7 +29,7 @@ returns-then-state-eq0-clause-state g c =
     let code = c.args.code.now in
     let state = c.args.state.now in
     let here = ap (λ k. slice_get (rests_in_code code) k) c.if-state-eq0.true ∙ rest-end code.spots.items in
-    state-kept code state c.end_body.new.self c.requires.state c.end_body.ensures.room
+    state-kept code state c.end_body.new.self c.requires.state c.end_body.ensures.room.counts
     (end-ends (statement_of code.process.now.body) (rests_in_code code) code.process.now.always (point_of state) (point_of c.end_body.new.self) code.start (said_by c.end_body.result)
     c.requires.code.sized c.requires.state.rest c.requires.code.starts c.end_body.ensures.again c.end_body.ensures.done)
     (end-reached (rests_in_code code) code.process.now.always (statement_of code.process.now.body) (point_of state) (point_of c.end_body.new.self) code.start (said_by c.end_body.result)
@@ -55,7 +51,7 @@ pub step_spot-requires-clause-space : goal.step_spot-requires-clause-space
 step_spot-requires-clause-space g c =
     let facts = spot-facts c.args.code.now c.args.state.now.position c.index-spot.result.now c.index-ways.result.now c.requires.code c.if-state-eq0.false c.requires.state.rest c.index-spot.ensures
     c.index-ways.ensures in
-    c.requires.state.room (c.args.state.now.position - 1) c.index-spot.result.now facts.there
+    c.requires.room (c.args.state.now.position - 1) c.index-spot.result.now facts.there
 
 pub step_spot-requires-clause-number : goal.step_spot-requires-clause-number
 step_spot-requires-clause-number g c =
@@ -85,7 +81,7 @@ returns-clause-state g c =
     let spot = c.index-spot.result.now in
     let ways = c.index-ways.result.now in
     let facts = spot-facts code state.position spot ways c.requires.code c.if-state-eq0.false c.requires.state.rest c.index-spot.ensures c.index-ways.ensures in
-    state-kept code state c.step_spot.new.state c.requires.state c.step_spot.ensures.room
+    state-kept code state c.step_spot.new.state c.requires.state c.step_spot.ensures.room.counts
     (part-ends (statement_of code.process.now.body) c.args.now (g.V.Values.values c.args.values.now) (rests_in_code code) code.repeats ways spot.next (part_of_head spot.head) facts.leads.after
     (point_of state)
     (point_of c.step_spot.new.state) (said_by c.step_spot.result) facts.here facts.leads.stands facts.leads.leads facts.parts c.step_spot.ensures.acts)
@@ -99,7 +95,7 @@ returns-then-not-is_empty-clause-state g c =
     let new = c.next_update.new.self in
     let body = statement_of code.process.now.body in
     let rests = rests_in_code code in
-    state-kept code state new c.requires.state c.next_update.ensures.room
+    state-kept code state new c.requires.state c.next_update.ensures.room.counts
     (at-same body rests new.position state.position (takes-ends c.args.now (point_of state) (point_of new) (said_by c.next_update.result)
     (map (option_map update_of) state.updates.items) c.next_update.ensures.takes) c.requires.state.rest)
     (update-reached c.args.now rests (point_of state) (point_of new) (said_by c.next_update.result) c.requires.ready c.requires.state.reached c.next_update.ensures.takes)
@@ -125,3 +121,12 @@ returns-clause-reads g c =
     let facts = spot-facts code state.position c.index-spot.result.now c.index-ways.result.now c.requires.code c.if-state-eq0.false c.requires.state.rest c.index-spot.ensures c.index-ways.ensures in
     part-reads limit c.args.now (g.V.Values.values c.args.values.now) (rests_in_code code) code.repeats part facts.leads.after c.index-ways.result.now c.index-spot.result.now.next (point_of state)
     (point_of c.step_spot.new.state) (said_by c.step_spot.result) facts.leads.leads (good-part limit (statement_of code.process.now.body) part c.requires.there facts.parts.0) c.step_spot.ensures.acts
+
+pub returns-then-state-eq0-clause-room : goal.returns-then-state-eq0-clause-room
+returns-then-state-eq0-clause-room g c = room-kept c.args.code.now c.args.state.now c.end_body.new.self c.end_body.ensures.room c.requires.room
+
+pub returns-clause-room : goal.returns-clause-room
+returns-clause-room g c = room-kept c.args.code.now c.args.state.now c.step_spot.new.state c.step_spot.ensures.room c.requires.room
+
+pub returns-then-not-is_empty-clause-room : goal.returns-then-not-is_empty-clause-room
+returns-then-not-is_empty-clause-room g c = room-kept c.args.code.now c.args.state.now c.next_update.new.self c.next_update.ensures.room c.requires.room

@@ -19,9 +19,9 @@ returns c =
         state = record {
           rest = good.state.rest;
           counts = good.state.counts;
-          room = λ i spot at. subst (λ (n : ℕ). HasRoomFor n (vec_capacity row.state.updates) (part_of_head spot.head)) (sym c.clear.ensures.capacity) (good.state.room i spot at);
           reached = record { counts = good.state.reached.counts; stops = c.clear.ensures.items };
         };
+        room = λ i spot at. subst (λ (n : ℕ). HasRoomFor n (vec_capacity row.state.updates) (part_of_head spot.head)) (sym c.clear.ensures.capacity) (good.room i spot at);
       };
       state =
           let State : List ValueUpdate → RowState = λ lane. record { activity = Done; lane = lane } in

@@ -13,6 +13,6 @@ returns c =
     let fills = c.in_ok-fill_lane.ensures in
     record {
       text = fills.text;
-      good = λ good. fills.good (record { code = good.code; state = c.in_ok-copy_from.ensures.state row.code good.state c.requires });
+      good = λ good. fills.good (record { code = good.code; state = c.in_ok-copy_from.ensures.state row.code good.state c.requires; room = c.in_ok-copy_from.ensures.room row.code good.room });
       state = fills.state ∙ ap (λ (a : Activity). row_of a (map update_of c.args.lane.now)) (ap (activity_at (rests_in_code row.code)) c.in_ok-copy_from.ensures.point);
     }

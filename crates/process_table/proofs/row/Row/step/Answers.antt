@@ -15,7 +15,7 @@ returns-clause-step g c =
       said = row-said row.code row.state c.step-did.new.state c.args.now (g.V.Values.values c.args.values.now) c.line-line.result c.step-did.result ready c.line-line.ensures c.step-did.ensures.step;
       row = record {
         text = refl;
-        good = λ good. record { code = good.code; state = c.step-did.ensures.state };
+        good = λ good. record { code = good.code; state = c.step-did.ensures.state; room = c.step-did.ensures.room };
         state =
             ap (λ (activity : Activity). record { activity = activity; lane = lane_left row.taken row.lane })
             (row-activity row.code row.state c.step-did.new.state c.args.now (g.V.Values.values c.args.values.now) c.line-line.result c.step-did.result ready c.line-line.ensures

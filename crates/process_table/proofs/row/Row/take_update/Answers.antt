@@ -11,7 +11,7 @@ returns-clause-row c =
     let low : row.taken < length row.lane = omega (arith, c.if-self-lane.false, ap length c.as_slice-lane.ensures) in
     record {
       text = refl;
-      good = λ good. record { code = good.code; state = good.state };
+      good = λ good. record { code = good.code; state = good.state; room = good.room };
       state = ap (λ (lane : List ValueUpdate). record { activity = activity_of row.code row.state; lane = lane }) (lane-rest row.taken row.lane low);
     }
 

@@ -31,7 +31,7 @@ standing_of-standing-requires c =
     let p = process_number c.args.process in
     let low = row-low t c.requires.kept p c.requires.number in
     let r = row-there t.rows.items p low in
-    omega (arith, low, as-many t.rows.items c.put_state.new.rows.items (c.put_state.ensures r.0 r.1).texts)
+    omega (arith, low, as-many t.rows.items c.put_state.new.rows.items (c.in_ok-put_state.ensures r.0 r.1).texts)
 
 pub hold_with-requires-clause-number : goal.hold_with-requires-clause-number
 hold_with-requires-clause-number c =
@@ -61,7 +61,7 @@ returns-clause-table c = λ code at.
     let later = map due_of c.args.updates.now in
     let Table : List ProcessState → TableState = λ ps. record (table_of t) { processes = ps } in
     ap Table (put-processes design t.time t.rows.items t.index t.ready t.lanes t.queue c.requires.kept p c.requires.idle row r.1 low c.args.state later
-    (c.requires.stands row.code (code-at t c.requires.kept p row low r.1)) c.put_state.new.rows.items c.put_state.ensures _ c.hold_with.new.queue c.in_ok-hold_with.ensures
+    (c.requires.stands row.code (code-at t c.requires.kept p row low r.1)) c.put_state.new.rows.items c.in_ok-put_state.ensures _ c.hold_with.new.queue c.in_ok-hold_with.ensures
     ∙ ap (λ (a : Activity). change_at (processes_of (row_states t.rows.items) t.queue) p (λ (old : ProcessState). record { activity = a; later = later; lane = [] }))
     ((c.codes_are_one.ensures.read row.code code (one-process t c.requires.kept p row code low r.1 at)).activity c.args.state))
 
@@ -74,5 +74,5 @@ returns-clause-kept c =
     let r = row-there t.rows.items p low in
     let row : Row = r.0 in
     put-table design t.time t.rows.items t.index t.ready t.lanes t.queue c.requires.kept p c.requires.idle row r.1 low c.args.state (map due_of c.args.updates.now)
-    (c.requires.stands row.code (code-at t c.requires.kept p row low r.1)) c.put_state.new.rows.items c.put_state.ensures c.standing_of-standing.result.stage
+    (c.requires.stands row.code (code-at t c.requires.kept p row low r.1)) c.put_state.new.rows.items c.in_ok-put_state.ensures c.standing_of-standing.result.stage
     c.standing_of-standing.result.ready c.standing_of-standing.result.waits c.mark.new.set c.hold_with.new.queue c.standing_of-standing.ensures c.mark.ensures c.in_ok-hold_with.ensures

@@ -3,7 +3,7 @@ use Rattle.std.proofs.lemmas.List.{take_more, take_all, map_push}
 use Rattle.vf_base.specs.Base.{process_number}
 use Rattle.event_causes.specs.Causes.{Marks}
 use Rattle.event_causes.specs.CauseLaws.{Marks-none, Marks-more}
-use Rattle.event_causes.proofs.causes.mark_processes.Goals as goal
+use Rattle.event_causes.proofs.marks.mark_processes.Goals as goal
 
 pub processes-init : goal.processes-init
 processes-init c = Marks-none c.args.number c.args.table.now.items

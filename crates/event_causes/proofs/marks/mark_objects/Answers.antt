@@ -3,7 +3,7 @@ use Rattle.std.proofs.lemmas.List.{take_more, take_all, map_push}
 use Rattle.vf_base.specs.Base.{object_number}
 use Rattle.event_causes.specs.Causes.{Marks}
 use Rattle.event_causes.specs.CauseLaws.{Marks-none, Marks-more}
-use Rattle.event_causes.proofs.causes.mark_objects.Goals as goal
+use Rattle.event_causes.proofs.marks.mark_objects.Goals as goal
 
 pub objects-init : goal.objects-init
 objects-init c = Marks-none c.args.number c.args.table.now.items
