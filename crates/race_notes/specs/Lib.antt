@@ -1,0 +1,4 @@
+pub mod Notes
+pub mod Access
+pub mod Told
+pub mod Spans
