@@ -1,0 +1,5 @@
+pub mod Puts
+pub mod Entries
+pub mod Kept
+pub mod Fits
+pub mod Whole

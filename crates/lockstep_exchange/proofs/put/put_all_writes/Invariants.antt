@@ -1,0 +1,23 @@
+-- So far each process below the next one of which updates are kept has these.
+use Rattle.std.proofs.Common.{◌≡◌, ℕ, length}
+use Rattle.std.specs.Prelude.{option_map}
+use Rattle.vf_base.specs.Base.{process_number}
+use Rattle.copy_state.specs.Entries.{first_from}
+use Rattle.lockstep_slots.specs.Kept.{kept_within}
+use Rattle.lockstep_copy.specs.Kept.{kept_by}
+use Rattle.block_events.specs.Runners.{IsWhole, machine_of, state_of}
+use Rattle.lockstep_exchange.specs.Putting.{ProcessesArePut}
+use Rattle.lockstep_exchange.proofs.Puts.{below, left_of}
+use Rattle.lockstep_exchange.proofs.put.put_all_writes.Given as goal
+
+abbrev pub invariant-processes : goal.invariant-processes
+invariant-processes l = record {
+  from : ℕ;
+  next_is : option_map process_number l.next ≡ first_from from l.own.copy.updates;
+  machine : machine_of l.runner ≡ machine_of l.fn.runner;
+  put : ProcessesArePut (below from (kept_within (kept_by l.own) (state_of l.fn.runner)).processes) (state_of l.fn.runner) (state_of l.runner);
+  whole : IsWhole l.runner;
+}
+
+abbrev pub decreases-processes : goal.decreases-processes
+decreases-processes l = left_of (length (state_of l.fn.runner).processes) (option_map process_number l.next)
