@@ -1,0 +1,4 @@
+pub mod Crossing
+pub mod Manning
+pub mod Gathering
+pub mod Going
