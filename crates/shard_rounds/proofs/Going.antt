@@ -1,5 +1,5 @@
 -- Round after round (slots by IEEE 1364-2001, clause 5).
-use Rattle.std.proofs.Common.{◌≡◌, ℕ, suc, ◌-◌, ◌<◌, ◌≤◌, true, List, length, sym, subst, ◌∙◌, arith, Result, Ok, IfOk, Vec, Global}
+use Rattle.std.proofs.Common.{◌≡◌, ℕ, suc, ◌-◌, ◌<◌, ◌≤◌, true, List, length, sym, subst, ◌∙◌, arith, Result, Ok, IfOk}
 use Rattle.std.proofs.lemmas.Option.{slice_get_within}
 use Rattle.v_design.specs.Designs.{FlatDesign, TestPlan}
 use Rattle.v_design.specs.WellFormed.{KeepsRules}
@@ -12,8 +12,7 @@ use Rattle.fault_grade.specs.Results.{LoopsAt}
 use Rattle.verdict_words.specs.declared.board.Board.{Board}
 use Rattle.shard_claims.specs.declared.worker.Worker.{Worker}
 use Rattle.vf_base.specs.declared.text.NoMemory.{NoMemory}
-use Rattle.shard_claims.specs.Workers.{IsWorkerAt}
-use Rattle.shard_rounds.specs.Crews.{AreWorkersAt}
+use Rattle.shard_crew.specs.Crews.{AreWorkersAt}
 use Rattle.shard_rounds.specs.Rounds.{IsWindowAhead, AreThrough, RunsOn}
 
 -- a window ends where the good first run does, or before
@@ -49,17 +48,7 @@ never-over design plan now law rules g =
     let none : length (good_slots design plan) ≡ 0 = g.0.all in
     omega (arith, some, none)
 
--- What threads came back with
-
-module _ {N : Type 0} (representatives : List ℕ) (board : Board N) (through : ℕ) where
-  -- a worker
-  pub worker-back : (a : Result (Worker N) NoMemory) (worker : Worker N) → a ≡ Ok worker → IfOk a (IsWorkerAt representatives board through) → IsWorkerAt representatives board through worker
-  worker-back a worker is h = subst (λ (r : Result (Worker N) NoMemory). IfOk r (IsWorkerAt representatives board through)) is h
-
-  -- some workers
-  pub crew-back : (count : ℕ) (a : Result (Vec (Worker N) Global) NoMemory) (workers : Vec (Worker N) Global) → a ≡ Ok workers →
-      IfOk a (λ after. AreWorkersAt representatives board through count after.items) → AreWorkersAt representatives board through count workers.items
-  crew-back count a workers is h = subst (λ (r : Result (Vec (Worker N) Global) NoMemory). IfOk r (λ after. AreWorkersAt representatives board through count after.items)) is h
+-- What a thread came back with
 
 -- the good machine's run
 pub run-back : {N : Type 0} (design : FlatDesign) (plan : TestPlan) (gone : ℕ) (b : Result (RunKept × NextWindow N) NoMemory) (ran : RunKept × NextWindow N) → b ≡ Ok ran →

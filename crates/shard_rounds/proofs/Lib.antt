@@ -1,4 +1,1 @@
-pub mod Crossing
-pub mod Manning
-pub mod Gathering
 pub mod Going

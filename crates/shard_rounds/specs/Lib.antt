@@ -1,3 +1,2 @@
-pub mod Crews
 pub mod Rounds
 pub mod Outcomes

@@ -7,7 +7,7 @@ use Rattle.good_trace.specs.Traces.{WindowKept}
 use Rattle.good_windows.specs.Next.{RunKept, GivesNext}
 use Rattle.good_windows.specs.declared.next.NextWindow.{NextWindow}
 use Rattle.verdict_words.specs.declared.board.Board.{Board}
-use Rattle.shard_rounds.specs.Crews.{AreWorkersAt}
+use Rattle.shard_crew.specs.Crews.{AreWorkersAt}
 use Rattle.shard_claims.specs.declared.worker.Worker.{Worker}
 use Rattle.shard_rounds.specs.declared.step.Rounds.{Rounds}
 use Rattle.shard_rounds.specs.declared.step.Gone.{Gone}

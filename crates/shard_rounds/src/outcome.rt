@@ -1,17 +1,7 @@
 // What the rounds come to.
 
-use shard_claims::ClaimedShard;
+use shard_crew::Gathered;
 use v_design::World;
-use verdict_words::Seat;
-use vf_base::Finding;
-
-/// What workers have behind the last round: a seat, the findings on the faults of the shards that it claimed, in any order, and these shards.
-#[derive(Drop)]
-pub struct Gathered<N: World> {
-    pub seat: Seat<N>,
-    pub findings: Vec<Finding>,
-    pub shards: Vec<ClaimedShard<N>>,
-}
 
 /// What the rounds come to: what all workers have together, or the time, in steps, at which the good machine's first run is hyperactive before a race of its own.
 #[derive(Drop)]

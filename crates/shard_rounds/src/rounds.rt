@@ -8,15 +8,12 @@ ghost use Rattle.shard_claims.specs.Workers.{IsPlaceOf};
 ghost use Rattle.shard_rounds.specs.Rounds.{IsBeforeRound, AreDone, IsFirst};
 ghost use Rattle.shard_rounds.specs.Outcomes.{IsOutcome};
 
-use crate::finish::finish;
-use crate::hire::hire;
 use crate::outcome::Outcome;
-use crate::place::Place;
-use crate::rules::rules_hold;
 use crate::step::{Later, Rounds, next_round};
 use good_trace::{Setup, TraceWindow};
 use good_windows::{GoodRun, NextWindow};
 use shard_claims::Worker;
+use shard_crew::{Place, finish, hire, rules_hold};
 use std::alloc::Global;
 use std::sync::ledger::Ledger;
 use std::thread::Threads;

@@ -3,15 +3,14 @@
 ghost use Rattle.std.specs.Prelude.{◌≡◌, true, length, IfOk};
 ghost use Rattle.fault_shards.specs.Shards.{representatives_of};
 ghost use Rattle.shard_claims.specs.Workers.{IsPlaceOf};
-ghost use Rattle.shard_rounds.specs.Crews.{AreWorkersAt};
+ghost use Rattle.shard_crew.specs.Crews.{AreWorkersAt};
+ghost use Rattle.shard_crew.specs.Crossings.{MayCross};
 ghost use Rattle.shard_rounds.specs.Rounds.{HasGone, IsBeforeRound, GoesOn, RunsOn};
-ghost use denote.Param.Send.{IsSend, IsSync};
 
-use crate::crew::crew;
-use crate::place::Place;
 use good_trace::TraceWindow;
 use good_windows::{GoodRun, NextWindow};
 use shard_claims::{Round, Worker};
+use shard_crew::{Place, crew};
 use std::alloc::Global;
 use std::sync::ledger::Ledger;
 use std::thread::{Threads, join};
@@ -78,7 +77,7 @@ fn go_round<'s, 'd, N: World, R: Threads + Sync, G: Gate + Sync, L: Ledger + Sen
         || -> Result<Vec<Worker<N>>, NoMemory>
             requires place { IsPlaceOf N.design N.plan round.now.shards.now round.now.board.now }
             requires at { AreWorkersAt (representatives_of round.now.shards.now) round.now.board.now round.now.window.now.before (length steps.now) workers.items }
-            requires bounds { IsSync R.row × IsSync G.row × IsSend L.row × IsSync L.row }
+            requires bounds { MayCross N.row R.row G.row L.row }
             ensures { IfOk result (λ after. AreWorkersAt (representatives_of round.entry.now.shards.now) round.entry.now.board.now round.entry.now.window.now.through
                 (length steps.entry.now) after.items) }
         { crew(rt, alloc, round, workers, steps) },

@@ -15,7 +15,7 @@ use Rattle.verdict_words.specs.Rule.{times}
 use Rattle.verdict_words.specs.declared.view.View.{View}
 use Rattle.shard_claims.specs.declared.round.ClaimedShard.{ClaimedShard}
 use Rattle.shard_claims.specs.Workers.{IsClaimed, KeepsShards}
-use Rattle.shard_rounds.specs.Crews.{IsFoundShard}
+use Rattle.shard_crew.specs.Crews.{IsFoundShard}
 use Rattle.shard_workers.specs.Ordered.{claim_number, claimed_shard, AreOrdered}
 use Rattle.shard_workers.specs.Closings.{IsEachOnce, IsShardDone, AreShardsDone}
 use Rattle.shard_workers.proofs.Closes.{times-in}

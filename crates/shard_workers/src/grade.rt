@@ -6,7 +6,7 @@ ghost use Rattle.v_design.specs.WellFormed.{IsPlanOf, KeepsRules};
 ghost use Rattle.fault_grade.specs.Results.{LoopsAt};
 ghost use Rattle.fault_shards.specs.Shards.{representatives_of};
 ghost use Rattle.shard_claims.specs.Workers.{IsPlaceOf};
-ghost use Rattle.shard_rounds.specs.Outcomes.{HasGathered};
+ghost use Rattle.shard_crew.specs.Crews.{HasGathered};
 ghost use Rattle.shard_workers.specs.Closings.{IsWork, IsAllGraded};
 
 use crate::order::in_claim_order;
@@ -14,7 +14,8 @@ use copy_shard::Shard;
 use fault_shards::{Shards, cut_faults};
 use good_trace::Setup;
 use net_graph::Graph;
-use shard_rounds::{Gathered, Outcome, Place, grade_rounds};
+use shard_crew::{Gathered, Place};
+use shard_rounds::{Outcome, grade_rounds};
 use std::alloc::Global;
 use std::sync::ledger::Ledger;
 use std::thread::Threads;

@@ -1,7 +1,7 @@
 -- The workers stand before the first round.
 use Rattle.std.proofs.Common.{length, sym, subst}
 use Rattle.fault_shards.specs.Shards.{representatives_of}
-use Rattle.shard_rounds.specs.Crews.{AreWorkersAt}
+use Rattle.shard_crew.specs.Crews.{AreWorkersAt}
 use Rattle.shard_rounds.specs.Rounds.{IsFirst}
 use Rattle.shard_rounds.specs.declared.rounds.First.{First}
 use Rattle.shard_rounds.proofs.rounds.grade_rounds.Goals as goal

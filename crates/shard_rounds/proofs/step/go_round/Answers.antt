@@ -8,8 +8,9 @@ use denote.Param.Send.{IsSend, IsSync, param_send, arg_send, recorded_send, stru
 use Rattle.std.proofs.Crossing as std
 use Rattle.vf_base.proofs.steps.Steps.TheSendSync as steps_crosses
 use Rattle.shard_claims.proofs.worker.Worker.TheSendSync as worker_crosses
-use Rattle.shard_rounds.proofs.Crossing.{round_sync}
-use Rattle.shard_rounds.proofs.Going.{crew-back, run-back}
+use Rattle.shard_crew.proofs.Crossing.{round_sync}
+use Rattle.shard_crew.proofs.Manning.{crew-back}
+use Rattle.shard_rounds.proofs.Going.{run-back}
 use Rattle.shard_rounds.proofs.step.go_round.Given.{Over}
 use Rattle.shard_rounds.proofs.step.go_round.Lts.{arg-0-1}
 use Rattle.shard_rounds.proofs.step.go_round.Goals as goal

@@ -3,7 +3,7 @@ use Rattle.std.proofs.Common.{length, refl, sym, subst}
 use Rattle.fault_shards.specs.Shards.{representatives_of}
 use Rattle.good_windows.specs.Next.{GivesNext}
 use Rattle.good_windows.specs.declared.next.NextWindow.{NextWindow}
-use Rattle.shard_rounds.specs.Crews.{AreWorkersAt}
+use Rattle.shard_crew.specs.Crews.{AreWorkersAt}
 use Rattle.shard_rounds.proofs.Going.{goes-on, is-through, loops-at}
 use Rattle.shard_rounds.proofs.step.next_round.Goals as goal
 
