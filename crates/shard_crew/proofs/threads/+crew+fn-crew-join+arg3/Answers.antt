@@ -53,15 +53,7 @@ join-a-requires-after_bounds g t c κs within =
           ),
         ),
       ),
-      less,
-      λ a m. m,
-      λ a m. m,
-      λ a m. m,
-      λ a m. m,
-      c.requires.place,
-      at,
-      may,
-      (may.0, may.4, may.1, may.2, may.3, may.5),
+      (less, (λ a m. m, (λ a m. m, (λ a m. m, (λ a m. m, (c.requires.place, (at, (may, (may.0, may.4, may.1, may.2, may.3, may.5))))))))),
     )
 
 pub returns : goal.returns
