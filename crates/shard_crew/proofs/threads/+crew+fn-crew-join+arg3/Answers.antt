@@ -3,6 +3,7 @@ use Rattle.std.proofs.Common.{◌≡◌, ◌+◌, ◌*◌, ◌<◌, ◌++◌, �
 use Rattle.fault_shards.specs.Shards.{representatives_of}
 use Rattle.shard_crew.specs.Crews.{AreWorkersAt}
 use contract.Lifetimes.{Lfts}
+use denote.Exit.{no}
 use denote.Param.{param}
 use denote.Param.Send.{IsSend, IsSync, param_send, param_sync, arg_send, arg_sync, recorded_send, struct_send, shr_send, mut_slice_send}
 use Rattle.std.proofs.Crossing as std
@@ -49,7 +50,13 @@ join-a-requires-after_bounds g t c κs within =
           last.2,
           (
             one,
-            (param_send 0 _ (arg_send _ _ _ may.0), param_send 2 _ (arg_send _ _ _ may.4), param_sync 0 _ (arg_sync _ _ _ may.1), param_sync 1 _ (arg_sync _ _ _ may.3), param_sync 2 _ (arg_sync _ _ _ may.5)),
+            (
+              param_send 0 _ (arg_send _ no _ may.0),
+              param_send 2 _ (arg_send _ no _ may.4),
+              param_sync 0 _ (arg_sync _ no _ may.1),
+              param_sync 1 _ (arg_sync _ no _ may.3),
+              param_sync 2 _ (arg_sync _ no _ may.5),
+            ),
           ),
         ),
       ),
