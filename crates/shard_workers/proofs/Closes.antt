@@ -1,22 +1,17 @@
 -- What the closed board shows, by what the workers found.
-use Rattle.std.proofs.Common.{◌≡◌, ◌≢◌, ℕ, zero, suc, ◌+◌, ◌<◌, ◌==◌, Bool, true, false, cond, List, [], ◌∷◌, sum_by, slice_index, get_or, length, IsTrue, refl, sym, ap, subst, ◌∙◌, ⊎_elim, arith}
-use Rattle.std.proofs.Common.{Option, Some, None}
-use Rattle.std.specs.Prelude.{nat_lt, if◌then◌else◌}
-use Rattle.std.specs.List.{All, Contains, flat_map}
+use Rattle.std.proofs.Common.{◌≡◌, ◌≢◌, ℕ, zero, suc, ◌+◌, ◌<◌, ◌==◌, Bool, true, false, cond, List, [], ◌∷◌, slice_index, get_or, length, IsTrue, refl, sym, ap, subst, ◌∙◌, ⊎_elim, arith}
+use Rattle.std.specs.Prelude.{if◌then◌else◌}
+use Rattle.std.specs.List.{All, Contains}
 use Rattle.std.proofs.lemmas.Bool.{eqb-true, lt-ltb}
 use Rattle.std.proofs.lemmas.List.Sums.{sum_by-cons}
+use Rattle.std.proofs.lemmas.Option.{slice_get_within}
 use Rattle.std.proofs.lemmas.List.Elements.{All-contains, All-weaker, Contains-append_left, Contains-append_right}
 use Rattle.vf_base.specs.Base.{fault_number}
-use Rattle.vf_base.specs.Base.{reported_pair}
 use Rattle.vf_base.specs.declared.finding.Finding.{Finding}
-use Rattle.vf_base.specs.declared.finding.Pair.{Pair}
 use Rattle.v_design.specs.Designs.{FlatDesign, TestPlan}
-use Rattle.v_design.specs.Grades as plain
 use Rattle.order_laws.specs.Reports.{AreGrades}
-use Rattle.grade_laws.specs.Grading.{good_stop}
 use Rattle.v_design.specs.Findings.{grades_of, AreInOrder}
 use Rattle.fault_grade.specs.Results.{LoopsAt}
-use Rattle.fault_grade.specs.Stops.{race_stop, loop_stop, race_if}
 use Rattle.fault_shards.specs.Cuts.{shard, shard_count, ShardsCover}
 use Rattle.fault_shards.specs.Found.{IsFinding, AreFound, found_faults}
 use Rattle.fault_shards.specs.Shards.{AreShardsOf, representatives_of, fault_count}
@@ -24,21 +19,21 @@ use Rattle.fault_shards.specs.declared.shards.Shards.{Shards}
 use Rattle.fault_shards.specs.Representatives.{IsRepresentative, AreRepresentatives}
 use Rattle.verdict_words.specs.Codes.{codes_of, IsCode}
 use Rattle.verdict_words.specs.CodeLaws.{code_of-IsCode}
-use Rattle.verdict_words.specs.Rule.{times, marks, once_below, Closing}
+use Rattle.verdict_words.specs.Rule.{times, marks, Closing}
 use Rattle.verdict_words.specs.Last.{words_of, sizes_of, last_view}
 use Rattle.verdict_words.specs.Views.{mark}
 use Rattle.verdict_words.specs.declared.rule.Sizes.{Sizes}
 use Rattle.verdict_words.specs.declared.view.View.{View}
 use Rattle.verdict_words.specs.declared.view.Mark.{Mark}
-use Rattle.shard_workers.specs.Closings.{AreVerdicts, IsEachOnce, IsClosing, IsWork}
+use Rattle.shard_workers.specs.Closings.{AreVerdicts, IsEachOnce, AreShardsDone, IsWork}
 use Rattle.shard_workers.specs.declared.grade.Work.{Work}
-use Rattle.shard_workers.specs.Harvests.{IsSeen, IsHarvest, claimed_faults}
-use Rattle.shard_workers.proofs.Settling.{listed-below}
+use Rattle.verdict_settle.specs.Settling.{IsSeen}
+use Rattle.verdict_settle.specs.Harvests.{IsHarvest, claimed_faults}
 
 -- Counts
 
 -- what is counted is there
-times-in : (x : ℕ) (xs : List ℕ) → 0 < times x xs → Contains xs x
+pub times-in : (x : ℕ) (xs : List ℕ) → 0 < times x xs → Contains xs x
 times-in x [] h = absurd (omega (arith, h))
 times-in x (y ∷ ys) h = go (y == x) refl (subst (λ n. 0 < n) (sum_by-cons (λ c. cond {A = ℕ} (c == x) 1 0) y ys) h) (λ k. times-in x ys k)
   where
@@ -100,26 +95,12 @@ module _ (design : FlatDesign) (plan : TestPlan) (representatives : List ℕ) (s
 
 -- The work of all workers
 
--- a good machine that shows its samples doesn't loop before a race of its own
-pub never-loops : (design : FlatDesign) (plan : TestPlan) (race : Option Pair) → good_stop design plan ≡ race_if race → (time : ℕ) → LoopsAt design plan time → ⊥
-never-loops design plan None is time loops = none-some (sym is ∙ loops)
-  where
-    none-some : None ≡ Some (loop_stop time) → ⊥
-    none-some e = cc
-never-loops design plan (Some race) is time loops = hyper (some-stop (sym is ∙ loops))
-  where
-    some-stop : Some (race_stop race) ≡ Some (loop_stop time) → race_stop race ≡ loop_stop time
-    some-stop e = cc
-
-    hyper : race_stop race ≡ loop_stop time → ⊥
-    hyper e = (let clash : plain.Race (reported_pair race) ≡ plain.Hyper = ap (λ (s : plain.Stop). s.outcome) e in cc)
-
 -- each finding is on one of so many faults
 pub found-below : (design : FlatDesign) (plan : TestPlan) (count : ℕ) (found : List Finding) → count ≡ length plan.faults → All (IsFinding design plan) found →
     All (λ (finding : Finding). fault_number finding.fault < count) found
 found-below design plan count found counted graded =
     All-weaker (IsFinding design plan) (λ (finding : Finding). fault_number finding.fault < count)
-    (λ finding is. subst (λ n. fault_number finding.fault < n) (sym counted) (listed-below design plan finding is)) found graded
+    (λ finding is. subst (λ n. fault_number finding.fault < n) (sym counted) (slice_get_within plan.faults (fault_number finding.fault) is.fault is.listed)) found graded
 
 module _ {N : Type 0} (design : FlatDesign) (plan : TestPlan) (shards : Shards) (work : Work N) (sizes : Sizes) (v : View) (found : List Finding) where
   -- a harvest of all claims, and the close, make the work
@@ -128,8 +109,8 @@ module _ {N : Type 0} (design : FlatDesign) (plan : TestPlan) (shards : Shards) 
       Closing (codes_of design plan) (sizes_of work.closed) (words_of work.closed) (last_view work.closed) →
       IsHarvest design plan (representatives_of shards) (claimed_faults (representatives_of shards) v.claimed) v found →
       AreInOrder (fault_count shards) work.findings.items → (AreFound design plan found → AreGrades design plan (grades_of work.findings.items)) → ((time : ℕ) → LoopsAt design plan time → ⊥) →
-      IsWork design plan work
-  work-is cover cut sizes_is faults claims view_is dry k h order grades on = record {
+      AreShardsDone (representatives_of shards) work.shards.items → IsWork design plan work
+  work-is cover cut sizes_is faults claims view_is dry k h order grades on done = record {
     grades = grades (all-found design plan reps sizes words v found cover are faults claims dry closes h);
     in_order = subst (λ n. AreInOrder n work.findings.items) cut.counted order;
     goes_on = on;
@@ -141,6 +122,7 @@ module _ {N : Type 0} (design : FlatDesign) (plan : TestPlan) (shards : Shards) 
       verdicts = verdicts-are design plan reps sizes words v found cover are faults claims dry closes h;
       drawn = subst (λ (s : Sizes). IsEachOnce s.claims (last_view work.closed).claimed) (sym sizes_is) (subst (λ (u : View). IsEachOnce sizes.claims u.claimed) (sym view_is) (closes.claimed dry));
     };
+    shards_are = done;
   }
     where
       reps : List ℕ

@@ -1,6 +1,3 @@
-pub mod GradeTimes
-pub mod Gathering
-pub mod Settling
 pub mod Closes
+pub mod Ordering
 pub mod Speaking
-pub mod Crossing

@@ -1,5 +1,5 @@
 -- What the closed board of a graded plan shows (classes of faults: gates by IEEE 1364-2001, clause 7).
-use Rattle.std.specs.Prelude.{◌≡◌, ℕ, List, length, slice_index}
+use Rattle.std.specs.Prelude.{◌≡◌, ℕ, List, Some, length, slice_get, slice_index}
 use Rattle.v_design.specs.Designs.{FlatDesign, TestPlan}
 use Rattle.order_laws.specs.Reports.{AreGrades}
 use Rattle.v_design.specs.Findings.{grades_of, AreInOrder}
@@ -7,7 +7,9 @@ use Rattle.verdict_words.specs.Codes.{IsCode}
 use Rattle.verdict_words.specs.Last.{words_of, sizes_of, last_view}
 use Rattle.verdict_words.specs.Rule.{times, once_below}
 use Rattle.verdict_words.specs.declared.board.closed.Closed.{Closed}
-use Rattle.fault_shards.specs.Cuts.{shard_count}
+use Rattle.copy_shard.specs.Shards.{ShardKept, places_of, findings_of}
+use Rattle.fault_shards.specs.Cuts.{shard, shard_count}
+use Rattle.fault_shards.specs.Found.{found_faults}
 use Rattle.fault_shards.specs.Representatives.{IsRepresentative, AreRepresentatives}
 use Rattle.fault_grade.specs.Results.{LoopsAt}
 use Rattle.shard_workers.specs.declared.grade.Work.{Work}
@@ -24,6 +26,16 @@ pub record AreVerdicts (design : FlatDesign) (plan : TestPlan) (words : List ℕ
 abbrev pub IsEachOnce : ℕ → List ℕ → Type 0
 IsEachOnce bound list = (x : ℕ) → times x list ≡ once_below x bound
 
+-- a shard has the faults of the shard of a number, and a finding for each
+pub record IsShardDone (representatives : List ℕ) (number : ℕ) (own : ShardKept) : Type 0 where
+  pub faults : places_of own.faults ≡ shard number representatives
+  pub found : found_faults (findings_of own.faults) ≡ shard number representatives
+
+-- one shard for each claim, in claim order
+pub record AreShardsDone (representatives : List ℕ) (shards : List ShardKept) : Type 0 where
+  pub count : length shards ≡ shard_count (length representatives)
+  pub each : (number : ℕ) (own : ShardKept) → slice_get shards number ≡ Some own → IsShardDone representatives number own
+
 module _ {N : Type 0} where
   -- a closed board has the verdict words of the plan and a claim for each shard of its representatives, and each claim was drawn once
   pub record IsClosing (design : FlatDesign) (plan : TestPlan) (closed : Closed N) : Type 0 where
@@ -34,12 +46,13 @@ module _ {N : Type 0} where
     pub verdicts : AreVerdicts design plan (words_of closed)
     pub drawn : IsEachOnce (sizes_of closed).claims (last_view closed).claimed
 
-  -- the findings are the grades of all listed faults, in list order, the board shows how they came, and the good machine never loops before a race of its own
+  -- the findings are the grades of all listed faults, in list order, the board shows how they came, and the shards that they are of; and the good machine never loops before a race of its own
   pub record IsWork (design : FlatDesign) (plan : TestPlan) (work : Work N) : Type 0 where
     pub grades : AreGrades design plan (grades_of work.findings.items)
     pub in_order : AreInOrder (length plan.faults) work.findings.items
     pub goes_on : (time : ℕ) → LoopsAt design plan time → ⊥
     pub closing : IsClosing design plan work.closed
+    pub shards_are : AreShardsDone closing.representatives work.shards.items
 
   -- so all faults were graded; or the good machine loops at a time, before a race of its own
   abbrev pub IsAllGraded : FlatDesign → TestPlan → Graded N → Type 0

@@ -1,4 +1,3 @@
 pub mod Results
+pub mod Ordered
 pub mod Closings
-pub mod Jobs
-pub mod Harvests

@@ -1,19 +1,21 @@
 // Grading by workers over one board.
 
-ghost use Rattle.std.specs.Prelude.{◌≡◌, ◌<◌, ◌≤◌, length, IfOk};
+ghost use Rattle.std.specs.Prelude.{◌≡◌, ◌<◌, ◌≤◌, ◌^◌, ℕ, length, IfOk};
 ghost use Rattle.v_design.specs.PlainDesigns.{design_of, plan_of};
-ghost use Rattle.v_design.specs.WellFormed.{IsPlanOf};
-ghost use Rattle.grade_laws.specs.Grading.{IsGoodRun};
-ghost use Rattle.fault_grade.specs.Benches.{IsBench, bench_design, bench_plan};
-ghost use Rattle.fault_grade.specs.Samples.{samples_kept};
-ghost use Rattle.fault_grade.specs.Stops.{race_if};
+ghost use Rattle.v_design.specs.WellFormed.{IsPlanOf, KeepsRules};
+ghost use Rattle.fault_grade.specs.Results.{LoopsAt};
+ghost use Rattle.fault_shards.specs.Shards.{representatives_of};
+ghost use Rattle.shard_claims.specs.Workers.{IsPlaceOf};
+ghost use Rattle.shard_crew.specs.Crews.{HasGathered};
 ghost use Rattle.shard_workers.specs.Closings.{IsWork, IsAllGraded};
 
-use crate::crew::crew;
-use crate::job::Job;
-use fault_grade::{Bench, GoodRun, GoodSamples, run_good};
-use fault_shards::cut_faults;
+use crate::order::in_claim_order;
+use copy_shard::Shard;
+use fault_shards::{Shards, cut_faults};
+use good_trace::Setup;
 use net_graph::Graph;
+use shard_crew::{Gathered, Place};
+use shard_rounds::{Outcome, grade_rounds};
 use std::alloc::Global;
 use std::sync::ledger::Ledger;
 use std::thread::Threads;
@@ -21,49 +23,82 @@ use v_design::{Design, Plan, World};
 use verdict_words::{Board, Closed};
 use vf_base::{Finding, Gate, NoMemory, Steps};
 
-/// The findings on all listed faults, in list order, and the closed board on which the workers met.
+/// The findings on all listed faults, in list order, the closed board on which the workers met, and the shards that they took through all windows, one for each claim, in
+/// claim order.
 #[derive(Drop)]
-pub struct Work<N> {
+pub struct Work<N: World> {
     pub findings: Vec<Finding>,
     pub closed: Closed<N>,
+    pub shards: Vec<Shard<N>>,
 }
 
 /// What grading answers: the work, or the time, in steps, at which the good machine's first run is hyperactive before a race of its own.
 #[derive(Drop)]
-pub enum Graded<N> {
+pub enum Graded<N: World> {
     Findings(Work<N>),
     GoodLoop(u64),
 }
 
-/// Grades all listed faults by as many workers as there are counters.
+/// The findings on all listed faults, in list order, by those on the faults of all shards, the board closed by the seat that is left, and the shards in claim order.
+fn close_work<N: World>(
+    alloc: Global,
+    shards: &Shards,
+    board: Board<N>,
+    gathered: Gathered<N>,
+) -> Result<Work<N>, NoMemory>
+    requires rules { KeepsRules N.design }
+    requires place { IsPlaceOf N.design N.plan shards.now board }
+    requires gathered { HasGathered N.design N.plan (representatives_of shards.now) board (2 ^ 62) gathered }
+    requires goes_on { (time : ℕ) → LoopsAt N.design N.plan time → ⊥ }
+    ensures { IfOk result (IsWork N.design N.plan) }
+{
+    fault_shards::shards_cover();
+    let Gathered {
+        seat,
+        findings: found,
+        shards: claimed,
+    } = gathered;
+    let findings = shards.in_list_order(alloc, &found)?;
+    let closed = board.close(alloc, seat)?;
+    let shards = in_claim_order(alloc, claimed)?;
+    Ok(Work {
+        findings,
+        closed,
+        shards,
+    })
+}
+
+/// Grades all listed faults by as many workers as there are counters; `own` is the calling thread's counter.
 fn work_all<N: World, R: Threads + Sync, G: Gate + Sync, L: Ledger + Send + Sync>(
     rt: &R,
     alloc: Global,
-    bench: &Bench<'_>,
-    good: &GoodSamples,
+    setup: &Setup<'_, N>,
     gate: &G,
+    own: &mut Steps<L>,
     steps: &mut [Steps<L>],
-) -> Result<Work<N>, NoMemory>
-    requires world { (N.design ≡ bench_design bench.now) × (N.plan ≡ bench_plan bench.now) }
-    requires bench { IsBench bench.now }
-    requires good { IsGoodRun (bench_design bench.now) (bench_plan bench.now) (samples_kept good.now) (race_if good.now.race) }
-    requires workers { (1 ≤ length steps.old) × (length steps.old ≤ 64) }
-    ensures { IfOk result (IsWork (bench_design bench.now) (bench_plan bench.now)) }
+) -> Result<Graded<N>, NoMemory>
+    requires { (1 ≤ length steps.old) × (length steps.old ≤ 64) }
+    ensures { IfOk result (IsAllGraded N.design N.plan) }
 {
-    fault_shards::shards_cover();
-    let faults = bench.plan.faults.as_slice();
-    let shards = cut_faults(alloc, bench.design, faults)?;
+    let design = setup.design();
+    let plan = setup.plan();
+    let faults = plan.faults.as_slice();
+    let shards = cut_faults(alloc, design, faults)?;
     let (board, seat) = Board::<N>::new(alloc, faults.len() as u32, shards.count())?;
-    let job = Job {
-        bench: *bench,
-        good,
+    let place = Place {
+        setup,
         shards: &shards,
+        board: &board,
+        gate,
     };
-    let (seat, found) = crew(rt, alloc, &job, &board, gate, 0, seat, steps);
-    let found = found?;
-    let findings = shards.in_list_order(alloc, found.as_slice())?;
-    let closed = board.close(alloc, seat)?;
-    Ok(Work { findings, closed })
+    let outcome = grade_rounds(rt, alloc, &place, seat, own, steps)?;
+    match outcome {
+        Outcome::GoodLoop(time) => Ok(Graded::GoodLoop(time)),
+        Outcome::Graded(gathered) => {
+            let work = close_work(alloc, &shards, board, gathered)?;
+            Ok(Graded::Findings(work))
+        }
+    }
 }
 
 /// Grades all listed faults of the world's plan by so many workers, each a thread with a counter of its own; the first counter is the calling thread's.
@@ -90,19 +125,9 @@ pub fn grade_all<N: World, R: Threads + Sync, G: Gate + Sync, L: Ledger + Send +
     ensures { IfOk result (IsAllGraded (design_of design.now) (plan_of plan.now)) }
 {
     let graph = Graph::new(alloc, design)?;
-    let bench = Bench {
-        design,
-        graph: &graph,
-        plan,
-    };
-    let good = run_good(alloc, &bench, &mut steps[0])?;
-    match &good {
-        GoodRun::Loop(time) => Ok(Graded::GoodLoop(*time)),
-        GoodRun::Shown(shown) => {
-            let (_, others) = steps.split_at_mut(1);
-            let (counters, _) = others.split_at_mut(workers as usize);
-            let work = work_all(rt, alloc, &bench, shown, gate, counters)?;
-            Ok(Graded::Findings(work))
-        }
-    }
+    let setup = Setup::<N>::new(alloc, design, &graph, plan)?;
+    let (own, others) = steps.split_at_mut(1);
+    let (counters, _) = others.split_at_mut(workers as usize);
+    let graded = work_all(rt, alloc, &setup, gate, &mut own[0], counters)?;
+    Ok(graded)
 }

@@ -1,6 +1,6 @@
 // Grading a plan, of which contracts speak without a board.
 
-ghost use Rattle.std.specs.Prelude.{◌<◌, ◌≤◌, length, IfOk};
+ghost use Rattle.std.specs.Prelude.{◌≡◌, ◌<◌, ◌≤◌, length, IfOk};
 ghost use Rattle.v_design.specs.Designs.{FlatDesign, TestPlan};
 ghost use Rattle.v_design.specs.PlainDesigns.{design_of, plan_of};
 ghost use Rattle.v_design.specs.WellFormed.{IsPlanOf};
@@ -12,7 +12,7 @@ use std::alloc::Global;
 use std::marker::Brand;
 use std::sync::ledger::Ledger;
 use std::thread::Threads;
-use v_design::{Design, Plan};
+use v_design::{Design, Plan, World};
 use vf_base::{Finding, Gate, NoMemory, Steps};
 
 /// What grading a plan answers: a finding for each listed fault, in list order, or the time, in steps, at which the good machine's first run is
@@ -24,13 +24,34 @@ pub enum PlanGrades {
 }
 
 /// What was answered, without the board.
-fn without_board<N>(graded: Graded<N>) -> PlanGrades
+fn without_board<N: World>(graded: Graded<N>) -> PlanGrades
     ensures { (design : FlatDesign) (plan : TestPlan) → IsAllGraded design plan graded → IsGraded design plan result }
 {
     match graded {
         Graded::GoodLoop(time) => PlanGrades::GoodLoop(time),
         Graded::Findings(work) => PlanGrades::Findings(work.findings),
     }
+}
+
+/// The same of a world, by so many workers.
+fn grade_world<N: World, R: Threads + Sync, G: Gate + Sync, L: Ledger + Send + Sync>(
+    rt: &R,
+    alloc: Global,
+    design: &Design,
+    plan: &Plan,
+    workers: u32,
+    gate: &G,
+    steps: &mut [Steps<L>],
+) -> Result<PlanGrades, NoMemory>
+    requires world { (N.design ≡ design_of design.now) × (N.plan ≡ plan_of plan.now) }
+    requires plan { IsPlanOf (design_of design.now) (plan_of plan.now) }
+    requires workers { (1 ≤ workers) × (workers ≤ 64) }
+    requires counters { workers < length steps.old }
+    ensures { IfOk result (IsGraded (design_of design.now) (plan_of plan.now)) }
+{
+    let graded = grade_all::<N, _, _, _>(rt, alloc, design, plan, workers, gate, steps)?;
+    let grades = without_board(graded);
+    Ok(grades)
 }
 
 /// The findings on all listed faults of a plan, or the time at which the good machine loops, by so many workers.
@@ -59,7 +80,6 @@ pub fn grade_plan<R: Threads + Sync, G: Gate + Sync, L: Ledger + Send + Sync>(
     order_laws::reports();
     order_laws::orders_exist();
     order_laws::nothing_before();
-    let graded = grade_all::<Brand, _, _, _>(rt, alloc, design, plan, workers, gate, steps)?;
-    let grades = without_board(graded);
+    let grades = grade_world::<Brand, _, _, _>(rt, alloc, design, plan, workers, gate, steps)?;
     Ok(grades)
 }

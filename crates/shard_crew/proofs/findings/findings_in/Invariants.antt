@@ -1,0 +1,13 @@
+-- The findings of so many shards.
+use Rattle.std.proofs.Common.{◌≡◌, take}
+use Rattle.std.specs.List.{All}
+use Rattle.fault_shards.specs.Found.{IsFinding, found_faults}
+use Rattle.shard_crew.specs.Crews.{places_in, IsFoundShard}
+use Rattle.shard_crew.proofs.findings.findings_in.Given as goal
+
+abbrev pub invariant-shards : goal.invariant-shards
+invariant-shards g l = record {
+  faults : found_faults l.found.items ≡ places_in (take l.claimed-index l.shards);
+  graded : All (IsFinding g.N.World.design g.N.World.plan) l.found.items;
+  complete : All IsFoundShard (take l.claimed-index l.shards);
+}

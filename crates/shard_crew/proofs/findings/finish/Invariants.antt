@@ -1,0 +1,16 @@
+-- All workers but so many are done.
+use Rattle.std.proofs.Common.{length}
+use Rattle.copy_laws.specs.Windows.{good_slots}
+use Rattle.fault_shards.specs.Shards.{representatives_of}
+use Rattle.shard_crew.specs.Crews.{AreWorkersAt}
+use Rattle.shard_crew.proofs.Gathering.{HasJoined}
+use Rattle.shard_crew.proofs.findings.finish.Given as goal
+
+abbrev pub invariant-workers : goal.invariant-workers
+invariant-workers g l = record {
+  at : AreWorkersAt (representatives_of l.place.shards.now) l.place.board.now (length (good_slots g.N.World.design g.N.World.plan)) (length l.workers.items) l.workers.items;
+  joined : HasJoined g.N.World.design g.N.World.plan (representatives_of l.place.shards.now) l.place.board.now (length l.workers.items) l.count l.seat l.findings.items l.shards.items;
+}
+
+abbrev pub decreases-workers : goal.decreases-workers
+decreases-workers g l = length l.workers.items

@@ -1,0 +1,58 @@
+-- What all workers have between rounds and behind the last one, and the seat that is left beside theirs (slots by IEEE 1364-2001, clause 5).
+use Rattle.std.specs.Prelude.{◌≡◌, ℕ, ◌+◌, ◌*◌, ◌^◌, IsTrue, List, [], length}
+use Rattle.std.specs.List.{All, flat_map}
+use Rattle.v_design.specs.Designs.{FlatDesign, TestPlan}
+use Rattle.copy_laws.specs.Windows.{good_slots}
+use Rattle.copy_shard.specs.Shards.{places_of, findings_of}
+use Rattle.fault_shards.specs.Found.{found_faults}
+use Rattle.verdict_settle.specs.Harvests.{IsHarvest, claimed_faults}
+use Rattle.verdict_words.specs.Seats.{view, IsSeatOf}
+use Rattle.verdict_words.specs.Views.{lent_share}
+use Rattle.verdict_words.specs.declared.board.Board.{Board}
+use Rattle.verdict_words.specs.declared.board.Seat.{Seat}
+use Rattle.shard_claims.specs.declared.round.ClaimedShard.{ClaimedShard}
+use Rattle.shard_claims.specs.declared.worker.Worker.{Worker}
+use Rattle.shard_claims.specs.Workers.{IsWorkerAt, KeepsShards}
+use Rattle.shard_crew.specs.declared.gathered.Gathered.{Gathered}
+
+module _ {N : Type 0} where
+  -- Shards
+
+  -- the faults of some shards
+  abbrev pub places_in : List (ClaimedShard N) → List ℕ
+  places_in shards = flat_map (λ (claimed : ClaimedShard N). places_of claimed.shard.faults) shards
+
+  -- a shard has a finding for each of its faults
+  abbrev pub IsFoundShard : ClaimedShard N → Type 0
+  IsFoundShard claimed = found_faults (findings_of claimed.shard.faults) ≡ places_of claimed.shard.faults
+
+  -- all have gone through so many slots
+  abbrev pub HaveGone : ℕ → List (ClaimedShard N) → Type 0
+  HaveGone gone shards = All (λ (claimed : ClaimedShard N). claimed.shard.gone ≡ gone) shards
+
+  -- Workers
+
+  -- so many workers behind so many slots
+  pub record AreWorkersAt (representatives : List ℕ) (board : Board N) (gone count : ℕ) (workers : List (Worker N)) : Type 0 where
+    pub count_is : length workers ≡ count
+    pub each : All (IsWorkerAt representatives board gone) workers
+
+  -- what is left of a board's first seat, off which the seats of so many workers were split
+  pub record IsRest (board : Board N) (count : ℕ) (seat : Seat N) : Type 0 where
+    pub own : IsSeatOf board seat
+    pub share : (view seat).share + count * lent_share ≡ 2 ^ 62
+    pub calls : (view seat).calls ≡ 0
+    pub claimed : (view seat).claimed ≡ []
+    pub moved : (view seat).moved ≡ []
+
+  -- Behind the last round
+
+  -- A seat with this share was told that no claim is left. Each fault of the shards that it claimed was found, with its grade, and its word was seen; these shards have gone through all slots of
+  -- the good first run.
+  pub record HasGathered (design : FlatDesign) (plan : TestPlan) (representatives : List ℕ) (board : Board N) (share : ℕ) (gathered : Gathered N) : Type 0 where
+    pub own : IsSeatOf board gathered.seat
+    pub share_is : (view gathered.seat).share ≡ share
+    pub dry : IsTrue (view gathered.seat).dry
+    pub harvest : IsHarvest design plan representatives (claimed_faults representatives (view gathered.seat).claimed) (view gathered.seat) gathered.findings.items
+    pub keeps : KeepsShards representatives (length (good_slots design plan)) (view gathered.seat) gathered.shards.items
+    pub found : All IsFoundShard gathered.shards.items

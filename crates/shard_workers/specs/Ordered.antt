@@ -1,0 +1,19 @@
+-- Shards in the order of their claims (nothing of the language).
+use Rattle.std.specs.Prelude.{◌≡◌, ℕ, List, map}
+use Rattle.std.specs.List.Sorted.{IsPermutation, IsNonDecreasingBy}
+use Rattle.copy_shard.specs.Shards.{ShardKept}
+use Rattle.shard_claims.specs.declared.round.ClaimedShard.{ClaimedShard}
+
+module _ {N : Type 0} where
+  abbrev pub claim_number : ClaimedShard N → ℕ
+  claim_number claimed = claimed.number
+
+  abbrev pub claimed_shard : ClaimedShard N → ShardKept
+  claimed_shard claimed = claimed.shard
+
+  -- these are some claimed shards, in the order of their numbers
+  pub record AreOrdered (claimed : List (ClaimedShard N)) (shards : List ShardKept) : Type 0 where
+    pub sorted : List (ClaimedShard N)
+    pub permuted : IsPermutation claimed sorted
+    pub ascend : IsNonDecreasingBy claim_number sorted
+    pub shards_are : shards ≡ map claimed_shard sorted

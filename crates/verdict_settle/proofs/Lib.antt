@@ -1,0 +1,3 @@
+pub mod GradeTimes
+pub mod Settling
+pub mod Words
