@@ -1,0 +1,6 @@
+pub mod Below
+mod Lists
+mod Pending
+mod Puts
+mod Woken
+pub mod Written

@@ -1,0 +1,4 @@
+pub mod Lanes
+pub mod Within
+pub mod StatesKept
+pub mod Turned

@@ -1,0 +1,3 @@
+pub mod Wakes
+pub mod Gathered
+pub mod Kept
