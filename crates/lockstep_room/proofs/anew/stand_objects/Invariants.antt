@@ -1,0 +1,15 @@
+-- So far they are as shown.
+use Rattle.std.proofs.Common.{◌≡◌}
+use Rattle.block_events.specs.Runners.{IsWhole, machine_of, state_of}
+use Rattle.lockstep_exchange.specs.Putting.{ValuesArePut}
+use Rattle.lockstep_room.specs.Rooms.{values_below}
+use Rattle.lockstep_room.specs.Rooms.{MayStandSo}
+use Rattle.lockstep_room.proofs.anew.stand_objects.Given as goal
+
+abbrev pub invariant-objects : goal.invariant-objects
+invariant-objects g l = record {
+  machine : machine_of l.runner ≡ machine_of l.fn.runner;
+  put : (of : MayStandSo (machine_of l.fn.runner).design (g.S.ShownState.shows l.good) (state_of l.fn.runner)) →
+      ValuesArePut (values_below l.number of.good) (state_of l.fn.runner) (state_of l.runner);
+  whole : IsWhole l.runner;
+}
