@@ -42,8 +42,7 @@ join-a-requires-after_bounds g t c κs within =
     subst (λ n. AreWorkersAt (representatives_of c.args.round.now.shards.now) c.args.round.now.board.now c.args.round.now.window.now.before n c.pop.new.self.items) same last.1 in
     let one : length c.split_at_mut-others.result.1.now ≡ 1 = omega (arith, c.split_at_mut-others.ensures.back_len, c.len-count.ensures, c.pop.new.self.ok.0, last.0) in
     let less : 2 * length c.split_at_mut-others.result.0.now + 1 < t = omega (arith, c.decreases, same, last.0) in
-    let may = c.requires.bounds in
-    (
+    let may = c.requires.bounds in (
       (
         c.requires.place,
         (
