@@ -1,19 +1,19 @@
 // A slot of the good first run, by its log.
 
-ghost use Rattle.std.specs.Prelude.{◌≡◌, ◌+◌, ◌^◌, ◌<◌, ◌≤◌, count_by, length};
+ghost use Rattle.std.specs.Prelude.{◌≡◌, ◌+◌, ◌^◌, ◌<◌, ◌≤◌, cond, count_by, length};
 ghost use Rattle.good_trace.specs.Counted.{is_step, steps_logged};
 
 use causal_monitor::{Actor, SlotLog};
 
-/// Whether an event is a step of a process or of its lane.
-fn is_step(actor: Actor) -> bool
-    ensures { result ≡ is_step actor }
+/// How many steps of a process or of its lane an event is: one or none.
+fn steps_of(actor: Actor) -> u32
+    ensures { result ≡ cond (is_step actor) 1 0 }
 {
     match actor {
-        Actor::Step(_) => true,
-        Actor::Lane(_) => true,
-        Actor::Eval(_) => false,
-        Actor::Move(_) => false,
+        Actor::Step(_) => 1,
+        Actor::Lane(_) => 1,
+        Actor::Eval(_) => 0,
+        Actor::Move(_) => 0,
     }
 }
 
@@ -22,7 +22,11 @@ fn count_in(actors: &[Actor]) -> u32
     requires { count_by is_step actors.now ≤ 100000 }
     ensures { result ≡ count_by is_step actors.now }
 {
-    actors.iter().filter(|actor| is_step(**actor)).count() as u32
+    let mut steps = 0;
+    'actors: for actor in actors {
+        steps += steps_of(*actor);
+    }
+    steps
 }
 
 /// How many process and lane steps a slot has, by its log.

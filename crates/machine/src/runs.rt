@@ -1,18 +1,64 @@
 // The ends of process runs.
 
-ghost use Rattle.std.specs.Prelude.{◌≡◌, ◌<◌, [], true, length, OnOk};
+ghost use Rattle.std.specs.Prelude.{◌≡◌, ◌<◌, [], true, length, IsTrue, None, OnOk};
+ghost use Rattle.std.specs.Option.{option_map};
 ghost use Rattle.vf_base.specs.Base.{process_number};
-ghost use Rattle.run_record.specs.RunRecords.{runs_so_far};
+ghost use Rattle.v_design.specs.Plain.{due_of};
+ghost use Rattle.run_record.specs.RunRecords.{runs_so_far, NotesStep, NotesEnd};
 ghost use Rattle.process_table.specs.Arranged.{IsKept, table_of};
+ghost use Rattle.process_table.specs.Deeds.{written_by};
 ghost use Rattle.machine.specs.Standing.{IsStanding, StaysStanding, notes_runs, runs_kept};
 ghost use Rattle.machine.specs.RunNotes.{NotesRun};
 
 use crate::parts::Machine;
-use process_code::RunEnd;
-use process_table::{ProcessTable, Stepped};
+use process_code::{ProcState, RunEnd};
+use process_table::{Act, ProcessTable, Stepped};
 use run_record::RunRecord;
 use std::alloc::Global;
 use vf_base::{NoMemory, ProcId};
+
+/// Whether a step appended and wrote nothing, as most do: then no update is copied to note it.
+fn is_silent(stepped: &Stepped) -> bool
+    ensures { IsTrue result → (option_map due_of stepped.now.later ≡ None) × (written_by stepped.now.act ≡ None) }
+{
+    match stepped.act {
+        Some(Act::Write(_)) => false,
+        Some(Act::Read(_)) => stepped.later.is_none(),
+        None => stepped.later.is_none(),
+    }
+}
+
+/// Notes a step after which its process is ready.
+fn note_step(runs: &mut RunRecord, process: ProcId, stepped: &Stepped) -> Result<(), NoMemory>
+    requires { process_number process < length (runs_so_far runs.old) }
+    ensures { OnOk result (NotesStep (process_number process) (option_map due_of stepped.now.later) (written_by stepped.now.act) runs.old runs.new) }
+{
+    if is_silent(stepped) {
+        runs.go_on(process, None, None)?;
+        return Ok(());
+    }
+    runs.go_on(process, stepped.later, stepped.write())?;
+    Ok(())
+}
+
+/// Notes a step that ends the run of its process in the phase of a number, and where the process stands then.
+fn note_end(
+    runs: &mut RunRecord,
+    phase: u32,
+    process: ProcId,
+    stepped: &Stepped,
+    state: ProcState,
+) -> Result<(), NoMemory>
+    requires { process_number process < length (runs_so_far runs.old) }
+    ensures { OnOk result (NotesEnd phase (process_number process) (option_map due_of stepped.now.later) (written_by stepped.now.act) state runs.old runs.new) }
+{
+    if is_silent(stepped) {
+        runs.end(phase, process, None, None, state)?;
+        return Ok(());
+    }
+    runs.end(phase, process, stepped.later, stepped.write(), state)?;
+    Ok(())
+}
 
 /// Notes a step that a process took in the phase of a number, and the end of its run where the step ended it; nothing where runs aren't noted.
 ///
@@ -36,11 +82,11 @@ pub(crate) fn note_run(
         return Ok(());
     }
     if stepped.ready {
-        runs.go_on(process, stepped.later, stepped.write())?;
+        note_step(runs, process, stepped)?;
         return Ok(());
     }
     let state = table.copy_state(process)?;
-    runs.end(phase, process, stepped.later, stepped.write(), state)?;
+    note_end(runs, phase, process, stepped, state)?;
     Ok(())
 }
 

@@ -1,7 +1,7 @@
 -- What the calls of a record need of its lists (nothing of the language).
-use Rattle.std.proofs.Common.{◌≡◌, ℕ, zero, suc, ◌+◌, ◌<◌, List, [], ◌∷◌, ◌++◌, map, length, get_or, set, false, true, refl, sym, ap, subst, ◌∙◌}
-use Rattle.std.specs.Prelude.{Option}
-use Rattle.std.proofs.lemmas.List.{get_or-map, get_or-set_same, map-set}
+use Rattle.std.proofs.Common.{◌≡◌, ℕ, zero, suc, ◌+◌, ◌<◌, List, [], ◌∷◌, ◌++◌, map, length, get_or, set, false, true, refl, sym, ap, subst, ◌∙◌, append-nil}
+use Rattle.std.specs.Prelude.{Option, None}
+use Rattle.std.proofs.lemmas.List.{get_or-map, get_or-set_same, map-set, set-get_or}
 use Rattle.v_design.specs.Designs.{Machine}
 use Rattle.v_design.specs.Assignments.{ValueUpdate}
 use Rattle.v_design.specs.States.{LaterUpdate, Step, step_of, is_ready}
@@ -27,6 +27,16 @@ run-at runs n old low is = ap so_far is ∙ sym (get_or-map so_far runs n old no
 pub run-set : (runs : List RunSoFar) (n : ℕ) (old new : RunSoFar) (change : SoFar → SoFar) → n < length runs → old ≡ get_or runs n old → so_far new ≡ change (so_far old) →
     map so_far (set runs n new) ≡ set (map so_far runs) n (change (get_or (map so_far runs) n nothing_so_far))
 run-set runs n old new change low is told = map-set so_far runs n new ∙ ap (set (map so_far runs) n) (told ∙ ap change (run-at runs n old low is))
+
+-- a step that appends and writes nothing leaves all runs as they are
+with-none : (run : SoFar) → with_step None None run ≡ run
+with-none run = λ i. record { later = append-nil run.later i; writes = append-nil run.writes i }
+
+pub silent-set : (runs : List SoFar) (n : ℕ) (later : Option LaterUpdate) (write : Option ValueUpdate) → later ≡ None → write ≡ None →
+    runs ≡ set runs n (with_step later write (get_or runs n nothing_so_far))
+silent-set runs n later write none nothing =
+    sym (set-get_or runs n nothing_so_far)
+    ∙ ap (set runs n) (sym (with-none (get_or runs n nothing_so_far)) ∙ λ i. with_step (sym none i) (sym nothing i) (get_or runs n nothing_so_far))
 
 -- a step after which the process is ready
 pub step-called : Laws → (process : ℕ) (later : Option LaterUpdate) (write : Option ValueUpdate) (old new : List SoFar) (ended : List RunEnd) → process < length old →

@@ -31,6 +31,20 @@ pub struct RunRecord {
     ended: Vec<RunEnd>,
 }
 
+/// For how many ends of runs room is made at once at most.
+const MOST_ROOM: usize = 256;
+
+/// Makes room for the first ends of a slot's runs where there is none: for one of each process, where these are few.
+fn make_room(ended: &mut Vec<RunEnd>, processes: usize) -> Result<(), NoMemory>
+    ensures { OnOk result (ended.new.items ≡ ended.old.items) }
+{
+    if ended.capacity() > 0 {
+        return Ok(());
+    }
+    ended.reserve(processes.min(MOST_ROOM))?;
+    Ok(())
+}
+
 /// Puts an element at the end of a list, if there is one.
 fn push_some<T: Copy>(list: &mut Vec<T>, element: Option<T>) -> Result<(), NoMemory>
     ensures { OnOk result (list.new.items ≡ list.old.items ++ option_to_list element) }
@@ -49,6 +63,9 @@ fn take_list<T: Copy>(alloc: Global, list: &mut Vec<T>) -> Result<Seq<T>, NoMemo
     ensures taken { IfOk result (λ taken. taken ≡ list.old.items) }
     ensures empty { OnOk result (list.new.items ≡ []) }
 {
+    if list.is_empty() {
+        return Ok(Seq::from_vec(Vec::new(alloc)));
+    }
     let mut taken = Vec::with_capacity(alloc, list.len())?;
     taken.extend_from_slice(list)?;
     list.clear();
@@ -111,6 +128,7 @@ fn no_runs(alloc: Global, processes: usize) -> Result<Vec<RunSoFar>, NoMemory>
 }
 
 /// A step of a process's present run appends an update, or writes one, or does neither.
+#[inline(never)]
 fn go_on_at(
     runs: &mut Vec<RunSoFar>,
     process: ProcId,
@@ -122,6 +140,27 @@ fn go_on_at(
         (option_map update_of write) (get_or (map so_far runs.old.items) (process_number process) nothing_so_far))) }
 {
     runs[process.0 as usize].go_on(later, write)?;
+    Ok(())
+}
+
+/// The same, where most steps append and write nothing: those change nothing.
+#[inline(always)]
+fn go_on_by(
+    runs: &mut Vec<RunSoFar>,
+    process: ProcId,
+    later: Option<Due>,
+    write: Option<Update>,
+) -> Result<(), NoMemory>
+    requires { process_number process < length runs.old.items }
+    ensures { OnOk result (map so_far runs.new.items ≡ set (map so_far runs.old.items) (process_number process) (with_step (option_map due_of later)
+        (option_map update_of write) (get_or (map so_far runs.old.items) (process_number process) nothing_so_far))) }
+{
+    if later.is_none() {
+        if write.is_none() {
+            return Ok(());
+        }
+    }
+    go_on_at(runs, process, later, write)?;
     Ok(())
 }
 
@@ -192,7 +231,7 @@ impl RunRecord {
         ensures { OnOk result (NotesStep (process_number process) (option_map due_of later) (option_map update_of write) self.old self.new) }
     {
         copy_laws::own_runs();
-        go_on_at(&mut self.present, process, later, write)?;
+        go_on_by(&mut self.present, process, later, write)?;
         Ok(())
     }
 
@@ -214,8 +253,9 @@ impl RunRecord {
         ensures { OnOk result (NotesEnd phase (process_number process) (option_map due_of later) (option_map update_of write) state self.old self.new) }
     {
         copy_laws::own_runs();
-        go_on_at(&mut self.present, process, later, write)?;
+        go_on_by(&mut self.present, process, later, write)?;
         let run = end_at(&mut self.present, self.alloc, phase, process, state)?;
+        make_room(&mut self.ended, self.present.len())?;
         self.ended.push(run)?;
         Ok(())
     }

@@ -5,13 +5,13 @@ use Rattle.v_design.specs.Designs.{FlatDesign}
 use Rattle.run_ends.specs.RunEnds.{IsCodeAt}
 use Rattle.machine.proofs.runs.note_run.Goals as goal
 
-pub go_on-requires : goal.go_on-requires
-go_on-requires c =
+pub note_step-requires : goal.note_step-requires
+note_step-requires c =
     let on : c.args.noting ≡ true = search (rules, c.if-not-noting.false) in
     subst (λ n. process_number c.args.process < n) (sym (c.requires.room on)) c.requires.process
 
-pub end-requires : goal.end-requires
-end-requires c =
+pub note_end-requires : goal.note_end-requires
+note_end-requires c =
     let on : c.args.noting ≡ true = search (rules, c.if-not-noting.false) in
     subst (λ n. process_number c.args.process < n) (sym (c.requires.room on)) c.requires.process
 
@@ -22,11 +22,11 @@ returns-then-not-noting c =
 
 pub returns-then-stepped : goal.returns-then-stepped
 returns-then-stepped c = λ on machine before phase notes step numbered.
-    c.in_ok-go_on.ensures machine before phase notes (record { later_is = step.later; write_is = c.write.ensures ∙ step.write }) (sym step.ready ∙ c.if-stepped.true)
+    c.in_ok-note_step.ensures machine before phase notes (record { later_is = step.later; write_is = step.write }) (sym step.ready ∙ c.if-stepped.true)
 
 pub returns : goal.returns
 returns c = λ on machine before phase notes step numbered.
-    c.in_ok-end.ensures machine before phase notes (record { later_is = step.later; write_is = c.write-2.ensures ∙ step.write }) (sym step.ready ∙ c.if-stepped.false) numbered
+    c.in_ok-note_end.ensures machine before phase notes (record { later_is = step.later; write_is = step.write }) (sym step.ready ∙ c.if-stepped.false) numbered
     (record {
       state_of = λ code at. c.in_ok-state.ensures.state code (subst (λ (d : FlatDesign). IsCodeAt d (process_number c.args.process) code) (sym step.after.design) at);
       activity = λ code at. c.in_ok-state.ensures.activity code (subst (λ (d : FlatDesign). IsCodeAt d (process_number c.args.process) code) (sym step.after.design) at) ∙ step.activity;
