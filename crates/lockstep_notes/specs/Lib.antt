@@ -1,0 +1,4 @@
+pub mod Notes
+pub mod Beside
+pub mod Likes
+pub mod Laws
