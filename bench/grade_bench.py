@@ -228,4 +228,5 @@ def main():
             print('differs: ' + line)
 
 
-main()
+if __name__ == "__main__":
+    main()
