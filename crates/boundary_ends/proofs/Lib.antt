@@ -1,4 +1,4 @@
-mod Counts
+pub mod Counts
 mod Parted
 mod Told
 mod Stepping
