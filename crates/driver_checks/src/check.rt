@@ -53,16 +53,13 @@ fn taken_bits(
     Ok(taken)
 }
 
-/// The fault of a drive that overlaps another. A bit beyond all numbers of an object's bits isn't in any memory.
+/// The fault of a drive that overlaps another.
 fn overlap_fault(overlap: Overlap) -> DriverFault
     ensures { FaultGives (refusal_of (Some (second_of overlap))) result }
 {
-    match u32::try_from(overlap.bit) {
-        Ok(bit) => DriverFault::TwoDrivers {
-            place: overlap.place,
-            bit,
-        },
-        Err(_) => DriverFault::NoMemory,
+    DriverFault::TwoDrivers {
+        place: overlap.place,
+        bit: overlap.bit,
     }
 }
 

@@ -10,7 +10,7 @@ use vf_base::{NoMemory, Place};
 pub enum DriverFault {
     /// A bit of an object has two drivers: the place of the second one, and the bit, counted from the least significant as 0.
     #[error("a bit has two drivers")]
-    TwoDrivers { place: Place, bit: u32 },
+    TwoDrivers { place: Place, bit: u64 },
     #[error("out of memory")]
     NoMemory,
 }

@@ -1,2 +1,3 @@
 pub mod ConnectionTurns
 pub mod CountLaws
+pub mod OutputLaws

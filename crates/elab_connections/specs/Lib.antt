@@ -1,3 +1,4 @@
 pub mod PathViews
 pub mod WidePorts
 pub mod NodeCounts
+pub mod OutputRuns

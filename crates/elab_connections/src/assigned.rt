@@ -10,6 +10,7 @@ ghost use Rattle.instance_checks.specs.Children.{IsChild};
 ghost use Rattle.instance_checks.specs.Offered.{name_seen};
 ghost use Rattle.elab_connections.specs.PathViews.{ArePaths};
 ghost use Rattle.elab_connections.specs.WidePorts.{connects_wide_port, is_wide};
+ghost use Rattle.elab_connections.specs.OutputRuns.{OutputTakesRuns, ActualTakesRuns, ConnectionTakesRuns, ConnectionsTakeRuns};
 
 use crate::part::{input_part, output_part};
 use crate::paths::Paths;
@@ -29,7 +30,7 @@ fn push_output<'u>(
     expr: &Expr,
     parts: &mut Vec<Part<'u>>,
 ) -> Result<(), NoMemory>
-    ensures { OnOk result ((c : plain.Child) → IsChild c child.entry → (p : plain.Paths) → ArePaths p paths.now →
+    ensures { OnOk result ((c : plain.Child) → IsChild c child.entry → OutputTakesRuns c.outer_scope (target_spelled (expression_of expr.now)) → (p : plain.Paths) → ArePaths p paths.now →
         parts_of parts.new.items ≡ parts_of parts.old.items ++ output_parts c p port.now (expression_of expr.now) (target_spelled (expression_of expr.now))) }
 {
     match target_of(alloc, expr)? {
@@ -50,7 +51,8 @@ fn push_actual<'u>(
     expr: &Expr,
     parts: &mut Vec<Part<'u>>,
 ) -> Result<(), NoMemory>
-    ensures { OnOk result ((c : plain.Child) → IsChild c child.entry → is_wide c (Some port.now) ≡ false → (p : plain.Paths) → ArePaths p paths.now →
+    ensures { OnOk result ((c : plain.Child) → IsChild c child.entry → is_wide c (Some port.now) ≡ false →
+        ActualTakesRuns c.outer_scope (expression_of expr.now) (joined_name c port.now (expression_of expr.now)) (port_direction c.inner port.now) → (p : plain.Paths) → ArePaths p paths.now →
         parts_of parts.new.items ≡ parts_of parts.old.items ++ actual_parts c p port.now (expression_of expr.now) (joined_name c port.now
         (expression_of expr.now)) (port_direction c.inner port.now)) }
 {
@@ -79,7 +81,8 @@ fn push_connection<'u>(
     connection: &Connection,
     parts: &mut Vec<Part<'u>>,
 ) -> Result<(), NoMemory>
-    ensures { OnOk result ((c : plain.Child) → IsChild c child.entry → is_wide c (option_map name_seen port.entry) ≡ false → (p : plain.Paths) → ArePaths p paths.now →
+    ensures { OnOk result ((c : plain.Child) → IsChild c child.entry → is_wide c (option_map name_seen port.entry) ≡ false →
+        ConnectionTakesRuns c (option_map name_seen port.entry) (expression_in connection.now.actual) → (p : plain.Paths) → ArePaths p paths.now →
         parts_of parts.new.items ≡ parts_of parts.old.items ++ connection_parts c p (option_map name_seen port.entry) (expression_in connection.now.actual)) }
 {
     let Some(port) = port else {
@@ -94,7 +97,8 @@ fn push_connection<'u>(
     }
 }
 
-/// Puts the assignments of the connections of an instance behind other parts, in the order of the connections. None of the ports may be wider than a vector may be.
+/// Puts the assignments of the connections of an instance behind other parts, in the order of the connections. None of the ports may be wider than a vector may be, and outputs
+/// assign runs of bits.
 pub fn push_connection_parts<'u>(
     alloc: Global,
     child: Child<'_, 'u>,
@@ -102,7 +106,8 @@ pub fn push_connection_parts<'u>(
     connections: &'u [Connection],
     parts: &mut Vec<Part<'u>>,
 ) -> Result<(), NoMemory>
-    ensures { OnOk result ((c : plain.Child) → IsChild c child.entry → connects_wide_port c 0 (map connection_of connections.now) ≡ false → (p : plain.Paths) → ArePaths p paths.now →
+    ensures { OnOk result ((c : plain.Child) → IsChild c child.entry → connects_wide_port c 0 (map connection_of connections.now) ≡ false →
+        ConnectionsTakeRuns c 0 (map connection_of connections.now) → (p : plain.Paths) → ArePaths p paths.now →
         parts_of parts.new.items ≡ parts_of parts.old.items ++ connections_parts c p 0 (map connection_of connections.now)) }
 {
     'connections: for (position, connection) in connections.iter().enumerate() {

@@ -11,6 +11,7 @@ ghost use Rattle.v_width.specs.Targets.{whole_places};
 ghost use Rattle.v_elab.specs.Connections as plain;
 ghost use Rattle.v_elab.specs.Connections.{input_part, output_part};
 ghost use Rattle.elab_parts.specs.PartViews.{drives_of, part_of, places_of, value_of};
+ghost use Rattle.select_bits.specs.Runs.{TargetTakesRuns};
 ghost use Rattle.instance_checks.specs.Children.{IsChild};
 ghost use Rattle.elab_connections.specs.PathViews.{ArePaths};
 ghost use Rattle.elab_connections.specs.WidePorts.{is_wide};
@@ -108,7 +109,7 @@ fn name_alone(alloc: Global, place: Place, name: &Text) -> Result<Expr, NoMemory
     Ok(Expr::Name { place, name })
 }
 
-/// The actual of an output is assigned the port.
+/// The actual of an output is assigned the port; its selects take runs of bits.
 pub fn output_part<'u>(
     alloc: Global,
     child: Child<'_, '_>,
@@ -117,7 +118,7 @@ pub fn output_part<'u>(
     expr: &Expr,
     target: &Target,
 ) -> Result<Part<'u>, NoMemory>
-    ensures { IfOk result (λ part. (c : plain.Child) → IsChild c child.entry → (p : plain.Paths) → ArePaths p paths.now →
+    ensures { IfOk result (λ part. (c : plain.Child) → IsChild c child.entry → TargetTakesRuns c.outer_scope (views.target_of target.now) → (p : plain.Paths) → ArePaths p paths.now →
         part_of part ≡ output_part c p port.now (expression_of expr.now) (views.target_of target.now)) }
 {
     let alone = name_alone(alloc, place_of_expr(expr), port)?;

@@ -5,3 +5,4 @@ pub mod Wholes
 pub mod Gates
 pub mod Forms
 pub mod Narrow
+pub mod Runs

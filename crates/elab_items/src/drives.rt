@@ -4,6 +4,7 @@ ghost use Rattle.std.specs.Prelude.{◌≡◌, ◌++◌, IfOk, map};
 ghost use Rattle.v_tree.specs.Views.{select_of, target_of};
 ghost use Rattle.v_elab.specs.Connections.{drives_of};
 ghost use Rattle.elab_parts.specs.PartViews as views;
+ghost use Rattle.select_bits.specs.Runs.{TakesRun, TakeRuns, TargetTakesRuns};
 ghost use Rattle.elab_items.specs.Drives.{drive_of_select, drives_of_selects};
 
 use elab_parts::Drive;
@@ -29,7 +30,7 @@ fn drive_of(
     scope: &Scope<'_>,
     select: &Select,
 ) -> Result<Drive, NoMemory>
-    ensures { IfOk result (λ drive. views.drive_of drive ≡ drive_of_select path.now scope.now (select_of select.now)) }
+    ensures { IfOk result (λ drive. TakesRun scope.now (select_of select.now) → views.drive_of drive ≡ drive_of_select path.now scope.now (select_of select.now)) }
 {
     let signal = hierarchical(alloc, path, select.name.as_bytes())?;
     let bits = select_bits(alloc, scope, select)?;
@@ -47,7 +48,7 @@ fn drives_of_selects(
     scope: &Scope<'_>,
     selects: &[Select],
 ) -> Result<Seq<Drive>, NoMemory>
-    ensures { IfOk result (λ drives. views.drives_of drives ≡ drives_of_selects path.now scope.now (map select_of selects.now)) }
+    ensures { IfOk result (λ drives. TakeRuns scope.now (map select_of selects.now) → views.drives_of drives ≡ drives_of_selects path.now scope.now (map select_of selects.now)) }
 {
     let mut drives = Vec::new(alloc);
     'selects: for select in selects {
@@ -57,14 +58,14 @@ fn drives_of_selects(
     Ok(Seq::from_vec(drives))
 }
 
-/// What a node drives that assigns a target of an instance, from the left of the target.
+/// What a node drives that assigns a target of an instance, from the left of the target, each of whose selects takes a run of bits.
 pub fn drives_of(
     alloc: Global,
     path: &Text,
     scope: &Scope<'_>,
     target: &Target,
 ) -> Result<Seq<Drive>, NoMemory>
-    ensures { IfOk result (λ drives. views.drives_of drives ≡ drives_of path.now scope.now (target_of target.now)) }
+    ensures { IfOk result (λ drives. TargetTakesRuns scope.now (target_of target.now) → views.drives_of drives ≡ drives_of path.now scope.now (target_of target.now)) }
 {
     match target {
         Target::One(select) => {

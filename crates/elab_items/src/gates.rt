@@ -1,13 +1,15 @@
 // Gates.
 
 ghost use Rattle.std.specs.Prelude.{◌≡◌, ◌≤◌, ◌++◌, ◌+◌, ◌^◌, IfOk, OnOk, map};
-ghost use Rattle.v_tree.specs.Views.{expression_of, name_in, gate_of};
+ghost use Rattle.v_tree.specs.Views.{expression_of, target_of, name_in, gate_of};
 ghost use Rattle.v_elab.specs.Walk as plain;
 ghost use Rattle.v_elab.specs.Walk.{terminals_of, gate_name, gate_parts};
 ghost use Rattle.v_width.specs.SizedViews.{all_sized_of};
 ghost use Rattle.elab_parts.specs.PartViews.{part_of, parts_of};
 ghost use Rattle.elab_items.specs.Heres.{IsHere};
+ghost use Rattle.select_bits.specs.Runs.{TargetTakesRuns};
 ghost use Rattle.elab_items.specs.Gates.{gate_part};
+ghost use Rattle.elab_items.specs.Runs.{GatesTakeRuns};
 
 use crate::declared::push_part;
 use crate::drives::{drives_of, hierarchical};
@@ -64,6 +66,7 @@ fn gate_part<'u>(
     number: u128,
     gate: &Gate,
 ) -> Result<Part<'u>, NoMemory>
+    requires { TargetTakesRuns here.now.scope.value (target_of gate.now.output) }
     ensures { IfOk result (λ part. (h : plain.Here) → IsHere h here.now → part_of part ≡ gate_part h kind number (gate_of gate.now)) }
 {
     let own = gate_name(alloc, number, &gate.name)?;
@@ -89,7 +92,8 @@ pub fn push_gates<'u>(
     gates: &[Gate],
     parts: &mut Vec<Part<'u>>,
 ) -> Result<(), NoMemory>
-    requires { before + 2 ^ 65 ≤ 2 ^ 128 }
+    requires few { before + 2 ^ 65 ≤ 2 ^ 128 }
+    requires runs { GatesTakeRuns here.now.scope.value (map gate_of gates.now) }
     ensures { OnOk result ((h : plain.Here) → IsHere h here.now → parts_of parts.new.items ≡ parts_of parts.old.items ++ gate_parts h kind (before + 1) (map gate_of gates.now)) }
 {
     let first = before + 1;

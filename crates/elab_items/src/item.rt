@@ -9,6 +9,7 @@ ghost use Rattle.v_elab.specs.Walk.{declared_parts, item_parts, gates_in};
 ghost use Rattle.elab_parts.specs.PartViews.{parts_of};
 ghost use Rattle.elab_items.specs.Heres.{IsHere};
 ghost use Rattle.elab_items.specs.Narrow.{AreNarrow};
+ghost use Rattle.elab_items.specs.Runs.{ItemTakesRuns};
 
 use crate::blocks::process_part;
 use crate::declared::{push_names, push_nets, push_part, push_regs};
@@ -44,7 +45,7 @@ pub fn push_port_parts<'u>(
     Ok(())
 }
 
-/// Adds the parts of an item that is no instance and declares nothing wider than a vector may be. `gates` counts the gates of the module that stand before the item, fewer than 2^64 in each item.
+/// Adds the parts of an item that is no instance, declares nothing wider than a vector may be, and whose targets take runs of bits. `gates` counts the gates of the module that stand before the item, fewer than 2^64 in each item.
 pub fn push_item_parts<'u>(
     alloc: Global,
     here: &Here<'_, 'u>,
@@ -54,6 +55,7 @@ pub fn push_item_parts<'u>(
 ) -> Result<(), NoMemory>
     requires gates { gates + 2 ^ 65 ≤ 2 ^ 128 }
     requires narrow { AreNarrow here.now.scope.value (item_declarations (item_of item.now)) }
+    requires runs { ItemTakesRuns here.now.scope.value (item_of item.now) }
     ensures { OnOk result ((h : plain.Here) → IsHere h here.now → parts_of parts.new.items ≡ parts_of parts.old.items ++ item_parts h gates (item_of item.now)) }
 {
     match item {

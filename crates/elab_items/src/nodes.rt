@@ -9,6 +9,8 @@ ghost use Rattle.v_elab.specs.Walk.{assign_part, wire_parts};
 ghost use Rattle.elab_parts.specs.PartViews.{part_of, parts_of};
 ghost use Rattle.elab_items.specs.Heres.{IsHere};
 ghost use Rattle.elab_items.specs.Wholes.{whole_name};
+ghost use Rattle.select_bits.specs.Runs.{TargetTakesRuns};
+ghost use Rattle.elab_items.specs.Runs.{AssignmentsTakeRuns};
 
 use crate::declared::push_part;
 use crate::drives::drives_of;
@@ -27,6 +29,7 @@ fn assign_part<'u>(
     target: &Target,
     value: &Expr,
 ) -> Result<Part<'u>, NoMemory>
+    requires { TargetTakesRuns here.now.scope.value (target_of target.now) }
     ensures { IfOk result (λ part. (h : plain.Here) → IsHere h here.now → part_of part ≡ assign_part h (target_of target.now) (expression_of value.now)) }
 {
     let drives = drives_of(alloc, &here.path, &here.scope, target)?;
@@ -96,6 +99,7 @@ pub fn push_assignments<'u>(
     assignments: &[Assignment],
     parts: &mut Vec<Part<'u>>,
 ) -> Result<(), NoMemory>
+    requires { AssignmentsTakeRuns here.now.scope.value (map assignment_of assignments.now) }
     ensures { OnOk result ((h : plain.Here) → IsHere h here.now →
         parts_of parts.new.items ≡ parts_of parts.old.items ++ map (λ (a : SourceAssignment). assign_part h a.target a.value) (map assignment_of assignments.now)) }
 {

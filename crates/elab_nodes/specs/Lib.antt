@@ -3,4 +3,3 @@ pub mod Processes
 pub mod Inputs
 pub mod Nodes
 pub mod Texts
-pub mod TextLaws

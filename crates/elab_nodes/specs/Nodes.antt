@@ -8,7 +8,7 @@ use Rattle.v_elab.specs.Drivers.{WalkedNode}
 use Rattle.v_elab.specs.Flat.{NodeOutput, node_kind, node_with}
 use Rattle.flat_laws.specs.Sizes.WalkedNodes.{IsSizedKind}
 use Rattle.elab_nodes.specs.Bases.{IsBasis}
-use Rattle.elab_nodes.specs.Texts.{AreSizedBlocks}
+use Rattle.sized_walks.specs.Texts.{AreSizedFunctions}
 use Rattle.elab_nodes.specs.Inputs.{objects_written}
 use Rattle.elab_nodes.specs.declared.basis.Basis.{Basis}
 
@@ -26,4 +26,4 @@ pub record HasSizedNodes (basis : Basis) (nodes : List WalkedNode) : Type 0 wher
   pub objects : List HeldObject
   pub basis_is : IsBasis parts objects basis
   pub sized : AreSizedOver parts objects nodes
-  pub texts : AreSizedBlocks parts objects nodes
+  pub functions : AreSizedFunctions parts objects nodes

@@ -12,8 +12,9 @@ ghost use Rattle.v_elab.specs.Flat as plain;
 ghost use Rattle.elab_parts.specs.PartViews as walked;
 ghost use Rattle.elab_parts.specs.BehaviourViews.{function_of};
 ghost use Rattle.object_names.specs.OutputViews.{output_of};
+ghost use Rattle.object_expr.specs.Narrow.{IsNarrowTree, AreNarrowTrees};
 ghost use Rattle.elab_nodes.specs.Bases.{IsBasis};
-ghost use Rattle.elab_nodes.specs.Texts.{HasSizedBlock};
+ghost use Rattle.elab_nodes.specs.Texts.{HasSizedFunction};
 
 use crate::basis::Basis;
 use crate::process::meaning_of;
@@ -39,13 +40,14 @@ fn output_places(alloc: Global, outputs: &[NodeOutput]) -> Result<Seq<u32>, NoMe
     Ok(Seq::from_vec(places))
 }
 
-/// A continuous assignment.
+/// A continuous assignment; the bounds and counts of its value have 32 bits.
 fn assign_kind(
     alloc: Global,
     basis: Basis<'_>,
     outputs: &[NodeOutput],
     value: &ValueIn,
 ) -> Result<NodeKind, NoMemory>
+    requires { IsNarrowTree (walked.value_of value.now).value }
     ensures { IfOk result (λ kind. (parts : List Part) (objects : List HeldObject) → IsBasis parts objects basis.entry →
         node_kind_of kind ≡ plain.node_kind parts objects (map output_of outputs.now) (AssignFunction (walked.value_of value.now))) }
 {
@@ -58,7 +60,7 @@ fn assign_kind(
     Ok(NodeKind::Assign(expr, places))
 }
 
-/// A gate.
+/// A gate; the bounds and counts of its terminals have 32 bits.
 fn gate_kind(
     alloc: Global,
     basis: Basis<'_>,
@@ -66,6 +68,7 @@ fn gate_kind(
     path: &Text,
     terminals: &[SizedExpr],
 ) -> Result<NodeKind, NoMemory>
+    requires { AreNarrowTrees (all_sized_of terminals.now) }
     ensures { IfOk result (λ made. (parts : List Part) (objects : List HeldObject) (outputs : List plain.NodeOutput) → IsBasis parts objects basis.entry →
         node_kind_of made ≡ plain.node_kind parts objects outputs (GateFunction kind path.now (all_sized_of terminals.now))) }
 {
@@ -93,7 +96,7 @@ fn block_kind(
     basis: Basis<'_>,
     process: &WalkedProcess<'_>,
 ) -> Result<NodeKind, NoMemory>
-    requires { HasSizedBlock basis (BlockFunction (walked.process_of process.now)) }
+    requires { HasSizedFunction basis (BlockFunction (walked.process_of process.now)) }
     ensures { IfOk result (λ kind. (parts : List Part) (objects : List HeldObject) (outputs : List plain.NodeOutput) → IsBasis parts objects basis.entry →
         node_kind_of kind ≡ plain.node_kind parts objects outputs (BlockFunction (walked.process_of process.now))) }
 {
@@ -109,7 +112,7 @@ pub fn node_kind(
     outputs: &[NodeOutput],
     function: &NodeFunction<'_, '_>,
 ) -> Result<NodeKind, NoMemory>
-    requires { HasSizedBlock basis (function_of function.now) }
+    requires { HasSizedFunction basis (function_of function.now) }
     ensures { IfOk result (λ kind. (parts : List Part) (objects : List HeldObject) → IsBasis parts objects basis.entry →
         node_kind_of kind ≡ plain.node_kind parts objects (map output_of outputs.now) (function_of function.now)) }
 {

@@ -6,3 +6,4 @@ pub mod Named
 pub mod WideLaws
 pub mod NarrowNames
 pub mod Within
+pub mod RunLaws

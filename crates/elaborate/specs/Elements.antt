@@ -16,7 +16,7 @@ use Rattle.elab_objects.specs.declared.object.HeldObject as code
 use Rattle.object_names.specs.NameTables.{NameTables, AreNamesOf}
 use Rattle.flat_laws.specs.Made.{nodes_in, processes_in, objects_in}
 use Rattle.elab_nodes.specs.Nodes.{AreSizedOver}
-use Rattle.elab_nodes.specs.Texts.{AreSizedBlocks, AreSizedProcesses}
+use Rattle.sized_walks.specs.Texts.{AreSizedFunctions, AreSizedProcesses}
 use Rattle.elaborate.specs.ElabFaults.{refusal_of, IsFaultOf, IsElabFault, IsTold}
 use Rattle.elaborate.specs.declared.elements.Elements.{Elements}
 use Rattle.elaborate.specs.declared.elements.Made.{Made}
@@ -61,7 +61,7 @@ Holds parts nodes (Err fault) = IsTold (two_drivers (signals_of parts) nodes) (r
 -- nodes and processes are sized over the objects of some parts
 pub record AreSizedElements (parts : List Part) (objects : List HeldObject) (nodes : List WalkedNode) (processes : List WalkedProcess) : Type 0 where
   pub nodes_sized : AreSizedOver parts objects nodes
-  pub blocks_sized : AreSizedBlocks parts objects nodes
+  pub functions_sized : AreSizedFunctions parts objects nodes
   pub processes_sized : AreSizedProcesses parts objects processes
 
 -- those of some parts are

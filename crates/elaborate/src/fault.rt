@@ -24,7 +24,7 @@ pub enum ElabFault {
     #[error("too deep")]
     TooDeep(Place),
     #[error("two drivers of one bit")]
-    TwoDrivers(Place, u32),
+    TwoDrivers(Place, u64),
     #[error("no module of that name")]
     NoTop,
     #[error("too many")]

@@ -5,6 +5,7 @@ ghost use Rattle.v_design.specs.Plain.{expression_of, expressions_of};
 ghost use Rattle.v_names.specs.SizedTrees.{Holders, over_objects, all_over_objects};
 ghost use Rattle.v_width.specs.SizedViews.{sized_of, all_sized_of};
 ghost use Rattle.object_names.specs.Instances.{HoldNames};
+ghost use Rattle.object_expr.specs.Narrow.{IsNarrowTree, AreNarrowTrees};
 
 use object_names::InstanceNames;
 use std::alloc::Global;
@@ -12,23 +13,14 @@ use v_design::FlatExpr;
 use v_width::SizedExpr;
 use vf_base::NoMemory;
 
-/// A bound of a part or a count. What isn't refused has none over what 32 bits hold.
-pub(crate) fn narrow(number: u128) -> Result<u32, NoMemory>
-    ensures { IfOk result (λ narrow. narrow ≡ number) }
-{
-    match u32::try_from(number) {
-        Ok(narrow) => Ok(narrow),
-        Err(_) => Err(NoMemory),
-    }
-}
-
-/// A sized expression with the objects of its names.
+/// A sized expression with the objects of its names; its bounds and counts have 32 bits.
 #[cycle(over_objects)]
 pub fn over_objects(
     alloc: Global,
     names: InstanceNames<'_>,
     expr: &SizedExpr,
 ) -> Result<FlatExpr, NoMemory>
+    requires { IsNarrowTree (sized_of expr.now) }
     ensures { IfOk result (λ flat. (holders : Holders) → HoldNames holders names.entry → expression_of flat ≡ over_objects holders (sized_of expr.now)) }
 {
     match expr {
@@ -62,8 +54,8 @@ pub fn over_objects(
             to,
         } => {
             let vector = names.vector(alloc, name)?;
-            let from = narrow(*from)?;
-            let to = narrow(*to)?;
+            let from = *from as u32;
+            let to = *to as u32;
             Ok(FlatExpr::PartSelect {
                 width: size.width,
                 signed: size.signed,
@@ -137,7 +129,7 @@ pub fn over_objects(
             })
         }
         SizedExpr::Replication { size, count, parts } => {
-            let count = narrow(*count)?;
+            let count = *count as u32;
             let parts = all_over_objects(alloc, names, parts)?;
             Ok(FlatExpr::Replication {
                 width: size.width,
@@ -156,6 +148,7 @@ fn boxed(
     names: InstanceNames<'_>,
     expr: &SizedExpr,
 ) -> Result<Box<FlatExpr>, NoMemory>
+    requires { IsNarrowTree (sized_of expr.now) }
     ensures { IfOk result (λ flat. (holders : Holders) → HoldNames holders names.entry → expression_of flat.value ≡ over_objects holders (sized_of expr.now)) }
 {
     let flat = over_objects(alloc, names, expr)?;
@@ -169,6 +162,7 @@ pub fn all_over_objects(
     names: InstanceNames<'_>,
     exprs: &[SizedExpr],
 ) -> Result<Vec<FlatExpr>, NoMemory>
+    requires { AreNarrowTrees (all_sized_of exprs.now) }
     ensures { IfOk result (λ flats. (holders : Holders) → HoldNames holders names.entry → expressions_of flats.items ≡ all_over_objects holders (all_sized_of exprs.now)) }
 {
     let mut flats = Vec::new(alloc);

@@ -3,7 +3,8 @@
 //! `over_objects` puts for each name of a sized expression the vector or the memory that the instance's names give it. `expr_alone` and `expr_assigned` do
 //! so for an expression of the source text, sized alone or with the target that it is assigned to, and `targets_over` for a target, select by select.
 //! Contracts hold for any holders that the names hold (`HoldNames` of object_names), and are those of v_elab's `specs/Statements`; `targets_over` asks that the
-//! targets are sized over some of them.
+//! targets are sized over some of them. Bounds of parts and counts of replications have 32 bits (`specs/Narrow`), which is asked of each expression: what is refused
+//! has greater ones.
 #![tactic(auto)]
 
 mod expression;

@@ -10,8 +10,8 @@ ghost use Rattle.v_names.specs.Scopes.{looked_up, is_memory};
 ghost use Rattle.v_names.specs.Readings.{number_or, number_of_constant};
 ghost use Rattle.v_elab.specs.Statements.{Meaning, indexed_target, target_by_index, targets_over};
 ghost use Rattle.object_expr.specs.Meanings.{IsMeaning, select_over};
+ghost use Rattle.object_expr.specs.Narrow.{IsNarrow, IsNarrowBound, IsNarrowIndex, IsNarrowSelect, IsNarrowTarget};
 
-use crate::expression::narrow;
 use crate::value::expr_alone;
 use crate::variable::variable_named;
 use object_names::InstanceNames;
@@ -33,13 +33,14 @@ fn is_memory(scope: &Scope<'_>, name: &Text) -> bool
 
 /// A bound of a part, 0 where it is refused.
 fn bound_or_zero(alloc: Global, scope: &Scope<'_>, bound: &Expr) -> Result<u32, NoMemory>
+    requires { IsNarrowBound scope.now (views.expression_of bound.now) }
     ensures { IfOk result (λ number. number ≡ number_or 0 (number_of_constant scope.now (views.expression_of bound.now))) }
 {
     match number_of_constant(alloc, bound, scope)? {
         None => Ok(0),
         Some(number) => {
-            let number = narrow(number)?;
-            Ok(number)
+            let kept = number as u32;
+            Ok(kept)
         }
     }
 }
@@ -52,7 +53,8 @@ fn indexed_target(
     name: &Text,
     index: &Expr,
 ) -> Result<FlatTarget, NoMemory>
-    requires { (meaning : Meaning) × IsMeaning meaning scope.now names ×
+    requires narrow { IsNarrow scope.now (views.expression_of index.now) }
+    requires sized { (meaning : Meaning) × IsMeaning meaning scope.now names ×
         IsSizedTarget (indexed_target (is_memory (looked_up scope.now name.now)) meaning name.now (views.expression_of index.now)) }
     ensures { IfOk result (λ flat. (meaning : Meaning) → IsMeaning meaning scope.now names.entry →
         target_of flat ≡ indexed_target (is_memory (looked_up scope.now name.now)) meaning name.now (views.expression_of index.now)) }
@@ -74,7 +76,8 @@ fn select_over(
     names: InstanceNames<'_>,
     select: &Select,
 ) -> Result<FlatTarget, NoMemory>
-    requires { (meaning : Meaning) × IsMeaning meaning scope.now names × IsSizedTarget (select_over meaning (select_of select.now)) }
+    requires narrow { IsNarrowIndex scope.now (index_of select.now.index) }
+    requires sized { (meaning : Meaning) × IsMeaning meaning scope.now names × IsSizedTarget (select_over meaning (select_of select.now)) }
     ensures { IfOk result (λ flat. (meaning : Meaning) → IsMeaning meaning scope.now names.entry → target_of flat ≡ select_over meaning (select_of select.now)) }
 {
     let name = &select.name;
@@ -103,7 +106,8 @@ fn selects_over(
     names: InstanceNames<'_>,
     selects: &[Select],
 ) -> Result<Vec<FlatTarget>, NoMemory>
-    requires { (meaning : Meaning) × IsMeaning meaning scope.now names × AllHold IsSizedTarget (map (select_over meaning) (map select_of selects.now)) }
+    requires narrow { AllHold (IsNarrowSelect scope.now) (map select_of selects.now) }
+    requires sized { (meaning : Meaning) × IsMeaning meaning scope.now names × AllHold IsSizedTarget (map (select_over meaning) (map select_of selects.now)) }
     ensures { IfOk result (λ flats. (meaning : Meaning) → IsMeaning meaning scope.now names.entry → map target_of flats.items ≡ map (select_over meaning) (map select_of selects.now)) }
 {
     let mut flats = Vec::new(alloc);
@@ -114,14 +118,15 @@ fn selects_over(
     Ok(flats)
 }
 
-/// What a process writes: the variables and memories of the target's selects, from the left, which are sized.
+/// What a process writes: the variables and memories of the target's selects, from the left, which are sized; their bounds and counts have 32 bits.
 pub fn targets_over(
     alloc: Global,
     scope: &Scope<'_>,
     names: InstanceNames<'_>,
     target: &Target,
 ) -> Result<Vec<FlatTarget>, NoMemory>
-    requires { (meaning : Meaning) × IsMeaning meaning scope.now names × AllHold IsSizedTarget (targets_over meaning (views.target_of target.now)) }
+    requires narrow { IsNarrowTarget scope.now (views.target_of target.now) }
+    requires sized { (meaning : Meaning) × IsMeaning meaning scope.now names × AllHold IsSizedTarget (targets_over meaning (views.target_of target.now)) }
     ensures { IfOk result (λ flats. (meaning : Meaning) → IsMeaning meaning scope.now names.entry → map target_of flats.items ≡ targets_over meaning (views.target_of target.now)) }
 {
     match target {

@@ -1,25 +1,34 @@
--- What a statement of the text reads in the order of the text is sized alone, its targets are sized, and its delays end at 2 ^ 32 (IEEE 1364-2001, clause 9; clause 9.7 for delays; clause
--- 9.7.5 for what `@*` reads).
-use Rattle.std.specs.Prelude.{Option, Some, None, option_map}
+-- What a statement of the text reads in the order of the text is sized alone, its targets are sized, its delays, its bounds and its counts end at 2 ^ 32, and what it waits for is no wider
+-- than a vector may be (IEEE 1364-2001, clause 9; clause 9.7 for delays; clause 9.7.2 for events; clause 9.7.5 for what `@*` reads).
+use Rattle.std.specs.Prelude.{ℕ, ◌<◌, ◌≤◌, List, length, Option, Some, None, option_map}
 use Rattle.std.specs.declared.alloc.Global.{Global}
 use Rattle.std.specs.declared.boxed.Box.{Box}
 use Rattle.vf_base.specs.Lists.{AllHold}
-use Rattle.v_design.specs.Sized.{IsSizedAlone, IsSizedTarget, IsDelay, IsDelayIf}
+use Rattle.v_design.specs.Sized.{most_bits, IsSizedAlone, IsSizedTarget, IsDelay, IsDelayIf}
 use Rattle.v_tree.specs.Trees.{SourceExpression, SourceExpressions, no_parts, more_parts, SourceTarget, SourceStatement, NullStatement, BlockStatement, IfStatement, IfElseStatement, CaseStatement}
 use Rattle.v_tree.specs.Trees.{ForStatement, WhileStatement, RepeatStatement, ForeverStatement, WaitStatement, EventStatement, DelayStatement, BlockingStatement, NonblockingStatement, IgnoredTask}
-use Rattle.v_tree.specs.Trees.{FinishTask, SourceStatements, no_source_statements, more_source_statements, SourceCaseItems, no_source_items, labelled, otherwise}
+use Rattle.v_tree.specs.Trees.{FinishTask, SourceStatements, no_source_statements, more_source_statements, SourceCaseItems, no_source_items, labelled, otherwise, SourceSelect, SourceEntry}
+use Rattle.v_tree.specs.Trees.{SourceWaits, OnAnyRead, OnEntries}
 use Rattle.v_tree.specs.Views.{expressions_of, statement_of}
 use Rattle.v_tree.specs.declared.statement.Stmt.{Stmt}
 use Rattle.v_tree.specs.declared.statement.CaseItem.{CaseItem}
 use Rattle.v_tree.specs.declared.statement.CaseItem.TheVariants.{Labelled, Default}
+use Rattle.v_names.specs.Scopes.{Scope}
+use Rattle.v_width.specs.Targets.{places_of_select}
+use Rattle.select_bits.specs.Runs.{TakesRun}
 use Rattle.v_elab.specs.Statements as plain
 use Rattle.v_elab.specs.Statements.{alone_expression, targets_over, delay_number, delay_or_zero}
+use Rattle.object_expr.specs.Narrow.{IsNarrow, IsNarrowTarget}
 use Rattle.object_statements.specs.Meanings.{IsMeaning}
 use Rattle.object_statements.specs.declared.meaning.Meaning as code
 
 -- an expression by itself
 abbrev pub IsSizedRead : plain.Meaning → SourceExpression → Type 0
-IsSizedRead meaning e = IsSizedAlone (alone_expression meaning e)
+IsSizedRead meaning e = IsSizedAlone (alone_expression meaning e) × IsNarrow meaning.scope e
+
+-- the targets of an assignment
+abbrev pub AreSizedTargets : plain.Meaning → SourceTarget → Type 0
+AreSizedTargets meaning target = AllHold IsSizedTarget (targets_over meaning target) × IsNarrowTarget meaning.scope target
 
 abbrev pub AreSizedLabels : plain.Meaning → SourceExpressions → Type 0
 AreSizedLabels meaning no_parts = Unit {0}
@@ -27,7 +36,31 @@ AreSizedLabels meaning (more_parts label rest) = IsSizedRead meaning label × Ar
 
 -- the targets of an assignment, and its value
 abbrev pub IsSizedWrite : plain.Meaning → SourceTarget → SourceExpression → Type 0
-IsSizedWrite meaning target value = AllHold IsSizedTarget (targets_over meaning target) × IsSizedRead meaning value
+IsSizedWrite meaning target value = AreSizedTargets meaning target × IsSizedRead meaning value
+
+-- What is waited for
+
+-- a place of a vector, or none
+abbrev pub IsVectorPlace : Option ℕ → Type 0
+IsVectorPlace None = Unit {0}
+IsVectorPlace (Some place) = place < most_bits
+
+-- no more places than a vector may have
+abbrev pub AreFewPlaces : List (Option ℕ) → Type 0
+AreFewPlaces places = (length places ≤ most_bits) × AllHold IsVectorPlace places
+
+-- a select that takes a run of few places
+abbrev pub IsNarrowSelect : Scope → SourceSelect → Type 0
+IsNarrowSelect scope select = TakesRun scope select × AreFewPlaces (places_of_select scope select)
+
+abbrev pub AreNarrowEntries : Scope → List SourceEntry → Type 0
+AreNarrowEntries scope entries = AllHold (λ (e : SourceEntry). IsNarrowSelect scope e.select) entries
+
+abbrev pub AreNarrowWaits : Scope → SourceWaits → Type 0
+AreNarrowWaits scope OnAnyRead = Unit {0}
+AreNarrowWaits scope (OnEntries entries) = AreNarrowEntries scope entries
+
+-- Statements
 
 abbrev mutual
   pub IsSizedText : plain.Meaning → SourceStatement → Type 0
@@ -41,8 +74,8 @@ abbrev mutual
   IsSizedText meaning (WhileStatement place condition body) = IsSizedRead meaning condition × IsSizedText meaning body
   IsSizedText meaning (RepeatStatement place count body) = IsSizedRead meaning count × IsSizedText meaning body
   IsSizedText meaning (ForeverStatement place body) = IsSizedText meaning body
-  IsSizedText meaning (WaitStatement place condition body) = IsSizedText meaning body
-  IsSizedText meaning (EventStatement place waits body) = IsSizedText meaning body
+  IsSizedText meaning (WaitStatement place condition body) = IsNarrow meaning.scope condition × IsSizedText meaning body
+  IsSizedText meaning (EventStatement place waits body) = AreNarrowWaits meaning.scope waits × IsSizedText meaning body
   IsSizedText meaning (DelayStatement place delay body) = IsDelay (delay_number meaning delay) × IsSizedText meaning body
   IsSizedText meaning (BlockingStatement place target delay value) = IsDelayIf (option_map (delay_number meaning) delay) × IsSizedWrite meaning target value
   IsSizedText meaning (NonblockingStatement place target delay value) = IsDelay (delay_or_zero meaning delay) × IsSizedWrite meaning target value

@@ -8,7 +8,9 @@ ghost use Rattle.v_names.specs.SizedTrees.{over_objects};
 ghost use Rattle.v_names.specs.SizeViews.{size_of};
 ghost use Rattle.v_elab.specs.Statements.{Meaning as PlainMeaning, labels_size, items_size, label_expressions};
 ghost use Rattle.object_statements.specs.Meanings.{IsMeaning};
+ghost use Rattle.object_expr.specs.Narrow.{IsNarrow};
 ghost use Rattle.object_statements.specs.CaseItems.{item_size};
+ghost use Rattle.object_statements.specs.Texts.{HasMeaning, AreSizedLabels};
 
 use crate::meaning::Meaning;
 use expr_sizes::{larger_of, own_reading, read_expr};
@@ -96,13 +98,14 @@ pub fn case_size(
     Ok(size)
 }
 
-/// An expression at the size of a `case`.
+/// An expression at the size of a `case`; its bounds and counts have 32 bits.
 pub fn expr_at(
     alloc: Global,
     meaning: Meaning<'_, '_>,
     expr: &Expr,
     size: Option<Size>,
 ) -> Result<FlatExpr, NoMemory>
+    requires { HasMeaning meaning (λ (m : PlainMeaning). IsNarrow m.scope (source.expression_of expr.now)) }
     ensures { IfOk result (λ flat. (plain : PlainMeaning) → IsMeaning plain meaning.entry →
         expression_of flat ≡ over_objects plain.holders (tree_at (reading_of plain.scope (source.expression_of expr.now)) (option_map size_of size))) }
 {
@@ -119,6 +122,7 @@ pub fn labels_over(
     labels: &[Expr],
     size: Option<Size>,
 ) -> Result<Vec<FlatExpr>, NoMemory>
+    requires { HasMeaning meaning (λ (m : PlainMeaning). AreSizedLabels m (source.expressions_of labels.now)) }
     ensures { IfOk result (λ flats. (plain : PlainMeaning) → IsMeaning plain meaning.entry →
         expressions_of flats.items ≡ label_expressions plain (option_map size_of size) (source.expressions_of labels.now)) }
 {

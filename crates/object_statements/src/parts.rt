@@ -11,9 +11,9 @@ ghost use Rattle.v_names.specs.SizedTrees.{over_objects};
 ghost use Rattle.v_names.specs.SizeViews.{size_of};
 ghost use Rattle.v_elab.specs.Statements.{Meaning as PlainMeaning, targets_over, alone_expression, assigned_expression, delay_number, delay_or_zero, wait_entries};
 ghost use Rattle.object_statements.specs.Meanings.{IsMeaning};
-ghost use Rattle.object_statements.specs.Texts.{HasMeaning, IsSizedText};
-ghost use Rattle.vf_base.specs.Lists.{AllHold};
-ghost use Rattle.v_design.specs.Sized.{IsSizedTarget, IsDelay, IsDelayIf};
+ghost use Rattle.object_expr.specs.Narrow.{IsNarrow};
+ghost use Rattle.object_statements.specs.Texts.{HasMeaning, IsSizedRead, IsSizedWrite, IsSizedText, AreNarrowWaits};
+ghost use Rattle.v_design.specs.Sized.{IsDelay, IsDelayIf};
 
 use crate::cases::expr_at;
 use crate::delays::{delay_if, delay_or_zero, delay_over};
@@ -51,7 +51,7 @@ fn assigned_over(
     target: &Target,
     value: &Expr,
 ) -> Result<Assigned, NoMemory>
-    requires { HasMeaning meaning (λ (m : PlainMeaning). AllHold IsSizedTarget (targets_over m (source.target_of target.now))) }
+    requires { HasMeaning meaning (λ (m : PlainMeaning). IsSizedWrite m (source.target_of target.now) (source.expression_of value.now)) }
     ensures targets { IfOk result (λ assigned. (plain : PlainMeaning) → IsMeaning plain meaning.entry → map target_of assigned.targets.items ≡ targets_over plain (source.target_of target.now)) }
     ensures value { IfOk result (λ assigned. (plain : PlainMeaning) → IsMeaning plain meaning.entry →
         expression_of assigned.value ≡ assigned_expression plain (source.target_of target.now) (source.expression_of value.now)) }
@@ -70,6 +70,7 @@ pub fn if_over(
     first: Box<FlatStmt>,
     second: Box<FlatStmt>,
 ) -> Result<FlatStmt, NoMemory>
+    requires { HasMeaning meaning (λ (m : PlainMeaning). IsSizedRead m (source.expression_of condition.now)) }
     ensures { IfOk result (λ flat. (plain : PlainMeaning) → IsMeaning plain meaning.entry →
         statement_of flat ≡ If (source_place place) (alone_expression plain (source.expression_of condition.now)) (statement_of first.value) (statement_of second.value)) }
 {
@@ -93,6 +94,7 @@ pub fn case_over(
     items: Vec<FlatItem>,
     default: Box<FlatStmt>,
 ) -> Result<FlatStmt, NoMemory>
+    requires { HasMeaning meaning (λ (m : PlainMeaning). IsSizedRead m (source.expression_of value.now)) }
     ensures { IfOk result (λ flat. (plain : PlainMeaning) → IsMeaning plain meaning.entry →
         statement_of flat ≡ Case (source_place place) kind (over_objects plain.holders (tree_at (reading_of plain.scope (source.expression_of value.now)) (option_map size_of size)))
         (items_of items.items) (statement_of default.value)) }
@@ -115,7 +117,8 @@ pub fn for_over(
     head: ForHead<'_>,
     body: Box<FlatStmt>,
 ) -> Result<FlatStmt, NoMemory>
-    requires { HasMeaning meaning (λ (m : PlainMeaning). AllHold IsSizedTarget (targets_over m (source.target_of head.first_target.now)) × AllHold IsSizedTarget (targets_over m (source.target_of head.next_target.now))) }
+    requires { HasMeaning meaning (λ (m : PlainMeaning). IsSizedWrite m (source.target_of head.first_target.now) (source.expression_of head.first.now) ×
+        IsSizedRead m (source.expression_of head.condition.now) × IsSizedWrite m (source.target_of head.next_target.now) (source.expression_of head.next.now)) }
     ensures { IfOk result (λ flat. (plain : PlainMeaning) → IsMeaning plain meaning.entry → statement_of flat ≡
         For (source_place place) (targets_over plain (source.target_of head.entry.first_target.now))
         (assigned_expression plain (source.target_of head.entry.first_target.now) (source.expression_of head.entry.first.now))
@@ -145,6 +148,7 @@ pub fn while_over(
     condition: &Expr,
     body: Box<FlatStmt>,
 ) -> Result<FlatStmt, NoMemory>
+    requires { HasMeaning meaning (λ (m : PlainMeaning). IsSizedRead m (source.expression_of condition.now)) }
     ensures { IfOk result (λ flat. (plain : PlainMeaning) → IsMeaning plain meaning.entry →
         statement_of flat ≡ While (source_place place) (alone_expression plain (source.expression_of condition.now)) (statement_of body.value)) }
 {
@@ -164,6 +168,7 @@ pub fn repeat_over(
     count: &Expr,
     body: Box<FlatStmt>,
 ) -> Result<FlatStmt, NoMemory>
+    requires { HasMeaning meaning (λ (m : PlainMeaning). IsSizedRead m (source.expression_of count.now)) }
     ensures { IfOk result (λ flat. (plain : PlainMeaning) → IsMeaning plain meaning.entry →
         statement_of flat ≡ Repeat (source_place place) (alone_expression plain (source.expression_of count.now)) (statement_of body.value)) }
 {
@@ -179,6 +184,7 @@ pub fn wait_over(
     condition: &Expr,
     body: Box<FlatStmt>,
 ) -> Result<FlatStmt, NoMemory>
+    requires { HasMeaning meaning (λ (m : PlainMeaning). IsNarrow m.scope (source.expression_of condition.now)) }
     ensures { IfOk result (λ flat. (plain : PlainMeaning) → IsMeaning plain meaning.entry →
         statement_of flat ≡ Wait (source_place place) (alone_expression plain (source.expression_of condition.now)) (statement_of body.value)) }
 {
@@ -199,7 +205,7 @@ pub fn event_over(
     text: &Stmt,
     body: Box<FlatStmt>,
 ) -> Result<FlatStmt, NoMemory>
-    requires { HasMeaning meaning (λ (m : PlainMeaning). IsSizedText m (source.statement_of text.now)) }
+    requires { HasMeaning meaning (λ (m : PlainMeaning). AreNarrowWaits m.scope (source.waits_of waits.now) × IsSizedText m (source.statement_of text.now)) }
     ensures { IfOk result (λ flat. (plain : PlainMeaning) → IsMeaning plain meaning.entry →
         statement_of flat ≡ EventControl (source_place place) (wait_entries plain (source.waits_of waits.now) (source.statement_of text.now)) (statement_of body.value)) }
 {
@@ -236,7 +242,7 @@ pub fn blocking_over(
     delay: &Option<Expr>,
     value: &Expr,
 ) -> Result<FlatStmt, NoMemory>
-    requires { HasMeaning meaning (λ (m : PlainMeaning). IsDelayIf (option_map (delay_number m) (source.expression_in delay.now)) × AllHold IsSizedTarget (targets_over m (source.target_of target.now))) }
+    requires { HasMeaning meaning (λ (m : PlainMeaning). IsDelayIf (option_map (delay_number m) (source.expression_in delay.now)) × IsSizedWrite m (source.target_of target.now) (source.expression_of value.now)) }
     ensures { IfOk result (λ flat. (plain : PlainMeaning) → IsMeaning plain meaning.entry → statement_of flat ≡
         Blocking (source_place place) (targets_over plain (source.target_of target.now)) (option_map (delay_number plain) (source.expression_in delay.now))
         (assigned_expression plain (source.target_of target.now) (source.expression_of value.now))) }
@@ -260,7 +266,7 @@ pub fn nonblocking_over(
     delay: &Option<Expr>,
     value: &Expr,
 ) -> Result<FlatStmt, NoMemory>
-    requires { HasMeaning meaning (λ (m : PlainMeaning). IsDelay (delay_or_zero m (source.expression_in delay.now)) × AllHold IsSizedTarget (targets_over m (source.target_of target.now))) }
+    requires { HasMeaning meaning (λ (m : PlainMeaning). IsDelay (delay_or_zero m (source.expression_in delay.now)) × IsSizedWrite m (source.target_of target.now) (source.expression_of value.now)) }
     ensures { IfOk result (λ flat. (plain : PlainMeaning) → IsMeaning plain meaning.entry → statement_of flat ≡
         Nonblocking (source_place place) (targets_over plain (source.target_of target.now)) (delay_or_zero plain (source.expression_in delay.now))
         (assigned_expression plain (source.target_of target.now) (source.expression_of value.now))) }

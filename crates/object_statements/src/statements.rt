@@ -29,7 +29,7 @@ use vf_base::NoMemory;
 ///
 /// # Errors
 ///
-/// Want of memory; also where a number is over what a checked design has.
+/// Want of memory.
 #[cycle(statement)]
 pub fn statement_over(
     alloc: Global,

@@ -1,13 +1,14 @@
 // What a wait waits for.
 
-ghost use Rattle.std.specs.Prelude.{◌≡◌, ◌++◌, IfOk, flat_map, map};
+ghost use Rattle.std.specs.Prelude.{◌≡◌, ◌≤◌, ◌++◌, IfOk, flat_map, map};
 ghost use Rattle.v_design.specs.Plain.{entry_of};
+ghost use Rattle.v_design.specs.Expressions.{up_from};
 ghost use Rattle.v_tree.specs.Views as source;
 ghost use Rattle.elab_parts.specs.PartViews.{places_of};
 ghost use Rattle.v_elab.specs.Statements.{Meaning as PlainMeaning, entries_of_select, star_entries, wait_entries};
 ghost use Rattle.object_waits.specs.Selects.{run_places};
 ghost use Rattle.object_statements.specs.Meanings.{IsMeaning};
-ghost use Rattle.object_statements.specs.Texts.{HasMeaning, IsSizedText};
+ghost use Rattle.object_statements.specs.Texts.{HasMeaning, IsSizedText, AreFewPlaces, IsNarrowSelect, AreNarrowEntries, AreNarrowWaits};
 
 use crate::meaning::Meaning;
 use crate::reads::objects_read;
@@ -19,29 +20,30 @@ use v_design::WaitEntry;
 use v_tree::{Entry, Stmt, Waits};
 use vf_base::NoMemory;
 
-/// The bits of a select as those that an entry is on; a name has 128 bits at most where nothing is wrong with it.
-fn selected(bits: DrivenBits) -> Result<SelectedBits, NoMemory>
-    ensures { IfOk result (λ own. run_places own.outside_below own.low own.width own.outside_above ≡ places_of bits) }
+/// The first place of a run of bits, 0 where it has none.
+fn first_place(low: u64, width: u64) -> u64
+    ensures same { up_from result width ≡ up_from low width }
+    ensures none { width ≡ 0 → result ≡ 0 }
+    ensures some { 1 ≤ width → result ≡ low }
 {
-    let outside_below = in_8_bits(bits.outside_below)?;
-    let low = in_8_bits(bits.low)?;
-    let width = in_8_bits(bits.width)?;
-    let outside_above = in_8_bits(bits.outside_above)?;
-    Ok(SelectedBits {
+    if width == 0 { 0 } else { low }
+}
+
+/// The bits of a select as those that an entry is on.
+fn selected(bits: DrivenBits) -> SelectedBits
+    requires { AreFewPlaces (places_of bits) }
+    ensures { run_places result.outside_below result.low result.width result.outside_above ≡ places_of bits }
+{
+    let first = first_place(bits.low, bits.width);
+    let outside_below = bits.outside_below as u8;
+    let low = first as u8;
+    let width = bits.width as u8;
+    let outside_above = bits.outside_above as u8;
+    SelectedBits {
         outside_below,
         low,
         width,
         outside_above,
-    })
-}
-
-/// A number of bits in 8 bits.
-fn in_8_bits(number: u64) -> Result<u8, NoMemory>
-    ensures { IfOk result (λ short. short ≡ number) }
-{
-    match u8::try_from(number) {
-        Ok(short) => Ok(short),
-        Err(_) => Err(NoMemory),
     }
 }
 
@@ -51,11 +53,12 @@ fn entries_of(
     meaning: Meaning<'_, '_>,
     entry: &Entry,
 ) -> Result<Vec<WaitEntry>, NoMemory>
+    requires { HasMeaning meaning (λ (m : PlainMeaning). IsNarrowSelect m.scope (source.select_of entry.now.select)) }
     ensures { IfOk result (λ entries. (plain : PlainMeaning) → IsMeaning plain meaning.entry → map entry_of entries.items ≡ entries_of_select plain (source.entry_of entry.now)) }
 {
     let bits = select_bits(alloc, meaning.scope, &entry.select)?;
     let vector = meaning.names.vector(alloc, &entry.select.name)?;
-    let own = selected(bits)?;
+    let own = selected(bits);
     let entries = object_waits::entries_of_select(alloc, entry.edge, own, &vector)?;
     Ok(entries)
 }
@@ -76,6 +79,7 @@ fn listed_entries(
     meaning: Meaning<'_, '_>,
     listed: &[Entry],
 ) -> Result<Vec<WaitEntry>, NoMemory>
+    requires { HasMeaning meaning (λ (m : PlainMeaning). AreNarrowEntries m.scope (map source.entry_of listed.now)) }
     ensures { IfOk result (λ entries. (plain : PlainMeaning) → IsMeaning plain meaning.entry → map entry_of entries.items ≡ flat_map (entries_of_select plain) (map source.entry_of listed.now)) }
 {
     let mut entries = Vec::new(alloc);
@@ -107,7 +111,7 @@ pub fn wait_entries(
     waits: &Waits,
     body: &Stmt,
 ) -> Result<Vec<WaitEntry>, NoMemory>
-    requires { HasMeaning meaning (λ (m : PlainMeaning). IsSizedText m (source.statement_of body.now)) }
+    requires { HasMeaning meaning (λ (m : PlainMeaning). AreNarrowWaits m.scope (source.waits_of waits.now) × IsSizedText m (source.statement_of body.now)) }
     ensures { IfOk result (λ entries. (plain : PlainMeaning) → IsMeaning plain meaning.entry →
         map entry_of entries.items ≡ wait_entries plain (source.waits_of waits.now) (source.statement_of body.now)) }
 {

@@ -1,12 +1,14 @@
 // The bits of a select with constant indexes.
 
-ghost use Rattle.std.specs.Prelude.{◌≡◌, [], ◌∷◌, Bool, option_map, IfSome, IfOk};
+ghost use Rattle.std.specs.Prelude.{◌≡◌, [], ◌∷◌, option_map, IfOk};
 ghost use Rattle.v_design.specs.Expressions.{place_of_number};
 ghost use Rattle.v_design.specs.Sized.{span};
 ghost use Rattle.v_tree.specs.Views.{select_of};
+ghost use Rattle.v_names.specs.Scopes.{DeclaredRange};
 ghost use Rattle.v_names.specs.ScopeViews.{entry_of};
 ghost use Rattle.v_width.specs.Targets.{range_of_entry, whole_places, places_between, places_of_select};
 ghost use Rattle.elab_parts.specs.PartViews.{places_of};
+ghost use Rattle.select_bits.specs.Runs.{BoundsTakeRun, TakesRun};
 
 use crate::part::{Bounds, part_bits};
 use elab_parts::DrivenBits;
@@ -77,27 +79,27 @@ fn bit_at(place: Option<u32>) -> DrivenBits
 }
 
 /// The bits between two bounds that run as the declaration does, and none where a bound is refused.
-fn bits_between(bounds: Bounds, from: Option<u128>, to: Option<u128>) -> Option<DrivenBits>
-    ensures { IfSome result (λ bits. (ranged : Bool) → places_of bits ≡ places_between (record { ranged = ranged; high = bounds.high; low = bounds.low }) from to) }
+fn bits_between(bounds: Bounds, from: Option<u128>, to: Option<u128>) -> DrivenBits
+    ensures { (range : DeclaredRange) → bounds.high ≡ range.high → bounds.low ≡ range.low → BoundsTakeRun range from to → places_of result ≡ places_between range from to }
 {
     match (from, to) {
         (Some(from), Some(to)) => part_bits(bounds, from, to),
-        _ => Some(DrivenBits {
+        _ => DrivenBits {
             outside_below: 0,
             low: 0,
             width: 0,
             outside_above: 0,
-        }),
+        },
     }
 }
 
-/// The bits of its signal that a select takes. Only a select that is refused has more bits than fit or runs against its declaration.
+/// The bits of its signal that a select takes, if they are a run of them.
 pub fn select_bits(
     alloc: Global,
     scope: &Scope<'_>,
     select: &Select,
 ) -> Result<DrivenBits, NoMemory>
-    ensures { IfOk result (λ bits. places_of bits ≡ places_of_select scope.now (select_of select.now)) }
+    ensures { IfOk result (λ bits. TakesRun scope.now (select_of select.now) → places_of bits ≡ places_of_select scope.now (select_of select.now)) }
 {
     let bounds = bounds_of(&scope.lookup(&select.name));
     match &select.index {
@@ -110,10 +112,7 @@ pub fn select_bits(
         Index::Part(from, to) => {
             let from = number_of_constant(alloc, from, scope)?;
             let to = number_of_constant(alloc, to, scope)?;
-            match bits_between(bounds, from, to) {
-                Some(bits) => Ok(bits),
-                None => Err(NoMemory),
-            }
+            Ok(bits_between(bounds, from, to))
         }
     }
 }

@@ -116,11 +116,11 @@ fn parse_line(alloc: Global, fault: ParseFault) -> Result<Vec<u8>, NoMemory>
 }
 
 /// The line of a bit with two drivers.
-fn two_drivers(alloc: Global, place: Place, bit: u32) -> Result<Vec<u8>, NoMemory>
+fn two_drivers(alloc: Global, place: Place, bit: u64) -> Result<Vec<u8>, NoMemory>
     ensures { IfOk result (λ text. text.items ≡ at_place place (codes ": two drivers of bit ") ++ decimal bit) }
 {
     let mut text = at_place(alloc, place, b": two drivers of bit ")?;
-    append_number(alloc, &mut text, u64::from(bit))?;
+    append_number(alloc, &mut text, bit)?;
     Ok(text)
 }
 

@@ -8,7 +8,8 @@ use Rattle.v_elab.specs.Walk.{Here, gate_parts}
 use Rattle.name_checks.specs.Rows.{drop-step}
 use Rattle.elab_parts.specs.PartViews.{parts_of}
 use Rattle.elab_items.specs.Gates.{gate_part}
-use Rattle.elab_items.proofs.Rows.{list-done}
+use Rattle.select_bits.specs.Runs.{TargetTakesRuns}
+use Rattle.elab_items.proofs.Rows.{list-done, holds-of}
 use Rattle.elab_items.proofs.gates.push_gates.Goals as goal
 
 gates-more : (h : Here) (kind : GateKind) (number next : ℕ) (gate : SourceGate) (rest : List SourceGate) (old new whole : List Part) → next ≡ number + 1 →
@@ -36,3 +37,8 @@ gates-preserved c h i =
 pub returns : goal.returns
 returns c h i = list-done (λ (gs : List Gate). gate_parts h c.args.kind ((c.args.before + 1) + c.gates.place) (map gate_of gs)) c.args.gates.now c.gates.place
     (parts_of c.gates.parts.items) _ refl c.gates-test.false (c.gates.invariant h i)
+
+pub gate_part-requires : goal.gate_part-requires
+gate_part-requires c =
+    holds-of (λ (g : SourceGate). TargetTakesRuns c.args.here.now.scope.value g.output) gate_of c.args.gates.now c.gates.place c.index-gates-place.result c.requires.runs c.gates-test.true
+    c.index-gates-place.is

@@ -1,10 +1,11 @@
 use Rattle.std.proofs.Common.{◌≡◌, Bool, true, List, ◌++◌, map, flat_map, ap, sym, subst, ◌∙◌, append_assoc}
 use Rattle.vf_base.specs.Lists.{AllHold}
 use Rattle.v_tree.specs.Trees.{SourceAssignment, SourceWire, SourceReg}
-use Rattle.v_tree.specs.Views.{range_in, wire_of, reg_of, assignment_of, item_of}
+use Rattle.v_tree.specs.Views.{range_in, wire_of, reg_of, assignment_of, gate_of, item_of}
 use Rattle.v_tree.specs.declared.item.Wire.{Wire}
 use Rattle.v_tree.specs.declared.item.Reg.{Reg}
 use Rattle.v_tree.specs.declared.item.Assignment.{Assignment}
+use Rattle.v_tree.specs.declared.item.Gate.{Gate}
 use Rattle.v_tree.specs.declared.item.Item.{Item}
 use Rattle.v_names.specs.Names.{Declaration, Bounds, IntegerBounds, names_declared, bounds_of, reg_declarations, item_declarations}
 use Rattle.v_names.specs.Scopes.{Scope}
@@ -13,6 +14,7 @@ use Rattle.v_elab.specs.Walk.{parts_of_own, assign_part, wire_parts, item_parts}
 use Rattle.elab_parts.specs.PartViews.{parts_of}
 use Rattle.module_scope.specs.Declarations.{wire_declarations}
 use Rattle.elab_items.specs.Narrow.{IsNarrow, AreNarrow}
+use Rattle.elab_items.specs.Runs.{AssignmentsTakeRuns, GatesTakeRuns, ItemTakesRuns}
 use Rattle.elab_items.proofs.Rows.{holds-before}
 use Rattle.elab_items.proofs.item.push_item_parts.Goals as goal
 
@@ -85,3 +87,16 @@ push_regs-requires-in-Integer c =
     let scope : Scope = c.args.here.now.scope.value in
     subst (λ (rs : List Reg). AllHold (λ (r : SourceReg). IsNarrow scope r.name) (map reg_of rs)) (sym c.as_slice-in-Integer.ensures)
     (narrow-regs scope true IntegerBounds (map reg_of c.in-Integer.regs) (narrow-as scope _ _ c.in-Integer.is c.requires.narrow))
+
+runs-as : (scope : Scope) (one other : Item) → one ≡ other → ItemTakesRuns scope (item_of one) → ItemTakesRuns scope (item_of other)
+runs-as scope one other same h = subst (λ (item : Item). ItemTakesRuns scope (item_of item)) same h
+
+pub push_assignments-requires : goal.push_assignments-requires
+push_assignments-requires c =
+    let scope : Scope = c.args.here.now.scope.value in
+    subst (λ (all : List Assignment). AssignmentsTakeRuns scope (map assignment_of all)) (sym c.as_slice-in-Assign.ensures) (runs-as scope _ _ c.in-Assign.is c.requires.runs)
+
+pub push_gates-requires-clause-runs : goal.push_gates-requires-clause-runs
+push_gates-requires-clause-runs c =
+    let scope : Scope = c.args.here.now.scope.value in
+    subst (λ (all : List Gate). GatesTakeRuns scope (map gate_of all)) (sym c.as_slice-in-Gate.ensures) (runs-as scope _ _ c.in-Gate.is c.requires.runs)

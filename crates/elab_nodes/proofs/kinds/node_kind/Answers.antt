@@ -2,7 +2,7 @@ use Rattle.std.proofs.Common.{map, ap, sym, subst, ◌∙◌}
 use Rattle.v_elab.specs.Flat as plain
 use Rattle.elab_parts.specs.BehaviourViews.{function_of}
 use Rattle.object_names.specs.OutputViews.{output_of}
-use Rattle.elab_nodes.specs.Texts.{IsSizedBlock}
+use Rattle.sized_walks.specs.Texts.{IsSizedFunction}
 use Rattle.elab_nodes.proofs.kinds.node_kind.Goals as goal
 
 pub returns-in_ok-kind-in-Gate : goal.returns-in_ok-kind-in-Gate
@@ -20,5 +20,11 @@ block_kind-requires c =
       parts = over.parts;
       objects = over.objects;
       basis_is = over.basis_is;
-      sized = subst (IsSizedBlock over.parts over.objects) (ap function_of c.in-Block.is) over.sized;
+      sized = subst (IsSizedFunction over.parts over.objects) (ap function_of c.in-Block.is) over.sized;
     }
+
+pub assign_kind-requires : goal.assign_kind-requires
+assign_kind-requires c = let over = c.requires in subst (IsSizedFunction over.parts over.objects) (ap function_of c.in-Assign.is) over.sized
+
+pub gate_kind-requires : goal.gate_kind-requires
+gate_kind-requires c = let over = c.requires in subst (IsSizedFunction over.parts over.objects) (ap function_of c.in-Gate.is) over.sized

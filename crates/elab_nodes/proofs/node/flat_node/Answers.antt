@@ -10,4 +10,4 @@ node_inputs-requires c =
 
 pub node_kind-requires : goal.node_kind-requires
 node_kind-requires c =
-    let over = c.requires.sized in record { parts = over.parts; objects = over.objects; basis_is = over.basis_is; sized = over.texts.0 }
+    let over = c.requires.sized in record { parts = over.parts; objects = over.objects; basis_is = over.basis_is; sized = over.functions.0 }

@@ -8,7 +8,7 @@ use Rattle.object_reads.specs.SizedReads.{holds-at}
 use Rattle.flat_laws.specs.Sizes.WalkedNodes.{IsSizedKind}
 use Rattle.v_elab.specs.Drivers.{WalkedNode}
 use Rattle.elab_nodes.specs.Nodes.{node_by}
-use Rattle.elab_nodes.specs.Texts.{IsSizedBlock}
+use Rattle.sized_walks.specs.Texts.{IsSizedFunction}
 use Rattle.elab_nodes.proofs.Turns.{push-turn, here}
 use Rattle.elab_nodes.proofs.node.walked_nodes.Goals as goal
 
@@ -24,8 +24,8 @@ flat_node-requires-clause-sized c =
             (over.sized outputs) c.nodes-test.true c.index-nodes-number.is,
         tt,
       );
-      texts = (
-        holds-at (λ (node : WalkedNode). IsSizedBlock over.parts over.objects node.function) walked.node_of c.args.nodes.now c.nodes.number c.index-nodes-number.result over.texts c.nodes-test.true
+      functions = (
+        holds-at (λ (node : WalkedNode). IsSizedFunction over.parts over.objects node.function) walked.node_of c.args.nodes.now c.nodes.number c.index-nodes-number.result over.functions c.nodes-test.true
             c.index-nodes-number.is,
         tt,
       );

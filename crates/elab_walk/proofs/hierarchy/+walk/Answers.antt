@@ -26,15 +26,17 @@ use Rattle.elab_items.specs.Heres.{IsHere}
 use Rattle.elab_connections.specs.PathViews.{ArePaths}
 use Rattle.elab_connections.specs.NodeCounts.{CountsNodes}
 use Rattle.elab_connections.specs.WidePorts.{connects_wide_port}
+use Rattle.elab_connections.specs.OutputRuns.{ConnectionsTakeRuns}
 use Rattle.flat_laws.specs.Hierarchy.Visited.{instance-depth}
 use Rattle.elab_walk.specs.WalkFaults.{IsWalkFault}
 use Rattle.elab_walk.specs.Leaves.{parts_in, Grows}
 use Rattle.name_checks.specs.Rows.{drop-past}
-use Rattle.elab_walk.proofs.Turns.{goes-end, goes-first, goes-turn, goes-wrong, turn-of, then-clean, clean-of, wrong-of, grows-counted, leaves-last, leaves-same, leaves-memory}
+use Rattle.elab_walk.proofs.Turns.{fault-of, fault-goes, goes-end, goes-first, goes-turn, goes-wrong, turn-of, then-clean, clean-of, wrong-of, grows-counted, leaves-last, leaves-same, leaves-memory}
 use Rattle.elab_walk.proofs.WideLaws.{wide-leaves, never-wide, instance-clean, faults-none}
 use Rattle.elab_walk.proofs.ReadLaws.{instance-few, instance-over, reads-wrong}
 use Rattle.elab_walk.proofs.Steps.{enter-is, enter-wrong, heads-split, item-plain, item-known, pushed-instance, behind_parameters}
 use Rattle.elab_walk.proofs.Within.{holds-of, module-within}
+use Rattle.elab_walk.proofs.RunLaws.{instance-runs}
 use Rattle.elab_walk.specs.Within.{IsWithin, AreWithin}
 use Rattle.elab_walk.proofs.hierarchy.+walk.Goals as goal
 
@@ -76,11 +78,15 @@ walk_instance-returns t c h m given is inner faultless before counted =
     let walker : Walker = walked h.modules h.mode c.args.levels in
     let i : SourceInstance = instance_of c.args.instance.now in
     let paths : ArePaths (paths_of h i) c.in_ok-paths.paths = c.in_ok-paths.ensures h is.here_is.path_is in
+    let runs : ConnectionsTakeRuns (child_of h m given) 0 (map connection_of c.as_slice-connections.result.now) =
+    subst (λ (cs : List Connection). ConnectionsTakeRuns (child_of h m given) 0 (map connection_of cs)) (sym c.as_slice-connections.ensures)
+    (instance-runs (child_of h m given) (h.instance.depth + 1) i faultless) in
     let more : List Part = InstancePart ∷ connections_parts (child_of h m given) (paths_of h i) 0 i.connections in
     let pushed : parts_in (record c.args.walked.now { parts = c.push_connection_parts.new.parts }) ≡ parts_in c.args.walked.now ++ more =
     pushed-instance c.args.walked.now.parts.items c.push.new.self.items (parts_in (record c.args.walked.now { parts = c.push_connection_parts.new.parts }))
     (connections_parts (child_of h m given) (paths_of h i) 0 i.connections) c.in_ok-push.ensures.items
-    (c.in_ok-push_connection_parts.ensures (child_of h m given) inner.child_is (sym (c.connects_wide_port.ensures (child_of h m given) inner.child_is) ∙ c.if-connects_wide_port.false) (paths_of h i) paths
+    (c.in_ok-push_connection_parts.ensures (child_of h m given) inner.child_is (sym (c.connects_wide_port.ensures (child_of h m given) inner.child_is) ∙ c.if-connects_wide_port.false)
+    runs (paths_of h i) paths
     ∙ ap (λ (cs : List Connection). parts_in (record c.args.walked.now { parts = c.push.new.self }) ++ connections_parts (child_of h m given) (paths_of h i) 0 (map connection_of cs))
     c.as_slice-connections.ensures) in
     let at : c.len-start.result ≡ length (parts_in c.args.walked.now) = omega (arith, length-map c.args.walked.now.parts.items part_of) in
@@ -94,6 +100,31 @@ walk_instance-returns t c h m given is inner faultless before counted =
     (λ all k. grows-counted all more c.args.walked.now (record c.args.walked.now { parts = c.push_connection_parts.new.parts }) c.count_from.new.self pushed
     (c.in_ok-count_from.ensures all (parts_in c.args.walked.now) more k pushed at))
     (goes-first before (walked_instance walker h m given i) c.args.walked.now counted))
+
+pub walk_instance-returns-in_err-count_from : goal.walk_instance-returns-in_err-count_from
+walk_instance-returns-in_err-count_from t c h m given is inner faultless before counted =
+    let p = err_from_is_err_and c.from_residual-in_err-count_from.result c.from_residual-in_err-count_from.ensures.1 in
+    let walker : Walker = walked h.modules h.mode c.args.levels in
+    let i : SourceInstance = instance_of c.args.instance.now in
+    let paths : ArePaths (paths_of h i) c.in_ok-paths.paths = c.in_ok-paths.ensures h is.here_is.path_is in
+    let runs : ConnectionsTakeRuns (child_of h m given) 0 (map connection_of c.as_slice-connections.result.now) =
+    subst (λ (cs : List Connection). ConnectionsTakeRuns (child_of h m given) 0 (map connection_of cs)) (sym c.as_slice-connections.ensures)
+    (instance-runs (child_of h m given) (h.instance.depth + 1) i faultless) in
+    let more : List Part = InstancePart ∷ connections_parts (child_of h m given) (paths_of h i) 0 i.connections in
+    let pushed : parts_in (record c.args.walked.now { parts = c.push_connection_parts.new.parts }) ≡ parts_in c.args.walked.now ++ more =
+    pushed-instance c.args.walked.now.parts.items c.push.new.self.items (parts_in (record c.args.walked.now { parts = c.push_connection_parts.new.parts }))
+    (connections_parts (child_of h m given) (paths_of h i) 0 i.connections) c.in_ok-push.ensures.items
+    (c.in_ok-push_connection_parts.ensures (child_of h m given) inner.child_is (sym (c.connects_wide_port.ensures (child_of h m given) inner.child_is) ∙ c.if-connects_wide_port.false)
+    runs (paths_of h i) paths
+    ∙ ap (λ (cs : List Connection). parts_in (record c.args.walked.now { parts = c.push.new.self }) ++ connections_parts (child_of h m given) (paths_of h i) 0 (map connection_of cs))
+    c.as_slice-connections.ensures) in
+    let at : c.len-start.result ≡ length (parts_in c.args.walked.now) = omega (arith, length-map c.args.walked.now.parts.items part_of) in
+    let few : some_reads_over h.scope (connections_reads (child_of h m given) 0 i.connections) ≡ false =
+    ap (λ (cs : List Connection). some_reads_over h.scope (connections_reads (child_of h m given) 0 (map connection_of cs))) (sym c.as_slice-connections.ensures)
+    ∙ sym (c.in_ok-connection_reads_over.ensures (child_of h m given) inner.child_is) ∙ c.in_ok-refuse_reads.ensures in
+    rw (p.1, p.2)
+    (fault-of (then_go (added before more) (walker (entered h m given i))) (walked_instance walker h m given i before) _ (sym (instance-few walker h m given i before few))
+    (fault-goes (added before more) (walker (entered h m given i)) _ (c.in_err-count_from.ensures before (parts_in c.args.walked.now) more counted pushed at)))
 
 pub walk_instance-returns-then-connects_wide_port : goal.walk_instance-returns-then-connects_wide_port
 walk_instance-returns-then-connects_wide_port t c h m given is inner faultless before counted =

@@ -3,13 +3,16 @@ use Rattle.std.proofs.lemmas.List.{length-map}
 use Rattle.std.proofs.lemmas.Result.{err_from_is_err_and}
 use Rattle.v_tree.specs.Trees.{SourceItem}
 use Rattle.v_tree.specs.Views.{item_of}
+use Rattle.v_names.specs.Scopes.{Scope}
 use Rattle.v_elab.specs.Parts.{Part}
 use Rattle.v_elab.specs.Walk.{item_parts, checked_item, added}
 use Rattle.elab_parts.specs.PartViews.{part_of}
 use Rattle.elab_walk.specs.Leaves.{parts_in, Grows}
 use Rattle.elab_walk.proofs.Turns.{Answer, fault-of, fault-goes, grows-counted}
 use Rattle.elab_walk.proofs.ReadLaws.{item-added}
+use Rattle.flat_laws.specs.Hierarchy.Processes.{items-named}
 use Rattle.elab_walk.proofs.NarrowNames.{item-narrow}
+use Rattle.elab_walk.proofs.RunLaws.{item-runs}
 use Rattle.elab_walk.proofs.items.walk_plain_item.Goals as goal
 
 pub returns-in_err-refuse_item : goal.returns-in_err-refuse_item
@@ -39,3 +42,10 @@ returns c h is before counted =
 pub push_item_parts-requires-clause-narrow : goal.push_item_parts-requires-clause-narrow
 push_item_parts-requires-clause-narrow c =
     let w = c.requires.within in item-narrow w.inner w.given c.args.site.here.now.scope.value w.named (item_of c.args.item.now) w.of c.in_ok-refuse_item.ensures.clean
+
+pub push_item_parts-requires-clause-runs : goal.push_item_parts-requires-clause-runs
+push_item_parts-requires-clause-runs c =
+    let w = c.requires.within in
+    let scope : Scope = c.args.site.here.now.scope.value in
+    let item : SourceItem = item_of c.args.item.now in
+    item-runs scope item (items-named w.inner w.given scope w.named item w.of) c.in_ok-refuse_item.ensures.clean

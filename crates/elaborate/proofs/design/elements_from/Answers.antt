@@ -9,7 +9,7 @@ use Rattle.elab_parts.specs.PartViews.{parts_of}
 use Rattle.elab_parts.specs.declared.part.Part.{Part}
 use Rattle.flat_laws.specs.Hierarchy.Levelled.{named-module}
 use Rattle.flat_laws.specs.Sizes.WalkedNodes.{named-nodes}
-use Rattle.elab_nodes.specs.TextLaws.{named-blocks, named-processes}
+use Rattle.sized_walks.specs.TextLaws.{named-functions, named-processes}
 use Rattle.elaborate.specs.ElabFaults.{refusal_of, IsRefusal}
 use Rattle.elaborate.specs.Elements.{AreSizedParts}
 use Rattle.elaborate.specs.ElementLaws.{top-over, go-refused}
@@ -25,7 +25,7 @@ elements_of-requires c =
     subst (λ (parts : List Part). AreSizedParts (parts_of parts)) (sym c.deref.ensures.value)
     (record {
       nodes_sized = named-nodes modules c.requires.items c.requires.names c.args.mode (module_of c.in-Some.top.now) top.0 top.1 parts walk;
-      blocks_sized = named-blocks modules c.requires.items c.requires.names c.args.mode (module_of c.in-Some.top.now) top.0 top.1 parts walk;
+      functions_sized = named-functions modules c.requires.items c.requires.names c.args.mode (module_of c.in-Some.top.now) top.0 top.1 parts walk;
       processes_sized = named-processes modules c.requires.items c.requires.names c.args.mode (module_of c.in-Some.top.now) top.0 top.1 parts walk;
     })
 

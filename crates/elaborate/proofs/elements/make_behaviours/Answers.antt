@@ -8,7 +8,7 @@ walked_nodes-requires-clause-sized c =
       objects = over.objects;
       basis_is = record { names_are = over.names_are; widths_are = over.widths_are };
       sized = over.sized.nodes_sized;
-      texts = over.sized.blocks_sized;
+      functions = over.sized.functions_sized;
     }
 
 pub flat_processes-requires : goal.flat_processes-requires

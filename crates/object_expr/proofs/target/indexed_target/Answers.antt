@@ -7,7 +7,7 @@ use Rattle.object_expr.proofs.target.indexed_target.Goals as goal
 
 pub variable_named-requires : goal.variable_named-requires
 variable_named-requires c =
-    let r = c.requires in
+    let r = c.requires.sized in
     let name = c.args.name.now in
     let index = expression_of c.args.index.now in
     let none : is_memory (looked_up c.args.scope.now name) ≡ false = sym c.is_memory.ensures ∙ c.if-is_memory.false in

@@ -6,6 +6,7 @@ use Rattle.v_tree.specs.Views as source
 use Rattle.v_tree.specs.declared.expression.Expr.{Expr}
 use Rattle.v_names.specs.SizeViews.{size_of}
 use Rattle.v_elab.specs.Statements.{label_expressions}
+use Rattle.object_statements.proofs.Levels.{label-at}
 use Rattle.object_statements.proofs.Rows.{then_expressions, expressions-push, expressions-end, made-step, made-end}
 use Rattle.object_statements.proofs.cases.labels_over.Goals as goal
 
@@ -25,3 +26,9 @@ returns c plain are =
     ∙ made-end (λ (xs : List Expr). then_expressions (expressions_of c.labels.flats.items) (label_expressions plain (option_map size_of c.args.size) (source.expressions_of xs))) c.args.labels.now
     c.labels.label-index _
     c.labels-test.false (c.labels.invariant plain are)
+
+pub expr_at-requires : goal.expr_at-requires
+expr_at-requires c =
+    let r = c.requires in
+    let read = label-at r.0 c.args.labels.now c.labels.label-index c.label-item.result r.2 c.labels-test.true c.label-item.is in
+    (r.0, r.1, read.1)

@@ -20,7 +20,7 @@ returns c plain are =
 pub add_indexes-requires : goal.add_indexes-requires
 add_indexes-requires c =
     let r = c.requires in
-    subst (AllHold IsSizedTarget) (sym (ap (λ (ts : List FlatTarget). map target_of ts) c.deref.ensures.value ∙ c.in_ok-targets.ensures r.0 r.1)) r.2.0
+    subst (AllHold IsSizedTarget) (sym (ap (λ (ts : List FlatTarget). map target_of ts) c.deref.ensures.value ∙ c.in_ok-targets.ensures r.0 r.1)) r.2.0.0
 
 pub targets_over-requires : goal.targets_over-requires
 targets_over-requires c = let r = c.requires in (r.0, r.1, r.2.0)

@@ -15,7 +15,7 @@ use Rattle.v_elab.specs.Statements.{statement_over, statements_over, items_size,
 use Rattle.object_statements.specs.CaseItems.{item_over, then_items}
 use Rattle.object_statements.proofs.Rows.{then_statements, statements-push, statements-end, items-push, items-end, made-step, made-end}
 use Rattle.object_statements.proofs.Items.{item-first, case-over}
-use Rattle.object_statements.specs.Texts.{IsSizedText, AreSizedTexts, AreSizedItemTexts, IsSizedItemText}
+use Rattle.object_statements.specs.Texts.{AreSizedLabels, IsSizedText, AreSizedTexts, AreSizedItemTexts, IsSizedItemText}
 use Rattle.object_statements.proofs.Levels.{levels_of, levels_of_all, levels_of_items, levels_of_item, statement-levels, statement-at, item-levels, item-at, items-of}
 use Rattle.object_statements.proofs.statements.+statement.Goals as goal
 
@@ -127,3 +127,9 @@ statement_over-default_over-requires t c =
     let level : levels_of (source.statement_of c.args.statement.now) ≡ levels_of_items (source.case_items_of c.in-Case.items.items) + 1 = ap levels_of same in
     let there = ap (λ (is : List CaseItem). levels_of_items (source.case_items_of is)) c.deref-in-Case-3.ensures.value in
     (omega (arith, level, there, c.decreases), (r.0, r.1, subst (λ (is : List CaseItem). AreSizedItemTexts r.0 (source.case_items_of is)) (sym c.deref-in-Case-3.ensures.value) sized))
+
+pub push_item-labels_over-requires : goal.push_item-labels_over-requires
+push_item-labels_over-requires t c =
+    let r = c.requires in
+    let sized = subst (IsSizedItemText r.0) c.in-Labelled.is r.2 in
+    (r.0, r.1, subst (λ (ls : List Expr). AreSizedLabels r.0 (source.expressions_of ls)) (sym c.as_slice.ensures) sized.0)

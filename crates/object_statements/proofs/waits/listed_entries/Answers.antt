@@ -6,6 +6,9 @@ use Rattle.v_tree.specs.Views as source
 use Rattle.v_tree.specs.declared.statement.Entry.{Entry}
 use Rattle.v_elab.specs.Statements.{entries_of_select}
 use Rattle.name_checks.specs.Rows.{list-more}
+use Rattle.v_tree.specs.Trees.{SourceEntry}
+use Rattle.object_reads.specs.SizedReads.{holds-at}
+use Rattle.object_statements.specs.Texts.{IsNarrowSelect}
 use Rattle.object_statements.proofs.waits.listed_entries.Goals as goal
 
 pub listed-preserved : goal.listed-preserved
@@ -17,3 +20,8 @@ listed-preserved c plain are =
     ∙ ap (λ (es : List WaitEntry). map entry_of c.listed.entries.items ++ map entry_of es) c.deref.ensures.value
     ∙ ap (λ (es : List plain_tree.Entry). map entry_of c.listed.entries.items ++ es) (c.in_ok-more.ensures plain are))
     (c.listed.invariant plain are)
+
+pub entries_of-requires : goal.entries_of-requires
+entries_of-requires c =
+    let r = c.requires in
+    (r.0, r.1, holds-at (λ (e : SourceEntry). IsNarrowSelect r.0.scope e.select) source.entry_of c.args.listed.now c.listed.entry-index c.entry-item.result r.2 c.listed-test.true c.entry-item.is)

@@ -1,7 +1,7 @@
-use Rattle.std.proofs.Common.{refl, arith}
+use Rattle.std.proofs.Common.{arith}
 use Rattle.select_bits.proofs.Runs.{falling-run}
 use Rattle.select_bits.proofs.part.falling_part.Goals as goal
 
 pub returns : goal.returns
-returns c = falling-run c.args.bounds.high c.args.bounds.low c.args.from c.args.to c.in_ok-count.count _ _ _ _ c.requires.range c.requires.part c.in_ok-count.ensures.0 (grind arith)
-    (grind arith) refl (grind arith)
+returns c order few = falling-run c.args.bounds.high c.args.bounds.low c.args.from c.args.to c.indexes_between-count.result _ _ _ _ c.requires order (c.indexes_between-count.ensures.all order few)
+    (grind arith) (grind arith) (grind arith) (grind arith)

@@ -1,10 +1,10 @@
--- The texts of the blocks and processes of a walk are sized for what their names mean, where nothing is wrong with them (IEEE 1364-2001, clause 9).
-use Rattle.std.proofs.Common.{◌≡◌, ℕ, [], ◌++◌, List, Option, Some, None, Ok, refl, arith}
+-- The texts of the blocks and processes of a walk are sized for what their names mean, where nothing is wrong with them, and so is what other nodes compute (IEEE 1364-2001, clause 9).
+use Rattle.std.proofs.Common.{◌≡◌, ℕ, [], ◌++◌, List, Option, Some, None, Ok, refl, subst, arith}
 use Rattle.std.specs.Prelude.{slice_get, option_map}
 use Rattle.v_design.specs.Sized.{IsDelay, IsDelayIf}
 use Rattle.v_tree.specs.Trees.{SourceExpressions, no_parts, more_parts, SourceTarget, SourceExpression, SourceStatement, NullStatement, BlockStatement, IfStatement, IfElseStatement, CaseStatement}
 use Rattle.v_tree.specs.Trees.{ForStatement, WhileStatement, RepeatStatement, ForeverStatement, WaitStatement, EventStatement, DelayStatement, BlockingStatement, NonblockingStatement, IgnoredTask}
-use Rattle.v_tree.specs.Trees.{FinishTask, SourceStatements, no_source_statements, more_source_statements, SourceCaseItems, no_source_items, labelled, otherwise, SourceModule}
+use Rattle.v_tree.specs.Trees.{FinishTask, SourceStatements, no_source_statements, more_source_statements, SourceCaseItems, no_source_items, labelled, otherwise, SourceModule, selects_of}
 use Rattle.v_names.specs.Readings.{reading_of}
 use Rattle.v_names.specs.Constants.{DelayValue, constant_faults, name_faults, part_faults, optional_faults}
 use Rattle.v_names.specs.Names.{entry_faults, target_faults, statement_name_faults, statements_name_faults, case_name_faults}
@@ -31,8 +31,19 @@ use Rattle.flat_laws.specs.Sizes.Complete.{append-none, group-none, expression-f
 use Rattle.flat_laws.specs.Sizes.Sized.{IsMeant, complete-alone, alone-sound}
 use Rattle.flat_laws.specs.Sizes.Statements.{HasSelects, HaveSelects, AllHaveSelects, ItemsHaveSelects, assignment-sound, delay-sound}
 use Rattle.flat_laws.specs.Sizes.Meant.{IsPlaced, process-meant}
-use Rattle.object_statements.specs.Texts.{AreSizedLabels, IsSizedWrite, IsSizedText, AreSizedTexts, AreSizedItemTexts}
-use Rattle.elab_nodes.specs.Texts.{IsSizedBlock, AreSizedBlocks, AreSizedProcesses}
+use Rattle.object_statements.specs.Texts.{AreSizedLabels, IsSizedRead, IsSizedWrite, IsSizedText, AreSizedTexts, AreSizedItemTexts}
+use Rattle.sized_walks.specs.EntryLaws.{waits-narrow}
+use Rattle.sized_walks.specs.NarrowLaws.{expression-narrow, selects-narrow}
+use Rattle.sized_walks.specs.NodeLaws.{IsNarrowFunction, walk-narrow}
+use Rattle.sized_walks.specs.Texts.{IsSizedFunction, AreSizedFunctions, AreSizedProcesses}
+
+-- what is read
+read-sized : (meaning : Meaning) → IsMeant meaning → (e : SourceExpression) → name_faults meaning.scope e ≡ [] → (reading_of meaning.scope e).here ≡ [] → (reading_of meaning.scope e).inside ≡ [] →
+    IsSizedRead meaning e
+read-sized meaning meant e names here inside = (complete-alone meaning meant e (expression-full meaning.scope meant.settled e names here inside), expression-narrow meaning.scope e names)
+
+alone-sized : (meaning : Meaning) → IsMeant meaning → (e : SourceExpression) → name_faults meaning.scope e ≡ [] → size_faults meaning.scope e ≡ [] → IsSizedRead meaning e
+alone-sized meaning meant e names sizes = (alone-sound meaning meant e names sizes, expression-narrow meaning.scope e names)
 
 write-sized : (meaning : Meaning) → IsMeant meaning → (target : SourceTarget) (value : SourceExpression) → HasSelects target → target_faults meaning.scope target ≡ [] →
     name_faults meaning.scope value ≡ [] → assigned_faults ByProcess meaning.scope target value ≡ [] → IsSizedWrite meaning target value
@@ -43,7 +54,7 @@ write-sized meaning meant target value there names value_names faults =
     let here = append-none t.here reading.here none.0 in
     let inside = append-none t.inside reading.inside none.1 in
     let whole = assignment-sound meaning meant target value there names value_names faults in
-    (whole.0, complete-alone meaning meant value (expression-full meaning.scope meant.settled value value_names here.1 inside.1))
+    ((whole.0, selects-narrow meaning.scope (selects_of target) names), read-sized meaning meant value value_names here.1 inside.1)
 
 delay_if-sized : (meaning : Meaning) → IsMeant meaning → (delay : Option SourceExpression) → optional_faults (constant_faults meaning.scope DelayValue) delay ≡ [] →
     IsDelayIf (option_map (delay_number meaning) delay)
@@ -65,7 +76,7 @@ labels-alone meaning meant (more_parts label rest) group names h i =
     let here = append-none reading.here (labels_faults meaning.scope rest group).here h in
     let inside = append-none reading.inside (labels_faults meaning.scope rest group).inside i in
     let later = labels-alone meaning meant rest group none.1 here.1 inside.1 in
-    ((complete-alone meaning meant label (expression-full meaning.scope meant.settled label none.0 here.0 inside.0), later.0), later.1, later.2)
+    ((read-sized meaning meant label none.0 here.0 inside.0, later.0), later.1, later.2)
 
 mutual
   -- of a statement of which nothing is wrong
@@ -76,13 +87,13 @@ mutual
   text-sized meaning meant (IfStatement place condition first) there names sizes =
       let n = append-none (name_faults meaning.scope condition) (statement_name_faults meaning.scope first) names in
       let s = append-none (size_faults meaning.scope condition) (statement_faults meaning.scope first) sizes in
-      (alone-sound meaning meant condition n.0 s.0, text-sized meaning meant first there n.1 s.1)
+      (alone-sized meaning meant condition n.0 s.0, text-sized meaning meant first there n.1 s.1)
   text-sized meaning meant (IfElseStatement place condition first second) there names sizes =
       let n = append-none (name_faults meaning.scope condition) (statement_name_faults meaning.scope first ++ statement_name_faults meaning.scope second) names in
       let s = append-none (size_faults meaning.scope condition) (statement_faults meaning.scope first ++ statement_faults meaning.scope second) sizes in
       let m = append-none (statement_name_faults meaning.scope first) (statement_name_faults meaning.scope second) n.1 in
       let t = append-none (statement_faults meaning.scope first) (statement_faults meaning.scope second) s.1 in
-      (alone-sound meaning meant condition n.0 s.0, text-sized meaning meant first there.0 m.0 t.0, text-sized meaning meant second there.1 m.1 t.1)
+      (alone-sized meaning meant condition n.0 s.0, text-sized meaning meant first there.0 m.0 t.0, text-sized meaning meant second there.1 m.1 t.1)
   text-sized meaning meant (CaseStatement place kind value items) there names sizes =
       let reading = reading_of meaning.scope value in
       let group = items_labels_faults meaning.scope items in
@@ -91,7 +102,7 @@ mutual
       let none = group-none (reading.here ++ group.here) (reading.inside ++ group.inside) s.0 in
       let here = append-none reading.here group.here none.0 in
       let inside = append-none reading.inside group.inside none.1 in (
-        complete-alone meaning meant value (expression-full meaning.scope meant.settled value n.0 here.0 inside.0),
+        read-sized meaning meant value n.0 here.0 inside.0,
         item-texts-sized meaning meant items there n.1 here.1 inside.1 s.1,
       )
   text-sized meaning meant (ForStatement place first_target first condition next_target next body) there names sizes =
@@ -107,25 +118,27 @@ mutual
       let s2 = append-none (size_faults scope condition) (assigned_faults ByProcess scope next_target next ++ statement_faults scope body) s1.1 in
       let s3 = append-none (assigned_faults ByProcess scope next_target next) (statement_faults scope body) s2.1 in (
         write-sized meaning meant first_target first there.0 n1.0 n2.0 s1.0,
-        alone-sound meaning meant condition n3.0 s2.0,
+        alone-sized meaning meant condition n3.0 s2.0,
         write-sized meaning meant next_target next there.1 n4.0 n5.0 s3.0,
         text-sized meaning meant body there.2 n5.1 s3.1,
       )
   text-sized meaning meant (WhileStatement place condition body) there names sizes =
       let n = append-none (name_faults meaning.scope condition) (statement_name_faults meaning.scope body) names in
       let s = append-none (size_faults meaning.scope condition) (statement_faults meaning.scope body) sizes in
-      (alone-sound meaning meant condition n.0 s.0, text-sized meaning meant body there n.1 s.1)
+      (alone-sized meaning meant condition n.0 s.0, text-sized meaning meant body there n.1 s.1)
   text-sized meaning meant (RepeatStatement place count body) there names sizes =
       let n = append-none (name_faults meaning.scope count) (statement_name_faults meaning.scope body) names in
       let s = append-none (size_faults meaning.scope count) (statement_faults meaning.scope body) sizes in
-      (alone-sound meaning meant count n.0 s.0, text-sized meaning meant body there n.1 s.1)
+      (alone-sized meaning meant count n.0 s.0, text-sized meaning meant body there n.1 s.1)
   text-sized meaning meant (ForeverStatement place body) there names sizes = text-sized meaning meant body there names sizes
   text-sized meaning meant (WaitStatement place condition body) there names sizes =
-      text-sized meaning meant body there (append-none (name_faults meaning.scope condition) (statement_name_faults meaning.scope body) names).1
-      (append-none (wait_faults meaning.scope condition) (statement_faults meaning.scope body) sizes).1
+      let n = append-none (name_faults meaning.scope condition) (statement_name_faults meaning.scope body) names in
+      let s = append-none (wait_faults meaning.scope condition) (statement_faults meaning.scope body) sizes in
+      (expression-narrow meaning.scope condition n.0, text-sized meaning meant body there n.1 s.1)
   text-sized meaning meant (EventStatement place waits body) there names sizes =
-      text-sized meaning meant body there (append-none (entry_faults meaning.scope waits) (statement_name_faults meaning.scope body) names).1
-      (append-none (waits_faults meaning.scope waits) (statement_faults meaning.scope body) sizes).1
+      let n = append-none (entry_faults meaning.scope waits) (statement_name_faults meaning.scope body) names in
+      let s = append-none (waits_faults meaning.scope waits) (statement_faults meaning.scope body) sizes in
+      (waits-narrow meaning.scope meant.fits waits n.0 s.0, text-sized meaning meant body there n.1 s.1)
   text-sized meaning meant (DelayStatement place delay body) there names sizes =
       let n = append-none (constant_faults meaning.scope DelayValue delay) (statement_name_faults meaning.scope body) names in
       let s = append-none (size_faults meaning.scope delay) (statement_faults meaning.scope body) sizes in
@@ -169,7 +182,7 @@ mutual
 
 -- so is what a block does once it is woken
 body-sized : (meaning : Meaning) (s : SourceStatement) → IsSizedText meaning s → IsSizedText meaning (block_body s)
-body-sized meaning (EventStatement place waits body) h = h
+body-sized meaning (EventStatement place waits body) h = h.1
 body-sized meaning (NullStatement place) h = h
 body-sized meaning (BlockStatement place statements) h = h
 body-sized meaning (IfStatement place condition first) h = h
@@ -210,14 +223,26 @@ named-processes modules source named mode top k at parts e =
     let part = process-part parts i process there in
     part-sized modules source named mode top k at parts e part.number process part.is)
 
-pub named-blocks : (modules : List SourceModule) → IsSourceUnit modules → IsNamedUnit modules → (mode : Mode) (top : SourceModule) (k : ℕ) → slice_get modules k ≡ Some top →
-    (parts : List Part) → walked_from modules mode top ≡ Ok parts → AreSizedBlocks parts (objects_in parts) (nodes_in parts)
-named-blocks modules source named mode top k at parts e =
-    AllHold-from (λ (node : WalkedNode). IsSizedBlock parts (objects_in parts) node.function) (nodes_in parts) (λ i node there. by_function i node there node.function refl)
+pub named-functions : (modules : List SourceModule) → IsSourceUnit modules → IsNamedUnit modules → (mode : Mode) (top : SourceModule) (k : ℕ) → slice_get modules k ≡ Some top →
+    (parts : List Part) → walked_from modules mode top ≡ Ok parts → AreSizedFunctions parts (objects_in parts) (nodes_in parts)
+named-functions modules source named mode top k at parts e =
+    AllHold-from (λ (node : WalkedNode). IsSizedFunction parts (objects_in parts) node.function) (nodes_in parts) (λ i node there. by_function i node there node.function refl)
   where
-    by_function : (i : ℕ) (node : WalkedNode) → slice_get (nodes_in parts) i ≡ Some node → (function : NodeFunction) → node.function ≡ function → IsSizedBlock parts (objects_in parts) function
-    by_function i node there (AssignFunction value) is = tt
-    by_function i node there (GateFunction kind path terminals) is = tt
+    by_function : (i : ℕ) (node : WalkedNode) → slice_get (nodes_in parts) i ≡ Some node → (function : NodeFunction) → node.function ≡ function → IsSizedFunction parts (objects_in parts) function
+    by_function i node there (AssignFunction value) is = subst IsNarrowFunction is (walk-narrow modules mode top k at parts e i node there)
+    by_function i node there (GateFunction kind path terminals) is = subst IsNarrowFunction is (walk-narrow modules mode top k at parts e i node there)
     by_function i node there (BlockFunction process) is =
         let part = block-part parts i node process there is in
         body-sized (meaning_in parts (objects_in parts) process) process.body (part-sized modules source named mode top k at parts e part.number process part.is)
+
+-- The laws
+
+-- the processes of each walk of a text are sized
+abbrev pub ProcessesAreSized : Type 0
+ProcessesAreSized = (modules : List SourceModule) → IsSourceUnit modules → IsNamedUnit modules → (mode : Mode) (top : SourceModule) (k : ℕ) → slice_get modules k ≡ Some top → (parts : List Part) →
+    walked_from modules mode top ≡ Ok parts → AreSizedProcesses parts (objects_in parts) (processes_in parts)
+
+-- so is what its nodes do
+abbrev pub NodesAreSized : Type 0
+NodesAreSized = (modules : List SourceModule) → IsSourceUnit modules → IsNamedUnit modules → (mode : Mode) (top : SourceModule) (k : ℕ) → slice_get modules k ≡ Some top → (parts : List Part) →
+    walked_from modules mode top ≡ Ok parts → AreSizedFunctions parts (objects_in parts) (nodes_in parts)

@@ -1,0 +1,5 @@
+pub mod Texts
+pub mod EntryLaws
+pub mod NarrowLaws
+pub mod NodeLaws
+pub mod TextLaws
