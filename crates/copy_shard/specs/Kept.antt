@@ -1,5 +1,5 @@
 -- What a shard keeps, and how its faults go through a window (slots by IEEE 1364-2001, clause 5).
-use Rattle.std.specs.Prelude.{◌≡◌, ℕ, ◌<◌, ◌≤◌, Bool, true, List, length, map, Option, None, Some, is_some, not, slice_get}
+use Rattle.std.specs.Prelude.{◌≡◌, ℕ, ◌<◌, ◌≤◌, Bool, true, List, length, map, Option, None, Some, is_some, not, slice_get, sum_by}
 use Rattle.std.specs.List.{list_any}
 use Rattle.vf_base.specs.Base.{fault_number}
 use Rattle.vf_base.specs.Lists.{AllHold}
@@ -13,12 +13,16 @@ use Rattle.copy_room.specs.Rooms.{IsRoom}
 use Rattle.window_strobes.specs.Passed.{HasPassed}
 use Rattle.copy_window.specs.ShardFaults.{IsShardFault}
 use Rattle.copy_window.specs.declared.fault.ShardFault.{ShardFault}
-use Rattle.copy_shard.specs.Shards.{FaultKept, places_of}
+use Rattle.copy_shard.specs.Shards.{FaultKept, kept_steps, places_of}
 use Rattle.copy_shard.specs.declared.reached.Reached.{Reached}
 
 -- what contracts see of a fault of a shard
 abbrev pub fault_kept : ShardFault → FaultKept
 fault_kept own = record { copy = own.copy; end = own.end }
+
+-- the process steps that the gradings of some faults of a shard take behind so many slots of the good first run
+abbrev pub taken_steps : FlatDesign → TestPlan → ℕ → List ShardFault → ℕ
+taken_steps design plan gone faults = sum_by (λ (own : ShardFault). kept_steps design plan gone (fault_kept own)) faults
 
 -- whether the grading of a fault goes on
 abbrev pub is_open : ShardFault → Bool

@@ -1,5 +1,5 @@
 -- What contracts see of a shard, and what stands of it behind so many slots of the good first run (slots by IEEE 1364-2001, clause 5).
-use Rattle.std.specs.Prelude.{◌≡◌, ℕ, true, List, map, Option, None, Some, is_some, option_map, slice_get}
+use Rattle.std.specs.Prelude.{◌≡◌, ℕ, true, List, map, Option, None, Some, is_some, option_map, slice_get, sum_by}
 use Rattle.std.specs.List.{filter_map}
 use Rattle.vf_base.specs.Lists.{AllHold}
 use Rattle.vf_base.specs.declared.finding.End.{End}
@@ -9,6 +9,8 @@ use Rattle.v_design.specs.Plain.{grade_of}
 use Rattle.copy_laws.specs.Windows.{IsBesideAt}
 use Rattle.copy_state.specs.Kept.{CopyKept, nothing_kept}
 use Rattle.copy_window.specs.Copies.{differences_in}
+use Rattle.graded_steps.specs.Behind.{fault_steps}
+use Rattle.copy_window.specs.ShardFaults.{steps_taken}
 
 -- a fault of a shard: what is kept of its faulty machine's state, and how its grading ended, if it did
 pub record FaultKept : Type 0 where
@@ -19,6 +21,18 @@ pub record FaultKept : Type 0 where
 pub record ShardKept : Type 0 where
   pub gone : ℕ
   pub faults : List FaultKept
+
+-- the process steps that the grading of a fault of a plan takes behind so many slots of the good first run: up to there, or in all, where it ended
+abbrev pub kept_steps : FlatDesign → TestPlan → ℕ → FaultKept → ℕ
+kept_steps design plan gone kept = elim (slice_get plan.faults kept.copy.fault) [ None ↦ 0 | Some fault ↦ steps_taken design plan gone fault kept.end ]
+
+-- those of all faults of a shard
+abbrev pub shard_steps : FlatDesign → TestPlan → ShardKept → ℕ
+shard_steps design plan kept = sum_by (kept_steps design plan kept.gone) kept.faults
+
+-- all that the grading of the fault of a number in a plan takes
+abbrev pub fault_steps_at : FlatDesign → TestPlan → ℕ → ℕ
+fault_steps_at design plan number = elim (slice_get plan.faults number) [ None ↦ 0 | Some fault ↦ fault_steps design plan fault ]
 
 -- the places of some faults in the plan
 abbrev pub places_of : List FaultKept → List ℕ

@@ -7,8 +7,10 @@ ghost use Rattle.v_design.specs.Plain.{fault_of};
 ghost use Rattle.copy_room.specs.Rooms.{IsRoom};
 ghost use Rattle.window_strobes.specs.Strobes.{AreStrobesOf, passed_behind};
 ghost use Rattle.copy_window.specs.Passing.{CanResume};
-ghost use Rattle.copy_window.specs.ShardFaults.{IsShardFault};
-ghost use Rattle.copy_shard.specs.Kept.{ComesThrough, HasReachedIfOpen, IsTimeOf, StandsAfter, is_open};
+ghost use Rattle.copy_window.specs.ShardFaults.{IsShardFault, steps_taken};
+ghost use Rattle.graded_steps.specs.Behind.{RisesWithin};
+ghost use Rattle.copy_shard.specs.Kept.{ComesThrough, HasReachedIfOpen, IsTimeOf, StandsAfter, fault_kept, is_open, taken_steps};
+ghost use Rattle.copy_shard.specs.Shards.{kept_steps};
 
 use crate::reached::{Reached, reached_behind};
 use crate::room::ShardRoom;
@@ -56,6 +58,8 @@ fn resume_behind<N: World, L: Ledger>(
     ensures fault { OnOk result (IsShardFault N.design N.plan window.now.through (passed_behind strobes.now) own.new) }
     ensures place { OnOk result (own.new.copy.fault ≡ own.old.copy.fault) }
     ensures room { OnOk result (IsRoom N.design machine.new) }
+    ensures ticks { OnOk result (RisesWithin (steps_taken N.design N.plan (window.now.before + passed) (fault_of fault) None)
+        (steps_taken N.design N.plan window.now.through (fault_of fault) own.new.end) steps.old steps.new) }
 {
     if passed == 0 {
         resume_fault(
@@ -91,7 +95,11 @@ fn go_through<N: World, L: Ledger>(
     ensures fault { OnOk result (IsShardFault N.design N.plan window.now.through (passed_behind strobes.now) own.new) }
     ensures place { OnOk result (own.new.copy.fault ≡ own.old.copy.fault) }
     ensures room { OnOk result (IsRoom N.design machine.new) }
+    ensures ticks { OnOk result (RisesWithin (kept_steps N.design N.plan window.now.before (fault_kept own.old)) (kept_steps N.design N.plan window.now.through (fault_kept own.new))
+        steps.old steps.new) }
 {
+    graded_steps::gradings_take_steps();
+    let design = setup.design();
     let fault = listed_fault(setup, &own.copy);
     if window.begins() == 0 {
         begin_fault(alloc, setup, window, strobes, fault, log, own, steps)?;
@@ -103,7 +111,8 @@ fn go_through<N: World, L: Ledger>(
     }
     resume_behind(
         alloc, setup, window, passed, strobes, fault, machine, log, own, steps,
-    )
+    )?;
+    Ok(())
 }
 
 /// Takes a fault through a window.
@@ -124,6 +133,8 @@ fn advance_fault<N: World, L: Ledger>(
     requires fault { IsShardFault N.design N.plan window.now.before strobes.now.passed own.old }
     ensures fault { OnOk result (ComesThrough N.design N.plan window.now.through (passed_behind strobes.now) own.old own.new) }
     ensures room { OnOk result (IsRoom N.design machine.new) }
+    ensures ticks { OnOk result (RisesWithin (kept_steps N.design N.plan window.now.before (fault_kept own.old)) (kept_steps N.design N.plan window.now.through (fault_kept own.new))
+        steps.old steps.new) }
 {
     beside_laws::faults_go_on();
     let design = setup.design();
@@ -153,6 +164,8 @@ fn advance_each<N: World, L: Ledger>(
     requires faults { AllHold (IsShardFault N.design N.plan window.now.before strobes.now.passed) faults.old.items }
     ensures faults { OnOk result (AllZip (ComesThrough N.design N.plan window.now.through (passed_behind strobes.now)) faults.old.items faults.new.items) }
     ensures room { OnOk result (IsRoom N.design machine.new) }
+    ensures ticks { OnOk result (RisesWithin (taken_steps N.design N.plan window.now.before faults.old.items) (taken_steps N.design N.plan window.now.through faults.new.items)
+        steps.old steps.new) }
 {
     'faults: for place in 0..faults.len() {
         let own = &mut faults[place];
@@ -182,6 +195,8 @@ pub(crate) fn advance_all<'d, N: World, L: Ledger>(
     requires faults { AllHold (IsShardFault N.design N.plan window.now.before reached.passed) faults.old.items }
     ensures reached { IfOk result (λ behind. HasReachedIfOpen N.design N.plan window.now.through behind faults.new.items) }
     ensures faults { IfOk result (λ behind. AllZip (ComesThrough N.design N.plan window.now.through behind.passed) faults.old.items faults.new.items) }
+    ensures ticks { IfOk result (λ _. RisesWithin (taken_steps N.design N.plan window.now.before faults.old.items) (taken_steps N.design N.plan window.now.through faults.new.items)
+        steps.old steps.new) }
 {
     beside_laws::faults_go_on();
     let design = setup.design();

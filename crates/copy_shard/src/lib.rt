@@ -4,7 +4,7 @@
 //! grading goes on passes over the first slots that touch nothing of its copy, and its faulty machine is run through those behind them; behind the window the fault is kept by its
 //! copy, or by its end. The main contract: at any time each fault of the shard stands as a fault does behind so many slots: its end is its grade, and is there just where
 //! its grading ended by then or the good first run is through; without an end its copy is the faulty machine's state, and keeps nothing that is the good machine's. So once
-//! the good first run is through, `findings` has the grade of each fault.
+//! the good first run is through, `findings` has the grade of each fault. A counter rises by no more than the process steps that the gradings of the faults take in between.
 //!
 //! The faulty machines' states are put into a machine to be run, which stands in a `ShardRoom`: one serves all shards of a worker.
 #![tactic(auto)]

@@ -1,13 +1,15 @@
 // A shard of faults.
 
-ghost use Rattle.std.specs.Prelude.{◌≡◌, ◌≢◌, ◌<◌, ◌++◌, ℕ, [], All, Contains, IfNone, IfOk, IfSome, OnErr, OnOk, length, map, slice_get};
+ghost use Rattle.std.specs.Prelude.{◌≡◌, ◌≢◌, ◌<◌, ◌≤◌, ◌++◌, sum_by, ℕ, [], All, Contains, IfNone, IfOk, IfSome, OnErr, OnOk, length, map, slice_get};
 ghost use Rattle.std.specs.List.{AllZip};
 ghost use Rattle.std.specs.Option.{option_to_list};
 ghost use Rattle.vf_base.specs.Base.{fault_number};
+ghost use Rattle.v_design.specs.WellFormed.{KeepsRules};
 ghost use Rattle.copy_laws.specs.Windows.{good_slots};
 ghost use Rattle.fault_shards.specs.Found.{IsFinding, found_faults};
+ghost use Rattle.graded_steps.specs.Behind.{RisesWithin};
 ghost use Rattle.copy_shard.specs.Kept.{fault_kept};
-ghost use Rattle.copy_shard.specs.Shards.{FaultKept, StandsBeside, StaysEnded, finding_of, findings_of, fresh_shard, places_of};
+ghost use Rattle.copy_shard.specs.Shards.{FaultKept, StandsBeside, StaysEnded, finding_of, fault_steps_at, findings_of, fresh_shard, places_of, shard_steps};
 
 use crate::advance::advance_all;
 use crate::fresh::fresh_faults;
@@ -111,7 +113,7 @@ impl<N: World> Shard<N> {
         })
     }
 
-    /// Takes the shard through the next window of the good first run.
+    /// Takes the shard through the next window of the good first run. `steps` ticks once for each process step of the slots that its faulty machines run.
     ///
     /// # Errors
     ///
@@ -129,6 +131,7 @@ impl<N: World> Shard<N> {
         ensures places { OnOk result (places_of self.new.faults ≡ places_of self.old.faults) }
         ensures ended { OnOk result (AllZip StaysEnded self.old.faults self.new.faults) }
         ensures stands { OnOk result (StandsBeside N.design N.plan self.new) }
+        ensures ticks { OnOk result (RisesWithin (shard_steps N.design N.plan self.old) (shard_steps N.design N.plan self.new) steps.old steps.new) }
         ensures err { OnErr result (self.new ≡ record self.old { faults = [] }) }
     {
         let numbers = mem::replace(&mut self.numbers, Vec::new(alloc));
@@ -191,12 +194,14 @@ impl<N: World> Shard<N> {
     }
 
     /// Each fault of a shard stands as a fault does behind so many slots of the good first run, so what was found is its grade; once that run is through, something was
-    /// found of each. The function does nothing when it runs; its contract is the law.
+    /// found of each; and so far its faults have taken no more process steps than they take in all. The function does nothing when it runs; its contract is the law.
     pub fn stands(&self)
         ensures stands { StandsBeside N.design N.plan self.now }
         ensures graded { All (IsFinding N.design N.plan) (findings_of self.now.faults) }
         ensures complete { length (good_slots N.design N.plan) ≡ self.now.gone → found_faults (findings_of self.now.faults) ≡ places_of self.now.faults }
+        ensures steps { KeepsRules N.design → shard_steps N.design N.plan self.now ≤ sum_by (fault_steps_at N.design N.plan) (places_of self.now.faults) }
     {
+        graded_steps::gradings_take_steps();
         let _count = self.faults.len();
     }
 }

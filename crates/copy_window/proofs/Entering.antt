@@ -1,6 +1,7 @@
 -- A fault whose faulty machine is at its start, or was put into its state, may be graded through a window (slots by IEEE 1364-2001, clause 5).
-use Rattle.std.proofs.Common.{◌≡◌, ℕ, ◌<◌, length, ap, ◌∙◌}
-use Rattle.std.specs.Prelude.{Some, None}
+use Rattle.std.proofs.Common.{◌≡◌, ℕ, ◌<◌, length, sym, ap, subst, ◌∙◌}
+use Rattle.vf_base.specs.declared.finding.End.{End}
+use Rattle.std.specs.Prelude.{Option, Some, None, slice_get}
 use Rattle.v_design.specs.Designs.{FlatDesign, Machine, StuckAt, TestPlan, faulty_machine}
 use Rattle.v_design.specs.States.{State, start}
 use Rattle.strobe_detect.specs.Graders.{GraderState}
@@ -15,7 +16,8 @@ use Rattle.window_grade.specs.Running.{StaysOn}
 use Rattle.window_grade.specs.Standing.{MachinesStand}
 use Rattle.window_strobes.specs.declared.strobes.WindowStrobes.{WindowStrobes}
 use Rattle.copy_window.specs.Passing.{CanBegin, CanResume, CanSettle}
-use Rattle.copy_window.specs.ShardFaults.{grader_by}
+use Rattle.graded_steps.specs.Behind.{RisesWithin}
+use Rattle.copy_window.specs.ShardFaults.{grader_by, steps_taken}
 use Rattle.copy_window.specs.declared.fault.ShardFault.{ShardFault}
 use Rattle.copy_window.proofs.Starting.{HasRules, begins, resumes, time}
 
@@ -54,3 +56,14 @@ is-room design fault faulty old new entered stays = record {
   design_is = ap (λ (m : Machine). m.design) (stays.same_machine ∙ entered.machine_is);
   no_notes = stays.notes ∙ entered.no_notes;
 }
+
+-- the counter of a fault that was graded through a window
+pub settled-ticks : (design : FlatDesign) (plan : TestPlan) (before through : ℕ) (strobes : WindowStrobes) (m : Simulated) (grader : GraderState) (own : ShardFault) (fault : StuckAt)
+    (end : Option End) (old new : ℕ) (of : CanSettle design plan before through strobes m grader own) → slice_get plan.faults own.copy.fault ≡ Some fault →
+    RisesWithin (steps_taken design plan before of.fault None) (steps_taken design plan through of.fault end) old new →
+    RisesWithin (steps_taken design plan before fault None) (steps_taken design plan through fault end) old new
+settled-ticks design plan before through strobes m grader own fault end old new of listed ticks =
+    subst (λ (f : StuckAt). RisesWithin (steps_taken design plan before f None) (steps_taken design plan through f end) old new) (some-is of.fault fault (sym of.listed ∙ listed)) ticks
+  where
+    some-is : (one other : StuckAt) → Some one ≡ Some other → one ≡ other
+    some-is one other e = cc

@@ -1,6 +1,7 @@
 pub mod Codes
 pub mod Windows
 pub mod Gradings
+pub mod Ticks
 pub mod Settling
 pub mod Keeping
 pub mod Starting

@@ -160,9 +160,12 @@ module _ (design : FlatDesign) (plan : TestPlan) (fault : StuckAt) (before throu
         (subst (λ (g : GraderState). IsShown (good_seen design plan) (faulty_seen design plan fault) (take strobes.passed plan.strobes) g) (sym is) goes-on.shown)
         (ap (λ (g : GraderState). g.watched) is)
 
+    low : time ≤ plan.end
+    low = let early : time < plan.end = goes-on.runs_on.early in omega (arith, early)
+
     running : MachinesStand → GradingsGoOn → FaultsGoOn → IsRunningAt design plan fault (Some time) m
     running stand law faults =
-        stand.again design plan fault time m rules.design_rules (grading law faults).faulty entered.machine_is entered.standing entered.state_is entered.stage
+        stand.again design plan fault time m rules.design_rules low (grading law faults).faulty entered.machine_is entered.standing entered.state_is entered.stage
         (entered.next_is ∙ ap (λ (s : State). slot_after s (turn_of s)) (sym entered.state_is))
 
     pub resumes : MachinesStand → GradingsGoOn → FaultsGoOn → IsGradingFrom design plan fault before strobes m grader

@@ -12,6 +12,7 @@ use Rattle.copy_between.specs.Beside.{KeepsWithin}
 use Rattle.machine.specs.declared.parts.Machine.{Machine as Simulated}
 use Rattle.beside_laws.specs.GoodRuns.{IsOpenAt}
 use Rattle.beside_laws.specs.Shards.{found_fault}
+use Rattle.window_grade.specs.Running.{TicksTo}
 use Rattle.window_grade.specs.Grading.{IsGradingAt, GradesThrough}
 use Rattle.window_strobes.specs.Strobes.{AreStrobesOf, strobes_left}
 use Rattle.window_strobes.specs.declared.strobes.WindowStrobes.{WindowStrobes}
@@ -38,6 +39,11 @@ pub record CanGradeWindow (strobes : WindowStrobes) (m : Simulated) (grader : Gr
 abbrev pub ComesToTime : FlatDesign → TestPlan → StuckAt → ℕ → List ℕ → Option ℕ → Option End → Simulated → GraderState → Type 0
 ComesToTime design plan fault before later None end m grader = (end ≡ None) × IsGradingAt design plan fault (time_at design plan before) m [] later grader
 ComesToTime design plan fault before later (Some until) end m grader = GradesThrough design plan fault later until end m grader
+
+-- a counter behind its run to that time, if there is one
+abbrev pub TicksIf : FlatDesign → TestPlan → StuckAt → Option ℕ → Option ℕ → Option End → ℕ → ℕ → Type 0
+TicksIf design plan fault now None end before after = after ≡ before
+TicksIf design plan fault now (Some until) end before after = TicksTo design plan fault now until end before after
 
 -- behind a window that ends so, the strobes' verdict or the good machine's race ends it; where slots come nothing does
 abbrev pub EndsBehind : WindowEnd → GraderState → Option End → Type 0

@@ -1,5 +1,6 @@
 -- A fault of a shard that has gone through so many slots of the good first run (slots by IEEE 1364-2001, clause 5).
-use Rattle.std.specs.Prelude.{◌≡◌, ℕ, ◌<◌, List, length, take, None, Some, slice_get, option_map}
+use Rattle.std.specs.Prelude.{◌≡◌, ℕ, ◌<◌, List, length, take, Option, None, Some, slice_get, option_map}
+use Rattle.vf_base.specs.declared.finding.End.{End}
 use Rattle.v_design.specs.Designs.{FlatDesign, StuckAt, TestPlan, faulty_machine}
 use Rattle.v_design.specs.Plain.{grade_of}
 use Rattle.process_code.specs.declared.code.Code.{Code}
@@ -10,9 +11,14 @@ use Rattle.copy_state.specs.Kept.{AreStatesOf}
 use Rattle.copy_between.specs.Beside.{KeepsWithin}
 use Rattle.grade_laws.specs.Grading.{good_seen, faulty_seen}
 use Rattle.beside_laws.specs.GoodRuns.{IsOpenAt}
+use Rattle.graded_steps.specs.Behind.{steps_graded}
 use Rattle.machine.specs.Standing.{StandsBetween}
 use Rattle.copy_window.specs.Copies.{differences_in}
 use Rattle.copy_window.specs.declared.fault.ShardFault.{ShardFault}
+
+-- the process steps that the grading of a fault takes behind so many slots of the good first run: up to there, or in all, where it ended
+abbrev pub steps_taken : FlatDesign → TestPlan → ℕ → StuckAt → Option End → ℕ
+steps_taken design plan gone fault end = steps_graded design plan fault (time_at design plan gone) (option_map grade_of end)
 
 -- the fault, its copy's differences, and its grade, if its grading ended
 abbrev pub beside_by : FlatDesign → StuckAt → ShardFault → FaultBeside

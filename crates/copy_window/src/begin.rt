@@ -1,10 +1,11 @@
 // A fault from the start of its faulty machine.
 
-ghost use Rattle.std.specs.Prelude.{◌≡◌, OnOk};
+ghost use Rattle.std.specs.Prelude.{◌≡◌, None, OnOk};
 ghost use Rattle.v_design.specs.Plain.{fault_of};
 ghost use Rattle.window_strobes.specs.Strobes.{passed_behind};
 ghost use Rattle.copy_window.specs.Passing.{CanBegin};
-ghost use Rattle.copy_window.specs.ShardFaults.{IsShardFault};
+ghost use Rattle.graded_steps.specs.Behind.{RisesWithin};
+ghost use Rattle.copy_window.specs.ShardFaults.{IsShardFault, steps_taken};
 
 use crate::fault::ShardFault;
 use crate::settle::settle;
@@ -19,7 +20,8 @@ use vf_base::{NoMemory, Steps};
 use window_grade::machines_stand;
 use window_strobes::WindowStrobes;
 
-/// Grades a fault through the first window of the good first run. `log` is room for the log of a slot.
+/// Grades a fault through the first window of the good first run. `log` is room for the log of a slot; `steps` ticks once for each process step of the slots that its faulty
+/// machine runs.
 ///
 /// # Errors
 ///
@@ -37,6 +39,8 @@ pub fn begin_fault<N: World, L: Ledger>(
     requires { CanBegin N.design N.plan window.now.before window.now.through strobes.now (fault_of fault) own.old }
     ensures fault { OnOk result (IsShardFault N.design N.plan window.now.through (passed_behind strobes.now) own.new) }
     ensures place { OnOk result (own.new.copy.fault ≡ own.old.copy.fault) }
+    ensures ticks { OnOk result (RisesWithin (steps_taken N.design N.plan window.now.before (fault_of fault) None)
+        (steps_taken N.design N.plan window.now.through (fault_of fault) own.new.end) steps.old steps.new) }
 {
     beside_laws::gradings_go_on();
     machines_stand();
@@ -54,5 +58,6 @@ pub fn begin_fault<N: World, L: Ledger>(
         log,
         own,
         steps,
-    )
+    )?;
+    Ok(())
 }

@@ -1,13 +1,16 @@
 // The grading of a fault through a window.
 
-ghost use Rattle.std.specs.Prelude.{◌≡◌, IfOk};
+ghost use Rattle.std.specs.Prelude.{◌≡◌, IfOk, None};
 ghost use Rattle.v_design.specs.Grades.{Judged};
 ghost use Rattle.v_design.specs.Plain.{grade_of};
 ghost use Rattle.strobe_detect.specs.Verdicts.{verdict_view};
 ghost use Rattle.good_trace.specs.Slots.{end_of};
 ghost use Rattle.window_grade.specs.Running.{StaysOn};
 ghost use Rattle.window_strobes.specs.Strobes.{strobes_left};
-ghost use Rattle.copy_window.specs.Passing.{CanGradeWindow, ComesToTime, EndsBehind, PassesWindow};
+ghost use Rattle.copy_laws.specs.Windows.{time_at};
+ghost use Rattle.graded_steps.specs.Behind.{RisesWithin};
+ghost use Rattle.copy_window.specs.Passing.{CanGradeWindow, ComesToTime, TicksIf, EndsBehind, PassesWindow};
+ghost use Rattle.copy_window.specs.ShardFaults.{steps_taken};
 
 use causal_monitor::SlotLog;
 use good_trace::GoodEnd;
@@ -52,6 +55,8 @@ fn grade_to<L: Ledger>(
     ensures comes { IfOk result (λ end. (of : CanGradeWindow strobes.now machine.old grader.old) →
         ComesToTime of.design of.plan of.fault of.before (strobes_left of.plan strobes.now) strobes.now.until end machine.new grader.new) }
     ensures stays { IfOk result (λ _. StaysOn machine.old machine.new) }
+    ensures ticks { IfOk result (λ end. (of : CanGradeWindow strobes.now machine.old grader.old) →
+        TicksIf of.design of.plan of.fault (time_at of.design of.plan of.before) strobes.now.until end steps.old steps.new) }
 {
     match strobes.until {
         None => Ok(None),
@@ -75,6 +80,8 @@ pub(crate) fn grade_window<L: Ledger>(
     ensures passes { IfOk result (λ end. (of : CanGradeWindow strobes.now machine.old grader.old) →
         PassesWindow of.design of.plan of.fault of.through (strobes_left of.plan strobes.now) end machine.new grader.new) }
     ensures stays { IfOk result (λ _. StaysOn machine.old machine.new) }
+    ensures ticks { IfOk result (λ end. (of : CanGradeWindow strobes.now machine.old grader.old) →
+        RisesWithin (steps_taken of.design of.plan of.before of.fault None) (steps_taken of.design of.plan of.through of.fault end) steps.old steps.new) }
 {
     beside_laws::runs_stand();
     beside_laws::gradings_end();

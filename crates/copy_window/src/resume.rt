@@ -1,11 +1,12 @@
 // A fault from its copy on.
 
-ghost use Rattle.std.specs.Prelude.{◌≡◌, ◌+◌, ◌<◌, IfOk, OnOk};
+ghost use Rattle.std.specs.Prelude.{◌≡◌, ◌+◌, ◌<◌, None, IfOk, OnOk};
 ghost use Rattle.v_design.specs.Plain.{fault_of};
 ghost use Rattle.copy_room.specs.Rooms.{IsRoom};
 ghost use Rattle.window_strobes.specs.Strobes.{passed_behind};
 ghost use Rattle.copy_window.specs.Passing.{CanResume};
-ghost use Rattle.copy_window.specs.ShardFaults.{IsShardFault};
+ghost use Rattle.graded_steps.specs.Behind.{RisesWithin};
+ghost use Rattle.copy_window.specs.ShardFaults.{IsShardFault, steps_taken};
 
 use crate::fault::ShardFault;
 use crate::settle::settle;
@@ -34,7 +35,7 @@ pub fn new_room<'d, N: World>(alloc: Global, setup: &Setup<'d, N>) -> Result<Mac
 }
 
 /// Grades a fault through the slots of a window from the one of a number on, before which its faulty machine ran some slots. The strobes are those of these slots;
-/// `room` is a machine of the design, and `log` room for the log of a slot.
+/// `room` is a machine of the design, and `log` room for the log of a slot; `steps` ticks once for each process step of the slots that are run.
 ///
 /// # Errors
 ///
@@ -57,6 +58,8 @@ pub fn resume_fault<N: World, L: Ledger>(
     ensures fault { OnOk result (IsShardFault N.design N.plan window.now.through (passed_behind strobes.now) own.new) }
     ensures place { OnOk result (own.new.copy.fault ≡ own.old.copy.fault) }
     ensures room { OnOk result (IsRoom N.design room.new) }
+    ensures ticks { OnOk result (RisesWithin (steps_taken N.design N.plan (window.now.before + slot) (fault_of fault) None)
+        (steps_taken N.design N.plan window.now.through (fault_of fault) own.new.end) steps.old steps.new) }
 {
     beside_laws::faults_go_on();
     beside_laws::gradings_go_on();

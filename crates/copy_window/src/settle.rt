@@ -1,10 +1,11 @@
 // A fault behind a window.
 
-ghost use Rattle.std.specs.Prelude.{◌≡◌, ℕ, OnOk};
+ghost use Rattle.std.specs.Prelude.{◌≡◌, ℕ, None, OnOk};
 ghost use Rattle.window_grade.specs.Running.{StaysOn};
 ghost use Rattle.window_strobes.specs.Strobes.{passed_behind};
 ghost use Rattle.copy_window.specs.Passing.{CanSettle, StaysOpen};
-ghost use Rattle.copy_window.specs.ShardFaults.{IsShardFault};
+ghost use Rattle.graded_steps.specs.Behind.{RisesWithin};
+ghost use Rattle.copy_window.specs.ShardFaults.{IsShardFault, steps_taken};
 
 use crate::fault::ShardFault;
 use crate::grade::grade_window;
@@ -33,6 +34,7 @@ fn keep_open<N: World>(
     requires stays { StaysOpen N.design N.plan window.now.through (passed_behind strobes.now) machine.now grader.now own.old }
     ensures fault { OnOk result (IsShardFault N.design N.plan window.now.through (passed_behind strobes.now) own.new) }
     ensures place { OnOk result (own.new.copy.fault ≡ own.old.copy.fault) }
+    ensures end { OnOk result (own.new.end ≡ own.old.end) }
 {
     beside_laws::runs_go_on();
     beside_laws::faults_go_on();
@@ -62,11 +64,14 @@ pub(crate) fn settle<N: World, L: Ledger>(
     ensures fault { OnOk result (IsShardFault N.design N.plan window.now.through (passed_behind strobes.now) own.new) }
     ensures place { OnOk result (own.new.copy.fault ≡ own.old.copy.fault) }
     ensures stays { OnOk result (StaysOn machine.old machine.new) }
+    ensures ticks { OnOk result ((before : ℕ) (of : CanSettle N.design N.plan before window.now.through strobes.now machine.old grader.old own.old) →
+        RisesWithin (steps_taken N.design N.plan before of.fault None) (steps_taken N.design N.plan window.now.through of.fault own.new.end) steps.old steps.new) }
 {
     let end = grade_window(log, machine, grader, strobes, steps)?;
     if end.is_some() {
         own.end = end;
         return Ok(());
     }
-    keep_open(alloc, setup, window, strobes, machine, grader, own)
+    keep_open(alloc, setup, window, strobes, machine, grader, own)?;
+    Ok(())
 }

@@ -1,3 +1,4 @@
 mod Ahead
 mod Putting
 mod Filling
+mod Ticks

@@ -1,19 +1,25 @@
 -- What comes next of the good first run, by the slots that stand in windows so far (slots by IEEE 1364-2001, clause 5).
-use Rattle.std.specs.Prelude.{◌≡◌, ◌≢◌, ◌⊎◌, ℕ, ◌+◌, ◌-◌, ◌<◌, Bool, true, false, length, Some, slice_get}
+use Rattle.std.specs.Prelude.{◌≡◌, ◌≢◌, ◌⊎◌, ℕ, ◌+◌, ◌-◌, ◌<◌, Bool, true, false, length, Some, slice_get, sum_by, take}
 use Rattle.v_design.specs.Designs.{FlatDesign, TestPlan}
 use Rattle.v_design.specs.Runs.{FirstSlot, is_hyper}
 use Rattle.v_design.specs.Grades.{Hyper}
 use Rattle.copy_laws.specs.Windows.{IsWindow, good_slots, window_steps}
 use Rattle.grade_laws.specs.Grading.{good_stop}
+use Rattle.machine.specs.Ticks.{process_steps}
 use Rattle.good_trace.specs.Slots.{is_full}
 use Rattle.good_trace.specs.Traces.{WindowKept}
 use Rattle.good_windows.specs.declared.next.NextWindow.{NextWindow}
 use Rattle.good_windows.specs.declared.next.NextWindow.TheVariants.{Window, Over, Loops}
 
--- what contracts see of the good machine's run: how many slots stand in windows so far, and whether it may be used
+-- what contracts see of the good machine's run: how many slots stand in windows so far, how many were run, and whether it may be used
 pub record RunKept : Type 0 where
   pub gone : ℕ
+  pub ran : ℕ
   pub usable : Bool
+
+-- the process steps of so many slots of the good first run
+abbrev pub steps_of_slots : FlatDesign → TestPlan → ℕ → ℕ
+steps_of_slots design plan number = sum_by process_steps (take number (good_slots design plan))
 
 -- Windows
 

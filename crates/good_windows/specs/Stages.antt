@@ -1,5 +1,5 @@
 -- Where the good machine stands, and how its first run goes on from there (slots by IEEE 1364-2001, clause 5).
-use Rattle.std.specs.Prelude.{◌≡◌, ℕ, ◌≤◌, ◌^◌, Bool, true, false, List, ◌++◌, length, Option, Some, None}
+use Rattle.std.specs.Prelude.{◌≡◌, ℕ, ◌+◌, ◌≤◌, ◌^◌, Bool, true, false, List, ◌++◌, length, Option, Some, None}
 use Rattle.std.specs.Option.{option_map}
 use Rattle.v_design.specs.Designs.{FlatDesign, TestPlan, good_machine}
 use Rattle.v_design.specs.States.{State, start}
@@ -43,6 +43,14 @@ is_usable Through = true
 is_usable (Raced pair) = true
 is_usable (Looped time) = true
 is_usable Spent = false
+
+-- how many slots were run where so many stand in the trace: one more, where that one is hyperactive
+abbrev pub run_through : ℕ → Stage → ℕ
+run_through pushed Open = pushed
+run_through pushed Through = pushed
+run_through pushed (Raced pair) = pushed
+run_through pushed (Looped time) = pushed + 1
+run_through pushed Spent = pushed
 
 -- Where the machine stands
 

@@ -1,7 +1,8 @@
 // The slots of one more window.
 
-ghost use Rattle.std.specs.Prelude.{◌≡◌, ◌≤◌, ◌^◌, IfOk};
-ghost use Rattle.good_windows.specs.Stages.{IsUsable};
+ghost use Rattle.std.specs.Prelude.{◌≡◌, ◌+◌, ◌≤◌, ◌^◌, IfOk};
+ghost use Rattle.good_windows.specs.Next.{steps_of_slots};
+ghost use Rattle.good_windows.specs.Stages.{IsUsable, run_through};
 ghost use Rattle.good_windows.specs.Puts.{IsFilled};
 
 use crate::slot::{Put, next_within, put_slot};
@@ -36,7 +37,9 @@ fn fill<'s, 'd, N: World, L: Ledger>(
     requires end { N.plan.end ≡ end }
     requires limit { N.plan.end ≤ 2 ^ 63 }
     requires usable { IsUsable N.design N.plan machine.old trace.old Stage.Open }
-    ensures { IfOk result (λ filled. IsFilled N.design N.plan trace.old.closed machine.new trace.new filled) }
+    ensures filled { IfOk result (λ filled. IsFilled N.design N.plan trace.old.closed machine.new trace.new filled) }
+    ensures ticks { IfOk result (λ filled. steps.new + steps_of_slots N.design N.plan trace.old.pushed ≤
+        steps.old + steps_of_slots N.design N.plan (run_through trace.new.pushed filled.stage)) }
 {
     let mut some = false;
     let mut next = next_within(machine, end);
@@ -88,7 +91,9 @@ pub(crate) fn go_on<'s, 'd, N: World, L: Ledger>(
     requires end { N.plan.end ≡ end }
     requires limit { N.plan.end ≤ 2 ^ 63 }
     requires usable { IsUsable N.design N.plan machine.old trace.old stage }
-    ensures { IfOk result (λ filled. IsFilled N.design N.plan trace.old.closed machine.new trace.new filled) }
+    ensures filled { IfOk result (λ filled. IsFilled N.design N.plan trace.old.closed machine.new trace.new filled) }
+    ensures ticks { IfOk result (λ filled. steps.new + steps_of_slots N.design N.plan (run_through trace.old.pushed stage) ≤
+        steps.old + steps_of_slots N.design N.plan (run_through trace.new.pushed filled.stage)) }
 {
     if let Stage::Open = stage {
         let filled = fill(end, machine, trace, log, steps)?;

@@ -1,7 +1,7 @@
 // The good machine's run.
 
-ghost use Rattle.std.specs.Prelude.{◌≡◌, true, IfOk, OnOk};
-ghost use Rattle.good_windows.specs.Next.{GivesNext};
+ghost use Rattle.std.specs.Prelude.{◌≡◌, ◌+◌, ◌≤◌, true, IfOk, OnOk};
+ghost use Rattle.good_windows.specs.Next.{GivesNext, steps_of_slots};
 ghost use Rattle.good_windows.specs.Stages.{IsAtStart};
 
 use crate::fill::go_on;
@@ -18,7 +18,7 @@ use v_design::World;
 use vf_base::{NoMemory, Steps};
 
 /// The good machine of the world `N` in its first run, with the slots that it ran since the last window. Contracts see it as how many slots of the good first run
-/// stand in windows so far, and whether it may be used: after a call that ran out of memory it isn't to be used again.
+/// stand in windows so far, how many were run, and whether it may be used: after a call that ran out of memory it isn't to be used again.
 #[derive(Drop)]
 pub struct GoodRun<'s, 'd, N: World> {
     /// The plan's end.
@@ -35,9 +35,9 @@ impl<'s, 'd, N: World> Model for GoodRun<'s, 'd, N> {
 
     ghost Value = { RunKept };
 
-    ghost use Rattle.good_windows.specs.Stages.{IsGoodRun, is_usable};
+    ghost use Rattle.good_windows.specs.Stages.{IsGoodRun, is_usable, run_through};
 
-    ghost view = { λ r. record { gone = r.trace.closed; usable = is_usable r.stage } };
+    ghost view = { λ r. record { gone = r.trace.closed; ran = run_through r.trace.closed r.stage; usable = is_usable r.stage } };
 
     ghost invariant = { λ r. IsGoodRun N.design N.plan r.end r.machine r.trace r.stage };
 }
@@ -62,6 +62,7 @@ impl<'s, 'd, N: World> GoodRun<'s, 'd, N> {
     /// Want of memory.
     pub fn new(alloc: Global, setup: &'s Setup<'d, N>) -> Result<GoodRun<'s, 'd, N>, NoMemory>
         ensures none { IfOk result (λ run. run.gone ≡ 0) }
+        ensures ran { IfOk result (λ run. run.ran ≡ 0) }
         ensures usable { IfOk result (λ run. run.usable ≡ true) }
     {
         order_laws::first_run_goes_on();
@@ -81,7 +82,7 @@ impl<'s, 'd, N: World> GoodRun<'s, 'd, N> {
 
     /// Runs the machine through the slots of one more window, and gives that window; or tells that no slot is left, or that the next one is hyperactive. A window
     /// begins where the last one ended, and is as full as it gets: it ends with the slot that fills it, or where no further slot is one of a window. The memory of
-    /// a window that is done with is used again, if one is given.
+    /// a window that is done with is used again, if one is given. `steps` ticks once for each process step of the slots that are run.
     ///
     /// # Errors
     ///
@@ -94,6 +95,7 @@ impl<'s, 'd, N: World> GoodRun<'s, 'd, N> {
         requires { self.old.usable ≡ true }
         ensures next { IfOk result (λ next. GivesNext N.design N.plan self.old.gone next self.new.gone) }
         ensures usable { OnOk result (self.new.usable ≡ true) }
+        ensures ticks { OnOk result (steps.new + steps_of_slots N.design N.plan self.old.ran ≤ steps.old + steps_of_slots N.design N.plan self.new.ran) }
     {
         let stage = self.stage;
         self.stage = Stage::Spent;

@@ -1,10 +1,11 @@
 // A slot of the good first run.
 
-ghost use Rattle.std.specs.Prelude.{◌≡◌, ◌-◌, ◌≤◌, ◌^◌, false, IfOk};
+ghost use Rattle.std.specs.Prelude.{◌≡◌, ◌+◌, ◌-◌, ◌≤◌, ◌^◌, false, IfOk};
 ghost use Rattle.copy_laws.specs.Windows.{window_steps};
 ghost use Rattle.run_ends.specs.RunEnds.{AreCodesOf};
 ghost use Rattle.machine.specs.Standing.{IsStanding};
 ghost use Rattle.good_trace.specs.Slots.{is_full};
+ghost use Rattle.good_windows.specs.Next.{steps_of_slots};
 ghost use Rattle.good_windows.specs.Stages.{StandsAfter, next_by};
 ghost use Rattle.good_windows.specs.Puts.{PutsSlot, put_by};
 
@@ -74,7 +75,8 @@ pub(crate) fn put_slot<'s, 'd, N: World, L: Ledger>(
     requires next { next_by N.plan.end machine.old ≡ Some time }
     requires limit { N.plan.end ≤ 2 ^ 63 }
     requires room { is_full (trace.old.pushed - trace.old.closed) (window_steps N.design N.plan trace.old.closed trace.old.pushed) ≡ false }
-    ensures { IfOk result (λ put. PutsSlot N.design N.plan time trace.old put machine.new trace.new) }
+    ensures puts { IfOk result (λ put. PutsSlot N.design N.plan time trace.old put machine.new trace.new) }
+    ensures ticks { IfOk result (λ _. steps.new + steps_of_slots N.design N.plan trace.old.pushed ≤ steps.old + steps_of_slots N.design N.plan (trace.old.pushed + 1)) }
 {
     let end = machine.slot(log, steps)?;
     if let SlotEnd::Hyper = end {

@@ -1,2 +1,3 @@
 pub mod Claiming
 pub mod Passing
+pub mod Ticks

@@ -1,8 +1,8 @@
 -- What workers have between rounds (slots by IEEE 1364-2001, clause 5).
-use Rattle.std.specs.Prelude.{◌≡◌, ℕ, Bool, true, false, IsTrue, List, [], map, length}
+use Rattle.std.specs.Prelude.{◌≡◌, ℕ, Bool, true, false, IsTrue, List, [], map, length, sum_by, if◌then◌else◌}
 use Rattle.std.specs.List.{All}
 use Rattle.v_design.specs.Designs.{FlatDesign, TestPlan}
-use Rattle.copy_shard.specs.Shards.{places_of}
+use Rattle.copy_shard.specs.Shards.{places_of, shard_steps}
 use Rattle.fault_shards.specs.Cuts.{shard, shard_count}
 use Rattle.fault_shards.specs.Shards.{AreShardsOf, representatives_of}
 use Rattle.fault_shards.specs.declared.shards.Shards.{Shards}
@@ -37,7 +37,15 @@ module _ {N : Type 0} where
     pub claimed : v.claimed ≡ numbers_of shards
     pub each : All (IsClaimed representatives gone) shards
 
+  -- the process steps that the gradings of their faults take
+  abbrev pub claimed_steps : FlatDesign → TestPlan → List (ClaimedShard N) → ℕ
+  claimed_steps design plan shards = sum_by (λ (claimed : ClaimedShard N). shard_steps design plan claimed.shard) shards
+
   -- Workers
+
+  -- those of a worker's shards, once it has claimed
+  abbrev pub worker_steps : FlatDesign → TestPlan → Worker N → ℕ
+  worker_steps design plan worker = if worker.dry then claimed_steps design plan worker.shards.items else 0
 
   -- a seat that has drawn no claim, moved no word, and has the share of one worker
   pub record IsNewSeat (board : Board N) (seat : Seat N) : Type 0 where

@@ -2,7 +2,8 @@
 
 ghost use Rattle.std.specs.Prelude.{IfOk};
 ghost use Rattle.fault_shards.specs.Shards.{representatives_of};
-ghost use Rattle.shard_claims.specs.Workers.{IsPlaceOf, IsWorkerAt};
+ghost use Rattle.graded_steps.specs.Behind.{RisesWithin};
+ghost use Rattle.shard_claims.specs.Workers.{IsPlaceOf, IsWorkerAt, worker_steps};
 
 use crate::claim::claim_all;
 use crate::round::{ClaimedShard, Round};
@@ -23,7 +24,8 @@ pub struct Worker<N: World> {
     pub dry: bool,
 }
 
-/// Takes a worker through a round: it claims shards until none is left, where it hasn't done so yet, and its shards go through the round's window.
+/// Takes a worker through a round: it claims shards until none is left, where it hasn't done so yet, and its shards go through the round's window. `steps`
+/// ticks once for each process step of the slots that the faulty machines run.
 ///
 /// # Errors
 ///
@@ -36,7 +38,8 @@ pub fn work<N: World, G: Gate, L: Ledger>(
 ) -> Result<Worker<N>, NoMemory>
     requires place { IsPlaceOf N.design N.plan round.now.shards.now round.now.board.now }
     requires at { IsWorkerAt (representatives_of round.now.shards.now) round.now.board.now round.now.window.now.before worker }
-    ensures { IfOk result (IsWorkerAt (representatives_of round.now.shards.now) round.now.board.now round.now.window.now.through) }
+    ensures through { IfOk result (IsWorkerAt (representatives_of round.now.shards.now) round.now.board.now round.now.window.now.through) }
+    ensures ticks { IfOk result (λ after. RisesWithin (worker_steps N.design N.plan worker) (worker_steps N.design N.plan after) steps.old steps.new) }
 {
     // The machine in it is of this thread alone.
     let mut room = ShardRoom::new(alloc);

@@ -1,9 +1,10 @@
 -- A faulty machine in its first run (slots by IEEE 1364-2001, clause 5).
-use Rattle.std.specs.Prelude.{◌≡◌, ℕ, ◌≤◌, ◌^◌, Option, Some, None}
+use Rattle.std.specs.Prelude.{◌≡◌, ℕ, ◌≤◌, ◌^◌, Option, Some, None, option_map}
 use Rattle.vf_base.specs.declared.finding.End.{End}
 use Rattle.v_design.specs.Designs.{FlatDesign, StuckAt, TestPlan, faulty_machine}
 use Rattle.v_design.specs.Grades.{Fine, Stop, faulty_ending}
 use Rattle.v_design.specs.Plain.{grade_of}
+use Rattle.v_design.specs.WellFormed.{KeepsRules}
 use Rattle.grade_laws.specs.Grading.{faulty_stop}
 use Rattle.machine.specs.Standing.{IsStanding, machine_kept, state_kept, notes_runs, begins_next, begun_within, outcome_of}
 use Rattle.machine.specs.declared.end.SlotEnd.{SlotEnd}
@@ -11,18 +12,22 @@ use Rattle.machine.specs.declared.parts.Stage.TheVariants.{Between}
 use Rattle.machine.specs.declared.parts.Machine.{Machine as Simulated}
 use Rattle.fault_grade.specs.Reached.{next_of}
 use Rattle.beside_laws.specs.Stands.{IsSince, HasRun}
+use Rattle.graded_steps.specs.Ahead.{SlotsAhead}
+use Rattle.graded_steps.specs.Behind.{RisesWithin, steps_up_to, steps_graded}
 
 -- a machine that ran no slot yet has one at time 0, and one that ran some stands between two slots
 abbrev pub IsAtStage : Option ℕ → Simulated → Type 0
 IsAtStage None m = next_of m ≡ Some 0
 IsAtStage (Some now) m = m.stage ≡ Between
 
--- the faulty machine ran the slots of its first run up to a time, all fine, or none yet; it stands there
+-- the faulty machine ran the slots of its first run up to a time, all fine, or none yet; it stands there, and the others are ahead
 pub record IsRunningAt (design : FlatDesign) (plan : TestPlan) (fault : StuckAt) (now : Option ℕ) (m : Simulated) : Type 0 where
+  pub rules : KeepsRules design
   pub same_machine : machine_kept m ≡ faulty_machine design fault
   pub standing : IsStanding m
   pub stage : IsAtStage now m
   pub run : HasRun (faulty_machine design fault) plan.end now (begun_within plan.end (begins_next m)) (state_kept m)
+  pub ahead : SlotsAhead (faulty_machine design fault) plan.end now (begun_within plan.end (begins_next m))
 
 -- the first run of the faulty machine stops at a time or before it, and this ends the grading so
 pub record StopsWith (design : FlatDesign) (plan : TestPlan) (fault : StuckAt) (time : ℕ) (end : End) : Type 0 where
@@ -49,10 +54,20 @@ abbrev pub RunLeads : FlatDesign → TestPlan → StuckAt → ℕ → Option End
 RunLeads design plan fault time None m = IsRunningAt design plan fault (Some time) m
 RunLeads design plan fault time (Some end) m = StopsWith design plan fault time end
 
+-- a faulty machine was run on from where it stood to a time, or its grading ended by then: a counter rose by no more than the process steps between
+abbrev pub TicksTo : FlatDesign → TestPlan → StuckAt → Option ℕ → ℕ → Option End → ℕ → ℕ → Type 0
+TicksTo design plan fault now time end before after =
+    RisesWithin (steps_up_to (faulty_machine design fault) now) (steps_graded design plan fault (Some time) (option_map grade_of end)) before after
+
 -- the next slot of a machine, at a time, was run
 abbrev pub RunsSlotAt : ℕ → Simulated → Option End → Simulated → Type 0
 RunsSlotAt time old end new =
     (design : FlatDesign) (plan : TestPlan) (fault : StuckAt) (now : Option ℕ) → IsRunningAt design plan fault now old → time ≤ plan.end → RunLeads design plan fault time end new
+
+-- and a counter rose by its process steps
+abbrev pub TicksSlotAt : ℕ → Simulated → Option End → ℕ → ℕ → Type 0
+TicksSlotAt time old end before after =
+    (design : FlatDesign) (plan : TestPlan) (fault : StuckAt) (now : Option ℕ) → IsRunningAt design plan fault now old → time ≤ plan.end → TicksTo design plan fault now time end before after
 
 -- Slots up to a time
 

@@ -1,5 +1,5 @@
 -- Where a faulty machine stands in its first run (slots by IEEE 1364-2001, clause 5).
-use Rattle.std.specs.Prelude.{◌≡◌, ℕ, Some, None}
+use Rattle.std.specs.Prelude.{◌≡◌, ℕ, ◌≤◌, Some, None}
 use Rattle.v_design.specs.Designs.{FlatDesign, StuckAt, TestPlan, faulty_machine}
 use Rattle.v_design.specs.States.{start, turn_of}
 use Rattle.v_design.specs.WellFormed.{KeepsRules}
@@ -17,6 +17,6 @@ pub record MachinesStand : Type 0 where
   pub begins : (design : FlatDesign) (plan : TestPlan) (fault : StuckAt) (m : Simulated) → KeepsRules design → machine_kept m ≡ faulty_machine design fault → IsStanding m →
       first_turn m.stage ≡ Start → begins_next m ≡ Some (start (faulty_machine design fault)) → IsRunningAt design plan fault None m
   -- one that was put into the faulty machine's state at a time up to which that doesn't stop, and stands between two slots there, ran its slots up to then
-  pub again : (design : FlatDesign) (plan : TestPlan) (fault : StuckAt) (time : ℕ) (m : Simulated) → KeepsRules design → StopsAfter time (faulty_stop design plan fault) →
+  pub again : (design : FlatDesign) (plan : TestPlan) (fault : StuckAt) (time : ℕ) (m : Simulated) → KeepsRules design → time ≤ plan.end → StopsAfter time (faulty_stop design plan fault) →
       machine_kept m ≡ faulty_machine design fault → IsStanding m → state_kept m ≡ state_at (faulty_machine design fault) plan.end time → m.stage ≡ Between →
       begins_next m ≡ slot_after (state_kept m) (turn_of (state_kept m)) → IsRunningAt design plan fault (Some time) m

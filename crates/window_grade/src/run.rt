@@ -3,7 +3,7 @@
 ghost use Rattle.std.specs.Prelude.{◌≡◌, ◌≤◌, ◌^◌, Some, IfOk};
 ghost use Rattle.machine.specs.Standing.{IsStanding};
 ghost use Rattle.fault_grade.specs.Reached.{next_of};
-ghost use Rattle.window_grade.specs.Running.{EndsSo, StaysOn, RunsSlotAt, CanRunTo, RunLeads};
+ghost use Rattle.window_grade.specs.Running.{EndsSo, StaysOn, RunsSlotAt, TicksSlotAt, TicksTo, CanRunTo, RunLeads};
 ghost use Rattle.window_grade.specs.Standing.{MachinesStand};
 
 use causal_monitor::SlotLog;
@@ -18,6 +18,7 @@ pub fn machines_stand()
 {
     beside_laws::runs_go_on();
     beside_laws::runs_stand();
+    graded_steps::runs_take_steps();
 }
 
 /// How a slot of the faulty machine, at a time in steps, ends the grading, if it isn't fine.
@@ -43,14 +44,16 @@ fn run_slot<L: Ledger>(
     requires limit { time ≤ 2 ^ 63 }
     ensures run { IfOk result (λ end. RunsSlotAt time machine.old end machine.new) }
     ensures stays { IfOk result (λ _. StaysOn machine.old machine.new) }
+    ensures ticks { IfOk result (λ end. TicksSlotAt time machine.old end steps.old steps.new) }
 {
     beside_laws::runs_go_on();
+    graded_steps::runs_take_steps();
     let end = machine.slot(log, steps)?;
     Ok(end_of(time, end))
 }
 
 /// Runs all slots of a faulty machine up to a time, in steps, or through the first that isn't fine. The answer is how that one ends the grading. `log` is room for
-/// the log of a slot.
+/// the log of a slot. `steps` ticks once for each process step of these slots.
 ///
 /// # Errors
 ///
@@ -64,8 +67,10 @@ pub fn run_to<L: Ledger>(
     requires { CanRunTo until machine.old }
     ensures run { IfOk result (λ end. (of : CanRunTo until machine.old) → RunLeads of.design of.plan of.fault until end machine.new) }
     ensures stays { IfOk result (λ _. StaysOn machine.old machine.new) }
+    ensures ticks { IfOk result (λ end. (of : CanRunTo until machine.old) → TicksTo of.design of.plan of.fault of.now until end steps.old steps.new) }
 {
     beside_laws::runs_go_on();
+    graded_steps::runs_take_steps();
     let mut next = machine.next_time();
     'slots: while let Some(time) = next {
         if until < time {

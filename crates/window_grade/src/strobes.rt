@@ -2,7 +2,7 @@
 
 ghost use Rattle.std.specs.Prelude.{IfOk};
 ghost use Rattle.kept_samples.specs.Plain.{sample_of};
-ghost use Rattle.window_grade.specs.Running.{StaysOn};
+ghost use Rattle.window_grade.specs.Running.{StaysOn, TicksTo};
 ghost use Rattle.window_grade.specs.Grading.{CanPass, Passes, CanGrade, GradesThrough};
 
 use crate::run::run_to;
@@ -24,6 +24,7 @@ fn pass_strobe<L: Ledger>(
     requires { CanPass (sample_of sample.now) machine.old grader.old }
     ensures grading { IfOk result (λ end. (of : CanPass (sample_of sample.now) machine.old grader.old) → Passes (sample_of sample.now) machine.old grader.old of end machine.new grader.new) }
     ensures stays { IfOk result (λ _. StaysOn machine.old machine.new) }
+    ensures ticks { IfOk result (λ end. (of : CanPass (sample_of sample.now) machine.old grader.old) → TicksTo of.design of.plan of.fault of.now sample.now.time end steps.old steps.new) }
 {
     beside_laws::gradings_go_on();
     beside_laws::gradings_end();
@@ -40,7 +41,8 @@ fn pass_strobe<L: Ledger>(
 }
 
 /// Runs a faulty machine through a window to a time, in steps: from strobe to strobe, where it is compared with the good machine's samples, and to that time. The answer
-/// is the grading's end, where it comes by then; the machine stands either way, so that it may be cleared for another fault. `log` is room for the log of a slot.
+/// is the grading's end, where it comes by then; the machine stands either way, so that it may be cleared for another fault. `log` is room for the log of a slot. `steps`
+/// ticks once for each process step of the slots that are run.
 ///
 /// # Errors
 ///
@@ -56,6 +58,7 @@ pub fn grade_through<L: Ledger>(
     requires { CanGrade samples.now until machine.old grader.old }
     ensures grading { IfOk result (λ end. (of : CanGrade samples.now until machine.old grader.old) → GradesThrough of.design of.plan of.fault of.later until end machine.new grader.new) }
     ensures stays { IfOk result (λ _. StaysOn machine.old machine.new) }
+    ensures ticks { IfOk result (λ end. (of : CanGrade samples.now until machine.old grader.old) → TicksTo of.design of.plan of.fault of.now until end steps.old steps.new) }
 {
     beside_laws::gradings_go_on();
     beside_laws::gradings_end();

@@ -10,6 +10,7 @@ use Rattle.copy_window.specs.declared.fault.ShardFault.{ShardFault}
 use Rattle.copy_shard.specs.Kept.{ComesThrough, is_open}
 use Rattle.copy_shard.proofs.Starting.{keeps-rules}
 use Rattle.copy_shard.proofs.Through.{all-ended, time-behind}
+use Rattle.copy_shard.proofs.Ticks.{same-rises, taken-ended}
 use Rattle.copy_shard.proofs.advance.advance_all.Goals as goal
 
 pub returns-then-not-some_open-clause-reached : goal.returns-then-not-some_open-clause-reached
@@ -51,3 +52,12 @@ pub returns-clause-faults : goal.returns-clause-faults
 returns-clause-faults g c =
     subst (λ n. AllZip (ComesThrough g.N.World.design g.N.World.plan c.args.window.now.through n) c.args.faults.now.items c.advance_each.new.faults.items) (sym c.reached_behind.ensures.passed)
     c.in_ok-advance_each.ensures.faults
+
+pub returns-then-not-some_open-clause-ticks : goal.returns-then-not-some_open-clause-ticks
+returns-then-not-some_open-clause-ticks g c =
+    same-rises _ _ c.args.steps.now
+    (taken-ended g.N.World.design g.N.World.plan c.args.window.now.before c.args.window.now.through c.args.faults.now.items
+    (sym (c.some_open.ensures ∙ ap (list_any is_open) c.deref.ensures.value) ∙ c.if-not-some_open.true))
+
+pub returns-clause-ticks : goal.returns-clause-ticks
+returns-clause-ticks g c = c.in_ok-advance_each.ensures.ticks

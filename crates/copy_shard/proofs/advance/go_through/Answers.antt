@@ -3,7 +3,9 @@ use Rattle.std.proofs.Common.{◌≡◌, ◌+◌, ◌<◌, sym, ap, subst, ◌�
 use Rattle.std.specs.Prelude.{slice_get}
 use Rattle.v_design.specs.Plain.{fault_of}
 use Rattle.copy_window.specs.Passing.{CanResume}
+use Rattle.copy_shard.proofs.Starting.{keeps-rules}
 use Rattle.copy_shard.proofs.Through.{can-begin, can-resume, is-listed}
+use Rattle.copy_shard.proofs.Ticks.{kept-rises, passes-rise, later-rises}
 use Rattle.copy_shard.proofs.advance.go_through.Goals as goal
 
 pub listed_fault-fault-requires-after_bounds : goal.listed_fault-fault-requires-after_bounds
@@ -46,3 +48,25 @@ resume_behind-requires-clause-fault g c κs within = λ some.
       none = c.pass_over-passed.ensures.goes_on further;
       stands = c.pass_over-passed.ensures.part some further;
     }
+
+pub returns-then-begins-eq0-clause-ticks : goal.returns-then-begins-eq0-clause-ticks
+returns-then-begins-eq0-clause-ticks g c =
+    kept-rises g.N.World.design g.N.World.plan c.args.window.now.before c.args.window.now.through c.args.own.now c.begin_fault.new.own (fault_of c.listed_fault-fault.result) c.args.steps.now
+    c.begin_fault.new.steps c.listed_fault-fault.ensures c.requires.none c.in_ok-begin_fault.ensures.place c.in_ok-begin_fault.ensures.ticks
+
+pub returns-then-passed-slots-clause-ticks : goal.returns-then-passed-slots-clause-ticks
+returns-then-passed-slots-clause-ticks g c =
+    let all : c.args.window.now.before + c.pass_over-passed.result ≡ c.args.window.now.through = omega (arith, c.if-passed-slots.true, c.slots.ensures) in
+    kept-rises g.N.World.design g.N.World.plan c.args.window.now.before c.args.window.now.through c.args.own.now c.pass_over-passed.new.own (fault_of c.listed_fault-fault.result) c.args.steps.now
+    c.args.steps.now c.listed_fault-fault.ensures c.requires.none c.pass_over-passed.ensures.place
+    (passes-rise c.gradings_take_steps.ensures g.N.World.design g.N.World.plan c.args.window.now.before c.args.window.now.through c.args.strobes.now.passed _ c.args.own.now
+    c.pass_over-passed.new.own (fault_of c.listed_fault-fault.result) c.args.steps.now (keeps-rules g.N.World.design c.design-design.result.now c.design-design.ensures.world)
+    (omega (arith, all)) c.listed_fault-fault.ensures c.requires.none c.pass_over-passed.ensures.place c.requires.fault (c.pass_over-passed.ensures.all all))
+
+pub returns-clause-ticks : goal.returns-clause-ticks
+returns-clause-ticks g c =
+    kept-rises g.N.World.design g.N.World.plan c.args.window.now.before c.args.window.now.through c.args.own.now c.resume_behind.new.own (fault_of c.listed_fault-fault.result) c.args.steps.now
+    c.resume_behind.new.steps c.listed_fault-fault.ensures c.requires.none (c.in_ok-resume_behind.ensures.place ∙ c.pass_over-passed.ensures.place)
+    (later-rises c.gradings_take_steps.ensures g.N.World.design g.N.World.plan c.args.window.now.before (c.args.window.now.before + c.pass_over-passed.result) _
+    (fault_of c.listed_fault-fault.result) c.args.steps.now c.resume_behind.new.steps (keeps-rules g.N.World.design c.design-design.result.now c.design-design.ensures.world)
+    (omega arith) c.in_ok-resume_behind.ensures.ticks)

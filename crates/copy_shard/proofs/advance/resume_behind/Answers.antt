@@ -2,7 +2,9 @@
 use Rattle.std.proofs.Common.{◌≡◌, ◌+◌, ◌<◌, subst, sym, arith}
 use Rattle.v_design.specs.Plain.{fault_of}
 use Rattle.copy_window.specs.Passing.{CanResume}
-use Rattle.copy_window.specs.ShardFaults.{IsShardFault}
+use Rattle.std.specs.Prelude.{None}
+use Rattle.graded_steps.specs.Behind.{RisesWithin}
+use Rattle.copy_window.specs.ShardFaults.{IsShardFault, steps_taken}
 use Rattle.copy_shard.proofs.advance.resume_behind.Goals as goal
 
 pub resume_fault-requires-clause-slot : goal.resume_fault-requires-clause-slot
@@ -31,3 +33,12 @@ resume_fault-requires-2-clause-fault g c κs within =
 pub returns-clause-fault : goal.returns-clause-fault
 returns-clause-fault g c =
     subst (λ n. IsShardFault g.N.World.design g.N.World.plan c.args.window.now.through n c.resume_fault-2.new.own) c.in_ok-rest.ensures.behind c.in_ok-resume_fault-2.ensures.fault
+
+pub returns-then-passed-eq0-clause-ticks : goal.returns-then-passed-eq0-clause-ticks
+returns-then-passed-eq0-clause-ticks g c =
+    subst (λ n. RisesWithin (steps_taken g.N.World.design g.N.World.plan (c.args.window.now.before + n) (fault_of c.args.fault) None)
+    (steps_taken g.N.World.design g.N.World.plan c.args.window.now.through (fault_of c.args.fault) c.resume_fault.new.own.end) c.args.steps.now c.resume_fault.new.steps)
+    (sym c.if-passed-eq0.true) c.in_ok-resume_fault.ensures.ticks
+
+pub returns-clause-ticks : goal.returns-clause-ticks
+returns-clause-ticks g c = c.in_ok-resume_fault-2.ensures.ticks

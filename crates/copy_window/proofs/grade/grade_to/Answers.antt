@@ -1,7 +1,11 @@
 -- To the time to which the window leads.
-use Rattle.std.proofs.Common.{sym, subst}
+use Rattle.std.proofs.Common.{ℕ, refl, sym, subst}
+use Rattle.std.specs.Prelude.{Option, None}
+use Rattle.copy_laws.specs.Windows.{time_at}
 use Rattle.window_grade.specs.Grading.{CanGrade}
+use Rattle.copy_window.specs.Passing.{TicksIf}
 use Rattle.copy_window.proofs.Windows.{can-grade}
+use Rattle.copy_window.proofs.Ticks.{ticks-some}
 use Rattle.copy_window.proofs.Gradings.{comes-none, comes-some, stays-same}
 use Rattle.copy_window.proofs.grade.grade_to.Goals as goal
 
@@ -20,3 +24,12 @@ pub returns-in_ok-end-in-Some-clause-comes : goal.returns-in_ok-end-in-Some-clau
 returns-in_ok-end-in-Some-clause-comes g c = λ of.
     comes-some c.args.strobes.now c.args.machine.now c.args.grader.now of c.in-Some.until c.in-Some.is c.as_slice-samples.result.now c.as_slice-samples.ensures.value c.in_ok-end-in-Some.end c.grade_through.new.machine
     c.grade_through.new.grader c.in_ok-end-in-Some.ensures.grading
+
+pub returns-in-None-clause-ticks : goal.returns-in-None-clause-ticks
+returns-in-None-clause-ticks g c = λ of.
+    subst (λ (o : Option ℕ). TicksIf of.design of.plan of.fault (time_at of.design of.plan of.before) o None c.args.steps.now c.args.steps.now) (sym c.in-None.is) refl
+
+pub returns-in_ok-end-in-Some-clause-ticks : goal.returns-in_ok-end-in-Some-clause-ticks
+returns-in_ok-end-in-Some-clause-ticks g c = λ of.
+    ticks-some c.args.strobes.now c.args.machine.now c.args.grader.now of c.args.steps.now c.grade_through.new.steps c.in-Some.until c.in-Some.is c.as_slice-samples.result.now
+    c.as_slice-samples.ensures.value c.in_ok-end-in-Some.end c.in_ok-end-in-Some.ensures.ticks

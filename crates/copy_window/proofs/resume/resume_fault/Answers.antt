@@ -6,7 +6,7 @@ use Rattle.v_design.specs.Designs.{Machine, TestPlan}
 use Rattle.v_design.specs.Plain.{fault_of}
 use Rattle.run_ends.specs.RunEnds.{AreCodesOf}
 use Rattle.strobe_detect.specs.Graders.{GraderState}
-use Rattle.copy_window.proofs.Entering.{goes-again, is-room}
+use Rattle.copy_window.proofs.Entering.{goes-again, is-room, settled-ticks}
 use Rattle.copy_window.proofs.Rules.{has-rules}
 use Rattle.copy_window.proofs.Starting.{can-enter, more-slots}
 use Rattle.copy_window.proofs.resume.resume_fault.Goals as goal
@@ -42,3 +42,18 @@ returns-clause-room g c =
     (can-enter g.N.World.design g.N.World.plan (fault_of c.args.fault) at c.args.window.now.through c.args.strobes.now c.args.own.now c.requires.fault more c.args.setup.now.codes
     (subst (AreCodesOf g.N.World.design) c.codes-codes.ensures.codes c.codes-codes.ensures.world)))
     c.in_ok-settle.ensures.stays
+
+pub returns-clause-ticks : goal.returns-clause-ticks
+returns-clause-ticks g c =
+    let at = c.args.window.now.before + c.args.slot in
+    let more = more-slots g.N.World.design g.N.World.plan c.args.window.now.before c.args.window.now.through c.args.window.now.ending c.begins-first.ensures.window at c.requires.slot in
+    let State : List WatchedBit → GraderState = λ watched. record { watched = watched; hard = None; possible = c.args.own.now.possible } in
+    let of = goes-again c.machines_stand.ensures c.gradings_go_on.ensures c.faults_go_on.ensures g.N.World.design g.N.World.plan at c.args.window.now.through c.args.strobes.now
+    (fault_of c.args.fault) c.args.own.now c.enter.new.room c.again-grader.result c.requires.fault more
+    (has-rules g.N.World.design g.N.World.plan c.design-design.result.now c.plan-plan.result.now c.design-design.ensures.world c.plan-plan.ensures.world c.plan-plan.ensures.fits)
+    (c.in_ok-enter.ensures
+    (can-enter g.N.World.design g.N.World.plan (fault_of c.args.fault) at c.args.window.now.through c.args.strobes.now c.args.own.now c.requires.fault more c.args.setup.now.codes
+    (subst (AreCodesOf g.N.World.design) c.codes-codes.ensures.codes c.codes-codes.ensures.world)))
+    (c.again-grader.ensures ∙ ap (λ (watched : List _). State (map watched_bit watched)) c.as_slice.ensures ∙ ap (λ (p : TestPlan). State p.watched) (sym c.plan-plan.ensures.world)) in
+    settled-ticks g.N.World.design g.N.World.plan at c.args.window.now.through c.args.strobes.now c.enter.new.room c.again-grader.result c.args.own.now (fault_of c.args.fault)
+    c.settle.new.own.end c.args.steps.now c.settle.new.steps of c.requires.fault.listed (c.in_ok-settle.ensures.ticks at of)

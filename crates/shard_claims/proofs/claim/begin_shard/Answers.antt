@@ -1,5 +1,5 @@
 -- A shard of its claim's faults goes through the first window.
-use Rattle.std.proofs.Common.{ap, ◌∙◌}
+use Rattle.std.proofs.Common.{ap, ◌∙◌, arith}
 use Rattle.copy_shard.specs.Shards.{ShardKept, places_of}
 use Rattle.fault_shards.specs.Shards.{representatives_of}
 use Rattle.shard_claims.proofs.Claiming.{shard-listed, places-fresh}
@@ -13,3 +13,6 @@ new-requires-after_bounds g c κs within =
 pub returns-clause-faults : goal.returns-clause-faults
 returns-clause-faults g c =
     c.in_ok-advance.ensures.places ∙ (ap (λ (kept : ShardKept). places_of kept.faults) c.in_ok-own.ensures ∙ (places-fresh _ ∙ c.shard-faults.ensures))
+
+pub returns-clause-ticks : goal.returns-clause-ticks
+returns-clause-ticks g c = omega (arith, c.in_ok-advance.ensures.ticks)

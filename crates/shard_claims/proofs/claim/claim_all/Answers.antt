@@ -7,6 +7,7 @@ use Rattle.verdict_words.specs.declared.view.View.{View}
 use Rattle.shard_claims.specs.Workers.{KeepsShards}
 use Rattle.shard_claims.specs.WorkerLaws.{keeps-none}
 use Rattle.shard_claims.proofs.Claiming.{keeps-more}
+use Rattle.shard_claims.proofs.Ticks.{claimed-more}
 use Rattle.shard_claims.proofs.claim.claim_all.Goals as goal
 
 pub claims-init : goal.claims-init
@@ -18,6 +19,7 @@ claims-init g c = record {
   keeps =
       subst (KeepsShards (representatives_of c.args.round.now.shards.now) c.args.round.now.window.now.through (view c.args.seat)) (sym c.new-shards.ensures.items)
       (keeps-none (representatives_of c.args.round.now.shards.now) c.args.round.now.window.now.through (view c.args.seat) c.requires.new.claimed);
+  ticks = omega arith;
 }
 
 pub claim-next-requires-clause-share : goal.claim-next-requires-clause-share
@@ -27,8 +29,8 @@ claim-next-requires-clause-share g c κs within =
     let share : (view c.claims.seat).share ≡ 8589934592 = c.claims.invariant.share in
     omega (arith, calls, few, share)
 
-pub returns-in_default : goal.returns-in_default
-returns-in_default g c =
+pub returns-in_default-clause-claimed : goal.returns-in_default-clause-claimed
+returns-in_default-clause-claimed g c =
     let before : View = view c.claims.seat in
     let after : view c.claim-next.result.0 ≡ with_none before = subst (λ (o : Option ℕ). IfNone o (view c.claim-next.result.0 ≡ with_none before)) c.in_default.is c.claim-next.ensures.none in record {
       own = c.claim-next.ensures.own;
@@ -65,6 +67,9 @@ claims-preserved g c =
           subst (KeepsShards (representatives_of c.args.round.now.shards.now) c.args.round.now.window.now.through (view c.claim-next.result.0)) (sym c.in_ok-push.ensures.items)
           (keeps-more _ _ before (view c.claim-next.result.0) c.claims.shards.items _ c.claims.invariant.keeps (ap (λ (v : View). v.claimed) after)
           (record { faults = c.in_ok-shard.ensures.faults; gone_is = c.in_ok-shard.ensures.gone }));
+      ticks =
+          claimed-more g.N.World.design g.N.World.plan c.claims.shards.items c.push.new.self.items _ c.args.steps.now c.claims.steps c.begin_shard.new.steps c.in_ok-push.ensures.items
+          c.claims.invariant.ticks c.in_ok-shard.ensures.ticks;
     }
 
 pub claims-smaller : goal.claims-smaller
@@ -77,3 +82,6 @@ claims-smaller g c =
     let low : number < claims_of c.args.round.now.board.now = drawn.0 in
     let few : before.calls ≤ number = drawn.1 in
     omega (arith, calls, low, few)
+
+pub returns-in_default-clause-ticks : goal.returns-in_default-clause-ticks
+returns-in_default-clause-ticks g c = c.claims.invariant.ticks

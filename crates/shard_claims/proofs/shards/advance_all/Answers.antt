@@ -2,11 +2,12 @@
 use Rattle.std.proofs.Common.{◌≡◌, ◌<◌, length, refl, sym, ap, subst, ◌∙◌, arith}
 use Rattle.fault_shards.specs.Shards.{representatives_of}
 use Rattle.shard_claims.specs.Workers.{IsClaimed}
+use Rattle.shard_claims.proofs.Ticks.{claimed-set}
 use Rattle.shard_claims.proofs.Passing.{gone-none, gone-more, gone-all, numbers-set, same-length}
 use Rattle.shard_claims.proofs.shards.advance_all.Goals as goal
 
 pub shards-init : goal.shards-init
-shards-init g c = record { numbers = refl; passed = gone-none _ _ c.args.shards.now.items c.requires }
+shards-init g c = record { numbers = refl; passed = gone-none _ _ c.args.shards.now.items c.requires; ticks = omega arith }
 
 pub advance_one-requires-after_bounds : goal.advance_one-requires-after_bounds
 advance_one-requires-after_bounds g c κs within =
@@ -23,6 +24,9 @@ shards-preserved g c =
           (c.in_ok-advance_one.ensures.number ∙ ap (λ claimed. claimed.number) c.index_mut-claimed.ensures.value)
           ∙ c.shards.invariant.numbers;
       passed = gone-more _ _ c.shards.shards.items c.shards.place c.advance_one.new.claimed low c.in_ok-advance_one.ensures.through c.shards.invariant.passed;
+      ticks =
+          claimed-set g.N.World.design g.N.World.plan c.shards.shards.items c.shards.place c.index_mut-claimed.result.now c.advance_one.new.claimed _ c.args.steps.now c.shards.steps
+          c.advance_one.new.steps low c.index_mut-claimed.ensures.value c.shards.invariant.ticks c.in_ok-advance_one.ensures.ticks;
     }
 
 pub returns-clause-through : goal.returns-clause-through
@@ -32,3 +36,6 @@ returns-clause-through g c =
 
 pub returns-clause-numbers : goal.returns-clause-numbers
 returns-clause-numbers g c = c.shards.invariant.numbers
+
+pub returns-clause-ticks : goal.returns-clause-ticks
+returns-clause-ticks g c = c.shards.invariant.ticks

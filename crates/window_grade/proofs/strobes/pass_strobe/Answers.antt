@@ -4,7 +4,7 @@ use Rattle.v_design.specs.Grades.{samples}
 use Rattle.strobe_detect.specs.Graders.{shown_at}
 use Rattle.machine.specs.Standing.{state_kept}
 use Rattle.kept_samples.specs.Plain.{sample_of}
-use Rattle.window_grade.specs.Running.{RunLeads}
+use Rattle.window_grade.specs.Running.{RunLeads, TicksTo}
 use Rattle.window_grade.proofs.Passing.{can-run, sized, watched-there, pass-stopped, pass-hard, pass-on}
 use Rattle.window_grade.proofs.strobes.pass_strobe.Goals as goal
 
@@ -48,3 +48,18 @@ returns-clause-grading g c = λ of.
     (c.strobe_kept-hard.ensures.state ∙ ap (λ bits. shown_at c.args.sample.now.time bits (samples c.args.grader.now.watched (state_kept c.run_to.new.machine).values) c.args.grader.now)
     c.as_slice.ensures)
     c.gradings_go_on.ensures (λ some. let h = c.strobe_kept-hard.ensures.stands.1 some in let f = c.if-hard.false in cc)
+
+pub returns-in-Some-clause-ticks : goal.returns-in-Some-clause-ticks
+returns-in-Some-clause-ticks g c = λ of.
+    subst (λ end. TicksTo of.design of.plan of.fault of.now c.args.sample.now.time end c.args.steps.now c.run_to.new.steps) c.in-Some.is
+    (c.in_ok-end.ensures.ticks (can-run (sample_of c.args.sample.now) c.args.machine.now c.args.grader.now of))
+
+pub returns-then-hard-clause-ticks : goal.returns-then-hard-clause-ticks
+returns-then-hard-clause-ticks g c = λ of.
+    subst (λ end. TicksTo of.design of.plan of.fault of.now c.args.sample.now.time end c.args.steps.now c.run_to.new.steps) c.in_default.is
+    (c.in_ok-end.ensures.ticks (can-run (sample_of c.args.sample.now) c.args.machine.now c.args.grader.now of))
+
+pub returns-clause-ticks : goal.returns-clause-ticks
+returns-clause-ticks g c = λ of.
+    subst (λ end. TicksTo of.design of.plan of.fault of.now c.args.sample.now.time end c.args.steps.now c.run_to.new.steps) c.in_default.is
+    (c.in_ok-end.ensures.ticks (can-run (sample_of c.args.sample.now) c.args.machine.now c.args.grader.now of))

@@ -3,6 +3,7 @@ use Rattle.std.proofs.Common.{ap}
 use Rattle.copy_shard.specs.Shards.{ShardKept}
 use Rattle.copy_shard.proofs.Standing.{all-stand}
 use Rattle.copy_shard.proofs.Through.{ended-stay, places-stay, went-on}
+use Rattle.copy_shard.proofs.Ticks.{shard-rises}
 use Rattle.copy_shard.proofs.shard.Shard.advance.Goals as goal
 
 pub invariant_of-self-2 : goal.invariant_of-self-2
@@ -35,3 +36,10 @@ returns-clause-stands g c =
     (went-on g.N.World.design g.N.World.plan s.gone c.args.window.now.through c.ends-self-inside.result s.reached c.in_ok-reached.reached s.numbers.items c.replace-numbers.result.items
     s.faults.items c.replace-faults.result.items c.advance_all.new.faults.items c.self.invariant c.ends-self-inside.ensures.number (λ i. (c.replace-numbers.ensures.value i).items)
     (λ i. (c.replace-faults.ensures.value i).items) c.in_ok-reached.ensures.faults c.in_ok-reached.ensures.reached).each
+
+pub returns-clause-ticks : goal.returns-clause-ticks
+returns-clause-ticks g c =
+    let s = c.self.inside in
+    shard-rises g.N.World.design g.N.World.plan s.gone c.args.window.now.before c.args.window.now.through c.ends-self-inside.result c.args.self.now s.faults.items
+    c.replace-faults.result.items c.advance_all.new.faults.items c.args.steps.now c.advance_all.new.steps c.self.view_is c.requires c.ends-self-inside.ensures.number
+    (λ i. (c.replace-faults.ensures.value i).items) c.in_ok-reached.ensures.ticks

@@ -1,0 +1,3 @@
+mod Parted
+mod Standing
+mod Ending

@@ -1,0 +1,25 @@
+//! How many process steps the grading of a fault takes up to where it stands (steps by IEEE 1364-2001, clause 9; slots by clause 5).
+//!
+//! Between two windows a fault stands behind some slots of its faulty machine's first run, or its grading ended. `runs_take_steps` says which slots are ahead of a run that
+//! stands at a time, and how many steps lie between two such places; `gradings_take_steps` that a grading which goes on has taken no more steps than it takes by a later
+//! time, nor than it takes in all. Each function here does nothing when it runs; its contract is the law.
+#![tactic(auto)]
+
+ghost use Rattle.graded_steps.specs.Ahead.{RunsTakeSteps};
+ghost use Rattle.graded_steps.specs.Gradings.{GradingsTakeSteps};
+
+/// A first run slot by slot: which slots are ahead where it stands, and how many process steps lie between there and the start.
+pub fn runs_take_steps()
+    ensures { RunsTakeSteps }
+{
+    order_laws::first_run_goes_on();
+}
+
+/// A grading from window to window: how many process steps it has taken by then, if it takes no slot twice.
+pub fn gradings_take_steps()
+    ensures { GradingsTakeSteps }
+{
+    order_laws::first_run_goes_on();
+    beside_laws::good_run_goes_on();
+    beside_laws::faults_go_on();
+}
