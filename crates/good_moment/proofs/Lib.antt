@@ -1,0 +1,4 @@
+mod First
+mod Parts
+mod Phases
+mod Waking

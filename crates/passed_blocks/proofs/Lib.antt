@@ -1,0 +1,5 @@
+pub mod Ahead
+mod Bounds
+mod Possible
+mod Assembled
+pub mod Joined
