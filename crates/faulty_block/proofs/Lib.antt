@@ -1,0 +1,4 @@
+pub mod Rests
+pub mod Ran
+pub mod PutBack
+pub mod Differs

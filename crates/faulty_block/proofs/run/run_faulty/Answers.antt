@@ -1,0 +1,44 @@
+-- The faulty machine's block.
+use Rattle.std.proofs.Common.{◌≤◌, ◌^◌, sym, subst, ◌∙◌}
+use Rattle.v_design.specs.Designs.{Machine}
+use Rattle.v_design.specs.Plain.{fault_of}
+use Rattle.v_design.specs.States.{State}
+use Rattle.v_design.specs.WellFormed.{KeepsRules}
+use Rattle.machine_laws.specs.SlotLoop.{NoNodeWorks}
+use Rattle.race_laws.specs.Writes.{WritesAreOf}
+use Rattle.block_events.specs.Runners.{machine_of, state_of}
+use Rattle.faulty_block.proofs.Ran.{ran-some}
+use Rattle.faulty_block.proofs.run.run_faulty.Goals as goal
+
+pub put_in-requires-clause-put : goal.put_in-requires-clause-put
+put_in-requires-clause-put g c = c.requires.run.put
+
+pub run_block-requires-clause-nodes : goal.run_block-requires-clause-nodes
+run_block-requires-clause-nodes g c = subst NoNodeWorks (sym (c.in_ok-put_in.ensures.state c.requires.run.put)) c.requires.run.rests
+
+pub run_block-requires-clause-time : goal.run_block-requires-clause-time
+run_block-requires-clause-time g c = subst (λ (s : State). s.time ≤ 2 ^ 63) (sym (c.in_ok-put_in.ensures.state c.requires.run.put)) c.requires.run.time
+
+pub run_block-requires-clause-rules : goal.run_block-requires-clause-rules
+run_block-requires-clause-rules g c = subst (λ (m : Machine). KeepsRules m.design) (sym c.in_ok-put_in.ensures.machine) c.requires.run.rules
+
+pub run_block-requires-clause-writes : goal.run_block-requires-clause-writes
+run_block-requires-clause-writes g c =
+    subst (λ (m : Machine). WritesAreOf m.design (state_of c.put_in.new.runner)) (sym c.in_ok-put_in.ensures.machine)
+    (subst (λ (s : State). WritesAreOf (machine_of c.args.runner.now).design s) (sym (c.in_ok-put_in.ensures.state c.requires.run.put)) c.requires.run.writes)
+
+pub returns-clause-whole : goal.returns-clause-whole
+returns-clause-whole g c = c.in_ok-end.ensures.whole
+
+pub returns-clause-machine : goal.returns-clause-machine
+returns-clause-machine g c = c.in_ok-end.ensures.machine_is ∙ c.in_ok-put_in.ensures.machine
+
+pub returns-clause-few : goal.returns-clause-few
+returns-clause-few g c = c.steps_within.ensures.few
+
+pub returns-clause-ran : goal.returns-clause-ran
+returns-clause-ran g c =
+    let begins = c.put_in.new.runner in
+    let fault = fault_of c.args.fault in
+    ran-some c.args.runner.now begins c.run_block.new.runner c.args.own.now fault c.args.most c.in_ok-end.end c.run_block.new.told c.steps_within.result c.in_ok-put_in.ensures.machine
+    c.in_ok-put_in.ensures.state c.in_ok-end.ensures c.steps_within.ensures.end c.steps_within.ensures.steps

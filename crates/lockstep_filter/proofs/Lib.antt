@@ -1,0 +1,3 @@
+pub mod OwnBlocks
+pub mod Stretches
+pub mod Free
