@@ -1,0 +1,5 @@
+pub mod Lists
+pub mod Counted
+mod Watching
+mod Seeing
+mod Sampled
