@@ -40,7 +40,7 @@ fn keep_lane<G: Processes, F: Processes>(
 
 /// Of what the blocks of both machines changed, own values and own updates are kept where they aren't the good machine's, which is shown behind its block. The runner is the faulty machine behind
 /// its own, which is told. The answer is whether lockstep goes on: both blocks step and wake the same processes, which do the same behind them, and what these have yet to write is
-/// due at the same times, and as many in each lane. Else nothing is known of what is kept.
+/// due at the same times, and as many in each lane. The fault, and the states that are kept, stay. Else nothing is known of what is kept.
 ///
 /// # Errors
 ///
@@ -56,7 +56,10 @@ pub fn compare_block(
 ) -> Result<bool, NoMemory>
     requires whole { IsWhole runner.now }
     requires compare { MayCompare (machine_of runner.now) good.now block.now counts }
-    ensures { IfOk result (λ goes. goes ≡ true → (state : State) → Shows good.now state → Compares state (state_of runner.now) block.now told.now own.old own.new) }
+    ensures compares { IfOk result (λ goes. goes ≡ true → (state : State) → Shows good.now state →
+        Compares state (state_of runner.now) block.now told.now own.old own.new) }
+    ensures fault { IfOk result (λ goes. goes ≡ true → own.new.copy.fault ≡ own.old.copy.fault) }
+    ensures states { IfOk result (λ goes. goes ≡ true → own.new.copy.states ≡ own.old.copy.states) }
 {
     if !go_alike(runner, good, block, told, counts) {
         return Ok(false);

@@ -11,3 +11,4 @@ mod pass;
 mod seen;
 
 pub use pass::pass_over;
+pub use seen::{is_unseen, keeps_value};

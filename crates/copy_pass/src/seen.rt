@@ -9,7 +9,7 @@ use copy_state::FaultCopy;
 use vf_base::{ObjectId, WatchBit};
 
 /// Whether a copy keeps a value of an object.
-fn keeps_value(copy: &FaultCopy, object: ObjectId) -> bool
+pub fn keeps_value(copy: &FaultCopy, object: ObjectId) -> bool
     ensures { result ≡ false → own_of copy.now.values (object_number object) ≡ None }
 {
     copy.ascending();
@@ -19,8 +19,8 @@ fn keeps_value(copy: &FaultCopy, object: ObjectId) -> bool
     }
 }
 
-/// Whether a copy keeps no value of a watched object.
-pub(crate) fn is_unseen(watched: &[WatchBit], copy: &FaultCopy) -> bool
+/// Whether a copy keeps no value of a watched object, so that strobes see nothing of it.
+pub fn is_unseen(watched: &[WatchBit], copy: &FaultCopy) -> bool
     ensures { result ≡ true → AllHold (λ (w : WatchedBit). own_of copy.now.values w.object ≡ None) (map watched_bit watched.now) }
 {
     'watched: for place in watched {

@@ -61,15 +61,16 @@ fn resume_behind<N: World, L: Ledger>(
     ensures ticks { OnOk result (RisesWithin (steps_taken N.design N.plan (window.now.before + passed) (fault_of fault) None)
         (steps_taken N.design N.plan window.now.through (fault_of fault) own.new.end) steps.old steps.new) }
 {
+    let end = window.slots();
     if passed == 0 {
         resume_fault(
-            alloc, setup, window, 0, strobes, fault, machine, log, own, steps,
+            alloc, setup, window, 0, end, strobes, fault, machine, log, own, steps,
         )?;
         return Ok(());
     }
     let rest = strobes_after(alloc, setup, window, strobes, passed)?;
     resume_fault(
-        alloc, setup, window, passed, &rest, fault, machine, log, own, steps,
+        alloc, setup, window, passed, end, &rest, fault, machine, log, own, steps,
     )?;
     Ok(())
 }
@@ -102,7 +103,8 @@ fn go_through<N: World, L: Ledger>(
     let design = setup.design();
     let fault = listed_fault(setup, &own.copy);
     if window.begins() == 0 {
-        begin_fault(alloc, setup, window, strobes, fault, log, own, steps)?;
+        let end = window.slots();
+        begin_fault(alloc, setup, window, end, strobes, fault, log, own, steps)?;
         return Ok(());
     }
     let passed = pass_over(setup, window, strobes, fault, now, own);

@@ -1,3 +1,4 @@
 mod PlaceLaws
 mod ListLaws
 mod TableLaws
+mod CopyLaws

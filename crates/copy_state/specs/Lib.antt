@@ -5,3 +5,4 @@ pub mod Tables
 pub mod Held
 pub mod Kept
 pub mod KeptLaws
+pub mod Copied

@@ -116,6 +116,20 @@ impl ByObject {
         }
     }
 
+    /// The same values once more.
+    pub(crate) fn copied(&self) -> Result<ByObject, NoMemory>
+        ensures { IfOk result (λ copy. copy ≡ self.now) }
+    {
+        let held = match &self.held {
+            HeldValues::Few(few) => HeldValues::Few(few.copied(self.alloc)?),
+            HeldValues::Many(table) => HeldValues::Many(table.copied(self.alloc)?),
+        };
+        Ok(ByObject {
+            alloc: self.alloc,
+            held,
+        })
+    }
+
     /// The objects ascend, each once.
     pub(crate) fn ascending(&self)
         ensures { Ascend self.now }

@@ -1,15 +1,20 @@
 // What a copy keeps of processes.
 
-ghost use Rattle.std.specs.Prelude.{◌≡◌, [], map, OnOk, OnErr, option_map};
+ghost use Rattle.std.specs.Prelude.{◌≡◌, [], map, IfOk, OnOk, OnErr, option_map};
+ghost use Rattle.std.specs.List.{AllZip};
 ghost use Rattle.vf_base.specs.Base.{process_number};
 ghost use Rattle.copy_laws.specs.Differences.{own_of, Ascend};
+ghost use Rattle.copy_state.specs.Copied.{IsSameState};
 ghost use Rattle.copy_state.specs.Entries.{with_entry, without_entry, first_from};
+ghost use Rattle.copy_state.specs.Listed.{entry_of};
 
 use crate::entry::Entry;
 use crate::find::{count_before, find};
+use process_code::ProcState;
 use std::alloc::Global;
 use std::marker::Model;
-use vf_base::{NoMemory, ProcId};
+use v_design::Due;
+use vf_base::{NoMemory, ProcId, Seq};
 
 /// Something of each of some processes, in ascending order, which contracts see with the process's number.
 #[derive(Drop)]
@@ -108,4 +113,56 @@ impl<T: Drop> ByProcess<T> {
     {
         let _count = self.entries.len();
     }
+}
+
+/// A process's state once more.
+fn copied_state(alloc: Global, own: &Entry<ProcState>) -> Result<Entry<ProcState>, NoMemory>
+    ensures { IfOk result (λ copy. IsSameState (entry_of own.now) (entry_of copy)) }
+{
+    let kept = own.kept.copy(alloc)?;
+    Ok(Entry {
+        number: own.number,
+        kept,
+    })
+}
+
+/// The states of the same processes once more.
+pub(crate) fn copied_states(
+    alloc: Global,
+    states: &ByProcess<ProcState>,
+) -> Result<ByProcess<ProcState>, NoMemory>
+    ensures { IfOk result (λ copy. AllZip IsSameState states.now copy) }
+{
+    let mut entries = Vec::with_capacity(alloc, states.entries.len())?;
+    'processes: for own in states.entries.as_slice() {
+        let copy = copied_state(alloc, own)?;
+        entries.push(copy)?;
+    }
+    Ok(ByProcess { entries })
+}
+
+/// A process's updates once more.
+fn copied_due(alloc: Global, own: &Entry<Seq<Due>>) -> Result<Entry<Seq<Due>>, NoMemory>
+    ensures { IfOk result (λ copy. copy ≡ own.now) }
+{
+    let due = Vec::from_slice(alloc, own.kept.as_slice())?;
+    Ok(Entry {
+        number: own.number,
+        kept: Seq::from_vec(due),
+    })
+}
+
+/// The updates of the same processes once more.
+pub(crate) fn copied_updates(
+    alloc: Global,
+    updates: &ByProcess<Seq<Due>>,
+) -> Result<ByProcess<Seq<Due>>, NoMemory>
+    ensures { IfOk result (λ copy. copy ≡ updates.now) }
+{
+    let mut entries = Vec::with_capacity(alloc, updates.entries.len())?;
+    'processes: for own in updates.entries.as_slice() {
+        let copy = copied_due(alloc, own)?;
+        entries.push(copy)?;
+    }
+    Ok(ByProcess { entries })
 }

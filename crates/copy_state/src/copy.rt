@@ -1,15 +1,16 @@
 // A faulty machine as its differences from the good one.
 
-ghost use Rattle.std.specs.Prelude.{◌≡◌, length, map, option_map, OnOk, OnErr};
+ghost use Rattle.std.specs.Prelude.{◌≡◌, length, map, option_map, IfOk, OnOk, OnErr};
 ghost use Rattle.vf_base.specs.Base.{object_number, process_number, fault_number};
 ghost use Rattle.v_design.specs.Plain.{due_of};
 ghost use Rattle.v_design.specs.States.{found_or};
 ghost use Rattle.copy_laws.specs.Differences.{own_of, Ascend};
+ghost use Rattle.copy_state.specs.Copied.{KeepsSame};
 ghost use Rattle.copy_state.specs.Entries.{with_entry, without_entry, first_from};
 ghost use Rattle.copy_state.specs.Kept.{nothing_kept, with_own_value, StandsIn};
 
 use crate::by_object::ByObject;
-use crate::by_process::ByProcess;
+use crate::by_process::{ByProcess, copied_states, copied_updates};
 use four_value::Vec4;
 use process_code::ProcState;
 use std::alloc::Global;
@@ -188,6 +189,25 @@ impl FaultCopy {
         ensures { self.new ≡ record self.old { updates = without_entry (process_number process) self.old.updates } }
     {
         self.updates.take_out(process);
+    }
+
+    /// The same copy once more.
+    ///
+    /// # Errors
+    ///
+    /// Want of memory.
+    pub fn copied(&self, alloc: Global) -> Result<FaultCopy, NoMemory>
+        ensures { IfOk result (KeepsSame self.now) }
+    {
+        let values = self.values.copied()?;
+        let states = copied_states(alloc, &self.states)?;
+        let updates = copied_updates(alloc, &self.updates)?;
+        Ok(FaultCopy {
+            fault: self.fault,
+            values,
+            states,
+            updates,
+        })
     }
 
     /// What is kept ascends, each object and process once.

@@ -111,6 +111,14 @@ impl FewValues {
         let _count = self.values.len();
     }
 
+    /// The same values once more.
+    pub(crate) fn copied(&self, alloc: Global) -> Result<FewValues, NoMemory>
+        ensures { IfOk result (λ copy. copy ≡ self.now) }
+    {
+        let values = SmallVec::from_slice(alloc, self.values.as_slice())?;
+        Ok(FewValues { values })
+    }
+
     /// The same values as a table.
     pub(crate) fn table(&self, alloc: Global) -> Result<ValueTable, NoMemory>
         ensures { IfOk result (λ table. table ≡ self.now) }

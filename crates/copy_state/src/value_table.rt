@@ -1,6 +1,6 @@
 // Many own values.
 
-ghost use Rattle.std.specs.Prelude.{◌≡◌, ◌<◌, ◌≤◌, ◌^◌, [], length, vec_len, OnOk, OnErr};
+ghost use Rattle.std.specs.Prelude.{◌≡◌, ◌<◌, ◌≤◌, ◌^◌, [], length, vec_len, IfOk, OnOk, OnErr};
 ghost use Rattle.v_design.specs.States.{found_or};
 ghost use Rattle.copy_laws.specs.Differences.{own_of, Ascend};
 ghost use Rattle.copy_state.specs.Entries.{with_entry, without_entry, first_from};
@@ -110,6 +110,17 @@ impl ValueTable {
         ensures { result ≡ length self.now }
     {
         self.count
+    }
+
+    /// The same values once more.
+    pub(crate) fn copied(&self, alloc: Global) -> Result<ValueTable, NoMemory>
+        ensures { IfOk result (λ copy. copy ≡ self.now) }
+    {
+        let values = Vec::from_slice(alloc, &self.values)?;
+        Ok(ValueTable {
+            values,
+            count: self.count,
+        })
     }
 
     /// The objects ascend, each once.

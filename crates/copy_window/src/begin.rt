@@ -1,6 +1,6 @@
 // A fault from the start of its faulty machine.
 
-ghost use Rattle.std.specs.Prelude.{◌≡◌, None, OnOk};
+ghost use Rattle.std.specs.Prelude.{◌≡◌, ◌+◌, ◌≤◌, None, OnOk};
 ghost use Rattle.v_design.specs.Plain.{fault_of};
 ghost use Rattle.window_strobes.specs.Strobes.{passed_behind};
 ghost use Rattle.copy_window.specs.Passing.{CanBegin};
@@ -20,8 +20,8 @@ use vf_base::{NoMemory, Steps};
 use window_grade::machines_stand;
 use window_strobes::WindowStrobes;
 
-/// Grades a fault through the first window of the good first run. `log` is room for the log of a slot; `steps` ticks once for each process step of the slots that its faulty
-/// machine runs.
+/// Grades a fault through the slots of the first window of the good first run before the one of a number. The strobes are those of these slots; `log` is room for the log of a
+/// slot; `steps` ticks once for each process step of the slots that its faulty machine runs.
 ///
 /// # Errors
 ///
@@ -30,17 +30,19 @@ pub fn begin_fault<N: World, L: Ledger>(
     alloc: Global,
     setup: &Setup<'_, N>,
     window: &TraceWindow<N>,
+    end: u32,
     strobes: &WindowStrobes,
     fault: Fault,
     log: &mut SlotLog,
     own: &mut ShardFault,
     steps: &mut Steps<L>,
 ) -> Result<(), NoMemory>
-    requires { CanBegin N.design N.plan window.now.before window.now.through strobes.now (fault_of fault) own.old }
-    ensures fault { OnOk result (IsShardFault N.design N.plan window.now.through (passed_behind strobes.now) own.new) }
+    requires end { window.now.before + end ≤ window.now.through }
+    requires fault { CanBegin N.design N.plan window.now.before (window.now.before + end) strobes.now (fault_of fault) own.old }
+    ensures fault { OnOk result (IsShardFault N.design N.plan (window.now.before + end) (passed_behind strobes.now) own.new) }
     ensures place { OnOk result (own.new.copy.fault ≡ own.old.copy.fault) }
     ensures ticks { OnOk result (RisesWithin (steps_taken N.design N.plan window.now.before (fault_of fault) None)
-        (steps_taken N.design N.plan window.now.through (fault_of fault) own.new.end) steps.old steps.new) }
+        (steps_taken N.design N.plan (window.now.before + end) (fault_of fault) own.new.end) steps.old steps.new) }
 {
     beside_laws::gradings_go_on();
     machines_stand();
@@ -52,6 +54,7 @@ pub fn begin_fault<N: World, L: Ledger>(
         alloc,
         setup,
         window,
+        end,
         strobes,
         &mut machine,
         &mut grader,

@@ -2,9 +2,9 @@
 //!
 //! Between two windows a fault of which nothing was found is kept by what its faulty machine's state has otherwise than the good one's, by the time of the last slot
 //! that the machine ran, and by what the strobes said so far. `begin_fault` starts its faulty machine before the first slot; `resume_fault` puts the faulty machine's
-//! state into a machine again. Both run it through the window. The main contract: the fault stands as a fault of a shard does behind the window: either its grading
-//! ended, with its grade, or the copy that is kept is the faulty machine's state there, and keeps nothing that is the good machine's; and the counter rose by no more than
-//! the process steps of the faulty machine's slots between. `end_behind` is how a window's end ends a grading that goes on.
+//! state into a machine again. Both run it through the window's slots, up to a given one. The main contract: the fault stands as a fault of a shard does behind these
+//! slots: either its grading ended, with its grade, or the copy that is kept is the faulty machine's state there, and keeps nothing that is the good machine's; and the
+//! counter rose by no more than the process steps of the faulty machine's slots between. `end_behind` is how a window's end ends a grading that goes on.
 #![tactic(auto)]
 
 mod begin;

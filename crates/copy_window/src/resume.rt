@@ -1,6 +1,6 @@
 // A fault from its copy on.
 
-ghost use Rattle.std.specs.Prelude.{◌≡◌, ◌+◌, ◌<◌, None, IfOk, OnOk};
+ghost use Rattle.std.specs.Prelude.{◌≡◌, ◌+◌, ◌<◌, ◌≤◌, None, IfOk, OnOk};
 ghost use Rattle.v_design.specs.Plain.{fault_of};
 ghost use Rattle.copy_room.specs.Rooms.{IsRoom};
 ghost use Rattle.window_strobes.specs.Strobes.{passed_behind};
@@ -34,8 +34,8 @@ pub fn new_room<'d, N: World>(alloc: Global, setup: &Setup<'d, N>) -> Result<Mac
     Ok(room)
 }
 
-/// Grades a fault through the slots of a window from the one of a number on, before which its faulty machine ran some slots. The strobes are those of these slots;
-/// `room` is a machine of the design, and `log` room for the log of a slot; `steps` ticks once for each process step of the slots that are run.
+/// Grades a fault through the slots of a window from the one of a number on and before another, where its faulty machine ran some slots before. The strobes are those of
+/// these slots; `room` is a machine of the design, and `log` room for the log of a slot; `steps` ticks once for each process step of the slots that are run.
 ///
 /// # Errors
 ///
@@ -45,6 +45,7 @@ pub fn resume_fault<N: World, L: Ledger>(
     setup: &Setup<'_, N>,
     window: &TraceWindow<N>,
     slot: u32,
+    end: u32,
     strobes: &WindowStrobes,
     fault: Fault,
     room: &mut Machine<'_>,
@@ -52,14 +53,15 @@ pub fn resume_fault<N: World, L: Ledger>(
     own: &mut ShardFault,
     steps: &mut Steps<L>,
 ) -> Result<(), NoMemory>
-    requires slot { window.now.before + slot < window.now.through }
+    requires slot { slot < end }
+    requires end { window.now.before + end ≤ window.now.through }
     requires room { IsRoom N.design room.old }
-    requires fault { CanResume N.design N.plan (window.now.before + slot) window.now.through strobes.now (fault_of fault) own.old }
-    ensures fault { OnOk result (IsShardFault N.design N.plan window.now.through (passed_behind strobes.now) own.new) }
+    requires fault { CanResume N.design N.plan (window.now.before + slot) (window.now.before + end) strobes.now (fault_of fault) own.old }
+    ensures fault { OnOk result (IsShardFault N.design N.plan (window.now.before + end) (passed_behind strobes.now) own.new) }
     ensures place { OnOk result (own.new.copy.fault ≡ own.old.copy.fault) }
     ensures room { OnOk result (IsRoom N.design room.new) }
     ensures ticks { OnOk result (RisesWithin (steps_taken N.design N.plan (window.now.before + slot) (fault_of fault) None)
-        (steps_taken N.design N.plan window.now.through (fault_of fault) own.new.end) steps.old steps.new) }
+        (steps_taken N.design N.plan (window.now.before + end) (fault_of fault) own.new.end) steps.old steps.new) }
 {
     beside_laws::faults_go_on();
     beside_laws::gradings_go_on();
@@ -76,6 +78,7 @@ pub fn resume_fault<N: World, L: Ledger>(
         alloc,
         setup,
         window,
+        end,
         strobes,
         room,
         &mut grader,

@@ -1,6 +1,6 @@
-// A fault behind a window.
+// A fault behind slots of a window.
 
-ghost use Rattle.std.specs.Prelude.{◌≡◌, ℕ, None, OnOk};
+ghost use Rattle.std.specs.Prelude.{◌≡◌, ℕ, ◌+◌, ◌≤◌, None, OnOk};
 ghost use Rattle.window_grade.specs.Running.{StaysOn};
 ghost use Rattle.window_strobes.specs.Strobes.{passed_behind};
 ghost use Rattle.copy_window.specs.Passing.{CanSettle, StaysOpen};
@@ -21,18 +21,20 @@ use v_design::World;
 use vf_base::{NoMemory, Steps};
 use window_strobes::WindowStrobes;
 
-/// Keeps of a fault whose grading goes on behind a window what its faulty machine and its grader have there.
+/// Keeps of a fault whose grading goes on behind so many slots of a window what its faulty machine and its grader have there.
 fn keep_open<N: World>(
     alloc: Global,
     setup: &Setup<'_, N>,
     window: &TraceWindow<N>,
+    end: u32,
     strobes: &WindowStrobes,
     machine: &Machine<'_>,
     grader: &Grader<'_>,
     own: &mut ShardFault,
 ) -> Result<(), NoMemory>
-    requires stays { StaysOpen N.design N.plan window.now.through (passed_behind strobes.now) machine.now grader.now own.old }
-    ensures fault { OnOk result (IsShardFault N.design N.plan window.now.through (passed_behind strobes.now) own.new) }
+    requires end { window.now.before + end ≤ window.now.through }
+    requires stays { StaysOpen N.design N.plan (window.now.before + end) (passed_behind strobes.now) machine.now grader.now own.old }
+    ensures fault { OnOk result (IsShardFault N.design N.plan (window.now.before + end) (passed_behind strobes.now) own.new) }
     ensures place { OnOk result (own.new.copy.fault ≡ own.old.copy.fault) }
     ensures end { OnOk result (own.new.end ≡ own.old.end) }
 {
@@ -41,18 +43,18 @@ fn keep_open<N: World>(
     codes_are_one();
     machine.stands_between();
     let codes = setup.codes();
-    let count = window.slots();
-    leave(alloc, &mut own.copy, machine, setup, window, count)?;
+    leave(alloc, &mut own.copy, machine, setup, window, end)?;
     own.time = machine.time();
     own.possible = grader.possible();
     Ok(())
 }
 
-/// Grades a fault through a window by its faulty machine, and keeps what there is to keep of it behind the window.
+/// Grades a fault by its faulty machine through a window up to so many of its slots, and keeps what there is to keep of it behind these.
 pub(crate) fn settle<N: World, L: Ledger>(
     alloc: Global,
     setup: &Setup<'_, N>,
     window: &TraceWindow<N>,
+    end: u32,
     strobes: &WindowStrobes,
     machine: &mut Machine<'_>,
     grader: &mut Grader<'_>,
@@ -60,18 +62,19 @@ pub(crate) fn settle<N: World, L: Ledger>(
     own: &mut ShardFault,
     steps: &mut Steps<L>,
 ) -> Result<(), NoMemory>
-    requires fault { (before : ℕ) × CanSettle N.design N.plan before window.now.through strobes.now machine.old grader.old own.old }
-    ensures fault { OnOk result (IsShardFault N.design N.plan window.now.through (passed_behind strobes.now) own.new) }
+    requires end { window.now.before + end ≤ window.now.through }
+    requires fault { (before : ℕ) × CanSettle N.design N.plan before (window.now.before + end) strobes.now machine.old grader.old own.old }
+    ensures fault { OnOk result (IsShardFault N.design N.plan (window.now.before + end) (passed_behind strobes.now) own.new) }
     ensures place { OnOk result (own.new.copy.fault ≡ own.old.copy.fault) }
     ensures stays { OnOk result (StaysOn machine.old machine.new) }
-    ensures ticks { OnOk result ((before : ℕ) (of : CanSettle N.design N.plan before window.now.through strobes.now machine.old grader.old own.old) →
-        RisesWithin (steps_taken N.design N.plan before of.fault None) (steps_taken N.design N.plan window.now.through of.fault own.new.end) steps.old steps.new) }
+    ensures ticks { OnOk result ((before : ℕ) (of : CanSettle N.design N.plan before (window.now.before + end) strobes.now machine.old grader.old own.old) →
+        RisesWithin (steps_taken N.design N.plan before of.fault None) (steps_taken N.design N.plan (window.now.before + end) of.fault own.new.end) steps.old steps.new) }
 {
-    let end = grade_window(log, machine, grader, strobes, steps)?;
-    if end.is_some() {
-        own.end = end;
+    let found = grade_window(log, machine, grader, strobes, steps)?;
+    if found.is_some() {
+        own.end = found;
         return Ok(());
     }
-    keep_open(alloc, setup, window, strobes, machine, grader, own)?;
+    keep_open(alloc, setup, window, end, strobes, machine, grader, own)?;
     Ok(())
 }

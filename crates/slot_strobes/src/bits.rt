@@ -1,6 +1,6 @@
 // The watched bits before a slot of a window.
 
-ghost use Rattle.std.specs.Prelude.{◌≡◌, ◌+◌, ◌≤◌, IfOk, map};
+ghost use Rattle.std.specs.Prelude.{◌≡◌, ◌+◌, ◌≤◌, map};
 ghost use Rattle.vf_base.specs.Base.{watched_bit};
 ghost use Rattle.vf_base.specs.Lists.{AllHold};
 ghost use Rattle.v_design.specs.Grades.{is_hard as is_hard_pair, is_possible as is_possible_pair, some_sample, samples};
@@ -9,13 +9,12 @@ ghost use Rattle.copy_overlay.specs.Faulty.{faulty_values};
 ghost use Rattle.window_strobes.specs.Watched.{IsObjectOf};
 ghost use Rattle.slot_strobes.specs.Strobes.{bit_in};
 
-use crate::unseen::keeps_value;
+use copy_pass::keeps_value;
 use copy_state::FaultCopy;
 use four_value::Bit;
 use good_trace::TraceWindow;
-use std::alloc::Global;
 use v_design::World;
-use vf_base::{NoMemory, WatchBit};
+use vf_base::WatchBit;
 
 /// What the strobes before a slot show of a fault: whether some watched bit detects it, and whether some possibly does.
 #[derive(Clone, Copy, Debug)]
@@ -36,29 +35,6 @@ fn is_possible(good: Bit, own: Bit) -> bool
     ensures { result ≡ is_possible_pair good own }
 {
     matches!((good, own), (Bit::Zero | Bit::One, Bit::X | Bit::Z))
-}
-
-/// The watched bits of the good machine before a slot of a window; behind its last slot those at the window's end.
-///
-/// # Errors
-///
-/// Want of memory.
-pub(crate) fn good_bits<N: World>(
-    alloc: Global,
-    window: &TraceWindow<N>,
-    watched: &[WatchBit],
-    slot: u32,
-) -> Result<Vec<Bit>, NoMemory>
-    requires slot { window.now.before + slot ≤ window.now.through }
-    requires watched { AllHold (IsObjectOf N.design) (map watched_bit watched.now) }
-    ensures { IfOk result (λ bits. bits.items ≡ samples (map watched_bit watched.now) (state_through N.design N.plan (window.now.before + slot)).values) }
-{
-    let moment = window.first_moment(slot);
-    let mut bits = Vec::new(alloc);
-    'watched: for place in watched {
-        bits.push(window.value_at(place.object, moment).bit(place.bit))?;
-    }
-    Ok(bits)
 }
 
 /// Compares a watched bit of the good machine before a slot of a window with that of the faulty machine: where the copy has no value of its own they are alike.

@@ -6,7 +6,7 @@
 //!
 //! A fault that goes in lockstep needs no machine at strobes: `see_to` grades it at those up to a time by the good machine's values before a slot, with its copy's over them.
 //! Its main contract: behind so many strobes the grading goes on as the answer tells, or ends at the time of the first hard detection. Strobes between two slots all see the
-//! same bits, so they are compared once, and only where the copy keeps a watched object's value: `is_unseen` says that it keeps none.
+//! same bits, so they are compared once, and only where the copy keeps a watched object's value: `copy_pass::is_unseen` says that it keeps none.
 #![tactic(auto)]
 
 mod before;
@@ -14,10 +14,8 @@ mod bits;
 mod count;
 mod seen;
 mod slot;
-mod unseen;
 
 pub use before::strobes_before;
 pub use count::strobes_by;
 pub use seen::{Seen, see_to};
 pub use slot::strobes_of_slot;
-pub use unseen::is_unseen;

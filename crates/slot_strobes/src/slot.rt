@@ -12,14 +12,13 @@ ghost use Rattle.window_strobes.specs.Strobes.{AreStrobesOf, passed_behind};
 ghost use Rattle.window_strobes.specs.Watched.{IsObjectOf};
 ghost use Rattle.slot_strobes.specs.Counts.{samples_of};
 
-use crate::bits::good_bits;
 use crate::count::strobes_by;
 use good_trace::{GoodEnd, Setup, TraceWindow};
 use kept_samples::Sample;
 use std::alloc::Global;
 use v_design::World;
 use vf_base::{NoMemory, Seq, WatchBit};
-use window_strobes::WindowStrobes;
+use window_strobes::{WindowStrobes, good_bits};
 
 /// Puts the good machine's samples at some strobes before a slot of a window behind others: they all have the same bits.
 fn push_each<N: World>(

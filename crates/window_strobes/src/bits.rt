@@ -13,8 +13,12 @@ use std::alloc::Global;
 use v_design::World;
 use vf_base::{NoMemory, WatchBit};
 
-/// The watched bits of the good machine before a slot of a window; behind the last slot those at the window's end.
-pub(crate) fn good_bits<N: World>(
+/// The watched bits of the good machine before a slot of a window; behind its last slot those at the window's end.
+///
+/// # Errors
+///
+/// Want of memory.
+pub fn good_bits<N: World>(
     alloc: Global,
     window: &TraceWindow<N>,
     watched: &[WatchBit],

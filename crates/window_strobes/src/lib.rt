@@ -13,5 +13,6 @@ mod samples;
 mod slots;
 mod strobes;
 
+pub use bits::good_bits;
 pub use rests::strobes_after;
 pub use strobes::{WindowStrobes, strobes_of};

@@ -60,10 +60,20 @@ keep_values-requires-2 c =
     all-comparable (machine_of runner).design c.args.good.now (state_of runner).values (map object_number c.as_slice.result.now) beside (object-count runner) runner.nets.objects.are.widths
     (λ object there. alike.owns object (sym (ap (λ (l : List ObjectId). has (map object_number l) object) c.as_slice.ensures.value) ∙ there))
 
-pub returns : goal.returns
-returns c = λ goes state shown.
+pub returns-clause-compares : goal.returns-clause-compares
+returns-clause-compares c = λ goes state shown.
     let runner = c.args.runner.now in
     compared (machine_of runner).design c.args.good.now c.args.block.now c.args.told.now state (state_of runner) c.as_slice.result.now c.new-faulty.result c.args.own.now
     c.keep_all_writes.new.own c.keep_lane.new.own c.keep_values.new.own c.keep_values-2.new.own shown c.as_slice.ensures.value c.new-faulty.ensures
     (c.in_ok-keep_all_writes.ensures c.if-not-branch.false) (c.in_ok-keep_lane.ensures c.if-not-branch-2.false) c.in_ok-keep_values.ensures.rest c.in_ok-keep_values-2.ensures.rest
     c.in_ok-keep_values.ensures.kept c.in_ok-keep_values-2.ensures.kept (c.go_alike.ensures c.if-not-go_alike.false state shown)
+
+pub returns-clause-fault : goal.returns-clause-fault
+returns-clause-fault c = λ goes.
+    c.in_ok-keep_values-2.ensures.rest.fault ∙ c.in_ok-keep_values.ensures.rest.fault ∙ (c.in_ok-keep_lane.ensures c.if-not-branch-2.false).fault
+    ∙ (c.in_ok-keep_all_writes.ensures c.if-not-branch.false).fault
+
+pub returns-clause-states : goal.returns-clause-states
+returns-clause-states c = λ goes.
+    c.in_ok-keep_values-2.ensures.rest.states ∙ c.in_ok-keep_values.ensures.rest.states ∙ (c.in_ok-keep_lane.ensures c.if-not-branch-2.false).states
+    ∙ (c.in_ok-keep_all_writes.ensures c.if-not-branch.false).states

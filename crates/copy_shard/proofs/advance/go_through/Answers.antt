@@ -1,8 +1,11 @@
 -- From the start of the faulty machine, or from its copy on.
-use Rattle.std.proofs.Common.{◌≡◌, ◌+◌, ◌<◌, sym, ap, subst, ◌∙◌, arith}
-use Rattle.std.specs.Prelude.{slice_get}
+use Rattle.std.proofs.Common.{◌≡◌, ℕ, ◌+◌, ◌<◌, sym, ap, subst, ◌∙◌, arith}
+use Rattle.std.specs.Prelude.{None, slice_get}
 use Rattle.v_design.specs.Plain.{fault_of}
-use Rattle.copy_window.specs.Passing.{CanResume}
+use Rattle.graded_steps.specs.Behind.{RisesWithin}
+use Rattle.window_strobes.specs.Strobes.{passed_behind}
+use Rattle.copy_window.specs.Passing.{CanBegin, CanResume}
+use Rattle.copy_window.specs.ShardFaults.{IsShardFault, steps_taken}
 use Rattle.copy_shard.proofs.Starting.{keeps-rules}
 use Rattle.copy_shard.proofs.Through.{can-begin, can-resume, is-listed}
 use Rattle.copy_shard.proofs.Ticks.{kept-rises, passes-rise, later-rises}
@@ -12,10 +15,18 @@ pub listed_fault-fault-requires-after_bounds : goal.listed_fault-fault-requires-
 listed_fault-fault-requires-after_bounds g c κs within =
     is-listed g.N.World.design g.N.World.plan c.args.window.now.before c.args.strobes.now.passed c.args.own.now c.requires.fault
 
-pub begin_fault-requires-after_bounds : goal.begin_fault-requires-after_bounds
-begin_fault-requires-after_bounds g c κs within =
-    can-begin g.N.World.design g.N.World.plan c.args.window.now.before c.args.window.now.through c.args.strobes.now (fault_of c.listed_fault-fault.result) c.args.own.now c.requires.fault
-    c.listed_fault-fault.ensures c.requires.none c.requires.strobes (sym c.begins.ensures.number ∙ c.if-begins-eq0.true)
+pub begin_fault-requires-clause-end : goal.begin_fault-requires-clause-end
+begin_fault-requires-clause-end g c κs within = omega (arith, c.slots-end.ensures)
+
+pub begin_fault-requires-clause-fault : goal.begin_fault-requires-clause-fault
+begin_fault-requires-clause-fault g c κs within =
+    subst (λ (n : ℕ). CanBegin g.N.World.design g.N.World.plan c.args.window.now.before n c.args.strobes.now (fault_of c.listed_fault-fault.result) c.args.own.now) (sym c.slots-end.ensures)
+    (can-begin g.N.World.design g.N.World.plan c.args.window.now.before c.args.window.now.through c.args.strobes.now (fault_of c.listed_fault-fault.result) c.args.own.now c.requires.fault
+    c.listed_fault-fault.ensures c.requires.none c.requires.strobes (sym c.begins.ensures.number ∙ c.if-begins-eq0.true))
+
+pub returns-then-begins-eq0-clause-fault : goal.returns-then-begins-eq0-clause-fault
+returns-then-begins-eq0-clause-fault g c =
+    subst (λ (n : ℕ). IsShardFault g.N.World.design g.N.World.plan n (passed_behind c.args.strobes.now) c.begin_fault.new.own) c.slots-end.ensures c.in_ok-begin_fault.ensures.fault
 
 pub pass_over-passed-requires-clause-fault : goal.pass_over-passed-requires-clause-fault
 pass_over-passed-requires-clause-fault g c κs within =
@@ -52,7 +63,10 @@ resume_behind-requires-clause-fault g c κs within = λ some.
 pub returns-then-begins-eq0-clause-ticks : goal.returns-then-begins-eq0-clause-ticks
 returns-then-begins-eq0-clause-ticks g c =
     kept-rises g.N.World.design g.N.World.plan c.args.window.now.before c.args.window.now.through c.args.own.now c.begin_fault.new.own (fault_of c.listed_fault-fault.result) c.args.steps.now
-    c.begin_fault.new.steps c.listed_fault-fault.ensures c.requires.none c.in_ok-begin_fault.ensures.place c.in_ok-begin_fault.ensures.ticks
+    c.begin_fault.new.steps c.listed_fault-fault.ensures c.requires.none c.in_ok-begin_fault.ensures.place
+    (subst (λ (n : ℕ). RisesWithin (steps_taken g.N.World.design g.N.World.plan c.args.window.now.before (fault_of c.listed_fault-fault.result) None)
+    (steps_taken g.N.World.design g.N.World.plan n (fault_of c.listed_fault-fault.result) c.begin_fault.new.own.end) c.args.steps.now c.begin_fault.new.steps) c.slots-end.ensures
+    c.in_ok-begin_fault.ensures.ticks)
 
 pub returns-then-passed-slots-clause-ticks : goal.returns-then-passed-slots-clause-ticks
 returns-then-passed-slots-clause-ticks g c =

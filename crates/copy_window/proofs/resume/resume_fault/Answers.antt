@@ -1,5 +1,5 @@
 -- From the copy on.
-use Rattle.std.proofs.Common.{List, ◌+◌, length, map, sym, ap, subst, ◌∙◌, ◌<◌}
+use Rattle.std.proofs.Common.{List, ◌+◌, length, map, sym, ap, subst, ◌∙◌, ◌<◌, arith}
 use Rattle.std.specs.Prelude.{Option, None}
 use Rattle.vf_base.specs.Base.{WatchedBit, watched_bit}
 use Rattle.v_design.specs.Designs.{Machine, TestPlan}
@@ -11,24 +11,29 @@ use Rattle.copy_window.proofs.Rules.{has-rules}
 use Rattle.copy_window.proofs.Starting.{can-enter, more-slots}
 use Rattle.copy_window.proofs.resume.resume_fault.Goals as goal
 
+pub enter-requires-clause-slot : goal.enter-requires-clause-slot
+enter-requires-clause-slot g c κs within = omega (arith, c.requires.slot, c.requires.end)
+
 pub enter-requires-clause-copy : goal.enter-requires-clause-copy
 enter-requires-clause-copy g c κs within =
     let at = c.args.window.now.before + c.args.slot in
-    let more = more-slots g.N.World.design g.N.World.plan c.args.window.now.before c.args.window.now.through c.args.window.now.ending c.begins-first.ensures.window at c.requires.slot in
-    can-enter g.N.World.design g.N.World.plan (fault_of c.args.fault) at c.args.window.now.through c.args.strobes.now c.args.own.now c.requires.fault more c.args.setup.now.codes
+    let more = more-slots g.N.World.design g.N.World.plan c.args.window.now.before c.args.window.now.through c.args.window.now.ending c.begins-first.ensures.window at
+    (omega (arith, c.requires.slot, c.requires.end)) in
+    can-enter g.N.World.design g.N.World.plan (fault_of c.args.fault) at (c.args.window.now.before + c.args.end) c.args.strobes.now c.args.own.now c.requires.fault more c.args.setup.now.codes
     (subst (AreCodesOf g.N.World.design) c.codes-codes.ensures.codes c.codes-codes.ensures.world)
 
 pub settle-requires-clause-fault : goal.settle-requires-clause-fault
 settle-requires-clause-fault g c κs within =
     let at = c.args.window.now.before + c.args.slot in
-    let more = more-slots g.N.World.design g.N.World.plan c.args.window.now.before c.args.window.now.through c.args.window.now.ending c.begins-first.ensures.window at c.requires.slot in
+    let more = more-slots g.N.World.design g.N.World.plan c.args.window.now.before c.args.window.now.through c.args.window.now.ending c.begins-first.ensures.window at
+    (omega (arith, c.requires.slot, c.requires.end)) in
     let State : List WatchedBit → GraderState = λ watched. record { watched = watched; hard = None; possible = c.args.own.now.possible } in (
       at,
-      goes-again c.machines_stand.ensures c.gradings_go_on.ensures c.faults_go_on.ensures g.N.World.design g.N.World.plan at c.args.window.now.through c.args.strobes.now
+      goes-again c.machines_stand.ensures c.gradings_go_on.ensures c.faults_go_on.ensures g.N.World.design g.N.World.plan at (c.args.window.now.before + c.args.end) c.args.strobes.now
           (fault_of c.args.fault) c.args.own.now c.enter.new.room c.again-grader.result c.requires.fault more
           (has-rules g.N.World.design g.N.World.plan c.design-design.result.now c.plan-plan.result.now c.design-design.ensures.world c.plan-plan.ensures.world c.plan-plan.ensures.fits)
           (c.in_ok-enter.ensures
-          (can-enter g.N.World.design g.N.World.plan (fault_of c.args.fault) at c.args.window.now.through c.args.strobes.now c.args.own.now c.requires.fault more c.args.setup.now.codes
+          (can-enter g.N.World.design g.N.World.plan (fault_of c.args.fault) at (c.args.window.now.before + c.args.end) c.args.strobes.now c.args.own.now c.requires.fault more c.args.setup.now.codes
           (subst (AreCodesOf g.N.World.design) c.codes-codes.ensures.codes c.codes-codes.ensures.world)))
           (c.again-grader.ensures ∙ ap (λ (watched : List _). State (map watched_bit watched)) c.as_slice.ensures ∙ ap (λ (p : TestPlan). State p.watched) (sym c.plan-plan.ensures.world)),
     )
@@ -36,24 +41,26 @@ settle-requires-clause-fault g c κs within =
 pub returns-clause-room : goal.returns-clause-room
 returns-clause-room g c =
     let at = c.args.window.now.before + c.args.slot in
-    let more = more-slots g.N.World.design g.N.World.plan c.args.window.now.before c.args.window.now.through c.args.window.now.ending c.begins-first.ensures.window at c.requires.slot in
+    let more = more-slots g.N.World.design g.N.World.plan c.args.window.now.before c.args.window.now.through c.args.window.now.ending c.begins-first.ensures.window at
+    (omega (arith, c.requires.slot, c.requires.end)) in
     is-room g.N.World.design (fault_of c.args.fault) _ c.enter.new.room c.settle.new.machine
     (c.in_ok-enter.ensures
-    (can-enter g.N.World.design g.N.World.plan (fault_of c.args.fault) at c.args.window.now.through c.args.strobes.now c.args.own.now c.requires.fault more c.args.setup.now.codes
+    (can-enter g.N.World.design g.N.World.plan (fault_of c.args.fault) at (c.args.window.now.before + c.args.end) c.args.strobes.now c.args.own.now c.requires.fault more c.args.setup.now.codes
     (subst (AreCodesOf g.N.World.design) c.codes-codes.ensures.codes c.codes-codes.ensures.world)))
     c.in_ok-settle.ensures.stays
 
 pub returns-clause-ticks : goal.returns-clause-ticks
 returns-clause-ticks g c =
     let at = c.args.window.now.before + c.args.slot in
-    let more = more-slots g.N.World.design g.N.World.plan c.args.window.now.before c.args.window.now.through c.args.window.now.ending c.begins-first.ensures.window at c.requires.slot in
+    let more = more-slots g.N.World.design g.N.World.plan c.args.window.now.before c.args.window.now.through c.args.window.now.ending c.begins-first.ensures.window at
+    (omega (arith, c.requires.slot, c.requires.end)) in
     let State : List WatchedBit → GraderState = λ watched. record { watched = watched; hard = None; possible = c.args.own.now.possible } in
-    let of = goes-again c.machines_stand.ensures c.gradings_go_on.ensures c.faults_go_on.ensures g.N.World.design g.N.World.plan at c.args.window.now.through c.args.strobes.now
+    let of = goes-again c.machines_stand.ensures c.gradings_go_on.ensures c.faults_go_on.ensures g.N.World.design g.N.World.plan at (c.args.window.now.before + c.args.end) c.args.strobes.now
     (fault_of c.args.fault) c.args.own.now c.enter.new.room c.again-grader.result c.requires.fault more
     (has-rules g.N.World.design g.N.World.plan c.design-design.result.now c.plan-plan.result.now c.design-design.ensures.world c.plan-plan.ensures.world c.plan-plan.ensures.fits)
     (c.in_ok-enter.ensures
-    (can-enter g.N.World.design g.N.World.plan (fault_of c.args.fault) at c.args.window.now.through c.args.strobes.now c.args.own.now c.requires.fault more c.args.setup.now.codes
+    (can-enter g.N.World.design g.N.World.plan (fault_of c.args.fault) at (c.args.window.now.before + c.args.end) c.args.strobes.now c.args.own.now c.requires.fault more c.args.setup.now.codes
     (subst (AreCodesOf g.N.World.design) c.codes-codes.ensures.codes c.codes-codes.ensures.world)))
     (c.again-grader.ensures ∙ ap (λ (watched : List _). State (map watched_bit watched)) c.as_slice.ensures ∙ ap (λ (p : TestPlan). State p.watched) (sym c.plan-plan.ensures.world)) in
-    settled-ticks g.N.World.design g.N.World.plan at c.args.window.now.through c.args.strobes.now c.enter.new.room c.again-grader.result c.args.own.now (fault_of c.args.fault)
+    settled-ticks g.N.World.design g.N.World.plan at (c.args.window.now.before + c.args.end) c.args.strobes.now c.enter.new.room c.again-grader.result c.args.own.now (fault_of c.args.fault)
     c.settle.new.own.end c.args.steps.now c.settle.new.steps of c.requires.fault.listed (c.in_ok-settle.ensures.ticks at of)

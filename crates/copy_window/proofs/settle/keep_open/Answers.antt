@@ -25,13 +25,12 @@ leave-requires-clause-design g c κs within = ap (λ (m : Machine). m.design) c.
 
 pub returns-clause-fault : goal.returns-clause-fault
 returns-clause-fault g c =
-    keeps-open c.runs_go_on.ensures c.faults_go_on.ensures c.codes_are_one.ensures.read c.codes-codes.result.now g.N.World.design g.N.World.plan c.args.window.now.through
+    keeps-open c.runs_go_on.ensures c.faults_go_on.ensures c.codes_are_one.ensures.read c.codes-codes.result.now g.N.World.design g.N.World.plan (c.args.window.now.before + c.args.end)
     (passed_behind c.args.strobes.now) c.args.machine.now c.args.grader.now c.args.own.now _ c.codes-codes.ensures.world c.requires.stays
     (record {
       copy =
-          subst (λ n. IsCopyOf c.codes-codes.result.now (state_through g.N.World.design g.N.World.plan n) (state_kept c.args.machine.now) c.leave.new.copy) c.slots-count.ensures
-          (subst (λ codes. IsCopyOf codes (state_through g.N.World.design g.N.World.plan (c.args.window.now.before + c.slots-count.result)) (state_kept c.args.machine.now) c.leave.new.copy)
-          (sym c.codes-codes.ensures.codes) c.in_ok-leave.ensures.copy);
+          subst (λ codes. IsCopyOf codes (state_through g.N.World.design g.N.World.plan (c.args.window.now.before + c.args.end)) (state_kept c.args.machine.now) c.leave.new.copy)
+          (sym c.codes-codes.ensures.codes) c.in_ok-leave.ensures.copy;
       within = c.in_ok-leave.ensures.within;
       place = c.in_ok-leave.ensures.fault;
       between = c.stands_between.ensures;

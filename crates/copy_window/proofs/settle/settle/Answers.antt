@@ -1,5 +1,5 @@
 -- The grading ended in the window, or goes on behind it.
-use Rattle.std.proofs.Common.{◌≡◌, sym, subst, ◌∙◌}
+use Rattle.std.proofs.Common.{◌≡◌, ◌+◌, sym, subst, ◌∙◌}
 use Rattle.std.specs.Prelude.{Option, None}
 use Rattle.vf_base.specs.declared.finding.End.{End}
 use Rattle.graded_steps.specs.Behind.{RisesWithin}
@@ -9,32 +9,36 @@ use Rattle.copy_window.proofs.Settling.{can-grade-window, settles-found, stays-o
 use Rattle.copy_window.proofs.settle.settle.Goals as goal
 
 pub grade_window-requires : goal.grade_window-requires
-grade_window-requires g c = can-grade-window g.N.World.design g.N.World.plan c.requires.fault.0 c.args.window.now.through c.args.strobes.now c.args.machine.now c.args.grader.now c.args.own.now c.requires.fault.1
+grade_window-requires g c =
+    can-grade-window g.N.World.design g.N.World.plan c.requires.fault.0 (c.args.window.now.before + c.args.end) c.args.strobes.now c.args.machine.now c.args.grader.now c.args.own.now
+    c.requires.fault.1
 
 pub returns-then-is_some-clause-fault : goal.returns-then-is_some-clause-fault
 returns-then-is_some-clause-fault g c =
-    settles-found g.N.World.design g.N.World.plan c.requires.fault.0 c.args.window.now.through c.args.strobes.now c.args.machine.now c.args.grader.now c.args.own.now c.requires.fault.1 c.in_ok-end.end
-    c.grade_window.new.machine c.grade_window.new.grader (sym c.is_some.ensures ∙ c.if-is_some.true)
-    (c.in_ok-end.ensures.passes
-    (can-grade-window g.N.World.design g.N.World.plan c.requires.fault.0 c.args.window.now.through c.args.strobes.now c.args.machine.now c.args.grader.now c.args.own.now c.requires.fault.1))
+    settles-found g.N.World.design g.N.World.plan c.requires.fault.0 (c.args.window.now.before + c.args.end) c.args.strobes.now c.args.machine.now c.args.grader.now c.args.own.now
+    c.requires.fault.1 c.in_ok-found.found c.grade_window.new.machine c.grade_window.new.grader (sym c.is_some.ensures ∙ c.if-is_some.true)
+    (c.in_ok-found.ensures.passes
+    (can-grade-window g.N.World.design g.N.World.plan c.requires.fault.0 (c.args.window.now.before + c.args.end) c.args.strobes.now c.args.machine.now c.args.grader.now c.args.own.now
+    c.requires.fault.1))
 
 pub keep_open-requires-clause-stays : goal.keep_open-requires-clause-stays
 keep_open-requires-clause-stays g c κs within =
-    stays-open g.N.World.design g.N.World.plan c.requires.fault.0 c.args.window.now.through c.args.strobes.now c.args.machine.now c.args.grader.now c.args.own.now c.requires.fault.1 c.in_ok-end.end
-    c.grade_window.new.machine c.grade_window.new.grader (sym c.is_some.ensures ∙ c.if-is_some.false)
-    (c.in_ok-end.ensures.passes
-    (can-grade-window g.N.World.design g.N.World.plan c.requires.fault.0 c.args.window.now.through c.args.strobes.now c.args.machine.now c.args.grader.now c.args.own.now c.requires.fault.1))
+    stays-open g.N.World.design g.N.World.plan c.requires.fault.0 (c.args.window.now.before + c.args.end) c.args.strobes.now c.args.machine.now c.args.grader.now c.args.own.now
+    c.requires.fault.1 c.in_ok-found.found c.grade_window.new.machine c.grade_window.new.grader (sym c.is_some.ensures ∙ c.if-is_some.false)
+    (c.in_ok-found.ensures.passes
+    (can-grade-window g.N.World.design g.N.World.plan c.requires.fault.0 (c.args.window.now.before + c.args.end) c.args.strobes.now c.args.machine.now c.args.grader.now c.args.own.now
+    c.requires.fault.1))
 
 pub returns-then-is_some-clause-ticks : goal.returns-then-is_some-clause-ticks
 returns-then-is_some-clause-ticks g c = λ before of.
-    c.in_ok-end.ensures.ticks
-    (can-grade-window g.N.World.design g.N.World.plan before c.args.window.now.through c.args.strobes.now c.args.machine.now c.args.grader.now c.args.own.now of)
+    c.in_ok-found.ensures.ticks
+    (can-grade-window g.N.World.design g.N.World.plan before (c.args.window.now.before + c.args.end) c.args.strobes.now c.args.machine.now c.args.grader.now c.args.own.now of)
 
 pub returns-clause-ticks : goal.returns-clause-ticks
 returns-clause-ticks g c = λ before of.
-    let none : c.in_ok-end.end ≡ None = none-is c.in_ok-end.end (sym c.is_some.ensures ∙ c.if-is_some.false) in
+    let none : c.in_ok-found.found ≡ None = none-is c.in_ok-found.found (sym c.is_some.ensures ∙ c.if-is_some.false) in
     let kept : c.keep_open.new.own.end ≡ None = c.in_ok-keep_open.ensures.end ∙ of.none in
     subst (λ (o : Option End). RisesWithin (steps_taken g.N.World.design g.N.World.plan before of.fault None)
-    (steps_taken g.N.World.design g.N.World.plan c.args.window.now.through of.fault o) c.args.steps.now c.grade_window.new.steps) (none ∙ sym kept)
-    (c.in_ok-end.ensures.ticks
-    (can-grade-window g.N.World.design g.N.World.plan before c.args.window.now.through c.args.strobes.now c.args.machine.now c.args.grader.now c.args.own.now of))
+    (steps_taken g.N.World.design g.N.World.plan (c.args.window.now.before + c.args.end) of.fault o) c.args.steps.now c.grade_window.new.steps) (none ∙ sym kept)
+    (c.in_ok-found.ensures.ticks
+    (can-grade-window g.N.World.design g.N.World.plan before (c.args.window.now.before + c.args.end) c.args.strobes.now c.args.machine.now c.args.grader.now c.args.own.now of))

@@ -1,0 +1,254 @@
+-- A block of its own that a fault takes beside the good machine's: it is run, compared and noted, and the runner goes back.
+use Rattle.std.proofs.Common.{◌≡◌, ℕ, ◌+◌, ◌-◌, ◌^◌, ◌<◌, ◌≤◌, List, [], ◌∷◌, ◌++◌, length, map, Bool, true, false, ◌||◌, refl, sym, ap, subst, ◌∙◌, arith}
+use Rattle.std.specs.Prelude.{None}
+use Rattle.std.proofs.lemmas.List.{length-append}
+use Rattle.vf_base.specs.Base.{object_number}
+use Rattle.vf_base.specs.Lists.{has}
+use Rattle.vf_base.specs.declared.ids.ObjectId.{ObjectId}
+use Rattle.v_design.specs.Designs.{FlatDesign, Machine, StuckAt, TestPlan, good_machine, faulty_machine, width_in}
+use Rattle.v_design.specs.States.{State, Event}
+use Rattle.v_design.specs.Runs.{happened, work_of}
+use Rattle.v_design.specs.WellFormed.{KeepsRules}
+use Rattle.machine_laws.specs.SlotLoop.{Moment, ComesTo, after_events}
+use Rattle.copy_laws.specs.Moves.{ChangesOnly}
+use Rattle.copy_laws.specs.OwnRuns.{EventsTakeNoTime}
+use Rattle.race_laws.specs.Writes.{WritesAreOf}
+use Rattle.trace_window.specs.Moments.{window_events}
+use Rattle.block_events.specs.declared.runner.Runner.{Runner}
+use Rattle.block_events.specs.Runners.{machine_of, state_of}
+use Rattle.block_told.specs.declared.told.BlockTold.{BlockTold}
+use Rattle.block_told.specs.Tells.{TellsBlock}
+use Rattle.block_filter.specs.Blocks.{BlockPair}
+use Rattle.block_filter.specs.Likes.{AreWider}
+use Rattle.own_told.specs.Told.{ActAlike, CausesAgree}
+use Rattle.window_places.specs.Passing.{events_before}
+use Rattle.window_places.specs.Windows.{IsAtMoment}
+use Rattle.moment_laws.specs.Places.{IsShownAt}
+use Rattle.moment_laws.specs.Shown.{MomentKept}
+use Rattle.lockstep_laws.specs.Blocks.{ChangesAddUp, with_all_nodes}
+use Rattle.lockstep_laws.specs.Lockstep.{AreInLockstep, LockstepIsBeside}
+use Rattle.lockstep_laws.specs.Phases.{IsInPhase, PhasesFit}
+use Rattle.lockstep_laws.specs.Slots.{KeepsNothingSame}
+use Rattle.lockstep_compare.specs.Compared.{ComparisonsTell, IsKeptBehind}
+use Rattle.lockstep_copy.specs.Kept.{kept_by}
+use Rattle.lockstep_copy.specs.declared.own.LockstepCopy.{LockstepCopy}
+use Rattle.lockstep_room.specs.declared.counts.Counts.{Counts}
+use Rattle.lockstep_slots.specs.Kept.{kept_within}
+use Rattle.lockstep_slots.specs.Pairs.{unlike_pair}
+use Rattle.lockstep_slots.specs.Places.{Place, state_there, behind_events}
+use Rattle.lockstep_slots.specs.Standing.{BlocksDiffer}
+use Rattle.lockstep_notes.specs.Beside.{BeginAlike, IsGoodBlock, TakesIn}
+use Rattle.lockstep_notes.specs.Notes.{NotesTell, marks_of}
+use Rattle.lockstep_steps.specs.Going.{IsGoing}
+use Rattle.lockstep_steps.specs.Laws.{StepsGoOn}
+use Rattle.lockstep_steps.proofs.Events.{behind-state, place-behind}
+use Rattle.race_notes.specs.Notes.{NotesKept}
+use Rattle.block_compare.proofs.Same.{each-of, or-both}
+use Rattle.faulty_block.specs.Runs.{MayRun, RanBlock}
+use Rattle.faulty_block.proofs.Differs.{is-back}
+use Rattle.lockstep_block.specs.Beside.{ComparesBeside, MayCompareBeside, parts_beside}
+use Rattle.lockstep_block.specs.Own.{MayRunOwn, TookOwn}
+use Rattle.lockstep_block.proofs.Passed.{wide-at}
+
+pub record BlockLaws : Type 0 where
+  pub compares : ComparisonsTell
+  pub adds : ChangesAddUp
+  pub causes : CausesAgree
+  pub steps : StepsGoOn
+
+neither : (b c : Bool) → (b || c) ≡ false → (b ≡ false) × (c ≡ false)
+neither true c e = cc
+neither false true e = cc
+neither false false e = (refl, refl)
+
+pub in-phase : (machine : Machine) (at : Moment) → ComesTo machine at → IsInPhase machine at.state
+in-phase machine at comes = record { begins = at.phase_begins; events = at.events; asked = comes.phase_asked; is = comes.happened_so_far }
+
+-- a machine is the good one again
+pub good-again : (design : FlatDesign) (fault : StuckAt) (first middle last : Machine) → first ≡ good_machine design → middle ≡ faulty_machine first.design fault →
+    last ≡ record middle { fault = None } → last ≡ first
+good-again design fault first middle last first_is middle_is last_is =
+    last_is ∙ ap (λ (m : Machine). record m { fault = None }) middle_is ∙ ap (λ (m : Machine). good_machine m.design) first_is ∙ sym first_is
+
+-- so many of some steps are taken
+pub spent : (taken spare : ℕ) → taken ≤ spare → taken + (spare - taken) ≡ spare
+spent taken spare few = omega arith
+
+counted : (taken steps all less spare : ℕ) → steps ≡ all → steps ≡ taken → taken + less ≡ spare → all + less ≡ spare
+counted taken steps all less spare count is spared = omega arith
+
+-- the moment behind a block
+moment-behind : (design : FlatDesign) (plan : TestPlan) (place : Place) (block rest : List Event) (before behind : MomentKept) → IsShownAt design plan place before →
+    IsShownAt design plan (behind_events block rest place) behind → behind.before ≡ before.before → behind.slot ≡ before.slot → behind.moment ≡ before.moment + length block
+moment-behind design plan place block rest before behind first later from slot =
+    let here = first.moment_is in
+    let there : behind.moment ≡ length (window_events design plan before.before (before.before + before.slot)) + events_before (behind_events block rest place) =
+    later.moment_is ∙ (λ i. length (window_events design plan (from i) (from i + slot i)) + events_before (behind_events block rest place)) in
+    let all = length-append place.passed block in
+    omega (arith, here, there, all)
+
+module _ (design : FlatDesign) (plan : TestPlan) (fault : StuckAt) (from until : ℕ) (runner : Runner) (before behind : MomentKept) (counts : Counts) (notes : NotesKept) (own : LockstepCopy)
+    (spare : ℕ) (of : MayRunOwn design plan fault from until runner before behind counts notes own spare) where
+  pub same-design : (machine_of runner).design ≡ design
+  same-design = ap (λ (m : Machine). m.design) of.beside.runs.machine_is
+
+  moment-is : behind.moment ≡ before.moment + length of.block
+  moment-is = moment-behind design plan of.place of.block of.rest before behind of.beside.before_at of.beside.behind_at of.beside.same.before of.beside.same.slot
+
+  -- the states behind the blocks may be compared
+  pub may-compare : PhasesFit → (machine : Machine) → machine ≡ faulty_machine (machine_of runner).design fault → MayCompareBeside design machine behind
+  may-compare fit machine same =
+      let told = of.beside.told in
+      let states = of.beside.behind_at.shows.counts.states in
+      record {
+        design_is = ap (λ (m : Machine). m.design) same ∙ same-design;
+        good = state_there (good_machine design) (behind_events of.block of.rest of.place);
+        shown = of.beside.behind_at.shows;
+        wide = wide-at fit design of.beside.behind_at.in_order.rules (behind_events of.block of.rest of.place) of.beside.runs.asked;
+        acted = λ process there.
+            let low : process < length behind.states = each-of (λ (p : ℕ). p < length behind.states) behind.acted told.processes_there process there in omega (arith, low, states);
+        lane = λ process there. let low = told.lane_there process there in omega (arith, low, states);
+      }
+
+  -- the good machine's block beside
+  good-block : (first end : ℕ) (written : List ObjectId) (shows : State → Type 0) → first ≡ before.moment → end ≡ behind.moment → map object_number written ≡ behind.changed →
+      shows (state_there (good_machine design) (behind_events of.block of.rest of.place)) → IsGoodBlock design plan from until first end written shows of.place of.block of.rest
+  good-block first end written shows first_is end_is are shown = record {
+    at = subst (λ m. IsAtMoment design plan from until m of.place) (sym first_is) of.goes.going.at;
+    left = of.beside.parts;
+    end_is = end_is ∙ moment-is ∙ ap (λ m. m + length of.block) (sym first_is);
+    writes = λ object e. ap (λ l. has l object) are ∙ of.beside.told.changed object ∙ e;
+    shown = subst shows (place-behind (good_machine design) of.place of.block of.rest) shown;
+  }
+
+  module _ (fit : PhasesFit) (side : LockstepIsBeside) where
+    -- the runner becomes the faulty machine, and runs its block
+    unfoldable pub may-run : MayRun own runner
+    may-run =
+        let g = of.goes.going in
+        let lockstep = g.stands.lockstep in
+        let good_is = of.beside.runs.state_is in
+        let time : of.goes.at.state.time ≡ of.slot.begins.time = sym lockstep.lockstep.time ∙ lockstep.good_comes.same_time in
+        record {
+          rules = subst KeepsRules (sym same-design) g.stands.good_slot.rules;
+          put = record {
+            faulty = of.goes.at.state;
+            wide = λ object low.
+                (fit (faulty_machine design fault) of.goes.at.state g.stands.good_slot.rules (in-phase (faulty_machine design fault) of.goes.at lockstep.own_comes)).widths object
+                ∙ ap (λ (d : FlatDesign). width_in d object) (sym same-design);
+            makes = record {
+              lockstep = subst (λ (s : State). AreInLockstep (kept_within (kept_by own) s) s of.goes.at.state) (sym good_is) lockstep.lockstep;
+              nothing_same = subst (λ (s : State). KeepsNothingSame (kept_within (kept_by own) s) s) (sym good_is) g.stands.nothing_same;
+            };
+          };
+          rests =
+              ap (work_of 0)
+              (sym (side (kept_within (kept_by own) (state_there (good_machine design) of.place)) (state_there (good_machine design) of.place) of.goes.at.state lockstep.lockstep).beside.nodes)
+              ∙ g.stands.between.nodes;
+          writes = subst (λ (d : FlatDesign). WritesAreOf d of.goes.at.state) (sym same-design) g.writes;
+          time = subst (λ t. t ≤ 2 ^ 63) (sym time) of.early;
+        }
+
+    -- the block that it took
+    pub ran-beside : (taken : ℕ) (ran-runner : Runner) (told : BlockTold) →
+        ((run : MayRun own runner) → RanBlock (faulty_machine (machine_of runner).design fault) run.put.faulty taken ran-runner told) →
+        RanBlock (faulty_machine design fault) of.goes.at.state taken ran-runner told
+    unfolding may-run
+    ran-beside taken ran-runner told ran =
+        subst (λ (m : Machine). RanBlock (faulty_machine m.design fault) of.goes.at.state taken ran-runner told) of.beside.runs.machine_is (ran may-run)
+
+  module _ (laws : BlockLaws) (taken : ℕ) (ran-runner : Runner) (told : BlockTold) (ran : RanBlock (faulty_machine design fault) of.goes.at.state taken ran-runner told) (new : LockstepCopy)
+      (compared : ComparesBeside (state_there (good_machine design) (behind_events of.block of.rest of.place)) (state_of ran-runner) behind told own new) where
+    good-changes : ChangesOnly (with_all_nodes (parts_beside behind told)) (state_there (good_machine design) of.place)
+        (happened (good_machine design) (state_there (good_machine design) of.place) of.block)
+    good-changes =
+        laws.adds.wider _ (with_all_nodes (parts_beside behind told)) (state_there (good_machine design) of.place)
+        (happened (good_machine design) (state_there (good_machine design) of.place) of.block) of.beside.told.changes_only
+        (λ object none. (neither (has behind.changed object) (has (map object_number told.changed.items) object) none).0) (λ number none. none) (λ process none. none)
+
+    own-changes : ChangesOnly (with_all_nodes (parts_beside behind told)) of.goes.at.state (happened (faulty_machine design fault) of.goes.at.state ran.events)
+    own-changes =
+        laws.adds.wider _ (with_all_nodes (parts_beside behind told)) of.goes.at.state (happened (faulty_machine design fault) of.goes.at.state ran.events) ran.tells.changes
+        (λ object none. (neither (has behind.changed object) (has (map object_number told.changed.items) object) none).1) (λ number none. none)
+        (λ process none. or-both (compared.acts.acted process) (compared.acts.lanes process) ∙ none)
+
+    differ : BlocksDiffer design fault (parts_beside behind told) (state_there (good_machine design) of.place) of.goes.at.state of.block ran.events (kept_by own) (kept_by new)
+    differ =
+        laws.compares design fault (parts_beside behind told) (state_there (good_machine design) of.place) of.goes.at.state of.block ran.events (kept_by own) (kept_by new) good-changes
+        own-changes of.goes.going.stands.nothing_same
+        (subst (λ (s : State). IsKeptBehind (parts_beside behind told) s (happened (faulty_machine design fault) of.goes.at.state ran.events) (kept_by own) (kept_by new))
+        (place-behind (good_machine design) of.place of.block of.rest)
+        (subst (λ (s : State). IsKeptBehind (parts_beside behind told) (state_there (good_machine design) (behind_events of.block of.rest of.place)) s (kept_by own) (kept_by new)) ran.state_is
+        compared.kept))
+
+    acts : ActAlike design (state_there (good_machine design) of.place) of.block told
+    acts = record {
+      processes = λ process. compared.acts.acted process ∙ of.beside.told.acted process;
+      lanes = λ process. compared.acts.lanes process ∙ of.beside.told.lane process;
+    }
+
+    -- behind the blocks both machines stand in lockstep, by what was noted
+    pub noted-goes : (later : NotesKept) (less first end : ℕ) (written : List ObjectId) (shows : State → Type 0) → first ≡ before.moment → end ≡ behind.moment →
+        map object_number written ≡ behind.changed → shows (state_there (good_machine design) (behind_events of.block of.rest of.place)) → taken + less ≡ spare →
+        AreWider (marks_of design notes) (marks_of design later) →
+        ((place : Place) (at : Moment) (ones more others : List Event) → IsGoodBlock design plan from until first end written shows place ones more →
+        TellsBlock (faulty_machine design fault) at.state others told → ActAlike design (state_there (good_machine design) place) ones told →
+        TakesIn design fault (marks_of design later) (state_there (good_machine design) place) at.state ones others) →
+        ((place : Place) (at : Moment) (pairs : List BlockPair) (ones more others : List Event) → NotesTell design plan fault from until first place at pairs notes →
+        IsGoodBlock design plan from until first end written shows place ones more → TellsBlock (faulty_machine design fault) at.state others told → BeginAlike ones others →
+        NotesTell design plan fault from until end (behind_events ones more place) (after_events (faulty_machine design fault) others at) (pairs ++ unlike_pair ones others ∷ []) later) →
+        IsGoing design plan fault of.slot of.begins from until behind.moment (behind_events of.block of.rest of.place) (after_events (faulty_machine design fault) ran.events of.goes.at)
+        (of.goes.pairs ++ unlike_pair of.block ran.events ∷ []) later (kept_by new) less
+    noted-goes later less first end written shows first_is end_is are shown spared wider takes tells =
+        let beside = good-block first end written shows first_is end_is are shown in
+        subst
+        (λ m. IsGoing design plan fault of.slot of.begins from until m (behind_events of.block of.rest of.place) (after_events (faulty_machine design fault) ran.events of.goes.at)
+        (of.goes.pairs ++ unlike_pair of.block ran.events ∷ []) later (kept_by new) less) (sym moment-is)
+        (laws.steps.runs design plan fault of.slot of.begins from until before.moment of.place of.goes.at of.goes.pairs notes later (kept_by own) (kept_by new) spare less
+        (parts_beside behind told) of.block of.rest ran.events of.goes.going of.beside.parts of.beside.whole ran.block differ wider
+        (takes of.place of.goes.at of.block of.rest ran.events beside ran.tells acts)
+        (laws.causes design fault (state_there (good_machine design) of.place) of.goes.at.state of.block ran.events told ran.tells acts)
+        (subst
+        (λ m. NotesTell design plan fault from until m (behind_events of.block of.rest of.place) (after_events (faulty_machine design fault) ran.events of.goes.at)
+        (of.goes.pairs ++ unlike_pair of.block ran.events ∷ []) later) (end_is ∙ moment-is)
+        (tells of.place of.goes.at of.goes.pairs of.block of.rest ran.events
+        (subst (λ m. NotesTell design plan fault from until m of.place of.goes.at of.goes.pairs notes) (sym first_is) of.goes.going.noted) beside ran.tells
+        (laws.steps.begin_alike design plan fault of.slot of.begins from until before.moment of.place of.goes.at of.goes.pairs notes (kept_by own) spare of.block ran.events of.goes.going
+        of.beside.whole ran.block)))
+        (counted taken told.steps _ less spare ran.tells.count ran.steps_are spared))
+
+    -- so the fault goes there, and its runner may become the good machine before the block
+    pub goes-there : PhasesFit → LockstepIsBeside → EventsTakeNoTime → (later : NotesKept) (less : ℕ) →
+        IsGoing design plan fault of.slot of.begins from until behind.moment (behind_events of.block of.rest of.place) (after_events (faulty_machine design fault) ran.events of.goes.at)
+        (of.goes.pairs ++ unlike_pair of.block ran.events ∷ []) later (kept_by new) less →
+        TookOwn design plan fault from until runner before behind counts notes own spare of ran-runner before behind told later new less
+    goes-there fit side times later less going =
+        let good = state_there (good_machine design) of.place in
+        let next = state_there (good_machine design) (behind_events of.block of.rest of.place) in
+        let next_is : next ≡ happened (good_machine design) good of.block = place-behind (good_machine design) of.place of.block of.rest in
+        let here : (after_events (faulty_machine design fault) ran.events of.goes.at).state ≡ state_of ran-runner =
+        behind-state (faulty_machine design fault) ran.events of.goes.at ∙ sym ran.state_is in
+        record {
+          goes = record {
+            at = after_events (faulty_machine design fault) ran.events of.goes.at;
+            pairs = of.goes.pairs ++ unlike_pair of.block ran.events ∷ [];
+            going = going;
+          };
+          back = record {
+            design_is = ap (λ (m : Machine). m.design) ran.machine_is;
+            good = good;
+            shown = of.beside.before_at.shows;
+            wide = wide-at fit design of.beside.behind_at.in_order.rules of.place of.beside.runs.asked;
+            may = of.beside.runs.may;
+            back =
+                is-back side (parts_beside behind told) own new good next of.goes.at.state (state_of ran-runner) of.goes.going.stands.lockstep.lockstep
+                (record {
+                  lockstep = subst (λ (s : State). AreInLockstep (kept_within (kept_by new) next) next s) here going.stands.lockstep.lockstep;
+                  nothing_same = going.stands.nothing_same;
+                })
+                (subst (λ (s : State). ChangesOnly (with_all_nodes (parts_beside behind told)) good s) (sym next_is) good-changes)
+                (subst (λ (s : State). ChangesOnly (with_all_nodes (parts_beside behind told)) of.goes.at.state s) (sym ran.state_is) own-changes) compared.kept
+                of.beside.before_at.between.nodes of.beside.behind_at.between.nodes (ap (λ (s : State). s.time) next_is ∙ times (good_machine design) good of.block);
+          };
+          good_is = sym of.beside.runs.state_is;
+        }

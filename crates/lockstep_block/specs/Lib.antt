@@ -1,0 +1,4 @@
+pub mod Rooms
+pub mod Blocks
+pub mod Beside
+pub mod Own

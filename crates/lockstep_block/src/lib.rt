@@ -1,0 +1,16 @@
+//! One block of a slot in lockstep: passed over, or taken by both machines and compared (blocks and slots by IEEE 1364-2001, clause 5).
+//!
+//! A room has one runner, and the good machine's state before a block and behind it. `run_own_block` lets a faulty machine take its own block: the runner becomes that
+//! machine, runs the block, which is compared with the good machine's and noted, and becomes the good machine again, in the state before the block: so the faults of a
+//! shard may take their blocks one after the other. `follow_block` moves the runner behind the block, whether faults took their own or not. Main contract: where a
+//! fault's answer is that lockstep goes on, all that is known at a place of the slot is known behind the blocks, with what is kept then.
+#![tactic(auto)]
+
+mod beside;
+mod own;
+mod pass;
+mod room;
+
+pub use own::run_own_block;
+pub use pass::{follow_block, stand_at};
+pub use room::{FaultInSlot, LockstepRoom};

@@ -1,0 +1,158 @@
+-- A slot begins, and ends.
+use Rattle.std.proofs.Common.{◌≡◌, ℕ, suc, ◌+◌, ◌<◌, ◌≤◌, ◌^◌, List, [], ◌∷◌, length, map, refl, sym, ap, subst, ◌∙◌, arith}
+use Rattle.std.specs.Prelude.{Some, None, slice_get, sum_by}
+use Rattle.std.proofs.lemmas.List.{length-append}
+use Rattle.std.proofs.lemmas.List.Sums.{sum_by-append, sum_by-cons, sum_by-le-sum_by}
+use Rattle.vf_base.specs.Lists.{joined}
+use Rattle.vf_base.specs.declared.limits.TheConstants.{MAX_END}
+use Rattle.v_design.specs.Designs.{FlatDesign, Machine, StuckAt, TestPlan, good_machine, faulty_machine}
+use Rattle.v_design.specs.Grades.{Phase, phases}
+use Rattle.v_design.specs.PhaseLogs.{phase_race}
+use Rattle.v_design.specs.Runs.{FirstSlot, first_run, most_steps}
+use Rattle.v_design.specs.States.{State, Event, Step, LaneStep, Evaluation, NetUpdate, after}
+use Rattle.between_slots.proofs.Leading.{through-get}
+use Rattle.between_slots.specs.Between.{slots_phases, window_phases}
+use Rattle.between_slots.specs.WindowLaws.{window_phases-more}
+use Rattle.machine_laws.specs.SlotLoop.{first_moment, steps_of}
+use Rattle.block_events.specs.declared.runner.Runner.{Runner}
+use Rattle.copy_laws.specs.Differences.{Ascend}
+use Rattle.copy_laws.specs.Windows.{good_slots, window_slots}
+use Rattle.copy_state.specs.Kept.{CopyKept}
+use Rattle.moment_laws.specs.Shown.{MomentKept}
+use Rattle.lockstep_copies.specs.Copies.{IsCopyInLockstep, own_begins}
+use Rattle.lockstep_copy.specs.Kept.{kept_by}
+use Rattle.lockstep_copy.specs.Laws.{KeptEnds}
+use Rattle.lockstep_copy.specs.declared.own.LockstepCopy.{LockstepCopy}
+use Rattle.lockstep_slots.specs.Places.{Place, first_place, steps_left}
+use Rattle.lockstep_steps.specs.Going.{IsGoing}
+use Rattle.lockstep_steps.specs.Laws.{StepsGoOn}
+use Rattle.moments_stand.specs.Standing.{MomentsStand}
+use Rattle.phase_order.specs.Order.{phase_steps}
+use Rattle.race_notes.specs.Notes.{HasNoNotes, NotesKept}
+use Rattle.trace_window.specs.Moments.{phase_seen, seen_from, slot_seen, slots_seen, window_events}
+use Rattle.slot_laws.specs.Copies.{MayBeginSlot, lockstep_differences}
+use Rattle.slot_laws.specs.Laws.{SlotsAreCounted, events_all}
+use Rattle.slot_laws.specs.Slots.{IsRoomIn, SlotGoesOn, SlotIsThrough}
+
+-- Steps
+
+-- a step is one event
+step-one : (event : Event) → steps_of event ≤ 1
+step-one (Step process) = omega arith
+step-one (LaneStep process) = omega arith
+step-one (Evaluation node) = omega arith
+step-one (NetUpdate node) = omega arith
+
+steps-few : (events : List Event) → sum_by steps_of events ≤ length events
+steps-few [] = omega arith
+steps-few (event ∷ events) =
+    let one = step-one event in
+    let rest = steps-few events in
+    let all : sum_by steps_of (event ∷ events) ≡ steps_of event + sum_by steps_of events = sum_by-cons steps_of event events in
+    omega (arith, one, rest, all)
+
+pub left-few : (phase : Phase) (later : List Phase) → steps_left (first_place phase later) ≤ events_all (phase ∷ later)
+left-few phase later =
+    let here = steps-few phase.events in
+    let rest : sum_by phase_steps later ≤ events_all later = sum_by-le-sum_by phase_steps (λ (p : Phase). length p.events) later (λ p. steps-few p.events) in
+    let all : events_all (phase ∷ later) ≡ length phase.events + events_all later = sum_by-cons (λ (p : Phase). length p.events) phase later in
+    omega (arith, here, rest, all)
+
+-- Of a slot of a window
+
+seen-length : (machine : Machine) (state : State) (events : List Event) → length (seen_from machine state events) ≡ length events
+seen-length machine state [] = refl
+seen-length machine state (event ∷ events) = ap suc (seen-length machine (after machine state event) events)
+
+phases-seen : (machine : Machine) (parts : List Phase) → length (joined (map (phase_seen machine) parts)) ≡ events_all parts
+phases-seen machine [] = refl
+phases-seen machine (phase ∷ parts) =
+    let all = length-append (phase_seen machine phase) (joined (map (phase_seen machine) parts)) in
+    let one = seen-length machine phase.begins phase.events in
+    let rest = phases-seen machine parts in
+    let sum : events_all (phase ∷ parts) ≡ length phase.events + events_all parts = sum_by-cons (λ (p : Phase). length p.events) phase parts in
+    omega (arith, all, one, rest, sum)
+
+slots-seen : (machine : Machine) (slots : List FirstSlot) → length (slots_seen machine slots) ≡ events_all (slots_phases machine slots)
+slots-seen machine [] = refl
+slots-seen machine (slot ∷ slots) =
+    let all = length-append (slot_seen machine slot) (slots_seen machine slots) in
+    let one : length (slot_seen machine slot) ≡ events_all (phases machine slot) = phases-seen machine (phases machine slot) in
+    let rest = slots-seen machine slots in
+    let sum : events_all (slots_phases machine (slot ∷ slots)) ≡ events_all (phases machine slot) + events_all (slots_phases machine slots) =
+    sum_by-append (λ (p : Phase). length p.events) (phases machine slot) (slots_phases machine slots) in
+    omega (arith, all, one, rest, sum)
+
+-- how many events and phases more it has with the slot
+pub slots_counted : SlotsAreCounted
+slots_counted = record {
+  events = λ design plan from number slot low here.
+      let all : events_all (window_phases design plan from (suc number)) ≡ events_all (window_phases design plan from number) + events_all (phases (good_machine design) slot) =
+      ap events_all (window_phases-more design plan from number slot low here)
+      ∙ sum_by-append (λ (p : Phase). length p.events) (window_phases design plan from number) (phases (good_machine design) slot) in
+      let more = slots-seen (good_machine design) (window_slots design plan from (suc number)) in
+      let less = slots-seen (good_machine design) (window_slots design plan from number) in
+      omega (arith, all, more, less);
+  parts = λ design plan from number slot low here.
+      ap length (window_phases-more design plan from number slot low here) ∙ length-append (window_phases design plan from number) (phases (good_machine design) slot);
+}
+
+-- it begins early
+pub slot-early : MomentsStand → (design : FlatDesign) (plan : TestPlan) (number : ℕ) (slot : FirstSlot) → plan.end ≤ MAX_END → slice_get (good_slots design plan) number ≡ Some slot →
+    slot.begins.time ≤ 2 ^ 63
+slot-early moments design plan number slot end here =
+    let low = moments.in_time (good_machine design) plan.end number slot (through-get (good_machine design) (first_run (good_machine design) plan.end) number slot here) in
+    omega (arith, low, end)
+
+-- The beginning
+
+module _ (steps : StepsGoOn) (design : FlatDesign) (plan : TestPlan) (fault : StuckAt) (from until number : ℕ) (copy : CopyKept) (phase : Phase) (later : List Phase) (notes : NotesKept)
+    (own : LockstepCopy) (spare : ℕ) (of : MayBeginSlot design plan fault (from + number) copy) where
+  pub slot-begins : phases (good_machine design) of.slot ≡ phase ∷ later → from + number < until → of.slot.begins.time ≤ 2 ^ 63 → own.copy.values ≡ copy.values → own.copy.updates ≡ copy.updates → own.lanes ≡ [] → (runner : Runner) (before behind : MomentKept) →
+      IsRoomIn design plan from until number (first_place phase later) runner before behind → before.moment ≡ length (window_events design plan from (from + number)) →
+      HasNoNotes before.moment notes → steps_left (first_place phase later) + spare ≤ most_steps →
+      SlotGoesOn design plan fault of.slot (own_begins design plan fault of.time of.slot) from until number (first_place phase later) runner before behind notes own spare
+  slot-begins are within early values updates empty runner before behind room moment none few =
+      let at : before.moment ≡ length (window_events design plan from (suc of.before)) = moment ∙ ap (λ n. length (window_events design plan from n)) of.number_is in
+      let here = of.number_is in
+      record {
+        early = early;
+        room = room;
+        waits = steps.waits design plan fault of.time of.slot;
+        goes = record {
+          at = first_moment (own_begins design plan fault of.time of.slot);
+          pairs = [];
+          going =
+              subst
+              (λ m. IsGoing design plan fault of.slot (own_begins design plan fault of.time of.slot) from until m (first_place phase later)
+              (first_moment (own_begins design plan fault of.time of.slot)) [] notes (kept_by own) spare) (sym at)
+              (subst
+              (λ (o : LockstepCopy). IsGoing design plan fault of.slot (own_begins design plan fault of.time of.slot) from until (length (window_events design plan from (suc of.before)))
+              (first_place phase later) (first_moment (own_begins design plan fault of.time of.slot)) [] notes (kept_by o) spare)
+              (λ i. record {
+                copy = record { fault = own.copy.fault; values = sym values i; states = own.copy.states; updates = sym updates i };
+                lanes = sym empty i;
+              })
+              (steps.begins design plan fault of.before of.time from until (lockstep_differences copy) of.slot phase later notes spare of.lockstep
+              (subst (λ n. slice_get (good_slots design plan) n ≡ Some of.slot) of.number_is of.stands) of.fine are (omega (arith, here)) (omega (arith, here, within))
+              (subst (λ m. HasNoNotes m notes) at none) few));
+        };
+      }
+
+  -- The end
+
+  pub slot-ends : KeptEnds → (place : Place) (runner : Runner) (before behind : MomentKept)
+      (on : SlotGoesOn design plan fault of.slot (own_begins design plan fault of.time of.slot) from until number place runner before behind notes own spare) → place.left ≡ [] → place.later ≡ [] →
+      phase_race (faulty_machine design fault) on.goes.at.phase_begins on.goes.at.events ≡ None → Ascend own.copy.values → Ascend own.copy.updates →
+      IsCopyInLockstep design plan fault (from + number) of.slot.begins.time (lockstep_differences own.copy)
+  slot-ends ends place runner before behind on through last clean values updates =
+      subst (λ n. IsCopyInLockstep design plan fault n of.slot.begins.time (lockstep_differences own.copy)) (sym of.number_is)
+      (steps.ends design plan fault of.before of.time from until before.moment (lockstep_differences copy) (lockstep_differences own.copy) of.slot place on.goes.at on.goes.pairs notes (kept_by own)
+      spare of.lockstep (subst (λ n. slice_get (good_slots design plan) n ≡ Some of.slot) of.number_is of.stands) of.fine on.goes.going through last clean (ends own values updates))
+
+  -- where it is through
+  pub slot-through : KeptEnds → (runner : Runner) (before behind : MomentKept) →
+      SlotIsThrough design plan fault of.slot (own_begins design plan fault of.time of.slot) from until number runner before behind notes own spare → Ascend own.copy.values →
+      Ascend own.copy.updates → IsCopyInLockstep design plan fault (from + number) of.slot.begins.time (lockstep_differences own.copy)
+  slot-through ends runner before behind through values updates =
+      slot-ends ends through.place runner before behind through.on through.through through.last through.clean values updates

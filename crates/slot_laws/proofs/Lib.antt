@@ -1,0 +1,10 @@
+pub mod Blocks
+pub mod Rooms
+pub mod Further
+pub mod Stops
+pub mod Going
+pub mod Turns
+pub mod Begins
+pub mod Ends
+pub mod Own
+pub mod Phases

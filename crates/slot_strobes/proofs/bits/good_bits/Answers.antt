@@ -1,9 +1,0 @@
--- Each watched object is one of the design.
-use Rattle.vf_base.specs.Base.{watched_bit}
-use Rattle.window_strobes.specs.Watched.{IsObjectOf}
-use Rattle.strobe_detect.proofs.Watches.{AllHold-at}
-use Rattle.slot_strobes.proofs.bits.good_bits.Goals as goal
-
-pub value_at-requires-after_bounds : goal.value_at-requires-after_bounds
-value_at-requires-after_bounds g c κs within =
-    AllHold-at (IsObjectOf g.N.World.design) watched_bit c.args.watched.now c.watched.place-index _ c.requires.watched c.watched-test.true
