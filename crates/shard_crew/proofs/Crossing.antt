@@ -1,8 +1,9 @@
 -- What workers look at in a round may be looked at by several threads.
 use denote.RattleType.{RattleType}
-use denote.Param.Send.{IsSync, view_sync, sendable}
+use denote.Param.Send.{IsSend, IsSync, view_sync, sendable}
 use denote.Param.SendFields.{declared_sync, variants_sync}
 use denote.Ref.{NamedLft}
+use Rattle.std.specs.contracts.option.Option.{the_row as OptionOf}
 use Rattle.four_value.proofs.operator.BinaryOperator.TheSendSync as binary_operator_crosses
 use Rattle.four_value.proofs.operator.UnaryOperator.TheSendSync as unary_operator_crosses
 use Rattle.four_value.proofs.value.Vec4.TheSendSync as vec4_crosses
@@ -93,6 +94,10 @@ setup_sync d N world n = view_sync _ _ _ _ _ (declared_sync (inside.the_type d N
   search (design_sync, sendable),
   (search (graph_sync, sendable), (search (plan_crosses.the_sync, sendable), (search (code_sync, std.crosses, sendable), (search sendable, tt)))),
 ))
+
+-- what may be there or not
+pub option_send : (R : RattleType) → IsSend R → IsSend (OptionOf R)
+option_send R s = search sendable depth 12
 
 -- what workers look at in a round
 pub round_sync : (r d : NamedLft) (N G : RattleType) (world : Ghosts N.Denot) → IsSync N → IsSync G → IsSync (round.the_row r d N G world)

@@ -1,3 +1,4 @@
 pub mod Crossing
 pub mod Manning
 pub mod Gathering
+pub mod Ticks

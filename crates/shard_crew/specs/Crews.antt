@@ -1,9 +1,9 @@
 -- What all workers have between rounds and behind the last one, and the seat that is left beside theirs (slots by IEEE 1364-2001, clause 5).
-use Rattle.std.specs.Prelude.{◌≡◌, ℕ, ◌+◌, ◌*◌, ◌^◌, IsTrue, List, [], length}
+use Rattle.std.specs.Prelude.{◌≡◌, ℕ, ◌+◌, ◌*◌, ◌^◌, IsTrue, List, [], length, sum, sum_by, Option, Some, None}
 use Rattle.std.specs.List.{All, flat_map}
-use Rattle.v_design.specs.Designs.{FlatDesign, TestPlan}
 use Rattle.copy_laws.specs.Windows.{good_slots}
-use Rattle.copy_shard.specs.Shards.{places_of, findings_of}
+use Rattle.copy_shard.specs.Shards.{fault_steps_at, places_of, findings_of}
+use Rattle.graded_steps.specs.Behind.{RisesWithin}
 use Rattle.fault_shards.specs.Found.{found_faults}
 use Rattle.verdict_settle.specs.Harvests.{IsHarvest, claimed_faults}
 use Rattle.verdict_words.specs.Seats.{view, IsSeatOf}
@@ -12,8 +12,13 @@ use Rattle.verdict_words.specs.declared.board.Board.{Board}
 use Rattle.verdict_words.specs.declared.board.Seat.{Seat}
 use Rattle.shard_claims.specs.declared.round.ClaimedShard.{ClaimedShard}
 use Rattle.shard_claims.specs.declared.worker.Worker.{Worker}
-use Rattle.shard_claims.specs.Workers.{IsWorkerAt, KeepsShards}
+use Rattle.v_design.specs.Designs.{FlatDesign, TestPlan}
+use Rattle.shard_claims.specs.Workers.{IsWorkerAt, worker_steps, KeepsShards}
 use Rattle.shard_crew.specs.declared.gathered.Gathered.{Gathered}
+
+-- some counters rose together by no more than one number is above another
+pub record RoseWithin (from to : ℕ) (before after : List ℕ) : Type 0 where
+  pub rises : RisesWithin from to (sum before) (sum after)
 
 module _ {N : Type 0} where
   -- Shards
@@ -30,7 +35,20 @@ module _ {N : Type 0} where
   abbrev pub HaveGone : ℕ → List (ClaimedShard N) → Type 0
   HaveGone gone shards = All (λ (claimed : ClaimedShard N). claimed.shard.gone ≡ gone) shards
 
+  -- all process steps that the gradings of the faults of some claimed shards take
+  abbrev pub claimed_most : FlatDesign → TestPlan → List (ClaimedShard N) → ℕ
+  claimed_most design plan shards = sum_by (λ (claimed : ClaimedShard N). sum_by (fault_steps_at design plan) (places_of claimed.shard.faults)) shards
+
   -- Workers
+
+  -- the process steps that the gradings of the faults of their shards take
+  abbrev pub crew_steps : FlatDesign → TestPlan → List (Worker N) → ℕ
+  crew_steps design plan workers = sum_by (worker_steps design plan) workers
+
+  -- those of a worker, if there is one
+  abbrev pub steps_in : FlatDesign → TestPlan → Option (Worker N) → ℕ
+  steps_in design plan None = 0
+  steps_in design plan (Some worker) = worker_steps design plan worker
 
   -- so many workers behind so many slots
   pub record AreWorkersAt (representatives : List ℕ) (board : Board N) (gone count : ℕ) (workers : List (Worker N)) : Type 0 where

@@ -1,13 +1,14 @@
 // The findings of all workers behind the last round, and their words.
 
-ghost use Rattle.std.specs.Prelude.{◌≡◌, ◌++◌, ◌<◌, ◌^◌, length, IfOk, OnOk};
+ghost use Rattle.std.specs.Prelude.{◌≡◌, ◌++◌, ◌<◌, ◌≤◌, ◌^◌, length, sum_by, IfOk, OnOk};
 ghost use Rattle.std.specs.List.{All};
 ghost use Rattle.copy_laws.specs.Windows.{good_slots};
-ghost use Rattle.copy_shard.specs.Shards.{findings_of, places_of};
+ghost use Rattle.v_design.specs.WellFormed.{KeepsRules};
+ghost use Rattle.copy_shard.specs.Shards.{fault_steps_at, findings_of, places_of, shard_steps};
 ghost use Rattle.fault_shards.specs.Found.{IsFinding, found_faults};
 ghost use Rattle.fault_shards.specs.Shards.{representatives_of};
-ghost use Rattle.shard_claims.specs.Workers.{IsPlaceOf, IsWorkerAt};
-ghost use Rattle.shard_crew.specs.Crews.{AreWorkersAt, HasGathered, HaveGone, IsFoundShard, IsRest, places_in};
+ghost use Rattle.shard_claims.specs.Workers.{IsPlaceOf, IsWorkerAt, claimed_steps, worker_steps};
+ghost use Rattle.shard_crew.specs.Crews.{AreWorkersAt, claimed_most, crew_steps, IsRest, IsFoundShard, HaveGone, places_in, HasGathered};
 ghost use Rattle.verdict_words.specs.Views.{lent_share};
 
 use crate::gathered::Gathered;
@@ -27,6 +28,7 @@ fn push_found<N: World>(shard: &Shard<N>, found: &mut Vec<Finding>) -> Result<()
     ensures faults { OnOk result (found_faults found.new.items ≡ found_faults found.old.items ++ places_of shard.now.faults) }
     ensures graded { OnOk result (All (IsFinding N.design N.plan) found.old.items → All (IsFinding N.design N.plan) found.new.items) }
     ensures complete { OnOk result (found_faults (findings_of shard.now.faults) ≡ places_of shard.now.faults) }
+    ensures steps { OnOk result (KeepsRules N.design → shard_steps N.design N.plan shard.now ≤ sum_by (fault_steps_at N.design N.plan) (places_of shard.now.faults)) }
 {
     shard.stands();
     shard.push_findings(found)?;
@@ -42,6 +44,7 @@ fn findings_in<N: World>(
     ensures faults { IfOk result (λ found. found_faults found.items ≡ places_in shards.now) }
     ensures graded { IfOk result (λ found. All (IsFinding N.design N.plan) found.items) }
     ensures complete { IfOk result (λ _. All IsFoundShard shards.now) }
+    ensures steps { IfOk result (λ _. KeepsRules N.design → claimed_steps N.design N.plan shards.now ≤ claimed_most N.design N.plan shards.now) }
 {
     let mut found = Vec::new(alloc);
     'shards: for claimed in shards {
@@ -58,7 +61,8 @@ fn finish_worker<N: World, G>(
 ) -> Result<Gathered<N>, NoMemory>
     requires place { IsPlaceOf N.design N.plan place.now.shards.now place.now.board.now }
     requires at { IsWorkerAt (representatives_of place.now.shards.now) place.now.board.now (length (good_slots N.design N.plan)) worker }
-    ensures { IfOk result (HasGathered N.design N.plan (representatives_of place.now.shards.now) place.now.board.now lent_share) }
+    ensures gathered { IfOk result (HasGathered N.design N.plan (representatives_of place.now.shards.now) place.now.board.now lent_share) }
+    ensures steps { IfOk result (λ gathered. worker_steps N.design N.plan worker ≤ claimed_most N.design N.plan gathered.shards.items) }
 {
     fault_shards::shards_cover();
     beside_laws::good_run_goes_on();
@@ -89,7 +93,8 @@ pub fn finish<N: World, G>(
     requires some { 0 < count }
     requires rest { IsRest place.now.board.now count seat }
     requires at { AreWorkersAt (representatives_of place.now.shards.now) place.now.board.now (length (good_slots N.design N.plan)) count workers.items }
-    ensures { IfOk result (HasGathered N.design N.plan (representatives_of place.now.shards.now) place.now.board.now (2 ^ 62)) }
+    ensures gathered { IfOk result (HasGathered N.design N.plan (representatives_of place.now.shards.now) place.now.board.now (2 ^ 62)) }
+    ensures steps { IfOk result (λ gathered. crew_steps N.design N.plan workers.items ≤ claimed_most N.design N.plan gathered.shards.items) }
 {
     let mut seat = seat;
     let mut workers = workers;

@@ -7,13 +7,11 @@ use Rattle.beside_laws.specs.GoodRuns.{GoodRunGoesOn}
 use Rattle.copy_laws.specs.Windows.{WindowEnd, IsWindow, good_slots}
 use Rattle.good_trace.specs.Traces.{WindowKept}
 use Rattle.good_windows.specs.Next.{RunKept, IsNextWindow, AllStand, LoopsBehind}
-use Rattle.good_windows.specs.declared.next.NextWindow.{NextWindow}
 use Rattle.fault_grade.specs.Results.{LoopsAt}
 use Rattle.verdict_words.specs.declared.board.Board.{Board}
 use Rattle.shard_claims.specs.declared.worker.Worker.{Worker}
-use Rattle.vf_base.specs.declared.text.NoMemory.{NoMemory}
 use Rattle.shard_crew.specs.Crews.{AreWorkersAt}
-use Rattle.shard_rounds.specs.Rounds.{IsWindowAhead, AreThrough, RunsOn}
+use Rattle.shard_rounds.specs.Rounds.{IsWindowAhead, AreThrough}
 
 -- a window ends where the good first run does, or before
 pub window-within : (design : FlatDesign) (plan : TestPlan) (begins through : ℕ) (end : WindowEnd) → IsWindow design plan begins through end → through ≤ length (good_slots design plan)
@@ -47,10 +45,3 @@ never-over design plan now law rules g =
     let some : 0 < length (good_slots design plan) = law.some design plan rules in
     let none : length (good_slots design plan) ≡ 0 = g.0.all in
     omega (arith, some, none)
-
--- What a thread came back with
-
--- the good machine's run
-pub run-back : {N : Type 0} (design : FlatDesign) (plan : TestPlan) (gone : ℕ) (b : Result (RunKept × NextWindow N) NoMemory) (ran : RunKept × NextWindow N) → b ≡ Ok ran →
-    IfOk b (λ r. RunsOn design plan gone r.0 r.1) → RunsOn design plan gone ran.0 ran.1
-run-back design plan gone b ran is h = subst (λ (r : Result (RunKept × NextWindow _) NoMemory). IfOk r (λ s. RunsOn design plan gone s.0 s.1)) is h

@@ -1,16 +1,17 @@
 -- How rounds follow each other (slots by IEEE 1364-2001, clause 5).
-use Rattle.std.specs.Prelude.{◌≡◌, ℕ, true, List, length}
+use Rattle.std.specs.Prelude.{◌≡◌, ℕ, ◌+◌, ◌≤◌, true, List, length}
 use Rattle.v_design.specs.Designs.{FlatDesign, TestPlan}
 use Rattle.copy_laws.specs.Windows.{IsWindow, good_slots}
 use Rattle.fault_grade.specs.Results.{LoopsAt}
 use Rattle.good_trace.specs.Traces.{WindowKept}
-use Rattle.good_windows.specs.Next.{RunKept, GivesNext}
+use Rattle.v_design.specs.OwnSteps.{good_steps}
+use Rattle.graded_steps.specs.Behind.{RisesWithin}
+use Rattle.good_windows.specs.Next.{RunKept, GivesNext, steps_of_slots}
 use Rattle.good_windows.specs.declared.next.NextWindow.{NextWindow}
 use Rattle.verdict_words.specs.declared.board.Board.{Board}
-use Rattle.shard_crew.specs.Crews.{AreWorkersAt}
+use Rattle.shard_crew.specs.Crews.{AreWorkersAt, crew_steps}
 use Rattle.shard_claims.specs.declared.worker.Worker.{Worker}
 use Rattle.shard_rounds.specs.declared.step.Rounds.{Rounds}
-use Rattle.shard_rounds.specs.declared.step.Gone.{Gone}
 use Rattle.shard_rounds.specs.declared.step.Later.{Later}
 use Rattle.shard_rounds.specs.declared.step.Later.TheVariants.{Round, Done, Loops}
 use Rattle.shard_rounds.specs.declared.rounds.First.{First}
@@ -30,20 +31,15 @@ module _ {N : Type 0} where
     pub gives : GivesNext design plan gone next run.gone
     pub usable : run.usable ≡ true
 
-  -- so many workers have gone through all slots up to some, and the run was run on from there
-  pub record HasGone (design : FlatDesign) (plan : TestPlan) (representatives : List ℕ) (board : Board N) (through count : ℕ) (gone : Gone N) : Type 0 where
-    pub workers : AreWorkersAt representatives board through count gone.workers.items
-    pub run : RunsOn design plan through gone.run gone.next
-
   -- the first window is there, or the good machine loops before any
-  abbrev pub IsFirst : FlatDesign → TestPlan → First N → Type 0
-  IsFirst design plan (first.Window run window) = IsWindowAhead design plan run window × (window.before ≡ 0)
-  IsFirst design plan (first.Loops time) = LoopsAt design plan time
+  abbrev pub IsFirst : FlatDesign → TestPlan → RunKept → First N → Type 0
+  IsFirst design plan run (first.Window window) = IsWindowAhead design plan run window × (window.before ≡ 0)
+  IsFirst design plan run (first.Loops time) = LoopsAt design plan time
 
-  -- so many workers stand where a window of the good first run begins, behind which the run goes on
-  pub record IsBeforeRound (design : FlatDesign) (plan : TestPlan) (representatives : List ℕ) (board : Board N) (count : ℕ) (rounds : Rounds N) : Type 0 where
+  -- so many workers stand where a window of the good first run begins, behind which its run goes on
+  pub record IsBeforeRound (design : FlatDesign) (plan : TestPlan) (representatives : List ℕ) (board : Board N) (count : ℕ) (run : RunKept) (rounds : Rounds N) : Type 0 where
     pub workers : AreWorkersAt representatives board rounds.window.before count rounds.workers.items
-    pub ahead : IsWindowAhead design plan rounds.run rounds.window
+    pub ahead : IsWindowAhead design plan run rounds.window
 
   -- so many workers have gone through all slots, and the good machine doesn't loop before a race of its own
   pub record AreThrough (design : FlatDesign) (plan : TestPlan) (representatives : List ℕ) (board : Board N) (count : ℕ) (workers : List (Worker N)) : Type 0 where
@@ -51,11 +47,33 @@ module _ {N : Type 0} where
     pub no_loop : (time : ℕ) → LoopsAt design plan time → ⊥
 
   -- behind a round in which all workers went through the slots up to some
-  abbrev pub GoesOn : FlatDesign → TestPlan → List ℕ → Board N → ℕ → ℕ → Later N → Type 0
-  GoesOn design plan representatives board count through (Round rounds) =
-      IsBeforeRound design plan representatives board count rounds × (rounds.window.before ≡ through)
-  GoesOn design plan representatives board count through (Done workers) = AreThrough design plan representatives board count workers.items
-  GoesOn design plan representatives board count through (Loops time) = LoopsAt design plan time
+  abbrev pub GoesOn : FlatDesign → TestPlan → List ℕ → Board N → ℕ → ℕ → RunKept → Later N → Type 0
+  GoesOn design plan representatives board count through run (Round rounds) =
+      IsBeforeRound design plan representatives board count run rounds × (rounds.window.before ≡ through)
+  GoesOn design plan representatives board count through run (Done workers) = AreThrough design plan representatives board count workers.items
+  GoesOn design plan representatives board count through run (Loops time) = LoopsAt design plan time
+
+  -- the counters of its workers rose by no more than the process steps that their gradings take in the round; where the good machine loops the workers are gone
+  abbrev pub RoundTicks : FlatDesign → TestPlan → List (Worker N) → ℕ → ℕ → Later N → Type 0
+  RoundTicks design plan workers before after (Round rounds) = RisesWithin (crew_steps design plan workers) (crew_steps design plan rounds.workers.items) before after
+  RoundTicks design plan workers before after (Done gone) = RisesWithin (crew_steps design plan workers) (crew_steps design plan gone.items) before after
+  RoundTicks design plan workers before after (Loops time) = Unit {0}
+
+  -- the counter of the good machine rose by no more than its process steps in between
+  abbrev pub GoodTicks : FlatDesign → TestPlan → ℕ → ℕ → ℕ → ℕ → Later N → Type 0
+  GoodTicks design plan ran now before after (Round rounds) = RisesWithin (steps_of_slots design plan ran) (steps_of_slots design plan now) before after
+  GoodTicks design plan ran now before after (Done gone) = RisesWithin (steps_of_slots design plan ran) (good_steps design plan) before after
+  GoodTicks design plan ran now before after (Loops time) = RisesWithin (steps_of_slots design plan ran) (good_steps design plan) before after
+
+  -- the same behind all rounds
+  abbrev pub AllTicks : FlatDesign → TestPlan → List (Worker N) → ℕ → ℕ → Through N → Type 0
+  AllTicks design plan workers before after (ends.All gone) = RisesWithin (crew_steps design plan workers) (crew_steps design plan gone.items) before after
+  AllTicks design plan workers before after (ends.Loops time) = Unit {0}
+
+  -- the first window, behind which so many slots were run
+  abbrev pub FirstTicks : FlatDesign → TestPlan → ℕ → ℕ → ℕ → First N → Type 0
+  FirstTicks design plan ran before after (first.Window window) = after ≤ before + steps_of_slots design plan ran
+  FirstTicks design plan ran before after (first.Loops time) = Unit {0}
 
   -- behind all rounds
   abbrev pub AreDone : FlatDesign → TestPlan → List ℕ → Board N → ℕ → Through N → Type 0

@@ -1,3 +1,4 @@
 pub mod Closes
 pub mod Ordering
 pub mod Speaking
+pub mod Ticks

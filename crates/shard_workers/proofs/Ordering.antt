@@ -1,6 +1,6 @@
 -- Shards in the order of their claims, of which each was drawn once (nothing of the language).
 use Rattle.std.proofs.Common.{◌≡◌, ℕ, zero, suc, ◌+◌, ◌<◌, ◌≤◌, ◌==◌, Bool, true, false, cond, List, [], ◌∷◌, map, length, get_or, slice_get, Option, Some, None, refl, sym, ap, subst, ◌∙◌, ⊎_elim, arith}
-use Rattle.std.specs.Prelude.{nat_lt, if◌then◌else◌}
+use Rattle.std.specs.Prelude.{sum_by, nat_lt, if◌then◌else◌}
 use Rattle.std.specs.List.{All}
 use Rattle.std.specs.Option.{option_map}
 use Rattle.std.specs.List.Sorted.{IsNonDecreasingBy}
@@ -9,14 +9,15 @@ use Rattle.std.proofs.lemmas.List.{length-map, get_or-map}
 use Rattle.std.proofs.lemmas.List.Sums.{sum_by-cons}
 use Rattle.std.proofs.lemmas.List.Sorted.{IsPermutation-map, sum_by-IsPermutation, All-permutation}
 use Rattle.std.proofs.lemmas.Option.{slice_get-map, slice_get_cases}
-use Rattle.copy_shard.specs.Shards.{ShardKept, places_of}
+use Rattle.copy_shard.specs.Shards.{ShardKept, fault_steps_at, places_of}
 use Rattle.fault_shards.specs.Cuts.{shard, shard_count}
 use Rattle.verdict_words.specs.Rule.{times}
 use Rattle.verdict_words.specs.declared.view.View.{View}
 use Rattle.shard_claims.specs.declared.round.ClaimedShard.{ClaimedShard}
 use Rattle.shard_claims.specs.Workers.{IsClaimed, KeepsShards}
-use Rattle.shard_crew.specs.Crews.{IsFoundShard}
-use Rattle.shard_workers.specs.Ordered.{claim_number, claimed_shard, AreOrdered}
+use Rattle.shard_crew.specs.Crews.{IsFoundShard, claimed_most}
+use Rattle.v_design.specs.Designs.{FlatDesign, TestPlan}
+use Rattle.shard_workers.specs.Ordered.{claim_number, claimed_shard, work_steps, AreOrdered}
 use Rattle.shard_workers.specs.Closings.{IsEachOnce, IsShardDone, AreShardsDone}
 use Rattle.shard_workers.proofs.Closes.{times-in}
 
@@ -144,3 +145,18 @@ module _ {N : Type 0} (representatives : List ℕ) (gone count : ℕ) (v : View)
         (λ past. absurd (none-is own (sym (slice_get-map claimed_shard o.sorted number ∙ ap (λ (e : Option (ClaimedShard N)). option_map claimed_shard e) past.1) ∙ (sym (ap (λ l. slice_get l number) o.shards_are) ∙ is))))
         (slice_get_cases o.sorted number).1;
   }
+
+-- The process steps of the shards
+
+steps-map : {N : Type 0} (design : FlatDesign) (plan : TestPlan) (claimed : List (ClaimedShard N)) → work_steps design plan (map claimed_shard claimed) ≡ claimed_most design plan claimed
+steps-map design plan [] = refl
+steps-map design plan (one ∷ claimed) =
+    sum_by-cons (λ (own : ShardKept). sum_by (fault_steps_at design plan) (places_of own.faults)) one.shard (map claimed_shard claimed)
+    ∙ (ap (λ n. sum_by (fault_steps_at design plan) (places_of one.shard.faults) + n) (steps-map design plan claimed)
+    ∙ sym (sum_by-cons (λ (c : ClaimedShard _). sum_by (fault_steps_at design plan) (places_of c.shard.faults)) one claimed))
+
+pub steps-ordered : {N : Type 0} (design : FlatDesign) (plan : TestPlan) (claimed : List (ClaimedShard N)) (shards : List ShardKept) → AreOrdered claimed shards →
+    claimed_most design plan claimed ≡ work_steps design plan shards
+steps-ordered design plan claimed shards ordered =
+    sym (sum_by-IsPermutation (λ (c : ClaimedShard _). sum_by (fault_steps_at design plan) (places_of c.shard.faults)) claimed ordered.sorted ordered.permuted)
+    ∙ (sym (steps-map design plan ordered.sorted) ∙ sym (ap (work_steps design plan) ordered.shards_are))

@@ -1,5 +1,5 @@
 -- What the closed board of a graded plan shows (classes of faults: gates by IEEE 1364-2001, clause 7).
-use Rattle.std.specs.Prelude.{◌≡◌, ℕ, List, Some, length, slice_get, slice_index}
+use Rattle.std.specs.Prelude.{◌≡◌, ℕ, ◌+◌, ◌≤◌, List, Some, length, slice_get, slice_index}
 use Rattle.v_design.specs.Designs.{FlatDesign, TestPlan}
 use Rattle.order_laws.specs.Reports.{AreGrades}
 use Rattle.v_design.specs.Findings.{grades_of, AreInOrder}
@@ -11,7 +11,9 @@ use Rattle.copy_shard.specs.Shards.{ShardKept, places_of, findings_of}
 use Rattle.fault_shards.specs.Cuts.{shard, shard_count}
 use Rattle.fault_shards.specs.Found.{found_faults}
 use Rattle.fault_shards.specs.Representatives.{IsRepresentative, AreRepresentatives}
+use Rattle.v_design.specs.OwnSteps.{good_steps}
 use Rattle.fault_grade.specs.Results.{LoopsAt}
+use Rattle.shard_workers.specs.Ordered.{work_steps}
 use Rattle.shard_workers.specs.declared.grade.Work.{Work}
 use Rattle.shard_workers.specs.declared.grade.Graded.{Graded}
 use Rattle.shard_workers.specs.declared.grade.Graded.TheVariants.{Findings, GoodLoop}
@@ -53,6 +55,11 @@ module _ {N : Type 0} where
     pub goes_on : (time : ℕ) → LoopsAt design plan time → ⊥
     pub closing : IsClosing design plan work.closed
     pub shards_are : AreShardsDone closing.representatives work.shards.items
+
+  -- where all faults were graded, counters rose by no more than the process steps of the good first run, and those that the gradings of the faults of all shards take
+  abbrev pub TicksWithin : FlatDesign → TestPlan → ℕ → ℕ → Graded N → Type 0
+  TicksWithin design plan before after (Findings work) = after ≤ before + (good_steps design plan + work_steps design plan work.shards.items)
+  TicksWithin design plan before after (GoodLoop time) = Unit {0}
 
   -- so all faults were graded; or the good machine loops at a time, before a race of its own
   abbrev pub IsAllGraded : FlatDesign → TestPlan → Graded N → Type 0

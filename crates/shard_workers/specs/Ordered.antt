@@ -1,8 +1,13 @@
 -- Shards in the order of their claims (nothing of the language).
-use Rattle.std.specs.Prelude.{◌≡◌, ℕ, List, map}
+use Rattle.std.specs.Prelude.{◌≡◌, ℕ, List, map, sum_by}
 use Rattle.std.specs.List.Sorted.{IsPermutation, IsNonDecreasingBy}
-use Rattle.copy_shard.specs.Shards.{ShardKept}
+use Rattle.v_design.specs.Designs.{FlatDesign, TestPlan}
+use Rattle.copy_shard.specs.Shards.{ShardKept, fault_steps_at, places_of}
 use Rattle.shard_claims.specs.declared.round.ClaimedShard.{ClaimedShard}
+
+-- all process steps that the gradings of the faults of some shards take
+abbrev pub work_steps : FlatDesign → TestPlan → List ShardKept → ℕ
+work_steps design plan shards = sum_by (λ (own : ShardKept). sum_by (fault_steps_at design plan) (places_of own.faults)) shards
 
 module _ {N : Type 0} where
   abbrev pub claim_number : ClaimedShard N → ℕ

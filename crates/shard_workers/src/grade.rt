@@ -1,13 +1,14 @@
 // Grading by workers over one board.
 
-ghost use Rattle.std.specs.Prelude.{◌≡◌, ◌<◌, ◌≤◌, ◌^◌, ℕ, length, IfOk};
+ghost use Rattle.std.specs.Prelude.{◌≡◌, ◌+◌, ◌<◌, ◌≤◌, ◌^◌, ℕ, length, sum, IfOk};
 ghost use Rattle.v_design.specs.PlainDesigns.{design_of, plan_of};
 ghost use Rattle.v_design.specs.WellFormed.{IsPlanOf, KeepsRules};
 ghost use Rattle.fault_grade.specs.Results.{LoopsAt};
 ghost use Rattle.fault_shards.specs.Shards.{representatives_of};
 ghost use Rattle.shard_claims.specs.Workers.{IsPlaceOf};
-ghost use Rattle.shard_crew.specs.Crews.{HasGathered};
-ghost use Rattle.shard_workers.specs.Closings.{IsWork, IsAllGraded};
+ghost use Rattle.shard_crew.specs.Crews.{claimed_most, HasGathered};
+ghost use Rattle.shard_workers.specs.Closings.{IsWork, IsAllGraded, TicksWithin};
+ghost use Rattle.shard_workers.specs.Ordered.{work_steps};
 
 use crate::order::in_claim_order;
 use copy_shard::Shard;
@@ -50,7 +51,8 @@ fn close_work<N: World>(
     requires place { IsPlaceOf N.design N.plan shards.now board }
     requires gathered { HasGathered N.design N.plan (representatives_of shards.now) board (2 ^ 62) gathered }
     requires goes_on { (time : ℕ) → LoopsAt N.design N.plan time → ⊥ }
-    ensures { IfOk result (IsWork N.design N.plan) }
+    ensures work { IfOk result (IsWork N.design N.plan) }
+    ensures steps { IfOk result (λ work. claimed_most N.design N.plan gathered.shards.items ≡ work_steps N.design N.plan work.shards.items) }
 {
     fault_shards::shards_cover();
     let Gathered {
@@ -68,17 +70,19 @@ fn close_work<N: World>(
     })
 }
 
-/// Grades all listed faults by as many workers as there are counters; `own` is the calling thread's counter.
+/// Grades all listed faults by as many workers as there are counters; `own` has the calling thread's counter alone.
 fn work_all<N: World, R: Threads + Sync, G: Gate + Sync, L: Ledger + Send + Sync>(
     rt: &R,
     alloc: Global,
     setup: &Setup<'_, N>,
     gate: &G,
-    own: &mut Steps<L>,
+    own: &mut [Steps<L>],
     steps: &mut [Steps<L>],
 ) -> Result<Graded<N>, NoMemory>
-    requires { (1 ≤ length steps.old) × (length steps.old ≤ 64) }
-    ensures { IfOk result (IsAllGraded N.design N.plan) }
+    requires counters { (1 ≤ length steps.old) × (length steps.old ≤ 64) }
+    requires one { length own.old ≡ 1 }
+    ensures graded { IfOk result (IsAllGraded N.design N.plan) }
+    ensures ticks { IfOk result (TicksWithin N.design N.plan (sum own.old + sum steps.old) (sum own.new + sum steps.new)) }
 {
     let design = setup.design();
     let plan = setup.plan();
@@ -104,7 +108,8 @@ fn work_all<N: World, R: Threads + Sync, G: Gate + Sync, L: Ledger + Send + Sync
 /// Grades all listed faults of the world's plan by so many workers, each a thread with a counter of its own; the first counter is the calling thread's.
 ///
 /// Which worker grades which fault, and in what order, depends on the schedule; what is answered doesn't. Where no thread can be started the calling
-/// thread does the work.
+/// thread does the work. All counters together rise by no more than the process steps of the good first run and those that the grading of each fault that stands for its
+/// class takes.
 ///
 /// # Errors
 ///
@@ -122,12 +127,13 @@ pub fn grade_all<N: World, R: Threads + Sync, G: Gate + Sync, L: Ledger + Send +
     requires plan { IsPlanOf (design_of design.now) (plan_of plan.now) }
     requires workers { (1 ≤ workers) × (workers ≤ 64) }
     requires counters { workers < length steps.old }
-    ensures { IfOk result (IsAllGraded (design_of design.now) (plan_of plan.now)) }
+    ensures graded { IfOk result (IsAllGraded (design_of design.now) (plan_of plan.now)) }
+    ensures ticks { IfOk result (TicksWithin (design_of design.now) (plan_of plan.now) (sum steps.old) (sum steps.new)) }
 {
     let graph = Graph::new(alloc, design)?;
     let setup = Setup::<N>::new(alloc, design, &graph, plan)?;
     let (own, others) = steps.split_at_mut(1);
     let (counters, _) = others.split_at_mut(workers as usize);
-    let graded = work_all(rt, alloc, &setup, gate, &mut own[0], counters)?;
+    let graded = work_all(rt, alloc, &setup, gate, own, counters)?;
     Ok(graded)
 }

@@ -1,12 +1,14 @@
 -- Shard by shard.
-use Rattle.std.proofs.Common.{◌≡◌, ◌≤◌, ◌++◌, length, take, sym, ap, subst, ◌∙◌}
+use Rattle.std.proofs.Common.{◌≡◌, ◌≤◌, ◌++◌, length, take, sym, ap, subst, ◌∙◌, arith}
 use Rattle.std.proofs.lemmas.List.{take_all}
 use Rattle.std.proofs.lemmas.List.Elements.{All-nil, All-same, All-more}
 use Rattle.copy_laws.specs.Windows.{good_slots}
 use Rattle.copy_shard.specs.Shards.{places_of}
 use Rattle.std.specs.List.{All}
 use Rattle.fault_shards.specs.Found.{IsFinding, found_faults}
-use Rattle.shard_crew.specs.Crews.{places_in, IsFoundShard}
+use Rattle.shard_claims.specs.Workers.{claimed_steps}
+use Rattle.shard_crew.specs.Crews.{claimed_most, places_in, IsFoundShard}
+use Rattle.shard_crew.proofs.Ticks.{claimed-within}
 use Rattle.shard_crew.proofs.Gathering.{places-more}
 use Rattle.shard_crew.proofs.findings.findings_in.Goals as goal
 
@@ -15,6 +17,7 @@ shards-init g c = record {
   faults = ap found_faults c.new-found.ensures.items;
   graded = subst (All (IsFinding g.N.World.design g.N.World.plan)) (sym c.new-found.ensures.items) (All-nil (IsFinding g.N.World.design g.N.World.plan));
   complete = All-nil IsFoundShard;
+  steps = λ rules. omega arith;
 }
 
 pub push_found-requires-after_bounds : goal.push_found-requires-after_bounds
@@ -32,6 +35,9 @@ shards-preserved g c = record {
   complete =
       All-more IsFoundShard c.args.shards.now c.shards.claimed-index c.claimed-item.result c.shards-test.true c.shards.invariant.complete
       (subst IsFoundShard c.claimed-item.is c.in_ok-push_found.ensures.complete);
+  steps = λ rules.
+      claimed-within g.N.World.design g.N.World.plan c.args.shards.now c.shards.claimed-index c.claimed-item.result c.shards-test.true c.claimed-item.is (c.shards.invariant.steps rules)
+      (c.in_ok-push_found.ensures.steps rules);
 }
 
 pub returns-clause-faults : goal.returns-clause-faults
@@ -46,3 +52,9 @@ pub returns-clause-complete : goal.returns-clause-complete
 returns-clause-complete g c =
     let past : length c.args.shards.now ≤ c.shards.claimed-index = c.shards-test.false in
     All-same IsFoundShard c.args.shards.now _ (sym (take_all c.shards.claimed-index c.args.shards.now past)) c.shards.invariant.complete
+
+pub returns-clause-steps : goal.returns-clause-steps
+returns-clause-steps g c = λ rules.
+    let past : length c.args.shards.now ≤ c.shards.claimed-index = c.shards-test.false in
+    subst (λ l. claimed_steps g.N.World.design g.N.World.plan l ≤ claimed_most g.N.World.design g.N.World.plan l) (take_all c.shards.claimed-index c.args.shards.now past)
+    (c.shards.invariant.steps rules)

@@ -1,8 +1,10 @@
 -- The findings of so many shards.
-use Rattle.std.proofs.Common.{◌≡◌, take}
+use Rattle.std.proofs.Common.{◌≡◌, ◌≤◌, take}
+use Rattle.v_design.specs.WellFormed.{KeepsRules}
+use Rattle.shard_claims.specs.Workers.{claimed_steps}
 use Rattle.std.specs.List.{All}
 use Rattle.fault_shards.specs.Found.{IsFinding, found_faults}
-use Rattle.shard_crew.specs.Crews.{places_in, IsFoundShard}
+use Rattle.shard_crew.specs.Crews.{claimed_most, places_in, IsFoundShard}
 use Rattle.shard_crew.proofs.findings.findings_in.Given as goal
 
 abbrev pub invariant-shards : goal.invariant-shards
@@ -10,4 +12,6 @@ invariant-shards g l = record {
   faults : found_faults l.found.items ≡ places_in (take l.claimed-index l.shards);
   graded : All (IsFinding g.N.World.design g.N.World.plan) l.found.items;
   complete : All IsFoundShard (take l.claimed-index l.shards);
+  steps : KeepsRules g.N.World.design →
+      claimed_steps g.N.World.design g.N.World.plan (take l.claimed-index l.shards) ≤ claimed_most g.N.World.design g.N.World.plan (take l.claimed-index l.shards);
 }

@@ -4,6 +4,7 @@ use Rattle.vf_base.specs.declared.finding.Finding.{Finding}
 use Rattle.copy_laws.specs.Windows.{good_slots}
 use Rattle.fault_shards.specs.Shards.{representatives_of}
 use Rattle.shard_crew.proofs.Manning.{workers-last, none-popped}
+use Rattle.shard_crew.proofs.Ticks.{steps-all, steps-more, steps-none}
 use Rattle.shard_crew.proofs.Gathering.{HasJoined, joined-none, joined-more, joined-all}
 use Rattle.shard_crew.proofs.findings.finish.Goals as goal
 
@@ -13,6 +14,7 @@ workers-init g c = record {
   joined =
       joined-none g.N.World.design g.N.World.plan (representatives_of c.args.place.now.shards.now) c.args.place.now.board.now (length c.args.workers.items) c.args.count c.args.seat
       c.new-findings.result.items c.new-shards.result.items c.requires.rest c.requires.at.count_is c.new-findings.ensures.items c.new-shards.ensures.items;
+  steps = steps-none g.N.World.design g.N.World.plan c.new-shards.result.items c.args.workers.items c.new-shards.ensures.items;
 }
 
 pub finish_worker-requires-clause-at : goal.finish_worker-requires-clause-at
@@ -29,13 +31,21 @@ workers-preserved g c =
       joined =
           joined-more g.N.World.design g.N.World.plan (representatives_of c.args.place.now.shards.now) c.args.place.now.board.now (length c.workers.workers.items) (length c.pop.new.self.items)
           c.args.count c.workers.seat c.join-seat.result c.workers.findings.items c.extend_from_slice.new.self.items c.workers.shards.items c.append.new.self.items c.in_ok-more.more
-          c.workers.invariant.joined last.0 c.in_ok-more.ensures c.join-seat.ensures.own c.join-seat.ensures.both
+          c.workers.invariant.joined last.0 c.in_ok-more.ensures.gathered c.join-seat.ensures.own c.join-seat.ensures.both
           (c.in_ok-extend_from_slice.ensures.items ∙ ap (λ (l : List Finding). c.workers.findings.items ++ l) c.as_slice.ensures.value) c.in_ok-append.ensures.items;
+      steps =
+          steps-more g.N.World.design g.N.World.plan c.workers.workers.items c.pop.new.self.items c.args.workers.items c.in-Some.worker c.workers.shards.items
+          c.in_ok-more.more.shards.items c.append.new.self.items c.in-Some.ensures.items c.in_ok-append.ensures.items c.in_ok-more.ensures.steps c.workers.invariant.steps;
     }
 
-pub returns : goal.returns
-returns g c =
+pub returns-clause-gathered : goal.returns-clause-gathered
+returns-clause-gathered g c =
     let none = none-popped _ c.workers.workers c.pop.new.self c.in_default.is c.pop.ensures.cases in
     joined-all g.N.World.design g.N.World.plan (representatives_of c.args.place.now.shards.now) c.args.place.now.board.now c.args.count _ c.requires.some
     (subst (λ n. HasJoined g.N.World.design g.N.World.plan (representatives_of c.args.place.now.shards.now) c.args.place.now.board.now n c.args.count c.workers.seat c.workers.findings.items
     c.workers.shards.items) none.0 c.workers.invariant.joined)
+
+pub returns-clause-steps : goal.returns-clause-steps
+returns-clause-steps g c =
+    let none = none-popped _ c.workers.workers c.pop.new.self c.in_default.is c.pop.ensures.cases in
+    steps-all g.N.World.design g.N.World.plan c.workers.workers.items c.args.workers.items c.workers.shards.items none.0 c.workers.invariant.steps

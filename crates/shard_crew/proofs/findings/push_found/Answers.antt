@@ -20,3 +20,6 @@ returns-clause-graded g c = λ before.
 
 pub returns-clause-complete : goal.returns-clause-complete
 returns-clause-complete g c = c.stands.ensures.complete (sym c.requires)
+
+pub returns-clause-steps : goal.returns-clause-steps
+returns-clause-steps g c = c.stands.ensures.steps

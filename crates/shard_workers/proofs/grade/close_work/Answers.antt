@@ -12,7 +12,7 @@ use Rattle.verdict_words.specs.declared.rule.Sizes.{Sizes}
 use Rattle.verdict_words.specs.declared.view.View.{View}
 use Rattle.shard_workers.specs.Closings.{IsEachOnce}
 use Rattle.shard_workers.proofs.Closes.{found-below, work-is}
-use Rattle.shard_workers.proofs.Ordering.{shards-done}
+use Rattle.shard_workers.proofs.Ordering.{shards-done, steps-ordered}
 use Rattle.shard_workers.proofs.grade.close_work.Goals as goal
 
 pub in_list_order-requires : goal.in_list_order-requires
@@ -22,8 +22,8 @@ in_list_order-requires g c = record {
       (found-below g.N.World.design g.N.World.plan _ c.args.gathered.findings.items c.requires.place.shards_are.counted c.requires.gathered.harvest.graded);
 }
 
-pub returns : goal.returns
-returns g c =
+pub returns-clause-work : goal.returns-clause-work
+returns-clause-work g c =
     let design : FlatDesign = g.N.World.design in
     let plan : TestPlan = g.N.World.plan in
     let v : View = view c.args.gathered.seat in
@@ -38,3 +38,6 @@ returns g c =
     (λ found. c.in_ok-findings.ensures.grades design plan c.requires.rules c.requires.place.shards_are (subst (AreFound design plan) (sym c.deref.ensures.value) found)) c.requires.goes_on
     (shards-done (representatives_of c.args.shards.now) _ c.args.board.sizes.claims v c.args.gathered.shards.items _ c.in_ok-shards.ensures c.requires.gathered.keeps c.requires.gathered.found once
     c.requires.place.claims)
+
+pub returns-clause-steps : goal.returns-clause-steps
+returns-clause-steps g c = steps-ordered g.N.World.design g.N.World.plan c.args.gathered.shards.items _ c.in_ok-shards.ensures
