@@ -108,8 +108,8 @@ fn work_all<N: World, R: Threads + Sync, G: Gate + Sync, L: Ledger + Send + Sync
 /// Grades all listed faults of the world's plan by so many workers, each a thread with a counter of its own; the first counter is the calling thread's.
 ///
 /// Which worker grades which fault, and in what order, depends on the schedule; what is answered doesn't. Where no thread can be started the calling
-/// thread does the work. All counters together rise by no more than the process steps of the good first run and those that the grading of each fault that stands for its
-/// class takes.
+/// thread does the work. Where all faults are graded, all counters together rise by no more than the process steps of the good first run and those that the grading of each
+/// fault that stands for its class takes; where the good machine loops, or memory is wanting, nothing is said of them.
 ///
 /// # Errors
 ///
