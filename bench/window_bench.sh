@@ -14,7 +14,7 @@ mkdir -p "$work/crates/window_bench/src" "$work/tmp"
 cp "$top/crates.txt" "$top/HANDLES" "$work"
 (cd "$top/crates" && tar cf - --exclude=out .) | (cd "$work/crates" && tar xf -)
 cp "$bench/window_bench.txt" "$work/crates/window_bench/src/main.rt"
-echo "window_bench: soak_text plan_read elaborate good_windows machine good_trace causal_monitor net_graph v_elab v_design four_value vf_base" >> "$work/crates.txt"
+echo "window_bench: soak_text plan_read elaborate good_windows run_trace machine good_trace causal_monitor net_graph v_elab v_design four_value vf_base" >> "$work/crates.txt"
 
 # `rt try` removes the module once it has built its own program, so it is copied as soon as that begins.
 (cd "$work/crates/window_bench" && TMPDIR=$work/tmp exec rt try --steps 1 -- machine 1 1 1) > "$work/said" 2>&1 &

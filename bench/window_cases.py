@@ -16,7 +16,7 @@ CHANGING = {'write', 'net'}
 
 
 class Window:
-    """The slots of a window: its events by their numbers, its phases, and the process runs."""
+    """The slots of a window: its events by their numbers, its phases, the process runs, the blocks and the waits that events end."""
 
     def __init__(self, machine, begins):
         self.begins = self.ends = begins
@@ -26,6 +26,8 @@ class Window:
         self.touches = [set() for _ in self.first]       # object -> moments
         self.changes = [[] for _ in self.first]          # object -> (moment, value)
         self.runs = [[0, 0, 0] for _ in self.stages]     # process -> runs, updates written, updates appended
+        self.blocks, self.phase_ends = [], []            # moments
+        self.wakes = []                                  # (moment, process)
 
     def value_at(self, place, moment):
         earlier = [value for at, value in self.changes[place] if at < moment]
@@ -33,6 +35,8 @@ class Window:
 
     def lines(self, design):
         yield 'window %d %d %s: %d moments, %d phases' % (self.begins, self.ends, self.ending, self.moments, self.phases)
+        yield 'blocks %d, moments %d, phase ends %d' % (len(self.blocks), sum(self.blocks), sum(self.phase_ends))
+        yield 'wakes %d, moments %d, processes %d' % (len(self.wakes), sum(moment for moment, _ in self.wakes), sum(process for _, process in self.wakes))
         for place, item in enumerate(design.objects):
             values = ' '.join(self.value_at(place, moment) for moment in (0, self.moments // 2, self.moments))
             yield 'object %d %s %s, %d touches' % (place, item.name.split('[')[0], values, len(self.touches[place]))
@@ -64,13 +68,16 @@ def traced(model):
 
         def begin(self, begins):
             self.window, self.running = Window(self, begins), set()
+            self.at_phase_end = lambda: self.window.phase_ends.append(self.window.moments)
 
         def do(self, event):
             kind, number = event
             step = self.request[number] if kind == 'step' else None
             before = len(self.phase.raw)
-            super().do(event)
             window = self.window
+            if not (self.marked or self.pending or self.running):
+                window.blocks.append(window.moments)
+            super().do(event)
             for access in self.phase.raw[before:]:
                 if access.kind in TOUCHING:
                     window.touches[access.obj].add(window.moments)
@@ -89,6 +96,10 @@ def traced(model):
             counts[2] += step[0] == request.LATER
             if process not in self.ready:
                 self.running.discard(process)
+
+        def wake(self, event, process, entry):
+            self.window.wakes.append((self.window.moments, process))
+            super().wake(event, process, entry)
 
         def first_slot(self):
             outcome = super().first_slot()
@@ -116,7 +127,7 @@ def good_run(model, design, plan):
 
 
 def windows(model, design, end, count):
-    """The windows of so many slots."""
+    """The windows of so many slots; the first slot is a window of its own."""
     machine = traced(model)(design)
     machine.begin(0)
     for number in range(1, count + 1):
@@ -124,7 +135,7 @@ def windows(model, design, end, count):
         later = machine.next_time()
         window = machine.window
         window.ending = ending_of(design, outcome, later is not None and later <= end)
-        if number == count or number - window.begins == MOST_SLOTS or window.steps >= FULL_STEPS:
+        if number in (1, count) or number - window.begins == MOST_SLOTS or window.steps >= FULL_STEPS:
             yield window
             machine.begin(number)
         if number < count:

@@ -2,6 +2,7 @@
 
 ghost use Rattle.std.specs.Prelude.{◌≡◌, ◌≤◌, ◌<◌, ◌^◌, Some, None, IfOk, OnOk, length};
 ghost use Rattle.vf_base.specs.Base.{node_number, process_number};
+ghost use Rattle.vf_base.specs.Counts.{raised};
 ghost use Rattle.v_design.specs.States.{Evaluation};
 ghost use Rattle.v_design.specs.Runs.{work_of};
 ghost use Rattle.v_design.specs.WellFormed.{KeepsRules};
@@ -62,8 +63,8 @@ impl<'d> Runner<'d> {
         Ok(false)
     }
 
-    /// The least ready process takes a step, where no node has work and no lane has an update. It answers the line of its statement. Each process is still to write objects of
-    /// the design alone, and so it is behind the step (`race_laws::writes_stay`).
+    /// The least ready process takes a step, where no node has work and no lane has an update; `steps` ticks once. It answers the line of its statement. Each process is still
+    /// to write objects of the design alone, and so it is behind the step (`race_laws::writes_stay`).
     ///
     /// # Errors
     ///
@@ -82,7 +83,8 @@ impl<'d> Runner<'d> {
         requires room { told.old.steps < 2 ^ 63 }
         requires rules { KeepsRules (machine_of self.old).design }
         requires writes { WritesAreOf (machine_of self.old).design (state_of self.old) }
-        ensures { OnOk result (StepsOn (process_number process) self.old self.new told.old told.new) }
+        ensures goes { OnOk result (StepsOn (process_number process) self.old self.new told.old told.new) }
+        ensures ticks { OnOk result (steps.new ≡ raised steps.old) }
     {
         machine_laws::phases_go_on();
         copy_laws::moves();

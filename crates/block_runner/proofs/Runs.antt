@@ -1,7 +1,7 @@
 -- A run of a process and the runs nested in it, step by step (IEEE 1364-2001, clause 5).
 use Rattle.std.proofs.Common.{◌≡◌, ◌≢◌, ◌⊎◌, inl, inr, ℕ, zero, suc, ◌+◌, ◌-◌, ◌<◌, ◌≤◌, List, [], ◌∷◌, ◌++◌, length, map, take, Bool, true}
 use Rattle.std.proofs.Common.{false, ◌||◌, cond, refl, sym, ap, subst, ◌∙◌, arith, nat_eq, append-nil}
-use Rattle.std.specs.Prelude.{Option, Some, None, nat_lt}
+use Rattle.std.specs.Prelude.{Option, Some, None, nat_lt, sum_by}
 use Rattle.std.specs.Option.{IsSome}
 use Rattle.std.proofs.lemmas.Bool.{ltb-true, ltb-false, eqb-true, eqb-false, eq-eqb}
 use Rattle.vf_base.specs.Base.{process_number}
@@ -11,7 +11,7 @@ use Rattle.v_design.specs.States.{State, ProcessState, Event, Step, LaneStep, Ev
 use Rattle.v_design.specs.Runs.{happened}
 use Rattle.v_design.specs.WellFormed.{KeepsRules}
 use Rattle.race_laws.specs.Writes.{WritesAreOf, WritesStay}
-use Rattle.machine_laws.specs.SlotLoop.{NoNodeWorks, first_lane, first_ready}
+use Rattle.machine_laws.specs.SlotLoop.{NoNodeWorks, first_lane, first_ready, steps_of}
 use Rattle.machine_laws.proofs.Places.{placed}
 use Rattle.copy_laws.specs.Beside.{AreFirst}
 use Rattle.block_causes.specs.Caused.{IsFollowing}
@@ -82,7 +82,7 @@ begin-going machine begins runner first told whole one same lanes none untold = 
 
 -- No lane fills
 
-lanes-stay : (machine : Machine) (state : State) (event : Event) → ((process : ℕ) → LaneStep process ≡ event → ⊥) → first_lane state ≡ None → first_lane (after machine state event) ≡ None
+pub lanes-stay : (machine : Machine) (state : State) (event : Event) → ((process : ℕ) → LaneStep process ≡ event → ⊥) → first_lane state ≡ None → first_lane (after machine state event) ≡ None
 lanes-stay machine state event fails none =
     first-none (λ (p : ProcessState). is_any p.lane) idle_process (after machine state event).processes
     (λ process. ap (λ l. is_any l) (lane_after_other machine state event process (fails process))
@@ -414,6 +414,21 @@ module _ (machine : Machine) (begins : State) (now : Runner) (told : BlockTold) 
       first-there (λ (p : ProcessState). is_ready p.activity) idle_process (happened machine begins so_far.events).processes so_far.next.process refl so_far.next.ready
       (ap first_ready (sym so_far.going.state_is) ∙ none)
 
+  -- so many steps were more than it may take
+  pub runs-over : (most : ℕ) → most + 1 ≤ taken → GoesOn machine begins most GivenUp now told
+  runs-over most past =
+      let count : told.steps ≡ sum_by steps_of so_far.events = so_far.going.tells.count in
+      let all : told.steps ≡ taken = so_far.counted in
+      record {
+        events = so_far.events;
+        in_order = so_far.going.in_order;
+        whole = so_far.going.whole;
+        machine_is = so_far.going.machine_is;
+        state_is = so_far.going.state_is;
+        tells = so_far.going.tells;
+        ends = inl (omega (arith, past, count, all));
+      }
+
   -- each process is still to write objects of the design alone, which keeps its rules
   pub runs-rules : KeepsRules machine.design → KeepsRules (machine_of now).design
   runs-rules rules = subst (λ (m : Machine). KeepsRules m.design) (sym so_far.going.machine_is) rules
@@ -459,6 +474,10 @@ module _ (machine : Machine) (begins : State) (now : Runner) (told : BlockTold) 
         ends = ends;
       }
 
+      -- it took one step more
+      pub one-more : told_settled.steps ≡ taken + 1
+      one-more = settles.works.steps ∙ steps.count ∙ ap (λ n. n + 1) so_far.counted
+
       -- it is given up
       pub runs-given_up : (most : ℕ) → quiet ≡ false → GoesOn machine begins most GivenUp settled told_settled
       runs-given_up most fails = goes most GivenUp (inr (omega (arith, settles.many fails, length-append (so_far.events ++ Step process ∷ []) settles.events)))
@@ -476,7 +495,7 @@ module _ (machine : Machine) (begins : State) (now : Runner) (told : BlockTold) 
         events = all_events;
         going = settled-going;
         next = going-on machine begins so_far.first all_events settled told_settled settled-going (settles.rests holds) running;
-        counted = settles.works.steps ∙ steps.count ∙ ap (λ n. n + 1) so_far.counted;
+        counted = one-more;
       }
 
 -- A lane's block
@@ -514,6 +533,10 @@ module _ (old stepped settled : Runner) (process : ℕ) (told_stepped told_settl
       tells = told;
       ends = ends;
     }
+
+    -- its step is the only one
+    pub lane-one : told_settled.steps ≡ 1
+    lane-one = settles.works.steps ∙ steps.tells.count
 
     pub lane-given_up : (most : ℕ) → quiet ≡ false → GoesOn machine begins most GivenUp settled told_settled
     lane-given_up most fails = goes_so most GivenUp (inr (omega (arith, settles.many fails)))

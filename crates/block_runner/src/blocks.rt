@@ -1,10 +1,11 @@
 // Blocks.
 
-ghost use Rattle.std.specs.Prelude.{◌≡◌, ◌≤◌, ◌^◌, ℕ, Some, None, IfOk, IsSome};
+ghost use Rattle.std.specs.Prelude.{◌≡◌, ◌≤◌, ◌+◌, ◌^◌, ℕ, Some, None, IfOk, IsSome};
 ghost use Rattle.vf_base.specs.Base.{process_number};
 ghost use Rattle.v_design.specs.WellFormed.{KeepsRules};
 ghost use Rattle.race_laws.specs.Writes.{WritesAreOf};
 ghost use Rattle.machine_laws.specs.SlotLoop.{NoNodeWorks, first_lane, first_ready};
+ghost use Rattle.machine_events.specs.Steps.{event_steps, raised_by};
 ghost use Rattle.block_events.specs.Runners.{IsWhole, machine_of, state_of};
 ghost use Rattle.block_told.specs.Tells.{IsUntold};
 ghost use Rattle.block_runner.specs.Ends.{GoesOn};
@@ -34,7 +35,8 @@ fn lane_block(
     requires told { IsUntold told.old }
     requires rules { KeepsRules (machine_of runner.old).design }
     requires writes { WritesAreOf (machine_of runner.old).design (state_of runner.old) }
-    ensures { IfOk result (λ end. (most : ℕ) → GoesOn (machine_of runner.old) (state_of runner.old) most end runner.new told.new) }
+    ensures goes { IfOk result (λ end. (most : ℕ) → GoesOn (machine_of runner.old) (state_of runner.old) most end runner.new told.new) }
+    ensures one { IfOk result (λ end. told.new.steps ≡ 1) }
 {
     let line = runner.take_lane(process, told)?;
     if runner.settle(told, process, line)? {
@@ -58,7 +60,9 @@ fn run_of<L: Ledger>(
     requires told { IsUntold told.old }
     requires rules { KeepsRules (machine_of runner.old).design }
     requires writes { WritesAreOf (machine_of runner.old).design (state_of runner.old) }
-    ensures { IfOk result (λ end. GoesOn (machine_of runner.old) (state_of runner.old) most end runner.new told.new) }
+    ensures goes { IfOk result (λ end. GoesOn (machine_of runner.old) (state_of runner.old) most end runner.new told.new) }
+    ensures few { IfOk result (λ end. told.new.steps ≤ most + 1) }
+    ensures ticks { IfOk result (λ end. steps.new ≡ raised_by told.new.steps steps.old) }
 {
     copy_laws::own_runs();
     race_laws::writes_stay();
@@ -79,8 +83,8 @@ fn run_of<L: Ledger>(
 }
 
 /// Runs the next block, from a moment between runs; `told` tells it, whatever it told before. Where no process event is possible nothing happens. A block that takes more
-/// than so many process and lane steps, or 2^64 - 1 events, is given up. Each process is still to write objects of the design alone; what comes of that stays so with the events
-/// of the block (`race_laws::writes_stay`).
+/// than so many process and lane steps, or 2^64 - 1 events, is given up; one that a lane begins has one step. `steps` ticks once for each process step. Each process is still to write objects of the design alone;
+/// what comes of that stays so with the events of the block (`race_laws::writes_stay`).
 ///
 /// # Errors
 ///
@@ -96,14 +100,19 @@ pub fn run_block<L: Ledger>(
     requires time { (state_of runner.old).time ≤ 2 ^ 63 }
     requires rules { KeepsRules (machine_of runner.old).design }
     requires writes { WritesAreOf (machine_of runner.old).design (state_of runner.old) }
-    ensures { IfOk result (λ end. GoesOn (machine_of runner.old) (state_of runner.old) most end runner.new told.new) }
+    ensures goes { IfOk result (λ end. GoesOn (machine_of runner.old) (state_of runner.old) most end runner.new told.new) }
+    ensures few { IfOk result (λ end. told.new.steps ≤ most + 1) }
+    ensures one { IfOk result (λ end. IsSome (first_lane (state_of runner.old)) → told.new.steps ≡ 1) }
+    ensures ticks { IfOk result (λ end. (of : GoesOn (machine_of runner.old) (state_of runner.old) most end runner.new told.new) → steps.new ≡ raised_by (event_steps of.events) steps.old) }
 {
     told.clear();
     if let Some(process) = runner.first_lane() {
-        return lane_block(runner, process, told);
+        let lane = lane_block(runner, process, told)?;
+        return Ok(lane);
     }
     if runner.first_ready().is_none() {
         return Ok(BlockEnd::Idle);
     }
-    run_of(runner, told, most, steps)
+    let end = run_of(runner, told, most, steps)?;
+    Ok(end)
 }

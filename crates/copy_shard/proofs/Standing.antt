@@ -1,17 +1,16 @@
 -- What stands of a shard's faults, and of their findings (slots by IEEE 1364-2001, clause 5).
-use Rattle.std.proofs.Common.{◌≡◌, ℕ, true, false, List, [], ◌∷◌, length, map, refl, ap, ◌∙◌}
+use Rattle.std.proofs.Common.{◌≡◌, ℕ, true, false, List, [], ◌∷◌, length, map, refl, ap}
 use Rattle.std.specs.Prelude.{Option, Some, None, is_some, option_map}
 use Rattle.std.specs.List.{All, cons_option}
 use Rattle.std.proofs.lemmas.List.Elements.{All-cons, All-nil}
-use Rattle.vf_base.specs.Base.{fault_number}
 use Rattle.vf_base.specs.Lists.{AllHold}
 use Rattle.vf_base.specs.declared.finding.End.{End}
 use Rattle.vf_base.specs.declared.finding.Finding.{Finding}
 use Rattle.v_design.specs.Designs.{FlatDesign, TestPlan}
 use Rattle.v_design.specs.Plain.{grade_of}
 use Rattle.copy_laws.specs.Windows.{good_slots}
-use Rattle.copy_window.specs.ShardFaults.{IsShardFault}
-use Rattle.copy_window.specs.declared.fault.ShardFault.{ShardFault}
+use Rattle.shard_slots.specs.copy_window.ShardFaults.{IsShardFault}
+use Rattle.shard_slots.specs.copy_window.declared.fault.ShardFault.{ShardFault}
 use Rattle.fault_shards.specs.Found.{IsFinding, found_faults}
 use Rattle.copy_shard.specs.Kept.{fault_kept}
 use Rattle.copy_shard.specs.Shards.{FaultKept, FaultStands, findings_of, places_of}

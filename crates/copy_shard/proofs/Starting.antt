@@ -1,6 +1,6 @@
 -- A shard before the first slot (slots by IEEE 1364-2001, clause 5).
 use Rattle.std.proofs.Common.{◌≡◌, ℕ, ◌+◌, ◌<◌, List, [], ◌∷◌, ◌++◌, length, map, take, get_or, refl, sym, ap, subst, ◌∙◌, arith, inl, inr}
-use Rattle.std.specs.Prelude.{Option, Some, None, option_map, slice_get}
+use Rattle.std.specs.Prelude.{Option, option_map, slice_get}
 use Rattle.std.specs.List.{All, AllZip}
 use Rattle.std.proofs.lemmas.List.{take_more}
 use Rattle.std.proofs.lemmas.List.Elements.{All-head, All-tail}
@@ -19,9 +19,9 @@ use Rattle.copy_laws.specs.Windows.{IsBesideAt}
 use Rattle.copy_state.specs.Kept.{CopyKept}
 use Rattle.copy_between.specs.Beside.{KeepsWithin}
 use Rattle.beside_laws.specs.Shards.{FaultsGoOn}
-use Rattle.copy_window.specs.Copies.{differences_in}
-use Rattle.copy_window.specs.ShardFaults.{IsShardFault}
-use Rattle.copy_window.specs.declared.fault.ShardFault.{ShardFault}
+use Rattle.shard_slots.specs.copy_window.Copies.{differences_in}
+use Rattle.shard_slots.specs.copy_window.ShardFaults.{IsShardFault}
+use Rattle.shard_slots.specs.copy_window.declared.fault.ShardFault.{ShardFault}
 use Rattle.copy_shard.specs.Kept.{HasReached, IsFresh, IsShard, fault_kept}
 use Rattle.copy_shard.specs.declared.reached.Reached.{Reached}
 use Rattle.copy_shard.specs.Shards.{FaultKept, ShardKept, fresh_fault, fresh_shard, places_of}

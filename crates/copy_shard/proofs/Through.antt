@@ -1,60 +1,34 @@
 -- The faults of a shard through a window (slots by IEEE 1364-2001, clause 5).
-use Rattle.std.proofs.Common.{◌≡◌, ℕ, zero, suc, ◌<◌, ◌≤◌, Bool, true, false, List, [], ◌∷◌, length, map, refl, sym, ap, subst, ◌∙◌, arith}
-use Rattle.std.specs.Prelude.{Option, Some, None, is_some, not, ◌||◌, option_map, slice_get}
+use Rattle.std.proofs.Common.{◌≡◌, ℕ, ◌≤◌, Bool, true, false, List, [], ◌∷◌, length, map, refl, sym, ap, subst, ◌∙◌, arith}
+use Rattle.std.specs.Prelude.{Option, Some, None, is_some, not, ◌||◌, slice_get}
 use Rattle.std.specs.List.{AllZip, list_any}
-use Rattle.std.proofs.lemmas.Option.{slice_get_within}
-use Rattle.vf_base.specs.Base.{fault_number}
 use Rattle.vf_base.specs.Lists.{AllHold}
 use Rattle.vf_base.specs.declared.limits.TheConstants.{MAX_STROBES}
-use Rattle.vf_base.specs.declared.finding.End.{End}
 use Rattle.vf_base.specs.declared.ids.FaultId.{FaultId}
 use Rattle.v_design.specs.Designs.{FlatDesign, StuckAt, TestPlan}
-use Rattle.v_design.specs.Plain.{grade_of}
 use Rattle.v_design.specs.PlainDesigns.{plan_of}
 use Rattle.v_design.specs.RulesHold.{plan_rules_hold}
 use Rattle.v_design.specs.WellFormed.{KeepsRules}
 use Rattle.v_design.specs.declared.plan.Plan.{Plan}
 use Rattle.beside_laws.specs.Shards.{FaultsGoOn}
 use Rattle.copy_laws.specs.Windows.{IsOpen, IsRaced, IsThrough, WindowEnd, good_slots}
-use Rattle.copy_window.specs.Passing.{CanBegin, CanResume}
-use Rattle.copy_window.specs.ShardFaults.{IsShardFault, beside_by}
-use Rattle.copy_window.specs.declared.fault.ShardFault.{ShardFault}
+use Rattle.shard_slots.specs.copy_window.Passing.{CanBegin}
+use Rattle.shard_slots.specs.copy_window.ShardFaults.{IsShardFault}
+use Rattle.shard_slots.specs.copy_window.declared.fault.ShardFault.{ShardFault}
 use Rattle.window_strobes.specs.Leading.{EndsSo}
 use Rattle.window_strobes.specs.Strobes.{AreStrobesOf}
 use Rattle.window_strobes.specs.declared.strobes.WindowStrobes.{WindowStrobes}
-use Rattle.copy_shard.specs.Kept.{ComesThrough, HasReached, HasReachedIfOpen, IsShard, IsTimeOf, fault_kept, is_open}
+use Rattle.shard_slots.specs.window_faults.Within.{ComesThrough}
+use Rattle.shard_slots.proofs.window_faults.Within.{ended-later}
+use Rattle.copy_shard.specs.Kept.{HasReachedIfOpen, IsShard, IsTimeOf, fault_kept, is_open}
 use Rattle.copy_shard.specs.Shards.{FaultKept, StaysEnded, places_of}
 use Rattle.copy_shard.specs.declared.reached.Reached.{Reached}
 use Rattle.copy_shard.proofs.Lists.{zip-holds, zip-map}
 
--- an end that is there
-some-end : (end : Option End) → is_some end ≡ true → (found : End) × (end ≡ Some found)
-some-end None some = cc
-some-end (Some found) some = (found, refl)
-
--- one that isn't
-pub none-end : (end : Option End) → is_some end ≡ false → end ≡ None
-none-end None none = refl
-none-end (Some found) none = cc
-
 -- a fault whose grading ended
 module _ (law : FaultsGoOn) (design : FlatDesign) (plan : TestPlan) (rules : KeepsRules design) (before through passed behind : ℕ) (low : before ≤ through) where
   pub ended-comes : (own : ShardFault) → is_some own.end ≡ true → IsShardFault design plan before passed own → ComesThrough design plan through behind own own
-  ended-comes own some stands =
-      let found = some-end own.end some in
-      record {
-        stands = record {
-          fault = stands.fault;
-          listed = stands.listed;
-          beside =
-              law.stays design plan before through (beside_by design stands.fault own) (grade_of found.0) rules low stands.beside
-              (ap (λ (end : Option End). option_map grade_of end) found.1);
-          within = stands.within;
-          goes_on = λ time e more none. (let no : is_some own.end ≡ false = ap (λ (end : Option End). is_some end) none in cc);
-        };
-        place = refl;
-        ended = λ ended. refl;
-      }
+  ended-comes own some stands = record { stands = ended-later law design plan rules before through passed behind own low some stands; place = refl; ended = λ ended. refl }
 
   none-open : (first rest : Bool) → (not first || rest) ≡ false → (first ≡ true) × (rest ≡ false)
   none-open true rest none = (refl, none)
@@ -68,17 +42,11 @@ module _ (law : FaultsGoOn) (design : FlatDesign) (plan : TestPlan) (rules : Kee
       let each = none-open (is_some own.end) (list_any is_open faults) none in
       (ended-comes own each.0 all.0, all-ended faults each.1 all.1)
 
--- one whose grading goes on may be graded through the window
-module _ (design : FlatDesign) (plan : TestPlan) (before through : ℕ) (strobes : WindowStrobes) (fault : StuckAt) (own : ShardFault) (stands : IsShardFault design plan before strobes.passed own)
-    (listed : slice_get plan.faults own.copy.fault ≡ Some fault) (none : own.end ≡ None) (are : AreStrobesOf design plan before through strobes) where
-  pub can-begin : before ≡ 0 → CanBegin design plan before through strobes fault own
-  can-begin at_start = record { at_start = at_start; listed = listed; none = none; within = stands.within; are = are }
-
-  pub can-resume : 0 < before → CanResume design plan before through strobes fault own
-  can-resume some = record { some = some; stands = stands; listed = listed; none = none; are = are }
-
-pub is-listed : (design : FlatDesign) (plan : TestPlan) (gone passed : ℕ) (own : ShardFault) → IsShardFault design plan gone passed own → own.copy.fault < length plan.faults
-is-listed design plan gone passed own stands = slice_get_within plan.faults own.copy.fault stands.fault stands.listed
+-- one of which nothing was found may be graded through the first window
+pub can-begin : (design : FlatDesign) (plan : TestPlan) (before through : ℕ) (strobes : WindowStrobes) (fault : StuckAt) (own : ShardFault) → IsShardFault design plan before strobes.passed own →
+    slice_get plan.faults own.copy.fault ≡ Some fault → own.end ≡ None → AreStrobesOf design plan before through strobes → before ≡ 0 → CanBegin design plan before through strobes fault own
+can-begin design plan before through strobes fault own stands listed none are at_start =
+    record { at_start = at_start; listed = listed; none = none; within = stands.within; are = are }
 
 -- The shard
 

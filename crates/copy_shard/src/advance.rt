@@ -1,178 +1,112 @@
 // The faults of a shard through a window.
 
-ghost use Rattle.std.specs.Prelude.{◌≡◌, ◌+◌, ◌<◌, ◌≤◌, length, None, Some, IfOk, OnOk, slice_get};
+ghost use Rattle.std.specs.Prelude.{◌≡◌, IfOk, OnOk};
 ghost use Rattle.std.specs.List.{AllZip, list_any};
 ghost use Rattle.vf_base.specs.Lists.{AllHold};
-ghost use Rattle.v_design.specs.Plain.{fault_of};
-ghost use Rattle.copy_room.specs.Rooms.{IsRoom};
+ghost use Rattle.graded_steps.specs.Behind.{RisesTwice, RisesWithin};
+ghost use Rattle.window_strobes.specs.Passed.{HasPassed};
 ghost use Rattle.window_strobes.specs.Strobes.{AreStrobesOf, passed_behind};
-ghost use Rattle.copy_window.specs.Passing.{CanResume};
-ghost use Rattle.copy_window.specs.ShardFaults.{IsShardFault, steps_taken};
-ghost use Rattle.graded_steps.specs.Behind.{RisesWithin};
-ghost use Rattle.copy_shard.specs.Kept.{ComesThrough, HasReachedIfOpen, IsTimeOf, StandsAfter, fault_kept, is_open, taken_steps};
-ghost use Rattle.copy_shard.specs.Shards.{kept_steps};
+ghost use Rattle.shard_slots.specs.copy_window.ShardFaults.{IsShardFault};
+ghost use Rattle.shard_slots.specs.window_faults.Steps.{steps_of_fault, steps_of_faults};
+ghost use Rattle.shard_slots.specs.window_faults.Within.{ComesThrough};
+ghost use Rattle.copy_shard.specs.Kept.{HasReachedIfOpen, IsTimeOf, is_open};
 
 use crate::reached::{Reached, reached_behind};
 use crate::room::ShardRoom;
 use causal_monitor::SlotLog;
-use copy_pass::pass_over;
-use copy_state::FaultCopy;
-use copy_window::{ShardFault, begin_fault, resume_fault};
 use good_trace::{Setup, TraceWindow};
-use machine::Machine;
+use run_trace::RunWindow;
+use shard_slots::{ShardFault, begin_fault, go_through_window, listed_fault};
 use std::alloc::Global;
 use std::sync::ledger::Ledger;
-use v_design::{Fault, World};
+use v_design::World;
 use vf_base::{NoMemory, Steps};
-use window_strobes::{WindowStrobes, strobes_after, strobes_of};
+use window_strobes::{WindowStrobes, strobes_of};
 
-/// The fault of a copy.
-fn listed_fault<N: World>(setup: &Setup<'_, N>, copy: &FaultCopy) -> Fault
-    requires { copy.now.fault < length N.plan.faults }
-    ensures { slice_get N.plan.faults copy.now.fault ≡ Some (fault_of result) }
-{
-    let plan = setup.plan();
-    let faults = plan.faults.as_slice();
-    let place = copy.fault().0 as usize;
-    faults[place]
-}
-
-/// Grades a fault through the slots of a window that come behind so many, over which it passed.
-fn resume_behind<N: World, L: Ledger>(
-    alloc: Global,
-    setup: &Setup<'_, N>,
-    window: &TraceWindow<N>,
-    passed: u32,
-    strobes: &WindowStrobes,
-    fault: Fault,
-    machine: &mut Machine<'_>,
-    log: &mut SlotLog,
-    own: &mut ShardFault,
-    steps: &mut Steps<L>,
-) -> Result<(), NoMemory>
-    requires more { window.now.before + passed < window.now.through }
-    requires room { IsRoom N.design machine.old }
-    requires strobes { AreStrobesOf N.design N.plan window.now.before window.now.through strobes.now }
-    requires none { passed ≡ 0 → CanResume N.design N.plan window.now.before window.now.through strobes.now (fault_of fault) own.old }
-    requires fault { 0 < passed → StandsAfter N.design N.plan (window.now.before + passed) strobes.now.passed (fault_of fault) own.old }
-    ensures fault { OnOk result (IsShardFault N.design N.plan window.now.through (passed_behind strobes.now) own.new) }
-    ensures place { OnOk result (own.new.copy.fault ≡ own.old.copy.fault) }
-    ensures room { OnOk result (IsRoom N.design machine.new) }
-    ensures ticks { OnOk result (RisesWithin (steps_taken N.design N.plan (window.now.before + passed) (fault_of fault) None)
-        (steps_taken N.design N.plan window.now.through (fault_of fault) own.new.end) steps.old steps.new) }
-{
-    let end = window.slots();
-    if passed == 0 {
-        resume_fault(
-            alloc, setup, window, 0, end, strobes, fault, machine, log, own, steps,
-        )?;
-        return Ok(());
-    }
-    let rest = strobes_after(alloc, setup, window, strobes, passed)?;
-    resume_fault(
-        alloc, setup, window, passed, end, &rest, fault, machine, log, own, steps,
-    )?;
-    Ok(())
-}
-
-/// Grades a fault of which nothing was found through a window, which may be the first one; `now` is the time, in steps, of the last slot before it. The faulty machine
-/// is run from the first slot on that touches something of the fault's copy.
-fn go_through<N: World, L: Ledger>(
+/// Takes a fault through the first window, by its machine from the start on.
+fn begin_one<N: World, L: Ledger>(
     alloc: Global,
     setup: &Setup<'_, N>,
     window: &TraceWindow<N>,
     strobes: &WindowStrobes,
-    now: u64,
-    machine: &mut Machine<'_>,
     log: &mut SlotLog,
     own: &mut ShardFault,
     steps: &mut Steps<L>,
 ) -> Result<(), NoMemory>
-    requires room { IsRoom N.design machine.old }
+    requires first { window.now.before ≡ 0 }
     requires strobes { AreStrobesOf N.design N.plan window.now.before window.now.through strobes.now }
-    requires now { IsTimeOf N.design N.plan window.now.before now }
-    requires fault { IsShardFault N.design N.plan window.now.before strobes.now.passed own.old }
-    requires none { own.old.end ≡ None }
-    ensures fault { OnOk result (IsShardFault N.design N.plan window.now.through (passed_behind strobes.now) own.new) }
-    ensures place { OnOk result (own.new.copy.fault ≡ own.old.copy.fault) }
-    ensures room { OnOk result (IsRoom N.design machine.new) }
-    ensures ticks { OnOk result (RisesWithin (kept_steps N.design N.plan window.now.before (fault_kept own.old)) (kept_steps N.design N.plan window.now.through (fault_kept own.new))
-        steps.old steps.new) }
-{
-    graded_steps::gradings_take_steps();
-    let design = setup.design();
-    let fault = listed_fault(setup, &own.copy);
-    if window.begins() == 0 {
-        let end = window.slots();
-        begin_fault(alloc, setup, window, end, strobes, fault, log, own, steps)?;
-        return Ok(());
-    }
-    let passed = pass_over(setup, window, strobes, fault, now, own);
-    if passed == window.slots() {
-        return Ok(());
-    }
-    resume_behind(
-        alloc, setup, window, passed, strobes, fault, machine, log, own, steps,
-    )?;
-    Ok(())
-}
-
-/// Takes a fault through a window.
-fn advance_fault<N: World, L: Ledger>(
-    alloc: Global,
-    setup: &Setup<'_, N>,
-    window: &TraceWindow<N>,
-    strobes: &WindowStrobes,
-    now: u64,
-    machine: &mut Machine<'_>,
-    log: &mut SlotLog,
-    own: &mut ShardFault,
-    steps: &mut Steps<L>,
-) -> Result<(), NoMemory>
-    requires room { IsRoom N.design machine.old }
-    requires strobes { AreStrobesOf N.design N.plan window.now.before window.now.through strobes.now }
-    requires now { IsTimeOf N.design N.plan window.now.before now }
     requires fault { IsShardFault N.design N.plan window.now.before strobes.now.passed own.old }
     ensures fault { OnOk result (ComesThrough N.design N.plan window.now.through (passed_behind strobes.now) own.old own.new) }
-    ensures room { OnOk result (IsRoom N.design machine.new) }
-    ensures ticks { OnOk result (RisesWithin (kept_steps N.design N.plan window.now.before (fault_kept own.old)) (kept_steps N.design N.plan window.now.through (fault_kept own.new))
-        steps.old steps.new) }
+    ensures ticks { OnOk result (RisesTwice (steps_of_fault N.design N.plan window.now.before own.old) (steps_of_fault N.design N.plan window.now.through own.new) steps.old steps.new) }
 {
     beside_laws::faults_go_on();
+    graded_steps::gradings_take_steps();
     let design = setup.design();
     let _first = window.begins();
     if own.end.is_some() {
         return Ok(());
     }
-    go_through(alloc, setup, window, strobes, now, machine, log, own, steps)?;
+    let fault = listed_fault(setup, &own.copy);
+    let end = window.slots();
+    begin_fault(alloc, setup, window, end, strobes, fault, log, own, steps)?;
     Ok(())
 }
 
-/// Takes all faults of a shard through a window.
-fn advance_each<N: World, L: Ledger>(
+/// Takes all faults of a shard through the first window.
+fn begin_each<N: World, L: Ledger>(
     alloc: Global,
     setup: &Setup<'_, N>,
     window: &TraceWindow<N>,
     strobes: &WindowStrobes,
-    now: u64,
-    machine: &mut Machine<'_>,
     log: &mut SlotLog,
     faults: &mut Vec<ShardFault>,
     steps: &mut Steps<L>,
 ) -> Result<(), NoMemory>
-    requires room { IsRoom N.design machine.old }
+    requires first { window.now.before ≡ 0 }
     requires strobes { AreStrobesOf N.design N.plan window.now.before window.now.through strobes.now }
-    requires now { IsTimeOf N.design N.plan window.now.before now }
     requires faults { AllHold (IsShardFault N.design N.plan window.now.before strobes.now.passed) faults.old.items }
     ensures faults { OnOk result (AllZip (ComesThrough N.design N.plan window.now.through (passed_behind strobes.now)) faults.old.items faults.new.items) }
-    ensures room { OnOk result (IsRoom N.design machine.new) }
-    ensures ticks { OnOk result (RisesWithin (taken_steps N.design N.plan window.now.before faults.old.items) (taken_steps N.design N.plan window.now.through faults.new.items)
+    ensures ticks { OnOk result (RisesTwice (steps_of_faults N.design N.plan window.now.before faults.old.items) (steps_of_faults N.design N.plan window.now.through faults.new.items)
         steps.old steps.new) }
 {
     'faults: for place in 0..faults.len() {
         let own = &mut faults[place];
-        advance_fault(alloc, setup, window, strobes, now, machine, log, own, steps)?;
+        begin_one(alloc, setup, window, strobes, log, own, steps)?;
     }
+    Ok(())
+}
+
+/// Takes all faults of a shard through a window; `now` is the time, in steps, of the last slot before it.
+fn advance_each<'d, N: World, L: Ledger>(
+    alloc: Global,
+    setup: &Setup<'d, N>,
+    window: &RunWindow<N>,
+    strobes: &WindowStrobes,
+    now: u64,
+    room: &mut ShardRoom<'d, N>,
+    faults: &mut Vec<ShardFault>,
+    steps: &mut Steps<L>,
+) -> Result<(), NoMemory>
+    requires strobes { AreStrobesOf N.design N.plan window.now.before window.now.through strobes.now }
+    requires behind { HasPassed N.design N.plan window.now.through (passed_behind strobes.now) }
+    requires now { IsTimeOf N.design N.plan window.now.before now }
+    requires faults { AllHold (IsShardFault N.design N.plan window.now.before strobes.now.passed) faults.old.items }
+    ensures faults { OnOk result (AllZip (ComesThrough N.design N.plan window.now.through (passed_behind strobes.now)) faults.old.items faults.new.items) }
+    ensures ticks { OnOk result (RisesTwice (steps_of_faults N.design N.plan window.now.before faults.old.items) (steps_of_faults N.design N.plan window.now.through faults.new.items)
+        steps.old steps.new) }
+{
+    let trace = window.window();
+    if trace.begins() == 0 {
+        let log = &mut room.log;
+        begin_each(alloc, setup, trace, strobes, log, faults, steps)?;
+        return Ok(());
+    }
+    let slots = room.take_slots(alloc, setup)?;
+    let log = &mut room.log;
+    let slots = go_through_window(
+        alloc, setup, window, strobes, now, slots, log, faults, steps,
+    )?;
+    room.put_slots(slots);
     Ok(())
 }
 
@@ -187,7 +121,7 @@ fn some_open(faults: &[ShardFault]) -> bool
 pub(crate) fn advance_all<'d, N: World, L: Ledger>(
     alloc: Global,
     setup: &Setup<'d, N>,
-    window: &TraceWindow<N>,
+    window: &RunWindow<N>,
     reached: Reached,
     room: &mut ShardRoom<'d, N>,
     faults: &mut Vec<ShardFault>,
@@ -197,29 +131,26 @@ pub(crate) fn advance_all<'d, N: World, L: Ledger>(
     requires faults { AllHold (IsShardFault N.design N.plan window.now.before reached.passed) faults.old.items }
     ensures reached { IfOk result (λ behind. HasReachedIfOpen N.design N.plan window.now.through behind faults.new.items) }
     ensures faults { IfOk result (λ behind. AllZip (ComesThrough N.design N.plan window.now.through behind.passed) faults.old.items faults.new.items) }
-    ensures ticks { IfOk result (λ _. RisesWithin (taken_steps N.design N.plan window.now.before faults.old.items) (taken_steps N.design N.plan window.now.through faults.new.items)
+    ensures ticks { IfOk result (λ _. RisesTwice (steps_of_faults N.design N.plan window.now.before faults.old.items) (steps_of_faults N.design N.plan window.now.through faults.new.items)
         steps.old steps.new) }
 {
     beside_laws::faults_go_on();
     let design = setup.design();
-    let _first = window.begins();
+    let trace = window.window();
+    let _first = trace.begins();
     if !some_open(faults) {
         return Ok(reached);
     }
-    let strobes = strobes_of(alloc, setup, window, reached.passed)?;
-    let mut machine = room.take_machine(alloc, setup)?;
-    let log = &mut room.log;
+    let strobes = strobes_of(alloc, setup, trace, reached.passed)?;
     advance_each(
         alloc,
         setup,
         window,
         &strobes,
         reached.time,
-        &mut machine,
-        log,
+        room,
         faults,
         steps,
     )?;
-    room.put_machine(machine);
     Ok(reached_behind(setup, &strobes))
 }

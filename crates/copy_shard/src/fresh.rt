@@ -6,7 +6,7 @@ ghost use Rattle.vf_base.specs.Base.{fault_number};
 ghost use Rattle.vf_base.specs.declared.ids.FaultId.{FaultId};
 ghost use Rattle.copy_shard.specs.Kept.{IsFresh};
 
-use copy_window::{ShardFault, new_fault};
+use shard_slots::{ShardFault, new_fault};
 use std::alloc::Global;
 use vf_base::{FaultId, NoMemory};
 

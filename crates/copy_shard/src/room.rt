@@ -1,38 +1,32 @@
-// The machine in which the faults of shards are simulated.
+// The room in which the faults of shards are simulated.
 
-ghost use Rattle.std.specs.Prelude.{◌≡◌, false, IfOk};
-ghost use Rattle.copy_room.specs.Rooms.{IsRoom};
+ghost use Rattle.std.specs.Prelude.{◌≡◌, false};
 
 use causal_monitor::SlotLog;
-use copy_window::new_room;
 use fault_grade::empty_log;
 use good_trace::Setup;
-use machine::Machine;
+use shard_slots::SlotRoom;
 use std::alloc::Global;
-use std::marker::{Model, PhantomData};
+use std::marker::Model;
 use v_design::World;
 use vf_base::NoMemory;
 
-/// Room in which the faults of shards of the world `N` are simulated, one after the other: a machine of the design, and the log of a slot. Contracts see whether the
-/// machine is there.
+/// Room in which the faults of shards of the world `N` are simulated, shard after shard: room for the slots through which they go, and the log of a slot. Contracts see whether
+/// the first is there.
 ///
-/// The machine is made where one is needed and none is there. One that ran out of memory doesn't come back.
+/// It is made where it is needed and none is there. Room that ran out of memory doesn't come back.
 #[derive(Drop)]
 pub struct ShardRoom<'d, N: World> {
-    machine: Option<Machine<'d>>,
+    slots: Option<SlotRoom<'d, N>>,
     pub(crate) log: SlotLog,
-    world: PhantomData<N>,
 }
 
 impl<'d, N: World> Model for ShardRoom<'d, N> {
     ghost use Rattle.std.specs.Prelude.{Bool, is_some};
-    ghost use Rattle.copy_shard.specs.Kept.{IsRoomIf};
 
     ghost Value = { Bool };
 
-    ghost view = { λ room. is_some room.machine };
-
-    ghost invariant = { λ room. IsRoomIf N.design room.machine };
+    ghost view = { λ room. is_some room.slots };
 }
 
 impl<'d, N: World> ShardRoom<'d, N> {
@@ -41,30 +35,25 @@ impl<'d, N: World> ShardRoom<'d, N> {
         ensures { result ≡ false }
     {
         ShardRoom {
-            machine: None,
+            slots: None,
             log: empty_log(alloc),
-            world: PhantomData,
         }
     }
 
-    /// Takes the machine out, or makes one.
-    pub(crate) fn take_machine(
+    /// Takes the room for slots out, or makes it.
+    pub(crate) fn take_slots(
         &mut self,
         alloc: Global,
         setup: &Setup<'d, N>,
-    ) -> Result<Machine<'d>, NoMemory>
-        ensures { IfOk result (IsRoom N.design) }
-    {
-        if let Some(machine) = self.machine.take() {
-            return Ok(machine);
+    ) -> Result<SlotRoom<'d, N>, NoMemory> {
+        if let Some(slots) = self.slots.take() {
+            return Ok(slots);
         }
-        new_room(alloc, setup)
+        SlotRoom::new(alloc, setup)
     }
 
-    /// Puts the machine back.
-    pub(crate) fn put_machine(&mut self, machine: Machine<'d>)
-        requires { IsRoom N.design machine }
-    {
-        self.machine = Some(machine);
+    /// Puts it back.
+    pub(crate) fn put_slots(&mut self, slots: SlotRoom<'d, N>) {
+        self.slots = Some(slots);
     }
 }

@@ -7,7 +7,7 @@ ghost use Rattle.vf_base.specs.Base.{fault_number};
 ghost use Rattle.v_design.specs.WellFormed.{KeepsRules};
 ghost use Rattle.copy_laws.specs.Windows.{good_slots};
 ghost use Rattle.fault_shards.specs.Found.{IsFinding, found_faults};
-ghost use Rattle.graded_steps.specs.Behind.{RisesWithin};
+ghost use Rattle.graded_steps.specs.Behind.{RisesTwice};
 ghost use Rattle.copy_shard.specs.Kept.{fault_kept};
 ghost use Rattle.copy_shard.specs.Shards.{FaultKept, StandsBeside, StaysEnded, finding_of, fault_steps_at, findings_of, fresh_shard, places_of, shard_steps};
 
@@ -16,8 +16,9 @@ use crate::fresh::fresh_faults;
 use crate::reached::Reached;
 use crate::room::ShardRoom;
 use copy_state::FaultCopy;
-use copy_window::ShardFault;
-use good_trace::{Setup, TraceWindow};
+use good_trace::Setup;
+use run_trace::RunWindow;
+use shard_slots::ShardFault;
 use std::alloc::Global;
 use std::marker::{Model, PhantomData};
 use std::mem;
@@ -113,7 +114,7 @@ impl<N: World> Shard<N> {
         })
     }
 
-    /// Takes the shard through the next window of the good first run. `steps` ticks once for each process step of the slots that its faulty machines run.
+    /// Takes the shard through the next window of the good first run. `steps` ticks once for each process step that its faulty machines take.
     ///
     /// # Errors
     ///
@@ -122,7 +123,7 @@ impl<N: World> Shard<N> {
         &mut self,
         alloc: Global,
         setup: &Setup<'d, N>,
-        window: &TraceWindow<N>,
+        window: &RunWindow<N>,
         room: &mut ShardRoom<'d, N>,
         steps: &mut Steps<L>,
     ) -> Result<(), NoMemory>
@@ -131,13 +132,14 @@ impl<N: World> Shard<N> {
         ensures places { OnOk result (places_of self.new.faults ≡ places_of self.old.faults) }
         ensures ended { OnOk result (AllZip StaysEnded self.old.faults self.new.faults) }
         ensures stands { OnOk result (StandsBeside N.design N.plan self.new) }
-        ensures ticks { OnOk result (RisesWithin (shard_steps N.design N.plan self.old) (shard_steps N.design N.plan self.new) steps.old steps.new) }
+        ensures ticks { OnOk result (RisesTwice (shard_steps N.design N.plan self.old) (shard_steps N.design N.plan self.new) steps.old steps.new) }
         ensures err { OnErr result (self.new ≡ record self.old { faults = [] }) }
     {
         let numbers = mem::replace(&mut self.numbers, Vec::new(alloc));
         let mut faults = mem::replace(&mut self.faults, Vec::new(alloc));
         let reached = advance_all(alloc, setup, window, self.reached, room, &mut faults, steps)?;
-        self.gone = window.ends();
+        let trace = window.window();
+        self.gone = trace.ends();
         self.reached = reached;
         self.numbers = numbers;
         self.faults = faults;

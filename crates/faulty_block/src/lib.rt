@@ -10,4 +10,4 @@ mod back;
 mod run;
 
 pub use back::put_back;
-pub use run::run_faulty;
+pub use run::{FaultyRun, run_faulty};

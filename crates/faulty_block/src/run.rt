@@ -1,11 +1,12 @@
 // A block of a faulty machine.
 
-ghost use Rattle.std.specs.Prelude.{◌≡◌, ◌≤◌, IfOk, IfSome, OnOk};
+ghost use Rattle.std.specs.Prelude.{◌≡◌, ◌≤◌, IfOk, IfSome, MatchOption, OnOk};
 ghost use Rattle.v_design.specs.Designs.{faulty_machine};
 ghost use Rattle.v_design.specs.Plain.{fault_of};
+ghost use Rattle.machine_events.specs.Steps.{raised_by};
 ghost use Rattle.block_events.specs.Runners.{IsWhole, machine_of};
 ghost use Rattle.block_runner.specs.declared.blocks.BlockEnd.TheVariants.{Ran};
-ghost use Rattle.faulty_block.specs.Runs.{MayRun, RanBlock};
+ghost use Rattle.faulty_block.specs.Runs.{MayRun, RanBlock, StepsWithin};
 
 use block_events::Runner;
 use block_runner::{BlockEnd, run_block};
@@ -14,7 +15,14 @@ use lockstep_copy::LockstepCopy;
 use lockstep_exchange::put_in;
 use std::sync::ledger::Ledger;
 use v_design::Fault;
-use vf_base::{NoMemory, Steps};
+use vf_base::{NoMemory, ProcId, Steps};
+
+/// What a faulty machine took of its block: how many process and lane steps, if it was run to its end in so many at most; and how many process steps, whether it was or not.
+#[derive(Clone, Copy)]
+pub struct FaultyRun {
+    pub taken: Option<u32>,
+    pub ticked: u64,
+}
 
 /// How many process and lane steps a block took, if it was run to its end in so many at most.
 fn steps_within(end: BlockEnd, told: &BlockTold, most: u32) -> Option<u32>
@@ -32,8 +40,18 @@ fn steps_within(end: BlockEnd, told: &BlockTold, most: u32) -> Option<u32>
     Some(taken)
 }
 
-/// A runner in the good machine's state becomes the faulty machine of a fault with what is kept of it, and runs its next block. The answer is how many
-/// process and lane steps the block took, if it was run to its end in so many at most; `told` tells it.
+/// How many process steps a block took: all its steps, or none where a lane began it.
+fn process_steps(lane: Option<ProcId>, told: &BlockTold) -> u64
+    ensures { MatchOption lane (result ≡ told.now.steps) (λ process. result ≡ 0) }
+{
+    match lane {
+        None => told.steps,
+        Some(_) => 0,
+    }
+}
+
+/// A runner in the good machine's state becomes the faulty machine of a fault with what is kept of it, and runs its next block, which is given up where it takes more process and
+/// lane steps than so many; `told` tells it. `steps` ticks once for each process step that was taken, whether the block was run to its end or not.
 ///
 /// # Errors
 ///
@@ -45,16 +63,23 @@ pub fn run_faulty<L: Ledger>(
     fault: Fault,
     most: u32,
     steps: &mut Steps<L>,
-) -> Result<Option<u32>, NoMemory>
+) -> Result<FaultyRun, NoMemory>
     requires whole { IsWhole runner.old }
     requires run { MayRun own.now runner.old }
     ensures whole { OnOk result (IsWhole runner.new) }
     ensures machine { OnOk result (machine_of runner.new ≡ faulty_machine (machine_of runner.old).design (fault_of fault)) }
-    ensures few { IfOk result (λ ran. IfSome ran (λ taken. taken ≤ most)) }
-    ensures ran { IfOk result (λ ran. IfSome ran (λ taken. (of : MayRun own.now runner.old) →
-        RanBlock (faulty_machine (machine_of runner.old).design (fault_of fault)) of.put.faulty taken runner.new told.new)) }
+    ensures few { IfOk result (λ ran. IfSome ran.taken (λ taken. taken ≤ most)) }
+    ensures ran { IfOk result (λ ran. IfSome ran.taken (λ taken. (of : MayRun own.now runner.old) →
+        RanBlock (faulty_machine (machine_of runner.old).design (fault_of fault)) of.put.faulty taken ran.ticked runner.new told.new)) }
+    ensures ticks { IfOk result (λ ran. steps.new ≡ raised_by ran.ticked steps.old) }
+    ensures most { IfOk result (λ ran. (of : MayRun own.now runner.old) →
+        StepsWithin (faulty_machine (machine_of runner.old).design (fault_of fault)) of.put.faulty most ran.ticked) }
 {
     put_in(runner, own, fault)?;
+    let lane = runner.first_lane();
     let end = run_block(runner, told, most, steps)?;
-    Ok(steps_within(end, told, most))
+    Ok(FaultyRun {
+        taken: steps_within(end, told, most),
+        ticked: process_steps(lane, told),
+    })
 }

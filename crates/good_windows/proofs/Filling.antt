@@ -1,8 +1,8 @@
 -- Slots that are put into a trace until its window is full, or no further slot is one of a window.
 use Rattle.std.proofs.Common.{◌≡◌, ℕ, zero, suc, ◌+◌, ◌-◌, ◌<◌, ◌≤◌, Bool, true, false, List, length, take, drop, refl, sym, ap, subst, ◌∙◌, arith, ◌⊎◌, inl, inr}
-use Rattle.std.specs.Prelude.{Option, Some, None, nat_le, slice_get, sum_by}
+use Rattle.std.specs.Prelude.{Option, Some, None, ◌&&◌, ◌||◌, nat_eq, nat_le, nat_lt, slice_get, sum_by}
 use Rattle.std.proofs.Math.ListN.{drop_of_length-le}
-use Rattle.std.proofs.lemmas.Bool.{leb-true, leb-false}
+use Rattle.std.proofs.lemmas.Bool.{and_left, and_right, le-ltb, leb-true, leb-false, ne_eqb, or_from, or_parts}
 use Rattle.std.proofs.lemmas.List.{length-take}
 use Rattle.std.proofs.lemmas.Option.{slice_get_within}
 use Rattle.vf_base.specs.Base.{ReportedPair, reported_pair}
@@ -11,7 +11,7 @@ use Rattle.v_design.specs.Designs.{FlatDesign, TestPlan, good_machine}
 use Rattle.v_design.specs.Runs.{FirstSlot, is_hyper, counted_steps}
 use Rattle.v_design.specs.Grades.{SlotOutcome, Fine, Race, Hyper, race_or_fine, first_race, phases}
 use Rattle.run_ends.specs.RunEnds.{AreCodesOf}
-use Rattle.copy_laws.specs.Windows.{WindowEnd, IsOpen, IsThrough, IsRaced, good_slots}
+use Rattle.copy_laws.specs.Windows.{WindowEnd, IsOpen, IsThrough, IsRaced, good_slots, window_steps}
 use Rattle.machine.specs.declared.parts.Machine.{Machine as Simulated}
 use Rattle.good_trace.specs.Slots.{end_of, is_full}
 use Rattle.good_trace.specs.Traces.{TraceKept}
@@ -103,12 +103,18 @@ module _ (design : FlatDesign) (plan : TestPlan) (closed : ℕ) (m : Simulated) 
   room-below : (number : ℕ) → trace.closed < number → number < trace.pushed → is_full_at design plan trace.closed number ≡ false
   room-below number low high = at.room number (omega (arith, low)) (omega (arith, high))
 
-  room-through : (number : ℕ) → trace.closed < number → number < trace.pushed + 1 → is_full_at design plan trace.closed number ≡ false
-  room-through number low high = at.room number (omega (arith, low)) (omega (arith, high))
-
   closed-low : (b : Bool) → some ≡ b → trace.closed ≤ trace.pushed
   closed-low true e = let low : trace.closed < trace.pushed = (at.fine e).some in omega (arith, low)
   closed-low false e = let same : trace.pushed ≡ trace.closed = at.none e in omega (arith, same)
+
+  -- so it may be put into the trace
+  pub room-next : is_full (trace.pushed - trace.closed) (window_steps design plan trace.closed trace.pushed) ≡ false
+  room-next =
+      (or_parts (nat_lt 0 trace.pushed && nat_eq trace.closed 0) (is_full (trace.pushed - trace.closed) (window_steps design plan trace.closed trace.pushed))
+      (at.room trace.pushed (closed-low some refl) (omega arith))).1
+
+  room-through : (number : ℕ) → trace.closed < number → number < trace.pushed + 1 → is_full_at design plan trace.closed number ≡ false
+  room-through number low high = at.room number (omega (arith, low)) (omega (arith, high))
 
   -- the next slot is hyperactive
   pub filled-looped : (new : Simulated) (time : ℕ) → LoopsBehind design plan trace.pushed time → StandsAt design plan trace.pushed Hyper → (after : TraceKept) → after ≡ trace →
@@ -228,8 +234,16 @@ no-steps : (slots : List FirstSlot) (number : ℕ) → sum_by (λ (slot : FirstS
 no-steps slots number =
     let long = length-take number slots in ap (λ l. sum_by (λ (slot : FirstSlot). counted_steps slot.moves) l) (drop_of_length-le (take number slots) {i = number} (omega arith))
 
+room-none : (design : FlatDesign) (plan : TestPlan) (number : ℕ) → is_full (number - number) (window_steps design plan number number) ≡ false
+room-none design plan number = let none : number - number ≡ 0 = omega arith in (λ i. is_full (none i) (no-steps (good_slots design plan) number i))
+
 pub room-first : (design : FlatDesign) (plan : TestPlan) (number : ℕ) → is_full_at design plan number number ≡ false
-room-first design plan number = let none : number - number ≡ 0 = omega arith in (λ i. is_full (none i) (no-steps (good_slots design plan) number i))
+room-first design plan zero =
+    or_from (nat_lt 0 zero && nat_eq zero 0) (is_full (zero - zero) (window_steps design plan zero zero)) (and_left (nat_lt 0 zero) (nat_eq zero 0) (le-ltb 0 zero (omega arith)))
+    (room-none design plan zero)
+room-first design plan (suc number) =
+    or_from (nat_lt 0 (suc number) && nat_eq (suc number) 0) (is_full (suc number - suc number) (window_steps design plan (suc number) (suc number)))
+    (and_right (nat_lt 0 (suc number)) (nat_eq (suc number) 0) (ne_eqb (suc number) 0 (λ e. omega (arith, e)))) (room-none design plan (suc number))
 
 -- before the first slot is put into the trace
 pub filling-first : (design : FlatDesign) (plan : TestPlan) (closed : ℕ) (m : Simulated) (trace : TraceKept) (next : Option ℕ) → IsUsable design plan m trace Open → trace.closed ≡ closed →

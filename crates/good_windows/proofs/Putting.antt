@@ -1,5 +1,7 @@
 -- What came of a slot that was run.
-use Rattle.std.proofs.Common.{◌≡◌, ℕ, ◌-◌, Bool, true, false, List, refl, sym, ap, subst, ◌∙◌}
+use Rattle.std.proofs.Common.{◌≡◌, ℕ, ◌+◌, ◌-◌, Bool, true, false, ◌&&◌, ◌||◌, List, refl, sym, ap, subst, ◌∙◌, arith}
+use Rattle.std.proofs.lemmas.Bool.{lt-ltb}
+use Rattle.std.specs.Prelude.{nat_eq}
 use Rattle.vf_base.specs.Base.{reported_pair}
 use Rattle.v_design.specs.Designs.{FlatDesign, TestPlan, Machine, good_machine}
 use Rattle.v_design.specs.Runs.{is_hyper}
@@ -75,7 +77,7 @@ module _ (design : FlatDesign) (plan : TestPlan) (time : ℕ) (trace : TraceKept
   -- one that isn't, after which the machine stands as it did
   module _ (new : Simulated) (after : TraceKept) (same : machine_kept ran ≡ machine_kept m) (notes : notes_runs new ≡ true) (turn : turn_next ran.stage ≡ Time) (stays : StaysStanding ran new)
       (grown : after ≡ one_more trace) where
-    puts-fine : (full : Bool) → outcome_of end ≡ Fine → full ≡ is_full (after.pushed - after.closed) (window_steps design plan after.closed after.pushed) →
+    puts-fine : (full : Bool) → outcome_of end ≡ Fine → full ≡ (nat_eq trace.closed 0 || is_full (after.pushed - after.closed) (window_steps design plan after.closed after.pushed)) →
         PutsFine design plan trace full new after
     puts-fine full fine is = record {
       trace_is = grown;
@@ -83,10 +85,14 @@ module _ (design : FlatDesign) (plan : TestPlan) (time : ℕ) (trace : TraceKept
       stands =
           fine-after design plan trace.pushed m stands known.begins known.within_is new (sym runs-good.outcome ∙ fine) (stays.machine_is ∙ same ∙ stands.machine_is) stays.standing notes
           (stays.turn_is ∙ turn) (stays.begins_is ∙ runs-good.next);
-      full_is = sym (is ∙ ap (λ (t : TraceKept). is_full (t.pushed - t.closed) (window_steps design plan t.closed t.pushed)) grown);
+      full_is =
+          ap (λ b. (b && nat_eq trace.closed 0) || is_full ((trace.pushed + 1) - trace.closed) (window_steps design plan trace.closed (trace.pushed + 1)))
+          (lt-ltb 0 (trace.pushed + 1) (omega arith))
+          ∙ sym (is ∙ ap (λ (t : TraceKept). nat_eq trace.closed 0 || is_full (t.pushed - t.closed) (window_steps design plan t.closed t.pushed)) grown);
     }
 
-    pub puts : (told : SlotEnd) (full : Bool) → end ≡ told → (told ≡ slot.Hyper → ⊥) → full ≡ is_full (after.pushed - after.closed) (window_steps design plan after.closed after.pushed) →
+    pub puts : (told : SlotEnd) (full : Bool) → end ≡ told → (told ≡ slot.Hyper → ⊥) →
+        full ≡ (nat_eq trace.closed 0 || is_full (after.pushed - after.closed) (window_steps design plan after.closed after.pushed)) →
         PutsSlot design plan time trace (put_by told full) new after
     puts slot.Fine true is not_hyper full_is = puts-fine true (ap outcome_of is) full_is
     puts slot.Fine false is not_hyper full_is = puts-fine false (ap outcome_of is) full_is

@@ -1,5 +1,5 @@
 -- What comes next of the good first run, by the slots that stand in windows so far (slots by IEEE 1364-2001, clause 5).
-use Rattle.std.specs.Prelude.{◌≡◌, ◌≢◌, ◌⊎◌, ℕ, ◌+◌, ◌-◌, ◌<◌, Bool, true, false, length, Some, slice_get, sum_by, take}
+use Rattle.std.specs.Prelude.{◌≡◌, ◌≢◌, ◌⊎◌, ℕ, ◌+◌, ◌-◌, ◌<◌, Bool, true, false, ◌&&◌, ◌||◌, length, Some, nat_eq, nat_lt, slice_get, sum_by, take}
 use Rattle.v_design.specs.Designs.{FlatDesign, TestPlan}
 use Rattle.v_design.specs.Runs.{FirstSlot, is_hyper}
 use Rattle.v_design.specs.Grades.{Hyper}
@@ -23,9 +23,9 @@ steps_of_slots design plan number = sum_by process_steps (take number (good_slot
 
 -- Windows
 
--- whether a window from one number of slots to another is full
+-- whether a window from one number of slots to another has all that it may have: the first one has one slot, through which faults are run whole; any other has so many slots or steps
 abbrev pub is_full_at : FlatDesign → TestPlan → ℕ → ℕ → Bool
-is_full_at design plan begins ends = is_full (ends - begins) (window_steps design plan begins ends)
+is_full_at design plan begins ends = (nat_lt 0 ends && nat_eq begins 0) || is_full (ends - begins) (window_steps design plan begins ends)
 
 -- behind so many slots of the good first run there is none, or one that is hyperactive, which no window has
 abbrev pub EndsWindows : FlatDesign → TestPlan → ℕ → Type 0

@@ -17,6 +17,8 @@ use Rattle.good_trace.specs.declared.ending.GoodEnd.{GoodEnd}
 use Rattle.good_trace.specs.declared.ending.GoodEnd.TheVariants as ends
 use Rattle.good_trace.specs.Slots.{first_turn}
 use Rattle.good_trace.specs.Traces.{TraceKept}
+use Rattle.run_trace.specs.Windows.{AreBeside}
+use Rattle.run_trace.specs.declared.trace.RunTrace.{RunTrace}
 use Rattle.good_windows.specs.declared.stage.Stage.{Stage}
 use Rattle.good_windows.specs.declared.stage.Stage.TheVariants.{Open, Through, Raced, Looped, Spent}
 use Rattle.good_windows.specs.Next.{AllStand, LoopsBehind}
@@ -101,8 +103,10 @@ pub record IsUsable (design : FlatDesign) (plan : TestPlan) (m : Simulated) (tra
   pub all_closed : trace.pushed ≡ trace.closed
   pub goes_on : GoesOnSo design plan trace.closed m stage
 
--- the same, as long as the run may be used; and its end is the plan's
-pub record IsGoodRun (design : FlatDesign) (plan : TestPlan) (end : ℕ) (m : Simulated) (trace : TraceKept) (stage : Stage) : Type 0 where
-  pub end_is : plan.end ≡ end
-  pub early : plan.end ≤ 2 ^ 63
-  pub usable : is_usable stage ≡ true → IsUsable design plan m trace stage
+-- the same, as long as the run may be used, with the blocks and the wakes beside the trace; and its end is the plan's
+module _ {N : Type 0} where
+  pub record IsGoodRun (design : FlatDesign) (plan : TestPlan) (end : ℕ) (m : Simulated) (run : RunTrace N) (stage : Stage) : Type 0 where
+    pub end_is : plan.end ≡ end
+    pub early : plan.end ≤ 2 ^ 63
+    pub usable : is_usable stage ≡ true → IsUsable design plan m run.trace stage
+    pub beside : is_usable stage ≡ true → AreBeside run

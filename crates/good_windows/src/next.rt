@@ -1,13 +1,14 @@
 // What comes next of the good first run.
 
 ghost use Rattle.std.specs.Prelude.{◌≡◌, ℕ, IfOk, OnOk};
+ghost use Rattle.run_trace.specs.Windows.{AreBeside};
 ghost use Rattle.good_windows.specs.Next.{GivesNext};
 ghost use Rattle.good_windows.specs.Stages.{IsLast};
 ghost use Rattle.good_windows.specs.Puts.{IsGathered};
 
 use crate::fill::Filled;
 use crate::stage::{Stage, ending};
-use good_trace::{Trace, TraceWindow};
+use run_trace::{RunTrace, RunWindow};
 use v_design::World;
 use vf_base::NoMemory;
 
@@ -15,7 +16,7 @@ use vf_base::NoMemory;
 /// time, in steps, after which the run doesn't go on.
 #[derive(Drop)]
 pub enum NextWindow<N: World> {
-    Window(TraceWindow<N>),
+    Window(RunWindow<N>),
     Over,
     Loops(u64),
 }
@@ -36,16 +37,18 @@ fn last_by<N: World>(stage: Stage) -> NextWindow<N>
 ///
 /// Want of memory.
 pub(crate) fn give<'s, 'd, N: World>(
-    trace: &mut Trace<'s, 'd, N>,
+    run: &mut RunTrace<'s, 'd, N>,
     filled: Filled,
-    used: Option<TraceWindow<N>>,
+    used: Option<RunWindow<N>>,
 ) -> Result<NextWindow<N>, NoMemory>
-    requires { IsGathered N.design N.plan trace.old filled }
-    ensures next { IfOk result (λ next. GivesNext N.design N.plan trace.old.closed next trace.old.pushed) }
-    ensures closed { OnOk result (trace.new ≡ record trace.old { closed = trace.old.pushed }) }
+    requires gathered { IsGathered N.design N.plan run.old.trace filled }
+    requires beside { AreBeside run.old }
+    ensures next { IfOk result (λ next. GivesNext N.design N.plan run.old.trace.closed next run.old.trace.pushed) }
+    ensures closed { OnOk result (run.new.trace ≡ record run.old.trace { closed = run.old.trace.pushed }) }
+    ensures beside { OnOk result (AreBeside run.new) }
 {
     if filled.some {
-        let window = trace.close_window(ending(filled.stage), used)?;
+        let window = run.close_window(ending(filled.stage), used)?;
         return Ok(NextWindow::Window(window));
     }
     Ok(last_by(filled.stage))

@@ -9,8 +9,9 @@ use crate::next::{NextWindow, give};
 use crate::slot::empty_log;
 use crate::stage::Stage;
 use causal_monitor::SlotLog;
-use good_trace::{Setup, Trace, TraceWindow};
+use good_trace::Setup;
 use machine::Machine;
+use run_trace::{RunTrace, RunWindow};
 use std::alloc::Global;
 use std::marker::Model;
 use std::sync::ledger::Ledger;
@@ -24,7 +25,7 @@ pub struct GoodRun<'s, 'd, N: World> {
     /// The plan's end.
     end: u64,
     machine: Machine<'d>,
-    trace: Trace<'s, 'd, N>,
+    run: RunTrace<'s, 'd, N>,
     /// The memory for the log of the slot that is run.
     log: SlotLog,
     stage: Stage,
@@ -37,9 +38,9 @@ impl<'s, 'd, N: World> Model for GoodRun<'s, 'd, N> {
 
     ghost use Rattle.good_windows.specs.Stages.{IsGoodRun, is_usable, run_through};
 
-    ghost view = { λ r. record { gone = r.trace.closed; ran = run_through r.trace.closed r.stage; usable = is_usable r.stage } };
+    ghost view = { λ r. record { gone = r.run.trace.closed; ran = run_through r.run.trace.closed r.stage; usable = is_usable r.stage } };
 
-    ghost invariant = { λ r. IsGoodRun N.design N.plan r.end r.machine r.trace r.stage };
+    ghost invariant = { λ r. IsGoodRun N.design N.plan r.end r.machine r.run r.stage };
 }
 
 /// The good machine of a setup at its start, which notes the ends of its process runs.
@@ -69,12 +70,12 @@ impl<'s, 'd, N: World> GoodRun<'s, 'd, N> {
         let design = setup.design();
         let plan = setup.plan();
         let codes = setup.codes();
-        let trace = Trace::new(alloc, setup)?;
+        let run = RunTrace::new(alloc, setup)?;
         let machine = noting_machine(alloc, setup)?;
         Ok(GoodRun {
             end: plan.end,
             machine,
-            trace,
+            run,
             log: empty_log(alloc),
             stage: Stage::Open,
         })
@@ -89,7 +90,7 @@ impl<'s, 'd, N: World> GoodRun<'s, 'd, N> {
     /// Want of memory.
     pub fn next_window<L: Ledger>(
         &mut self,
-        used: Option<TraceWindow<N>>,
+        used: Option<RunWindow<N>>,
         steps: &mut Steps<L>,
     ) -> Result<NextWindow<N>, NoMemory>
         requires { self.old.usable ≡ true }
@@ -103,11 +104,11 @@ impl<'s, 'd, N: World> GoodRun<'s, 'd, N> {
             self.end,
             stage,
             &mut self.machine,
-            &mut self.trace,
+            &mut self.run,
             &mut self.log,
             steps,
         )?;
-        let next = give(&mut self.trace, filled, used)?;
+        let next = give(&mut self.run, filled, used)?;
         self.stage = filled.stage;
         Ok(next)
     }

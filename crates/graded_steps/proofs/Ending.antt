@@ -13,6 +13,7 @@ use Rattle.v_design.specs.Grades.{good_or, faulty_or, graded_faulty, graded, fir
 use Rattle.v_design.specs.WellFormed.{KeepsRules}
 use Rattle.order_laws.specs.FirstRuns.{FirstRunsGoOn}
 use Rattle.copy_laws.specs.Windows.{FaultBeside, IsBesideAt, HasEnded, good_slots, time_at}
+use Rattle.grade_laws.specs.Ahead.{StopsAfter}
 use Rattle.grade_laws.specs.Grading.{good_seen, faulty_seen, good_stop, faulty_stop}
 use Rattle.beside_laws.specs.Gradings.{HasNotEnded}
 use Rattle.beside_laws.specs.GoodRuns.{GoodRunGoesOn}
@@ -122,6 +123,25 @@ module _ (design : FlatDesign) (plan : TestPlan) (fault : StuckAt) where
   not-by : (time ended : ℕ) → HasNotEnded design plan fault time → HasEnded design plan fault ended → time < ended
   not-by time ended not has = elim (cases_lt time ended) [ inl later ↦ later | inr early ↦ absurd (not (omega (arith, early, has))) ]
 
+  -- those through a time before which it doesn't end, and up to which the good machine doesn't stop, too
+  reached : FirstRunsGoOn → KeepsRules design → (time : ℕ) → time ≤ plan.end → StopsAfter time (good_stop design plan) →
+      ((ended : ℕ) → HasEnded design plan fault ended → time ≤ ended) → (found : FaultGrade) → grade design plan fault ≡ Some found →
+      steps_by (faulty_machine design fault) time ≤ grading_steps design plan fault found
+  reached law rules time low after since (Judged (Detected at)) e = steps-more law (faulty_machine design fault) time at rules (since at (detected-ends at e))
+  reached law rules time low after since (Judged (Possible at)) e = steps-more law (faulty_machine design fault) time plan.end rules low
+  reached law rules time low after since (Judged Undetected) e = steps-more law (faulty_machine design fault) time plan.end rules low
+  reached law rules time low after since (Raced Good pair) e =
+      let s = raced-graded (good_stop design plan) (faulty_stop design plan fault) hard (verdict_by hard possible) pair e in
+      let at : pair.time ≡ s.0.time = law.race_time (good_machine design) plan.end s.0 pair rules s.1 s.2 in
+      let later : time < s.0.time = subst (StopsAfter time) s.1 after in
+      go pair.time (omega (arith, at, later))
+    where
+      go : (at : ℕ) → time < at → steps_by (faulty_machine design fault) time ≤ steps_before (faulty_machine design fault) at
+      go zero h = absurd (omega (arith, h))
+      go (suc at) h = steps-more law (faulty_machine design fault) time at rules (omega (arith, h))
+  reached law rules time low after since (Raced Faulty pair) e = steps-more law (faulty_machine design fault) time plan.end rules low
+  reached law rules time low after since (Looped at) e = steps-more law (faulty_machine design fault) time plan.end rules low
+
   module _ (law : FirstRunsGoOn) (rules : KeepsRules design) (time : ℕ) (low : time ≤ plan.end) (not : HasNotEnded design plan fault time) where
     -- so all slots up to the time are among those that it takes
     steps-through : (found : FaultGrade) → grade design plan fault ≡ Some found → steps_by (faulty_machine design fault) time ≤ grading_steps design plan fault found
@@ -211,5 +231,6 @@ gradings_take_steps law run faults = record {
       open-later law run faults design plan rules fault from until h (time_at design plan from) refl (time_at design plan until) refl;
   more = λ design plan from until one other rules h same none b c.
       open-more law run faults design plan rules from until one other h same none b c (time_at design plan from) refl (time_at design plan until) refl other.found refl;
+  reached = λ design plan fault time found rules low after since e. reached design plan fault law rules time low after since found e;
   within = λ design plan at one rules b. in-all law run faults design plan rules at one b (time_at design plan at) refl one.found refl;
 }

@@ -1,5 +1,5 @@
 -- The process steps that the grading of a fault takes up to where it stands, and a counter that rises by no more (steps by IEEE 1364-2001, clause 9; slots by clause 5).
-use Rattle.std.specs.Prelude.{ℕ, ◌+◌, ◌≤◌, Option, Some, None}
+use Rattle.std.specs.Prelude.{ℕ, ◌+◌, ◌*◌, ◌≤◌, Option, Some, None}
 use Rattle.v_design.specs.Designs.{FlatDesign, Machine, StuckAt, TestPlan, faulty_machine}
 use Rattle.v_design.specs.Grades.{FaultGrade, grade}
 use Rattle.fault_grade.specs.Ticks.{steps_by, grading_steps}
@@ -21,3 +21,7 @@ fault_steps design plan fault = elim (grade design plan fault) [ None ↦ steps_
 -- a counter rose by no more than one number is above another
 abbrev pub RisesWithin : ℕ → ℕ → ℕ → ℕ → Type 0
 RisesWithin from to before after = after + from ≤ before + to
+
+-- or by no more than twice that
+abbrev pub RisesTwice : ℕ → ℕ → ℕ → ℕ → Type 0
+RisesTwice from to before after = after + 2 * from ≤ before + 2 * to

@@ -1,3 +1,4 @@
 pub mod Behind
 pub mod Ahead
 pub mod Gradings
+pub mod Rises

@@ -2,11 +2,12 @@
 //!
 //! Between two windows a fault stands behind some slots of its faulty machine's first run, or its grading ended. `runs_take_steps` says which slots are ahead of a run that
 //! stands at a time, and how many steps lie between two such places; `gradings_take_steps` that a grading which goes on has taken no more steps than it takes by a later
-//! time, nor than it takes in all. Each function here does nothing when it runs; its contract is the law.
+//! time, nor than it takes in all; `counters_rise` adds up what counters rise by. Each function here does nothing when it runs; its contract is the law.
 #![tactic(auto)]
 
 ghost use Rattle.graded_steps.specs.Ahead.{RunsTakeSteps};
 ghost use Rattle.graded_steps.specs.Gradings.{GradingsTakeSteps};
+ghost use Rattle.graded_steps.specs.Rises.{CountersRise};
 
 /// A first run slot by slot: which slots are ahead where it stands, and how many process steps lie between there and the start.
 pub fn runs_take_steps()
@@ -23,3 +24,8 @@ pub fn gradings_take_steps()
     beside_laws::good_run_goes_on();
     beside_laws::faults_go_on();
 }
+
+/// Counters that rise by no more than two numbers are apart, or by no more than twice that, stretch by stretch and side by side.
+pub fn counters_rise()
+    ensures { CountersRise }
+{}

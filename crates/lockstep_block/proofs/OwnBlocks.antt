@@ -1,15 +1,17 @@
 -- A block of its own that a fault takes beside the good machine's: it is run, compared and noted, and the runner goes back.
-use Rattle.std.proofs.Common.{◌≡◌, ℕ, ◌+◌, ◌-◌, ◌^◌, ◌<◌, ◌≤◌, List, [], ◌∷◌, ◌++◌, length, map, Bool, true, false, ◌||◌, refl, sym, ap, subst, ◌∙◌, arith}
-use Rattle.std.specs.Prelude.{None}
+use Rattle.std.proofs.Common.{◌≡◌, ℕ, zero, suc, ◌+◌, ◌-◌, ◌^◌, ◌<◌, ◌≤◌, List, [], ◌∷◌, ◌++◌, length, map, Bool, true, false, ◌||◌, refl, sym, ap, subst, ◌∙◌, arith}
+use Rattle.std.specs.Prelude.{None, sum_by}
 use Rattle.std.proofs.lemmas.List.{length-append}
 use Rattle.vf_base.specs.Base.{object_number}
 use Rattle.vf_base.specs.Lists.{has}
 use Rattle.vf_base.specs.declared.ids.ObjectId.{ObjectId}
 use Rattle.v_design.specs.Designs.{FlatDesign, Machine, StuckAt, TestPlan, good_machine, faulty_machine, width_in}
 use Rattle.v_design.specs.States.{State, Event}
-use Rattle.v_design.specs.Runs.{happened, work_of}
+use Rattle.v_design.specs.Runs.{happened, most_steps, work_of}
 use Rattle.v_design.specs.WellFormed.{KeepsRules}
-use Rattle.machine_laws.specs.SlotLoop.{Moment, ComesTo, after_events}
+use Rattle.graded_steps.specs.Behind.{RisesWithin}
+use Rattle.machine.specs.Ticks.{event_steps, process_steps, raised_by, steps-few, steps_so_far}
+use Rattle.machine_laws.specs.SlotLoop.{Moment, ComesTo, after_events, slot_from, steps_of}
 use Rattle.copy_laws.specs.Moves.{ChangesOnly}
 use Rattle.copy_laws.specs.OwnRuns.{EventsTakeNoTime}
 use Rattle.race_laws.specs.Writes.{WritesAreOf}
@@ -44,7 +46,8 @@ use Rattle.lockstep_steps.specs.Laws.{StepsGoOn}
 use Rattle.lockstep_steps.proofs.Events.{behind-state, place-behind}
 use Rattle.race_notes.specs.Notes.{NotesKept}
 use Rattle.block_compare.proofs.Same.{each-of, or-both}
-use Rattle.faulty_block.specs.Runs.{MayRun, RanBlock}
+use Rattle.slot_steps.specs.Laws.{SlotStepsGoOn}
+use Rattle.faulty_block.specs.Runs.{MayRun, RanBlock, StepsWithin}
 use Rattle.faulty_block.proofs.Differs.{is-back}
 use Rattle.lockstep_block.specs.Beside.{ComparesBeside, MayCompareBeside, parts_beside}
 use Rattle.lockstep_block.specs.Own.{MayRunOwn, TookOwn}
@@ -55,6 +58,7 @@ pub record BlockLaws : Type 0 where
   pub adds : ChangesAddUp
   pub causes : CausesAgree
   pub steps : StepsGoOn
+  pub counts : SlotStepsGoOn
 
 neither : (b c : Bool) → (b || c) ≡ false → (b ≡ false) × (c ≡ false)
 neither true c e = cc
@@ -77,6 +81,14 @@ spent taken spare few = omega arith
 counted : (taken steps all less spare : ℕ) → steps ≡ all → steps ≡ taken → taken + less ≡ spare → all + less ≡ spare
 counted taken steps all less spare count is spared = omega arith
 
+raised-most : (count before : ℕ) → raised_by count before ≤ before + count
+raised-most zero before = omega arith
+raised-most (suc count) before = let rest : raised_by count before ≤ before + count = raised-most count before in omega (arith, rest)
+
+-- a counter with so many ticks rose by no more than a number that became so much more
+pub ticks-told : (ticked ticks before now : ℕ) → now ≡ raised_by ticks before → RisesWithin ticked (ticked + ticks) before now
+ticks-told ticked ticks before now is = let most = raised-most ticks before in omega (arith, is, most)
+
 -- the moment behind a block
 moment-behind : (design : FlatDesign) (plan : TestPlan) (place : Place) (block rest : List Event) (before behind : MomentKept) → IsShownAt design plan place before →
     IsShownAt design plan (behind_events block rest place) behind → behind.before ≡ before.before → behind.slot ≡ before.slot → behind.moment ≡ before.moment + length block
@@ -87,8 +99,8 @@ moment-behind design plan place block rest before behind first later from slot =
     let all = length-append place.passed block in
     omega (arith, here, there, all)
 
-module _ (design : FlatDesign) (plan : TestPlan) (fault : StuckAt) (from until : ℕ) (runner : Runner) (before behind : MomentKept) (counts : Counts) (notes : NotesKept) (own : LockstepCopy)
-    (spare : ℕ) (of : MayRunOwn design plan fault from until runner before behind counts notes own spare) where
+module _ {design : FlatDesign} {plan : TestPlan} {fault : StuckAt} {from until : ℕ} {runner : Runner} {before behind : MomentKept} {counts : Counts} {notes : NotesKept} {own : LockstepCopy}
+    {spare ticked : ℕ} (of : MayRunOwn design plan fault from until runner before behind counts notes own spare ticked) where
   pub same-design : (machine_of runner).design ≡ design
   same-design = ap (λ (m : Machine). m.design) of.beside.runs.machine_is
 
@@ -150,14 +162,35 @@ module _ (design : FlatDesign) (plan : TestPlan) (fault : StuckAt) (from until :
         }
 
     -- the block that it took
-    pub ran-beside : (taken : ℕ) (ran-runner : Runner) (told : BlockTold) →
-        ((run : MayRun own runner) → RanBlock (faulty_machine (machine_of runner).design fault) run.put.faulty taken ran-runner told) →
-        RanBlock (faulty_machine design fault) of.goes.at.state taken ran-runner told
+    pub ran-beside : (taken ticks : ℕ) (ran-runner : Runner) (told : BlockTold) →
+        ((run : MayRun own runner) → RanBlock (faulty_machine (machine_of runner).design fault) run.put.faulty taken ticks ran-runner told) →
+        RanBlock (faulty_machine design fault) of.goes.at.state taken ticks ran-runner told
     unfolding may-run
-    ran-beside taken ran-runner told ran =
-        subst (λ (m : Machine). RanBlock (faulty_machine m.design fault) of.goes.at.state taken ran-runner told) of.beside.runs.machine_is (ran may-run)
+    ran-beside taken ticks ran-runner told ran =
+        subst (λ (m : Machine). RanBlock (faulty_machine m.design fault) of.goes.at.state taken ticks ran-runner told) of.beside.runs.machine_is (ran may-run)
 
-  module _ (laws : BlockLaws) (taken : ℕ) (ran-runner : Runner) (told : BlockTold) (ran : RanBlock (faulty_machine design fault) of.goes.at.state taken ran-runner told) (new : LockstepCopy)
+    -- with the process steps of so much of it as it took, the number is one of a slot, and at most that of the faulty machine's slot
+    pub ticked-fits : SlotStepsGoOn → (ticks : ℕ) → ((run : MayRun own runner) → StepsWithin (faulty_machine (machine_of runner).design fault) run.put.faulty spare ticks) →
+        (ticked + ticks ≤ most_steps + 1) × (ticked + ticks ≤ process_steps (slot_from (faulty_machine design fault) of.begins))
+    unfolding may-run
+    ticked-fits law ticks ran =
+        let machine = faulty_machine design fault in
+        let at = of.goes.at in
+        let low = of.goes.ticks in
+        let stands = of.goes.going.stands in
+        let room = of.goes.going.room in
+        let within = subst (λ (m : Machine). StepsWithin (faulty_machine m.design fault) at.state spare ticks) of.beside.runs.machine_is (ran may-run) in
+        let few = within.few in
+        let are = within.ticked_are in
+        let so_far = law.counted machine at stands.lockstep.own_comes in
+        let some = steps-few within.events in
+        let most : steps_so_far at + event_steps within.events ≤ process_steps (slot_from machine at.begins) =
+        law.more machine within.events at stands.good_slot.rules stands.lockstep.own_comes within.in_order (omega (arith, room, few)) in (
+          omega (arith, so_far, some, low, room, few, are),
+          subst (λ (s : State). ticked + ticks ≤ process_steps (slot_from machine s)) stands.own_begins (omega (arith, most, low, are)),
+        )
+
+  module _ (laws : BlockLaws) (taken ticks : ℕ) (ran-runner : Runner) (told : BlockTold) (ran : RanBlock (faulty_machine design fault) of.goes.at.state taken ticks ran-runner told) (new : LockstepCopy)
       (compared : ComparesBeside (state_there (good_machine design) (behind_events of.block of.rest of.place)) (state_of ran-runner) behind told own new) where
     good-changes : ChangesOnly (with_all_nodes (parts_beside behind told)) (state_there (good_machine design) of.place)
         (happened (good_machine design) (state_there (good_machine design) of.place) of.block)
@@ -221,7 +254,7 @@ module _ (design : FlatDesign) (plan : TestPlan) (fault : StuckAt) (from until :
     pub goes-there : PhasesFit → LockstepIsBeside → EventsTakeNoTime → (later : NotesKept) (less : ℕ) →
         IsGoing design plan fault of.slot of.begins from until behind.moment (behind_events of.block of.rest of.place) (after_events (faulty_machine design fault) ran.events of.goes.at)
         (of.goes.pairs ++ unlike_pair of.block ran.events ∷ []) later (kept_by new) less →
-        TookOwn design plan fault from until runner before behind counts notes own spare of ran-runner before behind told later new less
+        TookOwn design plan fault from until runner before behind counts notes own spare ticked of ran-runner before behind told later new less (ticked + ticks)
     goes-there fit side times later less going =
         let good = state_there (good_machine design) of.place in
         let next = state_there (good_machine design) (behind_events of.block of.rest of.place) in
@@ -233,6 +266,8 @@ module _ (design : FlatDesign) (plan : TestPlan) (fault : StuckAt) (from until :
             at = after_events (faulty_machine design fault) ran.events of.goes.at;
             pairs = of.goes.pairs ++ unlike_pair of.block ran.events ∷ [];
             going = going;
+            ticks =
+                (let all = laws.counts.events (faulty_machine design fault) ran.events of.goes.at in let low = of.goes.ticks in let are = ran.ticked_are in omega (arith, all, low, are));
           };
           back = record {
             design_is = ap (λ (m : Machine). m.design) ran.machine_is;

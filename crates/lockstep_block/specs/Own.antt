@@ -18,7 +18,7 @@ use Rattle.lockstep_block.specs.Rooms.{IsBesideBlock}
 
 -- in a slot a fault goes in lockstep to a place, at which a room stands beside the good machine's next block
 pub record MayRunOwn (design : FlatDesign) (plan : TestPlan) (fault : StuckAt) (from until : ℕ) (runner : Runner) (before behind : MomentKept) (counts : Counts) (notes : NotesKept)
-    (own : LockstepCopy) (spare : ℕ) : Type 0 where
+    (own : LockstepCopy) (spare ticked : ℕ) : Type 0 where
   pub slot : FirstSlot
   pub begins : State
   pub place : Place
@@ -26,7 +26,7 @@ pub record MayRunOwn (design : FlatDesign) (plan : TestPlan) (fault : StuckAt) (
   pub rest : List Event
   pub counts_are : AreCounts design counts
   pub beside : IsBesideBlock design plan place block rest runner before behind
-  pub goes : FaultGoes design plan fault slot begins from until before.moment place notes own spare
+  pub goes : FaultGoes design plan fault slot begins from until before.moment place notes own spare ticked
   pub early : slot.begins.time ≤ 2 ^ 63
 
 -- the moments of a room stay, and its runner is whole, and the machine that it was
@@ -47,8 +47,8 @@ pub record RoomTakes (fault : StuckAt) (before behind : MomentKept) (counts : Co
 
 -- a fault took its block: it goes in lockstep behind the blocks of both machines, and its runner may become the good machine in the state before them
 pub record TookOwn (design : FlatDesign) (plan : TestPlan) (fault : StuckAt) (from until : ℕ) (runner : Runner) (before behind : MomentKept) (counts : Counts) (notes : NotesKept)
-    (own : LockstepCopy) (spare : ℕ) (of : MayRunOwn design plan fault from until runner before behind counts notes own spare) (ran : Runner) (before_new behind_new : MomentKept)
-    (told : BlockTold) (later : NotesKept) (new : LockstepCopy) (less : ℕ) : Type 0 where
-  pub goes : FaultGoes design plan fault of.slot of.begins from until behind.moment (behind_events of.block of.rest of.place) later new less
+    (own : LockstepCopy) (spare ticked : ℕ) (of : MayRunOwn design plan fault from until runner before behind counts notes own spare ticked) (ran : Runner) (before_new behind_new : MomentKept)
+    (told : BlockTold) (later : NotesKept) (new : LockstepCopy) (less more : ℕ) : Type 0 where
+  pub goes : FaultGoes design plan fault of.slot of.begins from until behind.moment (behind_events of.block of.rest of.place) later new less more
   pub back : MayPutBackTo design ran before_new behind_new told new
   pub good_is : back.good ≡ state_of runner

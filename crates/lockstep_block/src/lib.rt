@@ -11,6 +11,9 @@ mod own;
 mod pass;
 mod room;
 
+pub use good_moment::GoodMoment;
+pub use lockstep_filter::{FilterRoom, is_free};
+pub use lockstep_steps::steps_go_on;
 pub use own::run_own_block;
 pub use pass::{follow_block, stand_at};
 pub use room::{FaultInSlot, LockstepRoom};

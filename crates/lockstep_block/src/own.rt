@@ -1,7 +1,11 @@
 // A block of the faulty machine's own.
 
-ghost use Rattle.std.specs.Prelude.{◌≡◌, true, IfOk, OnOk};
+ghost use Rattle.std.specs.Prelude.{◌≡◌, ◌≤◌, true, IfOk, OnOk};
+ghost use Rattle.v_design.specs.Designs.{faulty_machine};
 ghost use Rattle.v_design.specs.Plain.{fault_of};
+ghost use Rattle.machine_laws.specs.SlotLoop.{slot_from};
+ghost use Rattle.machine.specs.Ticks.{process_steps};
+ghost use Rattle.graded_steps.specs.Behind.{RisesWithin};
 ghost use Rattle.block_events.specs.Runners.{state_of};
 ghost use Rattle.lockstep_slots.specs.Places.{behind_events};
 ghost use Rattle.lockstep_block.specs.Blocks.{FaultGoes};
@@ -18,7 +22,7 @@ use v_design::{Fault, World};
 use vf_base::{NoMemory, Steps};
 
 /// The runner becomes the faulty machine and takes its block, which is compared with the good machine's and noted. The answer is whether lockstep goes on; else nothing is known of what
-/// is kept.
+/// is kept. Each process step that it takes is ticked, and counted in `ticked`, whatever the answer.
 fn take_own_block<N: World, L: Ledger>(
     alloc: Global,
     setup: &Setup<'_, N>,
@@ -28,15 +32,19 @@ fn take_own_block<N: World, L: Ledger>(
     one: &mut FaultInSlot,
     steps: &mut Steps<L>,
 ) -> Result<bool, NoMemory>
-    requires run { MayRunOwn N.design N.plan (fault_of fault) window.now.before window.now.through room.old.runner room.old.before room.old.behind room.old.counts one.old.notes one.old.own one.old.spare }
+    requires run { MayRunOwn N.design N.plan (fault_of fault) window.now.before window.now.through room.old.runner room.old.before room.old.behind room.old.counts one.old.notes one.old.own one.old.spare one.old.ticked }
     ensures took { IfOk result (λ goes. goes ≡ true →
         (of : MayRunOwn N.design N.plan (fault_of fault) window.now.before window.now.through room.old.runner room.old.before room.old.behind room.old.counts one.old.notes one.old.own
-        one.old.spare) →
-        TookOwn N.design N.plan (fault_of fault) window.now.before window.now.through room.old.runner room.old.before room.old.behind room.old.counts one.old.notes one.old.own one.old.spare of
-        room.new.runner room.new.before room.new.behind room.new.told one.new.notes one.new.own one.new.spare) }
+        one.old.spare one.old.ticked) →
+        TookOwn N.design N.plan (fault_of fault) window.now.before window.now.through room.old.runner room.old.before room.old.behind room.old.counts one.old.notes one.old.own one.old.spare
+        one.old.ticked of room.new.runner room.new.before room.new.behind room.new.told one.new.notes one.new.own one.new.spare one.new.ticked) }
     ensures fault { IfOk result (λ goes. goes ≡ true → one.new.own.copy.fault ≡ one.old.own.copy.fault) }
     ensures states { IfOk result (λ goes. goes ≡ true → one.new.own.copy.states ≡ one.old.own.copy.states) }
     ensures room { OnOk result (RoomTakes (fault_of fault) room.old.before room.old.behind room.old.counts room.old.runner room.new.before room.new.behind room.new.counts room.new.runner) }
+    ensures ticks { OnOk result (RisesWithin one.old.ticked one.new.ticked steps.old steps.new) }
+    ensures most { OnOk result (
+        (of : MayRunOwn N.design N.plan (fault_of fault) window.now.before window.now.through room.old.runner room.old.before room.old.behind room.old.counts one.old.notes one.old.own
+        one.old.spare one.old.ticked) → one.new.ticked ≤ process_steps (slot_from (faulty_machine N.design (fault_of fault)) of.begins)) }
 {
     copy_laws::own_runs();
     lockstep_laws::phases_fit();
@@ -45,6 +53,7 @@ fn take_own_block<N: World, L: Ledger>(
     lockstep_compare::comparisons_tell();
     own_told::causes_agree();
     lockstep_steps::steps_go_on();
+    slot_steps::slot_steps_go_on();
     let first = room.before.moment();
     let end = room.behind.moment();
     let ran = run_faulty(
@@ -55,7 +64,9 @@ fn take_own_block<N: World, L: Ledger>(
         one.spare,
         steps,
     )?;
-    let Some(taken) = ran else {
+    let ticked = ran.ticked as u32;
+    one.ticked += ticked;
+    let Some(taken) = ran.taken else {
         return Ok(false);
     };
     if !compare_beside(
@@ -86,7 +97,8 @@ fn take_own_block<N: World, L: Ledger>(
 }
 
 /// A fault takes a block of its own, beside the good machine's between two moments of a window, of which the later one tells the block. The answer is whether lockstep goes on; else
-/// nothing is known of what is kept. The runner is back in the good machine's state before the block, if lockstep goes on; else it is the good machine in some state.
+/// nothing is known of what is kept. The runner is back in the good machine's state before the block, if lockstep goes on; else it is the good machine in some state. `steps` ticks once
+/// for each process step that the fault takes, and `ticked` says how many these are in the slot: whatever the answer, at most as many as the faulty machine's slot has.
 ///
 /// # Errors
 ///
@@ -100,16 +112,20 @@ pub fn run_own_block<N: World, L: Ledger>(
     one: &mut FaultInSlot,
     steps: &mut Steps<L>,
 ) -> Result<bool, NoMemory>
-    requires run { MayRunOwn N.design N.plan (fault_of fault) window.now.before window.now.through room.old.runner room.old.before room.old.behind room.old.counts one.old.notes one.old.own one.old.spare }
+    requires run { MayRunOwn N.design N.plan (fault_of fault) window.now.before window.now.through room.old.runner room.old.before room.old.behind room.old.counts one.old.notes one.old.own one.old.spare one.old.ticked }
     ensures goes { IfOk result (λ goes. goes ≡ true →
         (of : MayRunOwn N.design N.plan (fault_of fault) window.now.before window.now.through room.old.runner room.old.before room.old.behind room.old.counts one.old.notes one.old.own
-        one.old.spare) →
+        one.old.spare one.old.ticked) →
         FaultGoes N.design N.plan (fault_of fault) of.slot of.begins window.now.before window.now.through room.old.behind.moment (behind_events of.block of.rest of.place)
-        one.new.notes one.new.own one.new.spare) }
+        one.new.notes one.new.own one.new.spare one.new.ticked) }
     ensures fault { IfOk result (λ goes. goes ≡ true → one.new.own.copy.fault ≡ one.old.own.copy.fault) }
     ensures states { IfOk result (λ goes. goes ≡ true → one.new.own.copy.states ≡ one.old.own.copy.states) }
     ensures state { IfOk result (λ goes. goes ≡ true → state_of room.new.runner ≡ state_of room.old.runner) }
     ensures room { OnOk result (RoomStays room.old.before room.old.behind room.old.counts room.old.runner room.new.before room.new.behind room.new.counts room.new.runner) }
+    ensures ticks { OnOk result (RisesWithin one.old.ticked one.new.ticked steps.old steps.new) }
+    ensures most { OnOk result (
+        (of : MayRunOwn N.design N.plan (fault_of fault) window.now.before window.now.through room.old.runner room.old.before room.old.behind room.old.counts one.old.notes one.old.own
+        one.old.spare one.old.ticked) → one.new.ticked ≤ process_steps (slot_from (faulty_machine N.design (fault_of fault)) of.begins)) }
 {
     if !take_own_block(alloc, setup, window, room, fault, one, steps)? {
         room.runner.set_fault(None);

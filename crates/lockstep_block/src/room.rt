@@ -31,12 +31,14 @@ pub struct LockstepRoom<'d, N: World> {
     pub counts: Counts,
 }
 
-/// What goes on of one fault within a slot: what is kept of it, the notes of the phase's own blocks, and how many process and lane steps own blocks may yet take.
+/// What goes on of one fault within a slot: what is kept of it, the notes of the phase's own blocks, how many process and lane steps own blocks may yet take, and how many process
+/// steps they took so far, each of which was ticked.
 #[derive(Drop)]
 pub struct FaultInSlot {
     pub own: LockstepCopy,
     pub notes: RaceNotes,
     pub spare: u32,
+    pub ticked: u32,
 }
 
 /// A runner that is the good machine of a setup's design.

@@ -83,6 +83,7 @@ begins : CopyLaws → (design : FlatDesign) (plan : TestPlan) (fault : StuckAt) 
     slice_get (good_slots design plan) (suc number) ≡ Some slot → BeginNextInLockstep design plan fault time d slot
 begins laws design plan fault number time d slot c there = record {
   good_begins = next.good_begins;
+  own_turns = next.own_begins;
   own_next = subst (λ (found : Option State). HasRun (faulty_machine design fault) plan.end (Some time) found (state_at (faulty_machine design fault) plan.end time)) next.own_begins s.own_run;
   stands = λ phase later marks fine parts.
       laws.goes.begins design fault slot (own_begins design plan fault time slot) phase later marks (kept_of d) (fine_slot fine) (s.own_rests.begins slot.begins.time) lockstep

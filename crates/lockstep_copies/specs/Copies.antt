@@ -1,8 +1,8 @@
 -- A copy of a faulty machine from slot to slot of the good first run in lockstep (slots by IEEE 1364-2001, clause 5).
 use Rattle.std.specs.Prelude.{◌≡◌, ℕ, suc, ◌<◌, ◌≤◌, List, [], ◌∷◌, Some, None, slice_get}
 use Rattle.v_design.specs.Designs.{FlatDesign, StuckAt, TestPlan, good_machine, faulty_machine}
-use Rattle.v_design.specs.States.{State, time_turn}
-use Rattle.v_design.specs.Runs.{FirstSlot}
+use Rattle.v_design.specs.States.{State, time_turn, turn_of}
+use Rattle.v_design.specs.Runs.{FirstSlot, next_slot_at}
 use Rattle.v_design.specs.Grades.{Phase, Fine, phases, slot_outcome}
 use Rattle.v_design.specs.WellFormed.{KeepsRules}
 use Rattle.machine_laws.specs.SlotLoop.{Moment, first_moment}
@@ -36,6 +36,8 @@ own_begins design plan fault time slot = time_turn slot.begins.time (state_at (f
 -- both machines begin their next slots at one time, in lockstep
 pub record BeginNextInLockstep (design : FlatDesign) (plan : TestPlan) (fault : StuckAt) (time : ℕ) (d : Differences) (slot : FirstSlot) : Type 0 where
   pub good_begins : slot.begins ≡ time_turn slot.begins.time (state_at (good_machine design) plan.end time)
+  pub own_turns : next_slot_at plan.end (state_at (faulty_machine design fault) plan.end time) (turn_of (state_at (faulty_machine design fault) plan.end time))
+      ≡ Some (own_begins design plan fault time slot)
   pub own_next : HasRun (faulty_machine design fault) plan.end (Some time) (Some (own_begins design plan fault time slot)) (state_at (faulty_machine design fault) plan.end time)
   pub stands : (phase : Phase) (later : List Phase) (marks : Marks) → slot_outcome (good_machine design) slot ≡ Fine → phases (good_machine design) slot ≡ phase ∷ later →
       StandsInLockstep design fault slot (own_begins design plan fault time slot) (first_place phase later) (first_moment (own_begins design plan fault time slot)) []

@@ -1,5 +1,5 @@
 -- A phase whose noted objects and reached net pieces are free leaves no conflict.
-use Rattle.std.proofs.Common.{◌≡◌, ℕ, ◌+◌, ◌≤◌, List, [], ◌∷◌, length, Bool, true, false, not, ◌&&◌, ◌||◌, refl, sym, ap, subst, ◌∙◌, inl, inr, nat_eq}
+use Rattle.std.proofs.Common.{◌≡◌, ℕ, ◌+◌, ◌≤◌, List, [], ◌∷◌, ◌++◌, length, Bool, true, false, not, ◌&&◌, ◌||◌, refl, sym, ap, subst, ◌∙◌, inl, inr, nat_eq}
 use Rattle.std.specs.Prelude.{◌⊎◌, Some, nat_lt, IsTrue}
 use Rattle.std.proofs.lemmas.Bool.{eqb-true, eq-eqb}
 use Rattle.vf_base.specs.Lists.{AllHold, has}
@@ -22,7 +22,8 @@ use Rattle.free_objects.specs.Stretches.{NonePasses, IsUnwritten}
 use Rattle.free_objects.specs.FreeObjects.{is_wild_net, UnwrittenObjectsAreFree}
 use Rattle.free_objects.specs.MetObjects.{MetReadsAreFree}
 use Rattle.lockstep_race.specs.Alike.{AreAlike, PairsTell}
-use Rattle.lockstep_race.specs.Nets.{UnreachedNetsAreNotWild, VariablesAreNotWild}
+use Rattle.lockstep_race.specs.Nets.{reaches_by_write, UnreachedNetsAreNotWild, VariablesAreNotWild}
+use Rattle.settled_objects.specs.Settled.{IsSettled, SettledObjectsAreFree}
 use Rattle.lockstep_waits.specs.Awaited.{is_awaited}
 use Rattle.lockstep_waits.specs.Texts.{WaitsGoOn}
 use Rattle.sole_touches.specs.Counts.{NoneAreCounted, PairsAreCounted}
@@ -40,8 +41,8 @@ use Rattle.lockstep_notes.proofs.Changes.{any-has, all-rest}
 use Rattle.lockstep_notes.proofs.Pairs.{blocks-joined}
 use Rattle.phase_reach.specs.Phases.{NotedPhase}
 use Rattle.lockstep_filter.specs.Phases.{IsPhaseNoted}
-use Rattle.lockstep_filter.specs.Free.{IsCovered, IsUnreadNet, IsNeverWritten, IsTouchedOnce, IsMetAlone, IsUnreachedNet, IsTame, IsFreeHere}
-use Rattle.lockstep_filter.proofs.OwnBlocks.{own-none, own-leave, own-count, CutAt, cut-pairs, alike-behind}
+use Rattle.lockstep_filter.specs.Free.{IsCovered, IsUnreadNet, IsNeverWritten, IsTouchedOnce, IsMetAlone, IsUnreachedFrom, IsUnreachedNet, IsTame, IsFreeHere}
+use Rattle.lockstep_filter.proofs.OwnBlocks.{own-none, own-leave, own-pass-none, own-count, CutAt, cut-pairs, alike-behind}
 use Rattle.lockstep_filter.proofs.Stretches.{none-weaker, reads-same, IsPart, part-unwritten, part-unread, part-untouched, whole-part, rest-part}
 
 -- the laws that the filter stands on
@@ -49,6 +50,7 @@ pub record FilterLaws : Type 0 where
   pub awaited : AllAreAwaited
   pub unwritten : UnwrittenObjectsAreFree
   pub met : MetReadsAreFree
+  pub settled : SettledObjectsAreFree
   pub pairs : PairsTell
   pub nets : UnreachedNetsAreNotWild
   pub variables : VariablesAreNotWild
@@ -94,6 +96,33 @@ beside-unwritten changed object other act fresh none = go (nat_eq other object) 
     go true e =
         let out : not (has changed other) ≡ true = ap not (ap (has changed) (eqb-true other object e) ∙ fresh) in
         ap (λ b. b && is_write act) e ∙ sym (and-true (is_write act)) ∙ ap (λ b. is_write act && b) (sym out) ∙ none
+
+-- what isn't among those that are written and don't reach an object doesn't reach it by a write
+beside-unreached : (design : FlatDesign) (changed : List ℕ) (object other : ℕ) (act : AccessAct) → some_reaches design changed object ≡ false → writes_beside changed other act ≡ false →
+    reaches_by_write design object other act ≡ false
+beside-unreached design changed object other act apart none = go (nat_lt 0 (paths design other object)) refl
+  where
+    and-true : (b : Bool) → (b && true) ≡ b
+    and-true true = refl
+    and-true false = refl
+
+    and-false : (b : Bool) → (b && false) ≡ false
+    and-false true = refl
+    and-false false = refl
+
+    out : (b : Bool) → has changed other ≡ b → nat_lt 0 (paths design other object) ≡ true → not b ≡ true
+    out false e reaches = refl
+    out true e reaches = let z : true ≡ false = sym (any-has (λ source. nat_lt 0 (paths design source object)) changed other e reaches) ∙ apart in cc
+
+    go : (b : Bool) → nat_lt 0 (paths design other object) ≡ b → (is_write act && nat_lt 0 (paths design other object)) ≡ false
+    go false e = ap (λ b. is_write act && b) e ∙ and-false (is_write act)
+    go true e =
+        let unwritten : is_write act ≡ false = sym (and-true (is_write act)) ∙ ap (λ b. is_write act && b) (sym (out (has changed other) refl e)) ∙ none in
+        ap (λ b. b && nat_lt 0 (paths design other object)) unwritten
+
+all-front : {A : Type 0} (P : A → Type 0) (xs ys : List A) → AllHold P (xs ++ ys) → AllHold P xs
+all-front P [] ys all = tt
+all-front P (x ∷ xs) ys all = (all.0, all-front P xs ys all.1)
 
 false-if : (b : Bool) → (b ≡ true → ⊥) → b ≡ false
 false-if true f = absurd (f refl)
@@ -164,26 +193,24 @@ module _ (laws : FilterLaws) (design : FlatDesign) (plan : TestPlan) (fault : St
   unwritten-in-phase object sees stretches =
       none-in-phase (writes object) (part-unwritten laws.told design plan begins ends end notes.first notes.spans (phase_place place) pairs part object stretches) sees
 
+  -- what reaches an object that own blocks don't reach they don't write
+  reaching-unwritten : (object : ℕ) → some_reaches design notes.changed object ≡ false → (source : ℕ) → nat_lt 0 (paths design source object) ≡ true →
+      NoneSees (writes source) (own_blocks design fault notes.first own.phase_begins pairs)
+  reaching-unwritten object apart source reaches =
+      sees-weaker (writes_beside notes.changed) (writes source) blocks (λ other act e. beside-unwritten notes.changed source other act fresh e) of-blocks.written
+    where
+      fresh : has notes.changed source ≡ false
+      fresh =
+          false-if (has notes.changed source)
+          (λ there. let z : true ≡ false = sym (any-has (λ other. nat_lt 0 (paths design other object)) notes.changed source there reaches) ∙ apart in cc)
+
   -- a net piece that nothing reaches isn't wild
   unreached : (object : ℕ) → IsUnreachedNet phase object → is_wild_net design log object ≡ false
   unreached object is =
       laws.nets machine faulty (faulty_phase pairs) object
       (all-tested (λ source. nat_lt 0 (paths design source object)) (all_accesses log)
-      (λ source reaches. unwritten-in-phase source (sees source reaches) (stretches source reaches)))
-    where
-      fresh : (source : ℕ) → nat_lt 0 (paths design source object) ≡ true → has notes.changed source ≡ false
-      fresh source reaches =
-          false-if (has notes.changed source)
-          (λ there.
-          let z : true ≡ false = sym (any-has (λ other. nat_lt 0 (paths design other object)) notes.changed source there reaches) ∙ is.own in cc)
-
-      sees : (source : ℕ) → nat_lt 0 (paths design source object) ≡ true → NoneSees (writes source) (own_blocks design fault notes.first own.phase_begins pairs)
-      sees source reaches =
-          sees-weaker (writes_beside notes.changed) (writes source) blocks (λ other act e. beside-unwritten notes.changed source other act (fresh source reaches) e) of-blocks.written
-
-      stretches : (source : ℕ) → nat_lt 0 (paths design source object) ≡ true →
-          OnlyWithin (λ moment. IsCovered notes.spans moment) (written_at (good_machine design) (window_events design plan begins ends) source) notes.first end
-      stretches source reaches moment since before written = absurd (let z : true ≡ false = sym reaches ∙ is.good source moment since before written in cc)
+      (λ source reaches. unwritten-in-phase source (reaching-unwritten object is.own source reaches)
+      (λ moment since before written. absurd (let z : true ≡ false = sym reaches ∙ is.good source moment since before written in cc))))
 
   tame : (object : ℕ) → IsTame phase object → is_wild_net design log object ≡ false
   tame object (inl variable) = laws.variables design log object variable
@@ -202,49 +229,91 @@ module _ (laws : FilterLaws) (design : FlatDesign) (plan : TestPlan) (fault : St
       (part-untouched laws.told design plan begins ends end notes.first notes.spans (phase_place place) pairs part object is.unwritten is.unread)))
       ((of-blocks.objects object).once is.own))
 
-  -- accesses that are left of an object that own blocks only meet
-  met-free : (object : ℕ) → IsTame phase object → IsMetAlone phase object → (marks : Marks) (first second : PhaseAccess) → IsIn first (log_accesses design log) → IsIn second (log_accesses design log) →
-      first.access.object ≡ object → AreLeft marks pairs first second → conflict log first second ≡ false
-  met-free object still is marks first second one other same left =
-      subst (λ ps. conflict (log_of machine faulty (faulty_phase ps)) first second ≡ false) (sym cut.pairs_are)
-      (laws.met machine marks faulty cut.front cut.rest object
-      (subst (λ ps. is_wild_net design (log_of machine faulty (faulty_phase ps)) object ≡ false) cut.pairs_are (tame object still))
-      (own-leave design fault notes.first faulty cut.front object (subst (NoneSees (is_of object)) (sym cut.before_are) since.5)) later first second
-      (subst (λ ps. IsIn first (log_accesses design (log_of machine faulty (faulty_phase ps)))) cut.pairs_are one)
-      (subst (λ ps. IsIn second (log_accesses design (log_of machine faulty (faulty_phase ps)))) cut.pairs_are other) same
-      (subst (λ ps. AreLeft marks ps first second) cut.pairs_are left))
+  -- Pairs cut at an own block
+
+  -- what own blocks don't write, nor the stretches from a cut on, isn't written behind it
+  behind-unwritten : (front rest : List BlockPair) → pairs ≡ front ++ rest → (source : ℕ) → NoneSees (writes source) (own_blocks design fault notes.first own.phase_begins pairs) →
+      OnlyWithin (λ moment. IsCovered notes.spans moment) (written_at (good_machine design) (window_events design plan begins ends) source) (notes.first + length (good_phase front)) end →
+      IsUnwritten (faulty_machine design fault) (happened (faulty_machine design fault) own.phase_begins (faulty_phase front)) (faulty_phase rest) source
+  behind-unwritten front rest are source unwritten stretches =
+      laws.pairs (writes source) design fault (happened (good_machine design) good (good_phase front)) (happened machine faulty (faulty_phase front)) rest
+      (alike-behind design fault good faulty front rest (subst (AreAlike design fault good faulty) are noted.alike))
+      (laws.told.parts (writes source) design fault (happened (good_machine design) good (good_phase front)) (happened machine faulty (faulty_phase front)) rest
+      (part-unwritten laws.told design plan begins ends end (notes.first + length (good_phase front)) notes.spans (behind_events (good_phase front) later.0 (phase_place place)) rest later.1 source
+      stretches)
+      (own-none (writes source) design fault (notes.first + length (good_phase front)) (happened machine faulty (faulty_phase front)) rest sees))
     where
-      since : IsSince (own_blocks design fault notes.first own.phase_begins pairs) object (Some is.since)
-      since = subst (IsSince blocks object) is.since_is (of-blocks.objects object).since
-
-      cut : CutAt design fault notes.first own.phase_begins pairs since.0 since.1
-      cut = cut-pairs design fault notes.first faulty pairs since.0 since.1 since.2 since.3
-
-      there : is.since ≡ notes.first + length (good_phase cut.front)
-      there = sym since.4 ∙ cut.begins
-
-      rest : (more : List Event) × IsPart design plan begins ends end notes.spans (notes.first + length (good_phase cut.front)) (behind_events (good_phase cut.front) more (phase_place place)) cut.rest
-      rest =
-          rest-part laws.told laws.places design plan begins ends end notes.first notes.spans (phase_place place) cut.front cut.rest
-          (subst (IsPart design plan begins ends end notes.spans notes.first (phase_place place)) cut.pairs_are part)
-
-      sees : NoneSees (writes object)
-          (own_blocks design fault (notes.first + length (good_phase cut.front)) (happened (faulty_machine design fault) own.phase_begins (faulty_phase cut.front)) cut.rest)
-      sees =
-          all-rest (λ (b : OwnBlock). NoneSeen (writes object) b.seen) (own_blocks design fault notes.first faulty cut.front)
-          (own_blocks design fault (notes.first + length (good_phase cut.front)) (happened machine faulty (faulty_phase cut.front)) cut.rest)
-          (subst (NoneSees (writes object)) (ap (own_blocks design fault notes.first faulty) cut.pairs_are ∙ blocks-joined design fault notes.first faulty cut.front cut.rest)
-          ((of-blocks.objects object).unwritten is.own))
-
-      later : IsUnwritten (faulty_machine design fault) (happened (faulty_machine design fault) own.phase_begins (faulty_phase cut.front)) (faulty_phase cut.rest) object
+      later : (more : List Event) × IsPart design plan begins ends end notes.spans (notes.first + length (good_phase front)) (behind_events (good_phase front) more (phase_place place)) rest
       later =
-          laws.pairs (writes object) design fault (happened (good_machine design) good (good_phase cut.front)) (happened machine faulty (faulty_phase cut.front)) cut.rest
-          (alike-behind design fault good faulty cut.front cut.rest (subst (AreAlike design fault good faulty) cut.pairs_are noted.alike))
-          (laws.told.parts (writes object) design fault (happened (good_machine design) good (good_phase cut.front)) (happened machine faulty (faulty_phase cut.front)) cut.rest
-          (part-unwritten laws.told design plan begins ends end (notes.first + length (good_phase cut.front)) notes.spans (behind_events (good_phase cut.front) rest.0 (phase_place place)) cut.rest rest.1
-          object
-          (subst (λ n. OnlyWithin (λ moment. IsCovered notes.spans moment) (written_at (good_machine design) (window_events design plan begins ends) object) n end) there is.stretches))
-          (own-none (writes object) design fault (notes.first + length (good_phase cut.front)) (happened machine faulty (faulty_phase cut.front)) cut.rest sees))
+          rest-part laws.told laws.places design plan begins ends end notes.first notes.spans (phase_place place) front rest
+          (subst (IsPart design plan begins ends end notes.spans notes.first (phase_place place)) are part)
+
+      sees : NoneSees (writes source)
+          (own_blocks design fault (notes.first + length (good_phase front)) (happened (faulty_machine design fault) own.phase_begins (faulty_phase front)) rest)
+      sees =
+          all-rest (λ (b : OwnBlock). NoneSeen (writes source) b.seen) (own_blocks design fault notes.first faulty front)
+          (own_blocks design fault (notes.first + length (good_phase front)) (happened machine faulty (faulty_phase front)) rest)
+          (subst (NoneSees (writes source)) (ap (own_blocks design fault notes.first faulty) are ∙ blocks-joined design fault notes.first faulty front rest) unwritten)
+
+  -- an object that own blocks only meet
+  module _ (object : ℕ) (is : IsMetAlone phase object) where
+    since : IsSince (own_blocks design fault notes.first own.phase_begins pairs) object (Some is.since)
+    since = subst (IsSince blocks object) is.since_is (of-blocks.objects object).since
+
+    cut : CutAt design fault notes.first own.phase_begins pairs since.0 since.1
+    cut = cut-pairs design fault notes.first faulty pairs since.0 since.1 since.2 since.3
+
+    cut-at : is.since ≡ notes.first + length (good_phase cut.front)
+    cut-at = sym since.4 ∙ cut.begins
+
+    front-leaves : NoneSees (is_of object) (own_blocks design fault notes.first own.phase_begins cut.front)
+    front-leaves = subst (NoneSees (is_of object)) (sym cut.before_are) since.5
+
+    met-unwritten : IsUnwritten (faulty_machine design fault) (happened (faulty_machine design fault) own.phase_begins (faulty_phase cut.front)) (faulty_phase cut.rest) object
+    met-unwritten =
+        behind-unwritten cut.front cut.rest cut.pairs_are object ((of-blocks.objects object).unwritten is.own)
+        (subst (λ n. OnlyWithin (λ moment. IsCovered notes.spans moment) (written_at (good_machine design) (window_events design plan begins ends) object) n end) cut-at is.stretches)
+
+    -- accesses of it that are left, where it isn't wild
+    met-free : IsTame phase object → (marks : Marks) (first second : PhaseAccess) → IsIn first (log_accesses design log) → IsIn second (log_accesses design log) →
+        first.access.object ≡ object → AreLeft marks pairs first second → conflict log first second ≡ false
+    met-free still marks first second one other same left =
+        subst (λ ps. conflict (log_of machine faulty (faulty_phase ps)) first second ≡ false) (sym cut.pairs_are)
+        (laws.met machine marks faulty cut.front cut.rest object
+        (subst (λ ps. is_wild_net design (log_of machine faulty (faulty_phase ps)) object ≡ false) cut.pairs_are (tame object still))
+        (own-leave design fault notes.first faulty cut.front object front-leaves) met-unwritten first second
+        (subst (λ ps. IsIn first (log_accesses design (log_of machine faulty (faulty_phase ps)))) cut.pairs_are one)
+        (subst (λ ps. IsIn second (log_accesses design (log_of machine faulty (faulty_phase ps)))) cut.pairs_are other) same
+        (subst (λ ps. AreLeft marks ps first second) cut.pairs_are left))
+
+    -- and where nothing reaches it any more
+    settled : IsUnreachedFrom phase is.since object → IsSettled (faulty_machine design fault) own.phase_begins cut.front cut.rest object
+    settled still = record {
+      left = own-pass-none (is_of object) design fault notes.first faulty cut.front front-leaves;
+      apart =
+          own-pass-none (reaches_by_write design object) design fault notes.first faulty cut.front
+          (all-front (λ (b : OwnBlock). NoneSeen (reaches_by_write design object) b.seen) (own_blocks design fault notes.first faulty cut.front)
+          (own_blocks design fault (notes.first + length (good_phase cut.front)) (happened machine faulty (faulty_phase cut.front)) cut.rest)
+          (subst (NoneSees (reaches_by_write design object))
+          (ap (own_blocks design fault notes.first faulty) cut.pairs_are ∙ blocks-joined design fault notes.first faulty cut.front cut.rest)
+          (sees-weaker (writes_beside notes.changed) (reaches_by_write design object) blocks (λ other act e. beside-unreached design notes.changed object other act still.own e) of-blocks.written)));
+      unwritten = met-unwritten;
+      unreached =
+          all-tested (λ source. nat_lt 0 (paths design source object)) (all_accesses (log_of machine (happened machine faulty (faulty_phase cut.front)) (faulty_phase cut.rest)))
+          (λ source reaches. behind-unwritten cut.front cut.rest cut.pairs_are source (reaching-unwritten object still.own source reaches)
+          (λ moment after before written. absurd
+          (let low : is.since ≤ moment = subst (λ n. n ≤ moment) (sym cut-at) after in
+          let z : true ≡ false = sym reaches ∙ still.good source moment low before written in cc)));
+    }
+
+    settled-free : IsUnreachedFrom phase is.since object → (marks : Marks) (first second : PhaseAccess) → IsIn first (log_accesses design log) → IsIn second (log_accesses design log) →
+        first.access.object ≡ object → AreLeft marks pairs first second → conflict log first second ≡ false
+    settled-free still marks first second one other same left =
+        subst (λ ps. conflict (log_of machine faulty (faulty_phase ps)) first second ≡ false) (sym cut.pairs_are)
+        (laws.settled machine marks faulty cut.front cut.rest object (settled still) first second
+        (subst (λ ps. IsIn first (log_accesses design (log_of machine faulty (faulty_phase ps)))) cut.pairs_are one)
+        (subst (λ ps. IsIn second (log_accesses design (log_of machine faulty (faulty_phase ps)))) cut.pairs_are other) same
+        (subst (λ ps. AreLeft marks ps first second) cut.pairs_are left))
 
   -- The marks
 
@@ -264,18 +333,20 @@ module _ (laws : FilterLaws) (design : FlatDesign) (plan : TestPlan) (fault : St
 
   suspect-free : (object : ℕ) → (note_at notes.objects object).suspect ≡ true → IsFreeHere phase object → ObjectIsFree design log object
   suspect-free object set (inl net) = unread-free object net
-  suspect-free object set (inr quiet) = suspect-quiet object set quiet.0 quiet.1
+  suspect-free object set (inr (inl settled)) = absurd (let z : true ≡ false = sym set ∙ settled.met.met in cc)
+  suspect-free object set (inr (inr quiet)) = suspect-quiet object set quiet.0 quiet.1
 
   left-quiet : (object : ℕ) → IsTame phase object → IsNeverWritten phase object ⊎ (IsTouchedOnce phase object ⊎ IsMetAlone phase object) → (marks : Marks) (first second : PhaseAccess) →
       IsIn first (log_accesses design log) → IsIn second (log_accesses design log) → first.access.object ≡ object → AreLeft marks pairs first second → conflict log first second ≡ false
   left-quiet object still (inl never) marks first second one other same left = never-free object still never first second one other same (sym left.same ∙ same)
   left-quiet object still (inr (inl once)) marks first second one other same left = once-free object still once first second one other same (sym left.same ∙ same)
-  left-quiet object still (inr (inr met)) marks first second one other same left = met-free object still met marks first second one other same left
+  left-quiet object still (inr (inr met)) marks first second one other same left = met-free object met still marks first second one other same left
 
   left-free : (object : ℕ) → IsFreeHere phase object → (marks : Marks) (first second : PhaseAccess) → IsIn first (log_accesses design log) → IsIn second (log_accesses design log) →
       first.access.object ≡ object → AreLeft marks pairs first second → conflict log first second ≡ false
   left-free object (inl net) marks first second one other same left = unread-free object net first second one other same (sym left.same ∙ same)
-  left-free object (inr quiet) marks first second one other same left = left-quiet object quiet.0 quiet.1 marks first second one other same left
+  left-free object (inr (inl settled)) marks first second one other same left = settled-free object settled.met settled.unreached marks first second one other same left
+  left-free object (inr (inr quiet)) marks first second one other same left = left-quiet object quiet.0 quiet.1 marks first second one other same left
 
   pub leaves-none : ((object : ℕ) → has (net_pieces design) object ≡ true → some_reaches design notes.changed object ≡ true → IsUnreadNet phase object) →
       ((object : ℕ) → has notes.noted object ≡ true → IsFreeHere phase object) → LeavesNoConflict design fault (marks_of design notes) own.phase_begins pairs

@@ -14,6 +14,7 @@ use Rattle.block_filter.specs.Blocks.{BlockPair, Alike, Unlike, good_events, goo
 use Rattle.block_told.specs.Tells.{Seen, access_seen}
 use Rattle.free_objects.specs.MetObjects.{UnlikesLeave}
 use Rattle.lockstep_race.specs.Alike.{AreAlike}
+use Rattle.settled_objects.specs.Settled.{UnlikesPassNone}
 use Rattle.window_tests.specs.Stretches.{StretchesPassNone, OwnBlocksPassNone, own_spans}
 use Rattle.sole_touches.specs.Counts.{count_passing, count_in_pairs, NoneAreCounted}
 use Rattle.race_notes.specs.declared.note.OwnSpan.{OwnSpan}
@@ -45,6 +46,17 @@ own-leave design fault moment faulty (Alike events ∷ pairs) object none =
 own-leave design fault moment faulty (Unlike first ones others ∷ pairs) object none = (
   all-seen (is_of object) (all_accesses (log_of (faulty_machine design fault) faulty (first ∷ others))) none.0,
   own-leave design fault (moment + length (first ∷ ones)) (happened (faulty_machine design fault) faulty (first ∷ others)) pairs object none.1,
+)
+
+-- own blocks none of whose accesses passes a test
+pub own-pass-none : (test : ℕ → AccessAct → Bool) (design : FlatDesign) (fault : StuckAt) (moment : ℕ) (faulty : State) (pairs : List BlockPair) →
+    NoneSees test (own_blocks design fault moment faulty pairs) → UnlikesPassNone test (faulty_machine design fault) faulty pairs
+own-pass-none test design fault moment faulty [] none = tt
+own-pass-none test design fault moment faulty (Alike events ∷ pairs) none =
+    own-pass-none test design fault (moment + length events) (happened (faulty_machine design fault) faulty events) pairs none
+own-pass-none test design fault moment faulty (Unlike first ones others ∷ pairs) none = (
+  all-seen test (all_accesses (log_of (faulty_machine design fault) faulty (first ∷ others))) none.0,
+  own-pass-none test design fault (moment + length (first ∷ ones)) (happened (faulty_machine design fault) faulty (first ∷ others)) pairs none.1,
 )
 
 -- Counts

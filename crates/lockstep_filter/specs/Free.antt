@@ -50,11 +50,20 @@ pub record IsMetAlone (phase : NotedPhase) (object : ℕ) : Type 0 where
   pub since_is : (note_at phase.notes.objects object).since ≡ Some since
   pub stretches : StretchesLeave phase object since
 
--- nothing that is written in the phase reaches an object
-pub record IsUnreachedNet (phase : NotedPhase) (object : ℕ) : Type 0 where
+-- nothing that own blocks wrote or the good machine's beside them reaches an object, nor does what the good machine writes in the phase from a moment on
+pub record IsUnreachedFrom (phase : NotedPhase) (since object : ℕ) : Type 0 where
   pub own : some_reaches phase.design phase.notes.changed object ≡ false
-  pub good : (source moment : ℕ) → phase.notes.first ≤ moment → moment < phase.end → written_at (good_machine phase.design) (events_of phase) source moment ≡ true →
+  pub good : (source moment : ℕ) → since ≤ moment → moment < phase.end → written_at (good_machine phase.design) (events_of phase) source moment ≡ true →
       nat_lt 0 (paths phase.design source object) ≡ false
+
+-- nothing that is written in the phase does
+abbrev pub IsUnreachedNet : NotedPhase → ℕ → Type 0
+IsUnreachedNet phase object = IsUnreachedFrom phase phase.notes.first object
+
+-- what own blocks do with it the good machine's blocks beside them do too, and from the first one on nothing writes it or reaches it: so it holds one value from there on
+pub record IsMetSettled (phase : NotedPhase) (object : ℕ) : Type 0 where
+  pub met : IsMetAlone phase object
+  pub unreached : IsUnreachedFrom phase met.since object
 
 -- an object is no net piece, or one that nothing reaches: so it isn't wild
 abbrev pub IsTame : NotedPhase → ℕ → Type 0
@@ -62,4 +71,5 @@ IsTame phase object = (has (net_pieces phase.design) object ≡ false) ⊎ IsUnr
 
 -- so no two accesses of it conflict, or none that are left
 abbrev pub IsFreeHere : NotedPhase → ℕ → Type 0
-IsFreeHere phase object = IsUnreadNet phase object ⊎ (IsTame phase object × (IsNeverWritten phase object ⊎ (IsTouchedOnce phase object ⊎ IsMetAlone phase object)))
+IsFreeHere phase object =
+    IsUnreadNet phase object ⊎ (IsMetSettled phase object ⊎ (IsTame phase object × (IsNeverWritten phase object ⊎ (IsTouchedOnce phase object ⊎ IsMetAlone phase object))))

@@ -35,6 +35,7 @@ pub fn is_free<N: World>(
     lockstep_race::pairs_tell();
     lockstep_race::nets_are_told();
     lockstep_waits::only_texts_wait();
+    settled_objects::settled_are_free();
     sole_touches::accesses_are_counted();
     sole_touches::writers_dont_read();
     sole_touches::unawaited_objects();
@@ -56,7 +57,9 @@ pub fn is_free<N: World>(
         &room.awaited,
         &room.own,
         &room.phase,
+        &mut room.late,
         known,
+        slot,
         end,
     )
 }

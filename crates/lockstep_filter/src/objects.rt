@@ -6,7 +6,7 @@ ghost use Rattle.vf_base.specs.Lists.{has};
 ghost use Rattle.v_design.specs.Paths.{is_net, net_pieces};
 ghost use Rattle.v_design.specs.PlainDesigns.{design_of};
 ghost use Rattle.lockstep_waits.specs.Awaited.{AreAwaitedFlags};
-ghost use Rattle.lockstep_filter.specs.Free.{IsUnreadNet, IsNeverWritten, IsTouchedOnce, IsMetAlone, IsTame, IsFreeHere};
+ghost use Rattle.lockstep_filter.specs.Free.{IsUnreadNet, IsNeverWritten, IsTouchedOnce, IsMetAlone, IsMetSettled, IsTame, IsFreeHere};
 ghost use Rattle.phase_reach.specs.Reached.{AreReached, PhaseIsReached};
 ghost use Rattle.phase_reach.specs.Phases.{noted_phase};
 
@@ -14,6 +14,7 @@ use crate::spans::NotedSpans;
 use good_trace::{Setup, TraceWindow};
 use lockstep_notes::object_count;
 use lockstep_waits::AwaitedObjects;
+use phase_reach::reach_between;
 use race_notes::RaceNotes;
 use reach_search::Reached;
 use v_design::{Design, ObjectKind, World};
@@ -190,6 +191,39 @@ fn is_tame<N: World>(
     !phase.contains(object)
 }
 
+/// Whether own blocks do with an object only what the good machine's blocks beside them do, and from the first one on nothing writes it or reaches it.
+fn is_met_settled<N: World>(
+    setup: &Setup<'_, N>,
+    window: &TraceWindow<N>,
+    notes: &RaceNotes,
+    own: &Reached,
+    late: &mut Reached,
+    slot: u32,
+    object: ObjectId,
+    end: u32,
+) -> bool
+    requires object { object_number object < length N.design.objects }
+    requires own_design { design_of own.now.design ≡ N.design }
+    requires late_design { design_of late.old.design ≡ N.design }
+    requires own { AreReached N.design notes.now.changed own.now }
+    ensures design { late.new.design ≡ late.old.design }
+    ensures settled { result ≡ true → IsMetSettled (noted_phase N.design N.plan window.now notes.now end) (object_number object) }
+{
+    let Some(since) = notes.note_of(object).since else {
+        return false;
+    };
+    if own.contains(object) {
+        return false;
+    }
+    if !is_met_alone(window, notes, object, end) {
+        return false;
+    }
+    if !reach_between(setup, window, late, slot, since, end) {
+        return false;
+    }
+    !late.contains(object)
+}
+
 /// Whether it is told that no two accesses of an object conflict in the phase, or none that are left.
 fn is_object_free<N: World>(
     setup: &Setup<'_, N>,
@@ -198,16 +232,20 @@ fn is_object_free<N: World>(
     awaited: &AwaitedObjects,
     own: &Reached,
     phase: &Reached,
+    late: &mut Reached,
     known: bool,
+    slot: u32,
     object: ObjectId,
     end: u32,
 ) -> bool
     requires awaited { AreAwaitedFlags N.design awaited.now }
     requires own_design { design_of own.now.design ≡ N.design }
     requires phase_design { design_of phase.now.design ≡ N.design }
+    requires late_design { design_of late.old.design ≡ N.design }
     requires own { AreReached N.design notes.now.changed own.now }
     requires phase { known ≡ true → PhaseIsReached (noted_phase N.design N.plan window.now notes.now end) phase.now }
-    ensures { result ≡ true → IsFreeHere (noted_phase N.design N.plan window.now notes.now end) (object_number object) }
+    ensures design { late.new.design ≡ late.old.design }
+    ensures free { result ≡ true → IsFreeHere (noted_phase N.design N.plan window.now notes.now end) (object_number object) }
 {
     if object.0 as usize >= object_count(setup) {
         return false;
@@ -215,10 +253,10 @@ fn is_object_free<N: World>(
     if is_unread_net(setup, window, notes, awaited, object, end) {
         return true;
     }
-    if !is_tame(setup, window, notes, own, phase, known, object, end) {
-        return false;
+    if is_tame(setup, window, notes, own, phase, known, object, end) {
+        return is_quiet(window, notes, awaited, object, end);
     }
-    is_quiet(window, notes, awaited, object, end)
+    is_met_settled(setup, window, notes, own, late, slot, object, end)
 }
 
 /// Whether all objects that are noted are free.
@@ -229,28 +267,25 @@ pub(crate) fn noted_are_free<N: World>(
     awaited: &AwaitedObjects,
     own: &Reached,
     phase: &Reached,
+    late: &mut Reached,
     known: bool,
+    slot: u32,
     end: u32,
 ) -> bool
     requires awaited { AreAwaitedFlags N.design awaited.now }
     requires own_design { design_of own.now.design ≡ N.design }
     requires phase_design { design_of phase.now.design ≡ N.design }
+    requires late_design { design_of late.old.design ≡ N.design }
     requires own { AreReached N.design notes.now.changed own.now }
     requires phase { known ≡ true → PhaseIsReached (noted_phase N.design N.plan window.now notes.now end) phase.now }
-    ensures { result ≡ true → (object : ℕ) → has notes.now.noted object ≡ true → IsFreeHere (noted_phase N.design N.plan window.now notes.now end) object }
+    ensures design { late.new.design ≡ late.old.design }
+    ensures free { result ≡ true → (object : ℕ) → has notes.now.noted object ≡ true → IsFreeHere (noted_phase N.design N.plan window.now notes.now end) object }
 {
     let noted = notes.noted();
     'objects: for place in 0..noted.len() {
+        let object = noted[place];
         if !is_object_free(
-            setup,
-            window,
-            notes,
-            awaited,
-            own,
-            phase,
-            known,
-            noted[place],
-            end,
+            setup, window, notes, awaited, own, phase, late, known, slot, object, end,
         ) {
             return false;
         }

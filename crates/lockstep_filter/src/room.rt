@@ -8,12 +8,13 @@ use std::marker::{Model, PhantomData};
 use v_design::World;
 use vf_base::NoMemory;
 
-/// On which objects of the design of `N` processes may wait, and room for what the writes of a phase reach: those of own blocks, and those of both machines.
+/// On which objects of the design of `N` processes may wait, and room for what writes of a phase reach: those of own blocks, those of the good machine, and its later ones.
 #[derive(Drop)]
 pub struct FilterRoom<'d, N: World> {
     pub(crate) awaited: AwaitedObjects,
     pub(crate) own: Reached<'d>,
     pub(crate) phase: Reached<'d>,
+    pub(crate) late: Reached<'d>,
     world: PhantomData<N>,
 }
 
@@ -26,7 +27,7 @@ impl<'d, N: World> Model for FilterRoom<'d, N> {
 
     ghost view = { λ _. tt };
 
-    ghost invariant = { λ r. AreAwaitedFlags N.design r.awaited × (design_of r.own.design ≡ N.design) × (design_of r.phase.design ≡ N.design) };
+    ghost invariant = { λ r. AreAwaitedFlags N.design r.awaited × (design_of r.own.design ≡ N.design) × (design_of r.phase.design ≡ N.design) × (design_of r.late.design ≡ N.design) };
 }
 
 impl<'d, N: World> FilterRoom<'d, N> {
@@ -41,10 +42,12 @@ impl<'d, N: World> FilterRoom<'d, N> {
         let awaited = AwaitedObjects::new(alloc, design)?;
         let own = Reached::new(alloc, graph)?;
         let phase = Reached::new(alloc, graph)?;
+        let late = Reached::new(alloc, graph)?;
         Ok(FilterRoom {
             awaited,
             own,
             phase,
+            late,
             world: PhantomData,
         })
     }

@@ -4,3 +4,4 @@ pub mod StepDeeds
 pub mod Turns
 pub mod PartLaws
 pub mod There
+pub mod Steps

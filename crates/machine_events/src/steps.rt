@@ -2,6 +2,7 @@
 
 ghost use Rattle.std.specs.Prelude.{◌≡◌, ◌<◌, ◌≤◌, ◌^◌, Some, None, true, length, IfOk, IfSome, OnOk};
 ghost use Rattle.vf_base.specs.Base.{object_number, process_number};
+ghost use Rattle.vf_base.specs.Counts.{raised};
 ghost use Rattle.v_design.specs.States.{Step, is_ready};
 ghost use Rattle.v_design.specs.Accesses.{waiting_entries};
 ghost use Rattle.net_state.specs.States.{values_in, machine_in};
@@ -159,7 +160,7 @@ pub fn finish_step(
     Ok(())
 }
 
-/// A ready process takes a step, of which no record is kept: `told` tells it. It answers what the step did.
+/// A ready process takes a step, of which no record is kept: `told` tells it, and `steps` ticks once. It answers what the step did.
 ///
 /// # Errors
 ///
@@ -175,7 +176,8 @@ pub fn step_alone<L: Ledger>(
     requires ready { is_ready (process_in (table_of table.old) (process_number process)).activity ≡ true }
     requires time { (table_of table.old).time ≤ 2 ^ 63 }
     requires there { StepIsThere (process_number process) nets.old table.old }
-    ensures { IfOk result (λ stepped. HappensTo (Step (process_number process)) stepped.line nets.old nets.new table.old table.new told.new) }
+    ensures happens { IfOk result (λ stepped. HappensTo (Step (process_number process)) stepped.line nets.old nets.new table.old table.new told.new) }
+    ensures ticks { OnOk result (steps.new ≡ raised steps.old) }
 {
     let stepped = table.step(process, &*nets, steps)?;
     carry_out(nets, table, told, process, &stepped)?;

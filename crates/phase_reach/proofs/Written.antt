@@ -17,8 +17,7 @@ use Rattle.good_trace.specs.SlotsTold.{AreWritesOf}
 use Rattle.order_laws.proofs.Conflicts.{In}
 use Rattle.block_filter.proofs.Entries.{any_writer}
 use Rattle.reach_search.specs.Reach.{ReachKept}
-use Rattle.race_notes.specs.Notes.{NotesKept}
-use Rattle.phase_reach.specs.Reached.{PhaseIsReached, WritesAreReached}
+use Rattle.phase_reach.specs.Reached.{MomentsAreReached, WritesAreReached}
 
 -- One event
 
@@ -143,19 +142,18 @@ slot-event design plan begins number ends moment low high since before =
     let within : place < length slot = omega (arith, since, before, through, long) in
     ap (λ l. slice_get l moment) parts ∙ ap (slice_get (earlier ++ (slot ++ later))) (sym back) ∙ get-behind earlier (slot ++ later) place ∙ get-front slot later place within
 
--- what the writes of a slot reach from one moment to before another is all that the phase's writes reach
-pub phase-reached : (design : FlatDesign) (plan : TestPlan) (begins number ends end : ℕ) (notes : NotesKept) (writes : List Written) (reached : ReachKept) → begins ≤ number → number < ends →
-    length (window_events design plan begins number) ≤ notes.first → end ≤ length (window_events design plan begins (number + 1)) →
+-- what the listed writes of a slot reach from one moment to before another is all that the good machine's writes reach there
+pub moments-reached : (design : FlatDesign) (plan : TestPlan) (begins number ends first end : ℕ) (writes : List Written) (reached : ReachKept) → begins ≤ number → number < ends →
+    length (window_events design plan begins number) ≤ first → end ≤ length (window_events design plan begins (number + 1)) →
     AreWritesOf (good_machine design) (window_events design plan number (number + 1)) (length (window_events design plan begins number)) writes →
-    WritesAreReached design notes.first end writes reached →
-    PhaseIsReached (record { design = design; plan = plan; begins = begins; ends = ends; end = end; notes = notes }) reached
-phase-reached design plan begins number ends end notes writes reached low high since_slot before_slot told all source moment object since before written reaches =
+    WritesAreReached design first end writes reached → MomentsAreReached design plan begins ends first end reached
+moments-reached design plan begins number ends first end writes reached low high since_slot before_slot told all source moment object since before written reaches =
     let machine = good_machine design in
-    let first = length (window_events design plan begins number) in
-    let place = moment - first in
+    let start = length (window_events design plan begins number) in
+    let place = moment - start in
     let here : written_at machine (window_events design plan number (number + 1)) source place ≡ true =
     ap (λ o. written_here machine source o) (sym (slot-event design plan begins number ends moment low high (omega (arith, since_slot, since)) (omega (arith, before, before_slot)))) ∙ written in
-    let at = events-written machine (window_events design plan number (number + 1)) told.accesses first place source told.listed here in
+    let at = events-written machine (window_events design plan number (number + 1)) told.accesses start place source told.listed here in
     let moment_is = at.moment_is in
     all at.write (subst (IsIn at.write) (sym told.are) at.is_in) (omega (arith, moment_is, since_slot, since)) (omega (arith, moment_is, since_slot, since, before)) object
     (ap (λ n. nat_lt 0 (paths design n object)) at.object_is ∙ reaches)

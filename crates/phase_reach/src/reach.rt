@@ -4,7 +4,7 @@ ghost use Rattle.std.specs.Prelude.{◌≡◌, true, length, map};
 ghost use Rattle.vf_base.specs.Base.{object_number};
 ghost use Rattle.v_design.specs.PlainDesigns.{design_of};
 ghost use Rattle.trace_window.specs.Writes.{written_of};
-ghost use Rattle.phase_reach.specs.Reached.{AreReached, PhaseIsReached, WritesAreReached};
+ghost use Rattle.phase_reach.specs.Reached.{AreReached, MomentsAreReached, PhaseIsReached, WritesAreReached};
 ghost use Rattle.phase_reach.specs.Phases.{noted_phase};
 
 use good_trace::{Setup, TraceWindow};
@@ -61,6 +61,32 @@ fn reach_written(
     true
 }
 
+/// Finds what is reached from what the good machine writes in a slot, from one moment to before another. It answers whether it is known then: the moments are the slot's.
+pub fn reach_between<N: World>(
+    setup: &Setup<'_, N>,
+    window: &TraceWindow<N>,
+    reached: &mut Reached,
+    slot: u32,
+    first: u32,
+    end: u32,
+) -> bool
+    requires { design_of reached.old.design ≡ N.design }
+    ensures design { reached.new.design ≡ reached.old.design }
+    ensures all { result ≡ true → MomentsAreReached N.design N.plan window.now.before window.now.through first end reached.new }
+{
+    if window.slots() <= slot {
+        return false;
+    }
+    if first < window.first_moment(slot) {
+        return false;
+    }
+    if window.first_moment(slot + 1) < end {
+        return false;
+    }
+    let count = object_count(setup);
+    reach_written(reached, window.changes_in(slot), first, end, count)
+}
+
 /// Finds what is reached from what the good machine writes in a phase of a slot, up to a moment, if that is asked for. It answers whether it is known then.
 pub fn reach_phase<N: World>(
     setup: &Setup<'_, N>,
@@ -78,16 +104,5 @@ pub fn reach_phase<N: World>(
     if !asked {
         return false;
     }
-    if window.slots() <= slot {
-        return false;
-    }
-    let first = notes.first();
-    if first < window.first_moment(slot) {
-        return false;
-    }
-    if window.first_moment(slot + 1) < end {
-        return false;
-    }
-    let count = object_count(setup);
-    reach_written(reached, window.changes_in(slot), first, end, count)
+    reach_between(setup, window, reached, slot, notes.first(), end)
 }

@@ -1,10 +1,10 @@
 -- The process steps of a worker's shards (steps by IEEE 1364-2001, clause 9; slots by clause 5).
-use Rattle.std.proofs.Common.{◌≡◌, ℕ, ◌+◌, ◌<◌, ◌≤◌, Bool, true, false, cond, List, [], ◌∷◌, ◌++◌, length, get_or, set, sym, ap, ◌∙◌, arith}
+use Rattle.std.proofs.Common.{◌≡◌, ℕ, ◌+◌, ◌*◌, ◌<◌, ◌≤◌, Bool, true, false, cond, List, [], ◌∷◌, ◌++◌, length, get_or, set, sym, ap, ◌∙◌, arith}
 use Rattle.std.specs.Prelude.{sum_by}
 use Rattle.std.proofs.lemmas.List.Sums.{sum_by-set, sum_by_push}
 use Rattle.v_design.specs.Designs.{FlatDesign, TestPlan}
 use Rattle.copy_shard.specs.Shards.{shard_steps}
-use Rattle.graded_steps.specs.Behind.{RisesWithin}
+use Rattle.graded_steps.specs.Behind.{RisesTwice}
 use Rattle.shard_claims.specs.declared.round.ClaimedShard.{ClaimedShard}
 use Rattle.shard_claims.specs.declared.worker.Worker.{Worker}
 use Rattle.shard_claims.specs.Workers.{claimed_steps, worker_steps}
@@ -12,7 +12,7 @@ use Rattle.shard_claims.specs.Workers.{claimed_steps, worker_steps}
 module _ {N : Type 0} where
   -- one claim more
   pub claimed-more : (design : FlatDesign) (plan : TestPlan) (old new : List (ClaimedShard N)) (more : ClaimedShard N) (before mid after : ℕ) → new ≡ old ++ more ∷ [] →
-      mid ≤ before + claimed_steps design plan old → after ≤ mid + shard_steps design plan more.shard → after ≤ before + claimed_steps design plan new
+      mid ≤ before + 2 * claimed_steps design plan old → after ≤ mid + 2 * shard_steps design plan more.shard → after ≤ before + 2 * claimed_steps design plan new
   claimed-more design plan old new more before mid after is so_far rises =
       let sum : claimed_steps design plan new ≡ claimed_steps design plan old + shard_steps design plan more.shard =
       ap (claimed_steps design plan) is ∙ sum_by_push (λ (claimed : ClaimedShard N). shard_steps design plan claimed.shard) old more in
@@ -20,8 +20,8 @@ module _ {N : Type 0} where
 
   -- one shard goes through a window
   pub claimed-set : (design : FlatDesign) (plan : TestPlan) (items : List (ClaimedShard N)) (place : ℕ) (old new : ClaimedShard N) (from before mid after : ℕ) → place < length items →
-      old ≡ get_or items place old → RisesWithin from (claimed_steps design plan items) before mid →
-      RisesWithin (shard_steps design plan old.shard) (shard_steps design plan new.shard) mid after → RisesWithin from (claimed_steps design plan (set items place new)) before after
+      old ≡ get_or items place old → RisesTwice from (claimed_steps design plan items) before mid →
+      RisesTwice (shard_steps design plan old.shard) (shard_steps design plan new.shard) mid after → RisesTwice from (claimed_steps design plan (set items place new)) before after
   claimed-set design plan items place old new from before mid after low read so_far rises =
       let sum : claimed_steps design plan (set items place new) + shard_steps design plan (get_or items place old).shard ≡ claimed_steps design plan items + shard_steps design plan new.shard =
       sum_by-set (λ (claimed : ClaimedShard N). shard_steps design plan claimed.shard) items place new old low in
@@ -34,8 +34,8 @@ module _ {N : Type 0} where
 
   -- one that has claimed
   pub dry-rises : (design : FlatDesign) (plan : TestPlan) (old new : Worker N) (before after : ℕ) → old.dry ≡ true → new.dry ≡ true →
-      RisesWithin (claimed_steps design plan old.shards.items) (claimed_steps design plan new.shards.items) before after →
-      RisesWithin (worker_steps design plan old) (worker_steps design plan new) before after
+      RisesTwice (claimed_steps design plan old.shards.items) (claimed_steps design plan new.shards.items) before after →
+      RisesTwice (worker_steps design plan old) (worker_steps design plan new) before after
   dry-rises design plan old new before after was is rises =
       let a : worker_steps design plan old ≡ claimed_steps design plan old.shards.items = steps-by design plan old true was in
       let b : worker_steps design plan new ≡ claimed_steps design plan new.shards.items = steps-by design plan new true is in
@@ -43,7 +43,7 @@ module _ {N : Type 0} where
 
   -- one that claims now
   pub new-rises : (design : FlatDesign) (plan : TestPlan) (old new : Worker N) (before after : ℕ) → old.dry ≡ false → new.dry ≡ true →
-      after ≤ before + claimed_steps design plan new.shards.items → RisesWithin (worker_steps design plan old) (worker_steps design plan new) before after
+      after ≤ before + 2 * claimed_steps design plan new.shards.items → RisesTwice (worker_steps design plan old) (worker_steps design plan new) before after
   new-rises design plan old new before after was is rises =
       let a : worker_steps design plan old ≡ 0 = steps-by design plan old false was in
       let b : worker_steps design plan new ≡ claimed_steps design plan new.shards.items = steps-by design plan new true is in

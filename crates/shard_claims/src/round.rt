@@ -2,7 +2,8 @@
 
 use copy_shard::Shard;
 use fault_shards::Shards;
-use good_trace::{Setup, TraceWindow};
+use good_trace::Setup;
+use run_trace::RunWindow;
 use v_design::World;
 use verdict_words::Board;
 
@@ -14,7 +15,7 @@ pub struct Round<'r, 'd, N: World, G> {
     pub shards: &'r Shards,
     pub board: &'r Board<N>,
     pub gate: &'r G,
-    pub window: &'r TraceWindow<N>,
+    pub window: &'r RunWindow<N>,
 }
 
 /// A shard, with the number by which it was claimed.

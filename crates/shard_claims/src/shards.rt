@@ -4,7 +4,7 @@ ghost use Rattle.std.specs.Prelude.{◌≡◌, OnOk};
 ghost use Rattle.std.specs.List.{All};
 ghost use Rattle.fault_shards.specs.Shards.{representatives_of};
 ghost use Rattle.copy_shard.specs.Shards.{shard_steps};
-ghost use Rattle.graded_steps.specs.Behind.{RisesWithin};
+ghost use Rattle.graded_steps.specs.Behind.{RisesTwice};
 ghost use Rattle.shard_claims.specs.Workers.{IsClaimed, claimed_steps, numbers_of};
 
 use crate::round::{ClaimedShard, Round};
@@ -25,7 +25,7 @@ fn advance_one<'d, N: World, G, L: Ledger>(
     requires { IsClaimed (representatives_of round.now.shards.now) round.now.window.now.before claimed.old }
     ensures through { OnOk result (IsClaimed (representatives_of round.now.shards.now) round.now.window.now.through claimed.new) }
     ensures number { OnOk result (claimed.new.number ≡ claimed.old.number) }
-    ensures ticks { OnOk result (RisesWithin (shard_steps N.design N.plan claimed.old.shard) (shard_steps N.design N.plan claimed.new.shard) steps.old steps.new) }
+    ensures ticks { OnOk result (RisesTwice (shard_steps N.design N.plan claimed.old.shard) (shard_steps N.design N.plan claimed.new.shard) steps.old steps.new) }
 {
     claimed
         .shard
@@ -48,7 +48,7 @@ pub(crate) fn advance_all<'d, N: World, G, L: Ledger>(
     requires { All (IsClaimed (representatives_of round.now.shards.now) round.now.window.now.before) shards.old.items }
     ensures through { OnOk result (All (IsClaimed (representatives_of round.now.shards.now) round.now.window.now.through) shards.new.items) }
     ensures numbers { OnOk result (numbers_of shards.new.items ≡ numbers_of shards.old.items) }
-    ensures ticks { OnOk result (RisesWithin (claimed_steps N.design N.plan shards.old.items) (claimed_steps N.design N.plan shards.new.items) steps.old steps.new) }
+    ensures ticks { OnOk result (RisesTwice (claimed_steps N.design N.plan shards.old.items) (claimed_steps N.design N.plan shards.new.items) steps.old steps.new) }
 {
     'shards: for place in 0..shards.len() {
         let claimed = &mut shards[place];

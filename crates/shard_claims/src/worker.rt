@@ -2,7 +2,7 @@
 
 ghost use Rattle.std.specs.Prelude.{IfOk};
 ghost use Rattle.fault_shards.specs.Shards.{representatives_of};
-ghost use Rattle.graded_steps.specs.Behind.{RisesWithin};
+ghost use Rattle.graded_steps.specs.Behind.{RisesTwice};
 ghost use Rattle.shard_claims.specs.Workers.{IsPlaceOf, IsWorkerAt, worker_steps};
 
 use crate::claim::claim_all;
@@ -24,8 +24,48 @@ pub struct Worker<N: World> {
     pub dry: bool,
 }
 
+/// Takes a worker through a round in this room.
+fn work_in<'d, N: World, G: Gate, L: Ledger>(
+    alloc: Global,
+    round: &Round<'_, 'd, N, G>,
+    worker: Worker<N>,
+    room: &mut ShardRoom<'d, N>,
+    steps: &mut Steps<L>,
+) -> Result<Worker<N>, NoMemory>
+    requires place { IsPlaceOf N.design N.plan round.now.shards.now round.now.board.now }
+    requires at { IsWorkerAt (representatives_of round.now.shards.now) round.now.board.now round.now.window.now.before worker }
+    ensures through { IfOk result (IsWorkerAt (representatives_of round.now.shards.now) round.now.board.now round.now.window.now.through) }
+    ensures ticks { IfOk result (λ after. RisesTwice (worker_steps N.design N.plan worker) (worker_steps N.design N.plan after) steps.old steps.new) }
+{
+    let Worker {
+        number,
+        seat,
+        mut shards,
+        dry,
+    } = worker;
+    if dry {
+        advance_all(alloc, round, &mut shards, room, steps)?;
+        return Ok(Worker {
+            number,
+            seat,
+            shards,
+            dry,
+        });
+    }
+    let (seat, shards) = claim_all(alloc, round, number, seat, room, steps)?;
+    Ok(Worker {
+        number,
+        seat,
+        shards,
+        dry: true,
+    })
+}
+
+/// Lets go of a room.
+fn let_go<N: World>(_room: ShardRoom<'_, N>) {}
+
 /// Takes a worker through a round: it claims shards until none is left, where it hasn't done so yet, and its shards go through the round's window. `steps`
-/// ticks once for each process step of the slots that the faulty machines run.
+/// ticks once for each process step that its faulty machines take.
 ///
 /// # Errors
 ///
@@ -39,30 +79,11 @@ pub fn work<N: World, G: Gate, L: Ledger>(
     requires place { IsPlaceOf N.design N.plan round.now.shards.now round.now.board.now }
     requires at { IsWorkerAt (representatives_of round.now.shards.now) round.now.board.now round.now.window.now.before worker }
     ensures through { IfOk result (IsWorkerAt (representatives_of round.now.shards.now) round.now.board.now round.now.window.now.through) }
-    ensures ticks { IfOk result (λ after. RisesWithin (worker_steps N.design N.plan worker) (worker_steps N.design N.plan after) steps.old steps.new) }
+    ensures ticks { IfOk result (λ after. RisesTwice (worker_steps N.design N.plan worker) (worker_steps N.design N.plan after) steps.old steps.new) }
 {
     // The machine in it is of this thread alone.
     let mut room = ShardRoom::new(alloc);
-    let Worker {
-        number,
-        seat,
-        mut shards,
-        dry,
-    } = worker;
-    if dry {
-        advance_all(alloc, round, &mut shards, &mut room, steps)?;
-        return Ok(Worker {
-            number,
-            seat,
-            shards,
-            dry,
-        });
-    }
-    let (seat, shards) = claim_all(alloc, round, number, seat, &mut room, steps)?;
-    Ok(Worker {
-        number,
-        seat,
-        shards,
-        dry: true,
-    })
+    let done = work_in(alloc, round, worker, &mut room, steps);
+    let_go(room);
+    done
 }

@@ -17,7 +17,7 @@ use Rattle.v_design.proofs.plan.Plan.TheSendSync as plan_crosses
 use Rattle.process_code.proofs.code.Ways.TheSendSync as ways_crosses
 use Rattle.fault_shards.proofs.shards.Shards.TheSendSync as shards_crosses
 use Rattle.verdict_words.proofs.board.Board.TheSendSync as board_crosses
-use Rattle.good_trace.proofs.window.TraceWindow.TheSendSync as window_crosses
+use Rattle.run_trace.proofs.window.RunWindow.TheSendSync as window_crosses
 use Rattle.v_design.specs.declared.world.World.{Ghosts}
 use Rattle.v_design.specs.contracts.tree.FlatStmt as statement
 use Rattle.v_design.specs.contracts.plan.Design as design

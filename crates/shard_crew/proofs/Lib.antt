@@ -2,3 +2,4 @@ pub mod Crossing
 pub mod Manning
 pub mod Gathering
 pub mod Ticks
+pub use Rattle.shard_claims.proofs as shard_claims

@@ -1,10 +1,10 @@
 -- The process steps of all workers (steps by IEEE 1364-2001, clause 9; slots by clause 5).
-use Rattle.std.proofs.Common.{◌≡◌, ℕ, ◌+◌, ◌<◌, ◌≤◌, Bool, true, false, cond, List, [], ◌∷◌, ◌++◌, length, get_or, set, take, refl, sym, ap, subst, ◌∙◌, arith}
+use Rattle.std.proofs.Common.{◌≡◌, ℕ, ◌+◌, ◌*◌, ◌<◌, ◌≤◌, Bool, true, false, cond, List, [], ◌∷◌, ◌++◌, length, get_or, set, take, refl, sym, ap, subst, ◌∙◌, arith}
 use Rattle.std.specs.Prelude.{sum, sum_by, Option, None, Some, IsSomeAnd}
 use Rattle.std.proofs.lemmas.List.Sums.{sum_by-append, sum_by_more, sum_by_push}
 use Rattle.v_design.specs.Designs.{FlatDesign, TestPlan}
-use Rattle.copy_shard.specs.Shards.{fault_steps_at, places_of, shard_steps}
-use Rattle.graded_steps.specs.Behind.{RisesWithin}
+use Rattle.shard_claims.specs.copy_shard.Shards.{fault_steps_at, places_of, shard_steps}
+use Rattle.graded_steps.specs.Behind.{RisesTwice, RisesWithin}
 use Rattle.shard_claims.specs.declared.round.ClaimedShard.{ClaimedShard}
 use Rattle.shard_claims.specs.declared.worker.Worker.{Worker}
 use Rattle.verdict_words.specs.declared.board.Board.{Board}
@@ -35,23 +35,23 @@ none-at P found is at = subst (λ (o : Option _). IsSomeAnd o P) is at
 module _ {N : Type 0} where
   -- one worker with one counter
   pub alone-steps : (design : FlatDesign) (plan : TestPlan) (found : Option (Worker N)) (worker after : Worker N) (mine : List ℕ) (d new : ℕ) → found ≡ Some worker → length mine ≡ 1 →
-      RisesWithin (worker_steps design plan worker) (worker_steps design plan after) (get_or mine 0 d) new →
-      RisesWithin (steps_in design plan found) (worker_steps design plan after) (sum mine) (sum (set mine 0 new))
+      RisesTwice (worker_steps design plan worker) (worker_steps design plan after) (get_or mine 0 d) new →
+      RisesTwice (steps_in design plan found) (worker_steps design plan after) (sum mine) (sum (set mine 0 new))
   alone-steps design plan found worker after mine d new is one rises =
-      subst (λ (o : Option (Worker N)). RisesWithin (steps_in design plan o) (worker_steps design plan after) (sum mine) (sum (set mine 0 new))) (sym is)
-      (alone-rises (worker_steps design plan worker) (worker_steps design plan after) mine d new one rises)
+      subst (λ (o : Option (Worker N)). RisesTwice (steps_in design plan o) (worker_steps design plan after) (sum mine) (sum (set mine 0 new))) (sym is)
+      (alone-rises (2 * worker_steps design plan worker) (2 * worker_steps design plan after) mine d new one rises)
 
   -- no worker
   pub nothing-rises : (design : FlatDesign) (plan : TestPlan) (old new : List (Worker N)) (counter : ℕ) → length old ≡ 0 →
-      RisesWithin (crew_steps design plan old) (crew_steps design plan new) counter counter
+      RisesTwice (crew_steps design plan old) (crew_steps design plan new) counter counter
   nothing-rises design plan old new counter none =
       let zero_steps : crew_steps design plan old ≡ 0 = ap (crew_steps design plan) (none-length old none) in omega (arith, zero_steps)
 
   -- one worker beside the others
   pub crew-more : (design : FlatDesign) (plan : TestPlan) (all before after back : List (Worker N)) (old new : Worker N) (steps front rest front_new rest_new : List ℕ) → all ≡ before ++ old ∷ [] →
-      back ≡ after ++ new ∷ [] → steps ≡ front ++ rest → RisesWithin (worker_steps design plan old) (worker_steps design plan new) (sum rest) (sum rest_new) →
-      RisesWithin (crew_steps design plan before) (crew_steps design plan after) (sum front) (sum front_new) →
-      RisesWithin (crew_steps design plan all) (crew_steps design plan back) (sum steps) (sum (front_new ++ rest_new))
+      back ≡ after ++ new ∷ [] → steps ≡ front ++ rest → RisesTwice (worker_steps design plan old) (worker_steps design plan new) (sum rest) (sum rest_new) →
+      RisesTwice (crew_steps design plan before) (crew_steps design plan after) (sum front) (sum front_new) →
+      RisesTwice (crew_steps design plan all) (crew_steps design plan back) (sum steps) (sum (front_new ++ rest_new))
   crew-more design plan all before after back old new steps front rest front_new rest_new are is parts one others =
       let a : crew_steps design plan all ≡ crew_steps design plan before + worker_steps design plan old = ap (crew_steps design plan) are ∙ sum_by_push (worker_steps design plan) before old in
       let b : crew_steps design plan back ≡ crew_steps design plan after + worker_steps design plan new = ap (crew_steps design plan) is ∙ sum_by_push (worker_steps design plan) after new in

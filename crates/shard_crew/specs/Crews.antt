@@ -2,8 +2,8 @@
 use Rattle.std.specs.Prelude.{◌≡◌, ℕ, ◌+◌, ◌*◌, ◌^◌, IsTrue, List, [], length, sum, sum_by, Option, Some, None}
 use Rattle.std.specs.List.{All, flat_map}
 use Rattle.copy_laws.specs.Windows.{good_slots}
-use Rattle.copy_shard.specs.Shards.{fault_steps_at, places_of, findings_of}
-use Rattle.graded_steps.specs.Behind.{RisesWithin}
+use Rattle.shard_claims.specs.copy_shard.Shards.{fault_steps_at, places_of, findings_of}
+use Rattle.graded_steps.specs.Behind.{RisesTwice}
 use Rattle.fault_shards.specs.Found.{found_faults}
 use Rattle.verdict_settle.specs.Harvests.{IsHarvest, claimed_faults}
 use Rattle.verdict_words.specs.Seats.{view, IsSeatOf}
@@ -16,9 +16,9 @@ use Rattle.v_design.specs.Designs.{FlatDesign, TestPlan}
 use Rattle.shard_claims.specs.Workers.{IsWorkerAt, worker_steps, KeepsShards}
 use Rattle.shard_crew.specs.declared.gathered.Gathered.{Gathered}
 
--- some counters rose together by no more than one number is above another
-pub record RoseWithin (from to : ℕ) (before after : List ℕ) : Type 0 where
-  pub rises : RisesWithin from to (sum before) (sum after)
+-- some counters rose together by no more than twice what one number is above another
+pub record RoseTwice (from to : ℕ) (before after : List ℕ) : Type 0 where
+  pub rises : RisesTwice from to (sum before) (sum after)
 
 module _ {N : Type 0} where
   -- Shards

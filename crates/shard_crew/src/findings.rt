@@ -4,7 +4,7 @@ ghost use Rattle.std.specs.Prelude.{◌≡◌, ◌++◌, ◌<◌, ◌≤◌, ◌
 ghost use Rattle.std.specs.List.{All};
 ghost use Rattle.copy_laws.specs.Windows.{good_slots};
 ghost use Rattle.v_design.specs.WellFormed.{KeepsRules};
-ghost use Rattle.copy_shard.specs.Shards.{fault_steps_at, findings_of, places_of, shard_steps};
+ghost use Rattle.shard_claims.specs.copy_shard.Shards.{fault_steps_at, findings_of, places_of, shard_steps};
 ghost use Rattle.fault_shards.specs.Found.{IsFinding, found_faults};
 ghost use Rattle.fault_shards.specs.Shards.{representatives_of};
 ghost use Rattle.shard_claims.specs.Workers.{IsPlaceOf, IsWorkerAt, claimed_steps, worker_steps};
@@ -14,8 +14,7 @@ ghost use Rattle.verdict_words.specs.Views.{lent_share};
 use crate::gathered::Gathered;
 use crate::place::Place;
 use crate::rules::rules_hold;
-use copy_shard::Shard;
-use shard_claims::{ClaimedShard, Worker};
+use shard_claims::{ClaimedShard, Shard, Worker};
 use std::alloc::Global;
 use v_design::World;
 use verdict_settle::settle_findings;

@@ -18,4 +18,5 @@ pub use gathered::Gathered;
 pub use hiring::hire;
 pub use place::Place;
 pub use rules::rules_hold;
+pub use shard_claims::{ClaimedShard, Round, Shard, Worker};
 pub use threads::crew;

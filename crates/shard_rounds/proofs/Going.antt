@@ -9,7 +9,7 @@ use Rattle.good_trace.specs.Traces.{WindowKept}
 use Rattle.good_windows.specs.Next.{RunKept, IsNextWindow, AllStand, LoopsBehind}
 use Rattle.fault_grade.specs.Results.{LoopsAt}
 use Rattle.verdict_words.specs.declared.board.Board.{Board}
-use Rattle.shard_claims.specs.declared.worker.Worker.{Worker}
+use Rattle.shard_crew.specs.shard_claims.declared.worker.Worker.{Worker}
 use Rattle.shard_crew.specs.Crews.{AreWorkersAt}
 use Rattle.shard_rounds.specs.Rounds.{IsWindowAhead, AreThrough}
 

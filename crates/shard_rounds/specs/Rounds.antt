@@ -1,16 +1,16 @@
 -- How rounds follow each other (slots by IEEE 1364-2001, clause 5).
-use Rattle.std.specs.Prelude.{◌≡◌, ℕ, ◌+◌, ◌≤◌, true, List, length}
+use Rattle.std.specs.Prelude.{◌≡◌, ℕ, ◌+◌, ◌≤◌, true, List, length, sum}
 use Rattle.v_design.specs.Designs.{FlatDesign, TestPlan}
 use Rattle.copy_laws.specs.Windows.{IsWindow, good_slots}
 use Rattle.fault_grade.specs.Results.{LoopsAt}
 use Rattle.good_trace.specs.Traces.{WindowKept}
 use Rattle.v_design.specs.OwnSteps.{good_steps}
-use Rattle.graded_steps.specs.Behind.{RisesWithin}
+use Rattle.graded_steps.specs.Behind.{RisesTwice, RisesWithin}
 use Rattle.good_windows.specs.Next.{RunKept, GivesNext, steps_of_slots}
 use Rattle.good_windows.specs.declared.next.NextWindow.{NextWindow}
 use Rattle.verdict_words.specs.declared.board.Board.{Board}
 use Rattle.shard_crew.specs.Crews.{AreWorkersAt, crew_steps}
-use Rattle.shard_claims.specs.declared.worker.Worker.{Worker}
+use Rattle.shard_crew.specs.shard_claims.declared.worker.Worker.{Worker}
 use Rattle.shard_rounds.specs.declared.step.Rounds.{Rounds}
 use Rattle.shard_rounds.specs.declared.step.Later.{Later}
 use Rattle.shard_rounds.specs.declared.step.Later.TheVariants.{Round, Done, Loops}
@@ -24,6 +24,10 @@ pub record IsWindowAhead (design : FlatDesign) (plan : TestPlan) (run : RunKept)
   pub window_is : IsWindow design plan window.before window.through window.ending
   pub run_at : run.gone ≡ window.through
   pub usable : run.usable ≡ true
+
+-- some counters rose together by no more than one number is above another
+pub record RoseWithin (from to : ℕ) (before after : List ℕ) : Type 0 where
+  pub rises : RisesWithin from to (sum before) (sum after)
 
 module _ {N : Type 0} where
   -- the run, of which so many slots stood in windows, goes on, and this comes next
@@ -53,10 +57,10 @@ module _ {N : Type 0} where
   GoesOn design plan representatives board count through run (Done workers) = AreThrough design plan representatives board count workers.items
   GoesOn design plan representatives board count through run (Loops time) = LoopsAt design plan time
 
-  -- the counters of its workers rose by no more than the process steps that their gradings take in the round; where the good machine loops the workers are gone
+  -- the counters of its workers rose by no more than twice the process steps that their gradings take in the round; where the good machine loops the workers are gone
   abbrev pub RoundTicks : FlatDesign → TestPlan → List (Worker N) → ℕ → ℕ → Later N → Type 0
-  RoundTicks design plan workers before after (Round rounds) = RisesWithin (crew_steps design plan workers) (crew_steps design plan rounds.workers.items) before after
-  RoundTicks design plan workers before after (Done gone) = RisesWithin (crew_steps design plan workers) (crew_steps design plan gone.items) before after
+  RoundTicks design plan workers before after (Round rounds) = RisesTwice (crew_steps design plan workers) (crew_steps design plan rounds.workers.items) before after
+  RoundTicks design plan workers before after (Done gone) = RisesTwice (crew_steps design plan workers) (crew_steps design plan gone.items) before after
   RoundTicks design plan workers before after (Loops time) = Unit {0}
 
   -- the counter of the good machine rose by no more than its process steps in between
@@ -67,7 +71,7 @@ module _ {N : Type 0} where
 
   -- the same behind all rounds
   abbrev pub AllTicks : FlatDesign → TestPlan → List (Worker N) → ℕ → ℕ → Through N → Type 0
-  AllTicks design plan workers before after (ends.All gone) = RisesWithin (crew_steps design plan workers) (crew_steps design plan gone.items) before after
+  AllTicks design plan workers before after (ends.All gone) = RisesTwice (crew_steps design plan workers) (crew_steps design plan gone.items) before after
   AllTicks design plan workers before after (ends.Loops time) = Unit {0}
 
   -- the first window, behind which so many slots were run

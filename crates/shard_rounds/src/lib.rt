@@ -13,3 +13,4 @@ mod step;
 
 pub use outcome::Outcome;
 pub use rounds::grade_rounds;
+pub use shard_crew::{ClaimedShard, Gathered, Place, Shard};

@@ -5,7 +5,7 @@ ghost use Rattle.v_design.specs.OwnSteps.{good_steps};
 ghost use Rattle.fault_shards.specs.Shards.{representatives_of};
 ghost use Rattle.verdict_words.specs.Seats.{view, IsSeatOf};
 ghost use Rattle.verdict_words.specs.Views.{first_view};
-ghost use Rattle.shard_claims.specs.Workers.{IsPlaceOf};
+ghost use Rattle.shard_crew.specs.shard_claims.Workers.{IsPlaceOf};
 ghost use Rattle.graded_steps.specs.Behind.{RisesWithin};
 ghost use Rattle.good_windows.specs.Next.{steps_of_slots};
 ghost use Rattle.shard_rounds.specs.Rounds.{AllTicks, FirstTicks, IsBeforeRound, AreDone, IsFirst};
@@ -13,10 +13,10 @@ ghost use Rattle.shard_rounds.specs.Outcomes.{IsOutcome, OutcomeTicks};
 
 use crate::outcome::Outcome;
 use crate::step::{Ahead, Later, Rounds, next_round, run_on};
-use good_trace::{Setup, TraceWindow};
+use good_trace::Setup;
 use good_windows::{GoodRun, NextWindow};
-use shard_claims::Worker;
-use shard_crew::{Place, finish, hire, rules_hold};
+use run_trace::RunWindow;
+use shard_crew::{Place, Worker, finish, hire, rules_hold};
 use std::alloc::Global;
 use std::sync::ledger::Ledger;
 use std::thread::Threads;
@@ -27,7 +27,7 @@ use vf_base::{Gate, NoMemory, Steps};
 /// What comes first of the good machine's run: its first window, or the time, in steps, of a slot that is hyperactive before any window.
 #[derive(Drop)]
 enum First<N: World> {
-    Window(TraceWindow<N>),
+    Window(RunWindow<N>),
     Loops(u64),
 }
 
@@ -124,6 +124,9 @@ fn grade_run<N: World, R: Threads + Sync, G: Gate + Sync, L: Ledger + Send + Syn
     }
 }
 
+/// Lets go of what went ahead of the workers.
+fn let_go<N: World>(_ahead: Ahead<'_, '_, N>) {}
+
 /// Grades the faults of all shards by as many workers as there are counters, in rounds; `own` has the calling thread's counter alone.
 ///
 /// Which worker grades which shard depends on the schedule; what is answered doesn't. Where no thread can be started the calling thread does the work.
@@ -149,6 +152,7 @@ pub fn grade_rounds<N: World, R: Threads + Sync, G: Gate + Sync, L: Ledger + Sen
 {
     let run = GoodRun::new(alloc, place.setup)?;
     let mut ahead = Ahead { run, used: None };
-    let outcome = grade_run(rt, alloc, place, &mut ahead, seat, own, steps)?;
-    Ok(outcome)
+    let outcome = grade_run(rt, alloc, place, &mut ahead, seat, own, steps);
+    let_go(ahead);
+    outcome
 }

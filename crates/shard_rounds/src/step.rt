@@ -2,16 +2,15 @@
 
 ghost use Rattle.std.specs.Prelude.{◌≡◌, true, length, sum, IfOk, OnOk};
 ghost use Rattle.fault_shards.specs.Shards.{representatives_of};
-ghost use Rattle.shard_claims.specs.Workers.{IsPlaceOf};
-ghost use Rattle.shard_crew.specs.Crews.{AreWorkersAt, RoseWithin, crew_steps};
+ghost use Rattle.shard_crew.specs.shard_claims.Workers.{IsPlaceOf};
+ghost use Rattle.shard_crew.specs.Crews.{AreWorkersAt, RoseTwice, crew_steps};
 ghost use Rattle.good_windows.specs.Next.{steps_of_slots};
-ghost use Rattle.shard_rounds.specs.Rounds.{GoodTicks, IsBeforeRound, GoesOn, RoundTicks, RunsOn};
+ghost use Rattle.shard_rounds.specs.Rounds.{GoodTicks, IsBeforeRound, GoesOn, RoseWithin, RoundTicks, RunsOn};
 ghost use Rattle.shard_crew.specs.Crossings.{MayCross};
 
-use good_trace::TraceWindow;
 use good_windows::{GoodRun, NextWindow};
-use shard_claims::{Round, Worker};
-use shard_crew::{Place, crew};
+use run_trace::RunWindow;
+use shard_crew::{Place, Round, Worker, crew};
 use std::alloc::Global;
 use std::sync::ledger::Ledger;
 use std::thread::{Threads, join_mut};
@@ -22,14 +21,14 @@ use vf_base::{Gate, NoMemory, Steps};
 #[derive(Drop)]
 pub(crate) struct Ahead<'s, 'd, N: World> {
     pub run: GoodRun<'s, 'd, N>,
-    pub used: Option<TraceWindow<N>>,
+    pub used: Option<RunWindow<N>>,
 }
 
 /// What stands before a round: the workers, and the window through which they go.
 #[derive(Drop)]
 pub(crate) struct Rounds<N: World> {
     pub workers: Vec<Worker<N>>,
-    pub window: TraceWindow<N>,
+    pub window: RunWindow<N>,
 }
 
 /// How the rounds go on: with another one, or not, since no slot is left, or since the good machine loops at this time, in steps.
@@ -72,7 +71,7 @@ fn go_round<N: World, R: Threads + Sync, G: Gate + Sync, L: Ledger + Send + Sync
     requires one { length own.old ≡ 1 }
     ensures through { OnOk result (AreWorkersAt (representatives_of round.now.shards.now) round.now.board.now round.now.window.now.through (length steps.old) workers.new.items) }
     ensures next { IfOk result (λ next. RunsOn N.design N.plan round.now.window.now.through ahead.new.run next) }
-    ensures ticks { OnOk result (RoseWithin (crew_steps N.design N.plan workers.old.items) (crew_steps N.design N.plan workers.new.items) steps.old steps.new) }
+    ensures ticks { OnOk result (RoseTwice (crew_steps N.design N.plan workers.old.items) (crew_steps N.design N.plan workers.new.items) steps.old steps.new) }
     ensures good { OnOk result (RoseWithin (steps_of_slots N.design N.plan ahead.old.run.ran) (steps_of_slots N.design N.plan ahead.new.run.ran) own.old own.new) }
 {
     let (a, b) = join_mut(
@@ -83,7 +82,7 @@ fn go_round<N: World, R: Threads + Sync, G: Gate + Sync, L: Ledger + Send + Sync
             requires bounds { MayCross N.row R.row G.row L.row }
             ensures through { OnOk result (AreWorkersAt (representatives_of round.entry.now.shards.now) round.entry.now.board.now round.entry.now.window.now.through
                 (length steps.entry.now) workers.exit.now.items) }
-            ensures ticks { OnOk result (RoseWithin (crew_steps N.design N.plan workers.entry.now.items) (crew_steps N.design N.plan workers.exit.now.items)
+            ensures ticks { OnOk result (RoseTwice (crew_steps N.design N.plan workers.entry.now.items) (crew_steps N.design N.plan workers.exit.now.items)
                 steps.entry.now steps.exit.now) }
         { crew(rt, alloc, round, workers, steps) },
         &mut || -> Result<NextWindow<N>, NoMemory>

@@ -9,13 +9,13 @@ use Rattle.std.proofs.lemmas.List.{length-map, get_or-map}
 use Rattle.std.proofs.lemmas.List.Sums.{sum_by-cons}
 use Rattle.std.proofs.lemmas.List.Sorted.{IsPermutation-map, sum_by-IsPermutation, All-permutation}
 use Rattle.std.proofs.lemmas.Option.{slice_get-map, slice_get_cases}
-use Rattle.copy_shard.specs.Shards.{ShardKept, fault_steps_at, places_of}
+use Rattle.shard_rounds.specs.copy_shard.Shards.{ShardKept, fault_steps_at, places_of}
 use Rattle.fault_shards.specs.Cuts.{shard, shard_count}
 use Rattle.verdict_words.specs.Rule.{times}
 use Rattle.verdict_words.specs.declared.view.View.{View}
-use Rattle.shard_claims.specs.declared.round.ClaimedShard.{ClaimedShard}
-use Rattle.shard_claims.specs.Workers.{IsClaimed, KeepsShards}
-use Rattle.shard_crew.specs.Crews.{IsFoundShard, claimed_most}
+use Rattle.shard_rounds.specs.shard_claims.declared.round.ClaimedShard.{ClaimedShard}
+use Rattle.shard_rounds.specs.shard_claims.Workers.{IsClaimed, KeepsShards}
+use Rattle.shard_rounds.specs.shard_crew.Crews.{IsFoundShard, claimed_most}
 use Rattle.v_design.specs.Designs.{FlatDesign, TestPlan}
 use Rattle.shard_workers.specs.Ordered.{claim_number, claimed_shard, work_steps, AreOrdered}
 use Rattle.shard_workers.specs.Closings.{IsEachOnce, IsShardDone, AreShardsDone}

@@ -1,5 +1,5 @@
 -- What the closed board of a graded plan shows (classes of faults: gates by IEEE 1364-2001, clause 7).
-use Rattle.std.specs.Prelude.{◌≡◌, ℕ, ◌+◌, ◌≤◌, List, Some, length, slice_get, slice_index}
+use Rattle.std.specs.Prelude.{◌≡◌, ℕ, ◌+◌, ◌*◌, ◌≤◌, List, Some, length, slice_get, slice_index}
 use Rattle.v_design.specs.Designs.{FlatDesign, TestPlan}
 use Rattle.order_laws.specs.Reports.{AreGrades}
 use Rattle.v_design.specs.Findings.{grades_of, AreInOrder}
@@ -7,7 +7,7 @@ use Rattle.verdict_words.specs.Codes.{IsCode}
 use Rattle.verdict_words.specs.Last.{words_of, sizes_of, last_view}
 use Rattle.verdict_words.specs.Rule.{times, once_below}
 use Rattle.verdict_words.specs.declared.board.closed.Closed.{Closed}
-use Rattle.copy_shard.specs.Shards.{ShardKept, places_of, findings_of}
+use Rattle.shard_rounds.specs.copy_shard.Shards.{ShardKept, places_of, findings_of}
 use Rattle.fault_shards.specs.Cuts.{shard, shard_count}
 use Rattle.fault_shards.specs.Found.{found_faults}
 use Rattle.fault_shards.specs.Representatives.{IsRepresentative, AreRepresentatives}
@@ -56,9 +56,9 @@ module _ {N : Type 0} where
     pub closing : IsClosing design plan work.closed
     pub shards_are : AreShardsDone closing.representatives work.shards.items
 
-  -- where all faults were graded, counters rose by no more than the process steps of the good first run, and those that the gradings of the faults of all shards take
+  -- where all faults were graded, counters rose by no more than the process steps of the good first run, and twice those that the gradings of the faults of all shards take
   abbrev pub TicksWithin : FlatDesign → TestPlan → ℕ → ℕ → Graded N → Type 0
-  TicksWithin design plan before after (Findings work) = after ≤ before + (good_steps design plan + work_steps design plan work.shards.items)
+  TicksWithin design plan before after (Findings work) = after ≤ before + (good_steps design plan + 2 * work_steps design plan work.shards.items)
   TicksWithin design plan before after (GoodLoop time) = Unit {0}
 
   -- so all faults were graded; or the good machine loops at a time, before a race of its own

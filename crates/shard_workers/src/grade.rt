@@ -5,18 +5,16 @@ ghost use Rattle.v_design.specs.PlainDesigns.{design_of, plan_of};
 ghost use Rattle.v_design.specs.WellFormed.{IsPlanOf, KeepsRules};
 ghost use Rattle.fault_grade.specs.Results.{LoopsAt};
 ghost use Rattle.fault_shards.specs.Shards.{representatives_of};
-ghost use Rattle.shard_claims.specs.Workers.{IsPlaceOf};
-ghost use Rattle.shard_crew.specs.Crews.{claimed_most, HasGathered};
+ghost use Rattle.shard_rounds.specs.shard_claims.Workers.{IsPlaceOf};
+ghost use Rattle.shard_rounds.specs.shard_crew.Crews.{claimed_most, HasGathered};
 ghost use Rattle.shard_workers.specs.Closings.{IsWork, IsAllGraded, TicksWithin};
 ghost use Rattle.shard_workers.specs.Ordered.{work_steps};
 
 use crate::order::in_claim_order;
-use copy_shard::Shard;
 use fault_shards::{Shards, cut_faults};
 use good_trace::Setup;
 use net_graph::Graph;
-use shard_crew::{Gathered, Place};
-use shard_rounds::{Outcome, grade_rounds};
+use shard_rounds::{Gathered, Outcome, Place, Shard, grade_rounds};
 use std::alloc::Global;
 use std::sync::ledger::Ledger;
 use std::thread::Threads;
@@ -108,8 +106,8 @@ fn work_all<N: World, R: Threads + Sync, G: Gate + Sync, L: Ledger + Send + Sync
 /// Grades all listed faults of the world's plan by so many workers, each a thread with a counter of its own; the first counter is the calling thread's.
 ///
 /// Which worker grades which fault, and in what order, depends on the schedule; what is answered doesn't. Where no thread can be started the calling
-/// thread does the work. Where all faults are graded, all counters together rise by no more than the process steps of the good first run and those that the grading of each
-/// fault that stands for its class takes; where the good machine loops, or memory is wanting, nothing is said of them.
+/// thread does the work. Where all faults are graded, all counters together rise by no more than the process steps of the good first run and twice those that the grading of
+/// each fault that stands for its class takes; where the good machine loops, or memory is wanting, nothing is said of them.
 ///
 /// # Errors
 ///

@@ -4,8 +4,7 @@ ghost use Rattle.std.specs.Prelude.{◌≡◌, map, IfOk};
 ghost use Rattle.std.specs.List.Sorted.{IsPermutation, IsNonDecreasingBy};
 ghost use Rattle.shard_workers.specs.Ordered.{claim_number, claimed_shard, AreOrdered};
 
-use copy_shard::Shard;
-use shard_claims::ClaimedShard;
+use shard_rounds::{ClaimedShard, Shard};
 use std::alloc::Global;
 use v_design::World;
 use vf_base::NoMemory;

@@ -18,14 +18,14 @@ use Rattle.block_events.specs.declared.runner.Runner.{Runner}
 use Rattle.copy_laws.specs.Differences.{Ascend}
 use Rattle.copy_laws.specs.Windows.{good_slots, window_slots}
 use Rattle.copy_state.specs.Kept.{CopyKept}
-use Rattle.moment_laws.specs.Shown.{MomentKept}
+use Rattle.lockstep_block.specs.moment_laws.Shown.{MomentKept}
 use Rattle.lockstep_copies.specs.Copies.{IsCopyInLockstep, own_begins}
 use Rattle.lockstep_copy.specs.Kept.{kept_by}
 use Rattle.lockstep_copy.specs.Laws.{KeptEnds}
 use Rattle.lockstep_copy.specs.declared.own.LockstepCopy.{LockstepCopy}
 use Rattle.lockstep_slots.specs.Places.{Place, first_place, steps_left}
-use Rattle.lockstep_steps.specs.Going.{IsGoing}
-use Rattle.lockstep_steps.specs.Laws.{StepsGoOn}
+use Rattle.lockstep_block.specs.lockstep_steps.Going.{IsGoing}
+use Rattle.lockstep_block.specs.lockstep_steps.Laws.{StepsGoOn}
 use Rattle.moments_stand.specs.Standing.{MomentsStand}
 use Rattle.phase_order.specs.Order.{phase_steps}
 use Rattle.race_notes.specs.Notes.{HasNoNotes, NotesKept}
@@ -107,12 +107,12 @@ slot-early moments design plan number slot end here =
 -- The beginning
 
 module _ (steps : StepsGoOn) (design : FlatDesign) (plan : TestPlan) (fault : StuckAt) (from until number : ℕ) (copy : CopyKept) (phase : Phase) (later : List Phase) (notes : NotesKept)
-    (own : LockstepCopy) (spare : ℕ) (of : MayBeginSlot design plan fault (from + number) copy) where
+    (own : LockstepCopy) (spare ticked : ℕ) (of : MayBeginSlot design plan fault (from + number) copy) where
   pub slot-begins : phases (good_machine design) of.slot ≡ phase ∷ later → from + number < until → of.slot.begins.time ≤ 2 ^ 63 → own.copy.values ≡ copy.values → own.copy.updates ≡ copy.updates → own.lanes ≡ [] → (runner : Runner) (before behind : MomentKept) →
       IsRoomIn design plan from until number (first_place phase later) runner before behind → before.moment ≡ length (window_events design plan from (from + number)) →
-      HasNoNotes before.moment notes → steps_left (first_place phase later) + spare ≤ most_steps →
-      SlotGoesOn design plan fault of.slot (own_begins design plan fault of.time of.slot) from until number (first_place phase later) runner before behind notes own spare
-  slot-begins are within early values updates empty runner before behind room moment none few =
+      HasNoNotes before.moment notes → steps_left (first_place phase later) + spare ≤ most_steps → ticked ≡ 0 →
+      SlotGoesOn design plan fault of.slot (own_begins design plan fault of.time of.slot) from until number (first_place phase later) runner before behind notes own spare ticked
+  slot-begins are within early values updates empty runner before behind room moment none few begun =
       let at : before.moment ≡ length (window_events design plan from (suc of.before)) = moment ∙ ap (λ n. length (window_events design plan from n)) of.number_is in
       let here = of.number_is in
       record {
@@ -136,13 +136,14 @@ module _ (steps : StepsGoOn) (design : FlatDesign) (plan : TestPlan) (fault : St
               (steps.begins design plan fault of.before of.time from until (lockstep_differences copy) of.slot phase later notes spare of.lockstep
               (subst (λ n. slice_get (good_slots design plan) n ≡ Some of.slot) of.number_is of.stands) of.fine are (omega (arith, here)) (omega (arith, here, within))
               (subst (λ m. HasNoNotes m notes) at none) few));
+          ticks = omega (arith, begun);
         };
       }
 
   -- The end
 
   pub slot-ends : KeptEnds → (place : Place) (runner : Runner) (before behind : MomentKept)
-      (on : SlotGoesOn design plan fault of.slot (own_begins design plan fault of.time of.slot) from until number place runner before behind notes own spare) → place.left ≡ [] → place.later ≡ [] →
+      (on : SlotGoesOn design plan fault of.slot (own_begins design plan fault of.time of.slot) from until number place runner before behind notes own spare ticked) → place.left ≡ [] → place.later ≡ [] →
       phase_race (faulty_machine design fault) on.goes.at.phase_begins on.goes.at.events ≡ None → Ascend own.copy.values → Ascend own.copy.updates →
       IsCopyInLockstep design plan fault (from + number) of.slot.begins.time (lockstep_differences own.copy)
   slot-ends ends place runner before behind on through last clean values updates =
@@ -152,7 +153,7 @@ module _ (steps : StepsGoOn) (design : FlatDesign) (plan : TestPlan) (fault : St
 
   -- where it is through
   pub slot-through : KeptEnds → (runner : Runner) (before behind : MomentKept) →
-      SlotIsThrough design plan fault of.slot (own_begins design plan fault of.time of.slot) from until number runner before behind notes own spare → Ascend own.copy.values →
+      SlotIsThrough design plan fault of.slot (own_begins design plan fault of.time of.slot) from until number runner before behind notes own spare ticked → Ascend own.copy.values →
       Ascend own.copy.updates → IsCopyInLockstep design plan fault (from + number) of.slot.begins.time (lockstep_differences own.copy)
   slot-through ends runner before behind through values updates =
       slot-ends ends through.place runner before behind through.on through.through through.last through.clean values updates

@@ -8,7 +8,7 @@ use Rattle.v_design.specs.States.{Event}
 use Rattle.phase_blocks.specs.Blocks.{BlocksJoin, IsBetweenRuns, IsWholeBlock}
 use Rattle.lockstep_slots.specs.Places.{Place, state_there, behind_events}
 use Rattle.block_events.specs.declared.runner.Runner.{Runner}
-use Rattle.moment_laws.specs.Shown.{MomentKept}
+use Rattle.lockstep_block.specs.moment_laws.Shown.{MomentKept}
 use Rattle.slot_laws.specs.Slots.{GoesOverBlock, IsRoomIn, StopsAt, further}
 
 -- Lists

@@ -13,24 +13,25 @@ use Rattle.block_filter.specs.Blocks.{Alike}
 use Rattle.block_skip.specs.Blocks.{AreProcesses, LeftAlone}
 use Rattle.copy_laws.specs.Differences.{own_of}
 use Rattle.copy_skip.specs.Limits.{AreThere}
-use Rattle.moment_laws.specs.Places.{IsShownAt}
-use Rattle.moment_laws.specs.Shown.{MomentKept}
+use Rattle.lockstep_block.specs.moment_laws.Places.{IsShownAt}
+use Rattle.lockstep_block.specs.moment_laws.Shown.{MomentKept}
 use Rattle.lockstep_block.specs.Blocks.{FaultGoes}
 use Rattle.lockstep_copy.specs.Kept.{kept_by}
 use Rattle.lockstep_copy.specs.declared.own.LockstepCopy.{LockstepCopy}
-use Rattle.lockstep_exchange.specs.Exchange.{MakesLockstep}
-use Rattle.lockstep_exchange.proofs.Fits.{object-there, process-there}
-use Rattle.lockstep_filter.specs.Phases.{IsPhaseNoted}
-use Rattle.lockstep_notes.specs.Notes.{marks_of}
+use Rattle.lockstep_block.specs.lockstep_exchange.Exchange.{MakesLockstep}
+use Rattle.lockstep_block.proofs.lockstep_exchange.Fits.{object-there, process-there}
+use Rattle.lockstep_block.specs.lockstep_filter.Phases.{IsPhaseNoted}
+use Rattle.lockstep_block.specs.lockstep_notes.Notes.{marks_of}
 use Rattle.lockstep_places.specs.Limits.{LimitsTell}
 use Rattle.lockstep_slots.specs.Pairs.{LeavesNoConflict}
 use Rattle.lockstep_slots.specs.Places.{Place, state_there}
-use Rattle.lockstep_steps.specs.Going.{IsGoing}
-use Rattle.lockstep_steps.specs.Laws.{StepsGoOn}
+use Rattle.lockstep_block.specs.lockstep_steps.Going.{IsGoing}
+use Rattle.lockstep_block.specs.lockstep_steps.Laws.{StepsGoOn}
 use Rattle.race_notes.specs.Notes.{NotesKept}
 use Rattle.trace_window.specs.Moments.{window_events}
 use Rattle.window_places.specs.Windows.{TablesLeave}
 use Rattle.slot_laws.specs.Slots.{IsRoomIn, SlotGoesOn, StopsAt, further}
+use Rattle.slot_laws.proofs.Ticks.{events-on}
 
 there-of : {A : Type 0} (found : Option A) → is_some found ≡ true → (x : A) × (found ≡ Some x)
 there-of None e = cc
@@ -43,7 +44,7 @@ mapped-some f (Some x) = refl
 -- what is kept of a fault in lockstep is of objects and processes that are there
 
 module _ (design : FlatDesign) (plan : TestPlan) (fault : StuckAt) (slot : FirstSlot) (begins : State) (from until moment : ℕ) (place : Place) (kept : MomentKept) (notes : NotesKept)
-    (own : LockstepCopy) (spare : ℕ) (shown : IsShownAt design plan place kept) (goes : FaultGoes design plan fault slot begins from until moment place notes own spare) where
+    (own : LockstepCopy) (spare ticked : ℕ) (shown : IsShownAt design plan place kept) (goes : FaultGoes design plan fault slot begins from until moment place notes own spare ticked) where
   makes : MakesLockstep own (state_there (good_machine design) place) goes.at.state
   makes = record { lockstep = goes.going.stands.lockstep.lockstep; nothing_same = goes.going.stands.nothing_same }
 
@@ -62,12 +63,12 @@ module _ (design : FlatDesign) (plan : TestPlan) (fault : StuckAt) (slot : First
       omega (arith, low, count)
 
 module _ (design : FlatDesign) (plan : TestPlan) (fault : StuckAt) (slot : FirstSlot) (begins : State) (from until number : ℕ) (place : Place) (runner : Runner) (before behind : MomentKept)
-    (notes : NotesKept) (own : LockstepCopy) (spare : ℕ) (on : SlotGoesOn design plan fault slot begins from until number place runner before behind notes own spare) where
+    (notes : NotesKept) (own : LockstepCopy) (spare ticked : ℕ) (on : SlotGoesOn design plan fault slot begins from until number place runner before behind notes own spare ticked) where
   -- a stretch is passed over
   pub passes-on : StepsGoOn → LimitsTell → (count : ℕ) (new_runner : Runner) (next later : MomentKept) → IsRoomIn design plan from until number (further count place) new_runner next later →
       next.moment ≡ before.moment + count → StopsAt design place before.moment next.moment count →
       LeftAlone design fault.site own.copy (window_events design plan from until) before.moment next.moment →
-      SlotGoesOn design plan fault slot begins from until number (further count place) new_runner next later notes own spare
+      SlotGoesOn design plan fault slot begins from until number (further count place) new_runner next later notes own spare ticked
   passes-on steps limits count new_runner next later room moment stops alone =
       let going = on.goes.going in
       let events = take count place.left in
@@ -79,8 +80,8 @@ module _ (design : FlatDesign) (plan : TestPlan) (fault : StuckAt) (slot : First
       (record {
         values = λ object. refl;
         writes = λ process. mapped-some _ (own_of own.copy.updates process);
-      }) (are-there design plan fault slot begins from until before.moment place before notes own spare on.room.at.before_at on.goes)
-      (are-processes design plan fault slot begins from until before.moment place before notes own spare on.room.at.before_at on.goes) alone in
+      }) (are-there design plan fault slot begins from until before.moment place before notes own spare ticked on.room.at.before_at on.goes)
+      (are-processes design plan fault slot begins from until before.moment place before notes own spare ticked on.room.at.before_at on.goes) alone in
       record {
         early = on.early;
         room = room;
@@ -94,6 +95,8 @@ module _ (design : FlatDesign) (plan : TestPlan) (fault : StuckAt) (slot : First
               (kept_by own) spare) (sym moment_is)
               (steps.passes design plan fault slot begins from until before.moment place on.goes.at on.goes.pairs notes (kept_by own) spare events more going
               (sym (take-append-drop count place.left)) stops.between (subst (λ m. TablesLeave design fault (kept_by own) (window_events design plan from until) before.moment m) moment_is tables));
+          ticks =
+              (let low = on.goes.ticks in let grows = events-on (faulty_machine design fault) events on.goes.at in omega (arith, low, grows));
         };
       }
 

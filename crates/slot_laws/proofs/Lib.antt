@@ -1,3 +1,4 @@
+pub mod Ticks
 pub mod Blocks
 pub mod Rooms
 pub mod Further
@@ -8,3 +9,9 @@ pub mod Begins
 pub mod Ends
 pub mod Own
 pub mod Phases
+pub use Rattle.lockstep_block.proofs as lockstep_block
+pub use Rattle.lockstep_block.proofs.lockstep_filter as lockstep_filter
+pub use Rattle.lockstep_block.proofs.lockstep_steps as lockstep_steps
+pub use Rattle.lockstep_block.proofs.moment_laws as moment_laws
+pub use Rattle.lockstep_block.proofs.lockstep_notes as lockstep_notes
+pub use Rattle.lockstep_block.proofs.lockstep_room as lockstep_room

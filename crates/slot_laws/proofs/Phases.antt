@@ -7,29 +7,29 @@ use Rattle.v_design.specs.States.{State}
 use Rattle.block_events.specs.declared.runner.Runner.{Runner}
 use Rattle.lockstep_copy.specs.declared.own.LockstepCopy.{LockstepCopy}
 use Rattle.lockstep_slots.specs.Places.{Place}
-use Rattle.moment_laws.specs.Shown.{MomentKept}
+use Rattle.lockstep_block.specs.moment_laws.Shown.{MomentKept}
 use Rattle.race_notes.specs.Notes.{NotesKept}
 use Rattle.slot_laws.specs.Slots.{HasComeOn, PhaseEndsAt, SlotGoesOn, further}
 use Rattle.slot_laws.proofs.Further.{further-more, further-none}
 
 module _ (design : FlatDesign) (plan : TestPlan) (fault : StuckAt) (slot : FirstSlot) (begins : State) (from until number : ℕ) (place : Place) where
   -- nowhere yet
-  pub come-first : (runner : Runner) (before behind : MomentKept) (notes : NotesKept) (own : LockstepCopy) (spare : ℕ) →
-      SlotGoesOn design plan fault slot begins from until number place runner before behind notes own spare →
-      HasComeOn design plan fault slot begins from until number place before.moment runner before behind notes own spare
-  come-first runner before behind notes own spare on = record {
+  pub come-first : (runner : Runner) (before behind : MomentKept) (notes : NotesKept) (own : LockstepCopy) (spare ticked : ℕ) →
+      SlotGoesOn design plan fault slot begins from until number place runner before behind notes own spare ticked →
+      HasComeOn design plan fault slot begins from until number place before.moment runner before behind notes own spare ticked
+  come-first runner before behind notes own spare ticked on = record {
     count = 0;
     within = omega arith;
     moment_is = omega arith;
-    on = subst (λ (p : Place). SlotGoesOn design plan fault slot begins from until number p runner before behind notes own spare) (sym (further-none place)) on;
+    on = subst (λ (p : Place). SlotGoesOn design plan fault slot begins from until number p runner before behind notes own spare ticked) (sym (further-none place)) on;
   }
 
   -- and further on
-  pub come-more : (moment : ℕ) (runner : Runner) (before behind : MomentKept) (notes : NotesKept) (own : LockstepCopy) (spare : ℕ) (next_runner : Runner) (next later : MomentKept)
-      (next_notes : NotesKept) (next_own : LockstepCopy) (less : ℕ) (come : HasComeOn design plan fault slot begins from until number place moment runner before behind notes own spare) →
-      HasComeOn design plan fault slot begins from until number (further come.count place) before.moment next_runner next later next_notes next_own less →
-      HasComeOn design plan fault slot begins from until number place moment next_runner next later next_notes next_own less
-  come-more moment runner before behind notes own spare next_runner next later next_notes next_own less come goes =
+  pub come-more : (moment : ℕ) (runner : Runner) (before behind : MomentKept) (notes : NotesKept) (own : LockstepCopy) (spare ticked : ℕ) (next_runner : Runner) (next later : MomentKept)
+      (next_notes : NotesKept) (next_own : LockstepCopy) (less next_ticked : ℕ) (come : HasComeOn design plan fault slot begins from until number place moment runner before behind notes own spare ticked) →
+      HasComeOn design plan fault slot begins from until number (further come.count place) before.moment next_runner next later next_notes next_own less next_ticked →
+      HasComeOn design plan fault slot begins from until number place moment next_runner next later next_notes next_own less next_ticked
+  come-more moment runner before behind notes own spare ticked next_runner next later next_notes next_own less next_ticked come goes =
       let long : length (drop come.count place.left) ≡ length place.left - come.count = length-drop come.count place.left in
       let within = goes.within in
       let low = come.within in
@@ -40,26 +40,26 @@ module _ (design : FlatDesign) (plan : TestPlan) (fault : StuckAt) (slot : First
         within = omega (arith, within, long, low);
         moment_is = omega (arith, at, moved);
         on =
-            subst (λ (p : Place). SlotGoesOn design plan fault slot begins from until number p next_runner next later next_notes next_own less) (further-more come.count goes.count place low)
+            subst (λ (p : Place). SlotGoesOn design plan fault slot begins from until number p next_runner next later next_notes next_own less next_ticked) (further-more come.count goes.count place low)
             goes.on;
       }
 
   -- towards the phase's end
-  pub come-ends : (moment end : ℕ) (runner : Runner) (before behind : MomentKept) (notes : NotesKept) (own : LockstepCopy) (spare : ℕ)
-      (come : HasComeOn design plan fault slot begins from until number place moment runner before behind notes own spare) → PhaseEndsAt moment place end →
+  pub come-ends : (moment end : ℕ) (runner : Runner) (before behind : MomentKept) (notes : NotesKept) (own : LockstepCopy) (spare ticked : ℕ)
+      (come : HasComeOn design plan fault slot begins from until number place moment runner before behind notes own spare ticked) → PhaseEndsAt moment place end →
       PhaseEndsAt before.moment (further come.count place) end
-  come-ends moment end runner before behind notes own spare come ends =
+  come-ends moment end runner before behind notes own spare ticked come ends =
       let long : length (drop come.count place.left) ≡ length place.left - come.count = length-drop come.count place.left in
       let within = come.within in
       let at = come.moment_is in
       omega (arith, long, within, at, ends)
 
   -- through the phase
-  pub come-through : (moment end : ℕ) (runner : Runner) (before behind : MomentKept) (notes : NotesKept) (own : LockstepCopy) (spare : ℕ) →
-      HasComeOn design plan fault slot begins from until number place moment runner before behind notes own spare → PhaseEndsAt moment place end → end ≤ before.moment →
-      SlotGoesOn design plan fault slot begins from until number (further (length place.left) place) runner before behind notes own spare
-  come-through moment end runner before behind notes own spare come ends past =
+  pub come-through : (moment end : ℕ) (runner : Runner) (before behind : MomentKept) (notes : NotesKept) (own : LockstepCopy) (spare ticked : ℕ) →
+      HasComeOn design plan fault slot begins from until number place moment runner before behind notes own spare ticked → PhaseEndsAt moment place end → end ≤ before.moment →
+      SlotGoesOn design plan fault slot begins from until number (further (length place.left) place) runner before behind notes own spare ticked
+  come-through moment end runner before behind notes own spare ticked come ends past =
       let within = come.within in
       let at = come.moment_is in
       let all : come.count ≡ length place.left = omega (arith, within, at, ends, past) in
-      subst (λ n. SlotGoesOn design plan fault slot begins from until number (further n place) runner before behind notes own spare) all come.on
+      subst (λ n. SlotGoesOn design plan fault slot begins from until number (further n place) runner before behind notes own spare ticked) all come.on

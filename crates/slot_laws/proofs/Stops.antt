@@ -9,9 +9,9 @@ use Rattle.v_design.specs.States.{State, Event, after}
 use Rattle.between_slots.specs.Between.{window_phases}
 use Rattle.block_events.specs.declared.runner.Runner.{Runner}
 use Rattle.lockstep_places.specs.Places.{IsPlaceIn, PlacesTold}
-use Rattle.moment_laws.proofs.Following.{followed}
+use Rattle.lockstep_block.proofs.moment_laws.Following.{followed}
 use Rattle.lockstep_slots.specs.Places.{Place, state_there}
-use Rattle.moment_laws.specs.Shown.{MomentKept}
+use Rattle.lockstep_block.specs.moment_laws.Shown.{MomentKept}
 use Rattle.phase_blocks.specs.Blocks.{IsBetweenRuns, PhasesEndBetweenRuns}
 use Rattle.phase_order.specs.Order.{PhasesFollow}
 use Rattle.trace_window.specs.Moments.{Seen, phase_seen, seen_from, window_events}

@@ -14,8 +14,8 @@ use Rattle.machine_laws.specs.SlotLoop.{IsIdle, after_turn}
 use Rattle.block_events.specs.declared.runner.Runner.{Runner}
 use Rattle.block_events.specs.Runners.{IsWhole, machine_of, state_of}
 use Rattle.copy_laws.specs.Differences.{own_of}
-use Rattle.moment_laws.specs.Passing.{HasTurn, TakesTurn}
-use Rattle.moment_laws.specs.Shown.{MomentKept}
+use Rattle.lockstep_block.specs.moment_laws.Passing.{HasTurn, TakesTurn}
+use Rattle.lockstep_block.specs.moment_laws.Shown.{MomentKept}
 use Rattle.lockstep_copy.specs.Kept.{kept_by}
 use Rattle.lockstep_copy.specs.Laws.{LanesTellTurns}
 use Rattle.lockstep_copy.specs.declared.own.LockstepCopy.{LockstepCopy}
@@ -26,14 +26,15 @@ use Rattle.lockstep_slots.specs.Kept.{LockstepKept, turned_kept, turned_writes}
 use Rattle.lockstep_slots.specs.Places.{IsFineSlot, IsPlaceOf, Place, next_phase, state_there}
 use Rattle.lockstep_slots.proofs.Followed.{all-passed, followed}
 use Rattle.lockstep_slots.proofs.Kept.{process-turned}
-use Rattle.lockstep_steps.specs.Going.{IsGoing}
-use Rattle.lockstep_steps.specs.Laws.{GoesOverTurn, StepsGoOn}
-use Rattle.lockstep_steps.proofs.Events.{TurnsTo, turns-to}
+use Rattle.lockstep_block.specs.lockstep_steps.Going.{IsGoing}
+use Rattle.lockstep_block.specs.lockstep_steps.Laws.{GoesOverTurn, StepsGoOn}
+use Rattle.lockstep_block.proofs.lockstep_steps.Events.{TurnsTo, turns-to}
 use Rattle.moments_stand.specs.Standing.{AllMayStand}
 use Rattle.phase_blocks.proofs.Taken.{lane-none}
 use Rattle.phase_order.specs.Order.{PhasesFollow}
 use Rattle.race_notes.specs.Notes.{HasNoNotes, NotesKept}
 use Rattle.slot_laws.specs.Slots.{IsRoomIn, SlotGoesOn, TurnsAll, turned_beside}
+use Rattle.slot_laws.proofs.Ticks.{turn-on}
 
 -- Where no event is possible
 
@@ -158,8 +159,8 @@ module _ (follow : PhasesFollow) (design : FlatDesign) (plan : TestPlan) (from u
 -- Both machines
 
 module _ (steps : StepsGoOn) (follow : PhasesFollow) (lanes : LanesTellTurns) (design : FlatDesign) (plan : TestPlan) (fault : StuckAt) (slot : FirstSlot) (begins : State) (from until number : ℕ)
-    (place : Place) (runner : Runner) (before behind : MomentKept) (notes cleared : NotesKept) (own new : LockstepCopy) (spare : ℕ) (next : Phase) (later : List Phase)
-    (on : SlotGoesOn design plan fault slot begins from until number place runner before behind notes own spare) (through : place.left ≡ []) (follows : place.later ≡ next ∷ later)
+    (place : Place) (runner : Runner) (before behind : MomentKept) (notes cleared : NotesKept) (own new : LockstepCopy) (spare ticked : ℕ) (next : Phase) (later : List Phase)
+    (on : SlotGoesOn design plan fault slot begins from until number place runner before behind notes own spare ticked) (through : place.left ≡ []) (follows : place.later ≡ next ∷ later)
     (clean : phase_race (faulty_machine design fault) on.goes.at.phase_begins on.goes.at.events ≡ None) (none : HasNoNotes before.moment cleared) where
   over : GoesOverTurn design plan fault slot begins from until before.moment place on.goes.at cleared (kept_by own) spare next later
   over =
@@ -178,7 +179,7 @@ module _ (steps : StepsGoOn) (follow : PhasesFollow) (lanes : LanesTellTurns) (d
   pub turns-over : (new_runner : Runner) (new_before new_behind : MomentKept) → IsWhole new_runner → machine_of new_runner ≡ machine_of runner →
       state_of new_runner ≡ turned_by (turn_of (state_of runner)) (state_of runner) → TakesTurn design plan place next later before new_before →
       TakesTurn design plan place next later behind new_behind → TurnsAll slot.begins.time new_before own new →
-      SlotGoesOn design plan fault slot begins from until number (next_phase next later place) new_runner new_before new_behind cleared new spare
+      SlotGoesOn design plan fault slot begins from until number (next_phase next later place) new_runner new_before new_behind cleared new spare ticked
   turns-over new_runner new_before new_behind whole machine state first second all =
       let good = state_there (good_machine design) place in
       let stands = on.goes.going.stands in
@@ -203,5 +204,6 @@ module _ (steps : StepsGoOn) (follow : PhasesFollow) (lanes : LanesTellTurns) (d
               subst (λ m. IsGoing design plan fault slot begins from until m (next_phase next later place) (after_turn over.turn on.goes.at) [] cleared (kept_by new) spare) (sym first.moment)
               (subst (λ (kept : LockstepKept). IsGoing design plan fault slot begins from until before.moment (next_phase next later place) (after_turn over.turn on.goes.at) [] cleared kept spare)
               same over.going);
+          ticks = (let low = on.goes.ticks in let stays = turn-on over.turn on.goes.at in omega (arith, low, stays));
         };
       }

@@ -10,7 +10,7 @@ use Rattle.v_design.specs.Runs.{FirstSlot}
 use Rattle.v_design.specs.States.{State, Event, UpdatesTurn}
 use Rattle.copy_laws.specs.Windows.{good_slots}
 use Rattle.block_events.specs.declared.runner.Runner.{Runner}
-use Rattle.moment_laws.specs.Shown.{MomentKept}
+use Rattle.lockstep_block.specs.moment_laws.Shown.{MomentKept}
 use Rattle.lockstep_copy.specs.Kept.{StaysElsewhere, kept_by}
 use Rattle.lockstep_copy.specs.declared.own.LockstepCopy.{LockstepCopy}
 use Rattle.lockstep_index.specs.Writes.{OwnWrites}
@@ -84,20 +84,20 @@ pub record KeepsRest (old new : LockstepCopy) : Type 0 where
 
 -- in the slot of a number of a window, which begins early, a fault goes in lockstep, and room and fault are at one place; the faulty machine's processes wait on objects of their texts as its slot begins
 pub record SlotGoesOn (design : FlatDesign) (plan : TestPlan) (fault : StuckAt) (slot : FirstSlot) (begins : State) (from until number : ℕ) (place : Place) (runner : Runner)
-    (before behind : MomentKept) (notes : NotesKept) (own : LockstepCopy) (spare : ℕ) : Type 0 where
+    (before behind : MomentKept) (notes : NotesKept) (own : LockstepCopy) (spare ticked : ℕ) : Type 0 where
   pub early : slot.begins.time ≤ 2 ^ 63
   pub room : IsRoomIn design plan from until number place runner before behind
   pub waits : WaitsAreOfBodies (faulty_machine design fault) begins
-  pub goes : FaultGoes design plan fault slot begins from until before.moment place notes own spare
+  pub goes : FaultGoes design plan fault slot begins from until before.moment place notes own spare ticked
 
 -- so it does at some place
 pub record SlotMayGoOn (design : FlatDesign) (plan : TestPlan) (fault : StuckAt) (from until : ℕ) (runner : Runner) (before behind : MomentKept) (notes : NotesKept) (own : LockstepCopy)
-    (spare : ℕ) : Type 0 where
+    (spare ticked : ℕ) : Type 0 where
   pub number : ℕ
   pub slot : FirstSlot
   pub begins : State
   pub place : Place
-  pub on : SlotGoesOn design plan fault slot begins from until number place runner before behind notes own spare
+  pub on : SlotGoesOn design plan fault slot begins from until number place runner before behind notes own spare ticked
 
 -- its phase has an end, a moment
 abbrev pub PhaseEndsAt : ℕ → Place → ℕ → Type 0
@@ -111,55 +111,32 @@ pub record IsStop (moments : List ℕ) (moment end stop : ℕ) : Type 0 where
 
 -- it went on to a later moment of the phase
 pub record GoesFurther (design : FlatDesign) (plan : TestPlan) (fault : StuckAt) (slot : FirstSlot) (begins : State) (from until number : ℕ) (place : Place) (moment : ℕ) (runner : Runner)
-    (before behind : MomentKept) (notes : NotesKept) (own : LockstepCopy) (spare : ℕ) : Type 0 where
+    (before behind : MomentKept) (notes : NotesKept) (own : LockstepCopy) (spare ticked : ℕ) : Type 0 where
   pub count : ℕ
   pub some : 0 < count
   pub within : count ≤ length place.left
   pub moment_is : before.moment ≡ moment + count
-  pub on : SlotGoesOn design plan fault slot begins from until number (further count place) runner before behind notes own spare
+  pub on : SlotGoesOn design plan fault slot begins from until number (further count place) runner before behind notes own spare ticked
 
 -- so far room and fault have come from a place and its moment
 pub record HasComeOn (design : FlatDesign) (plan : TestPlan) (fault : StuckAt) (slot : FirstSlot) (begins : State) (from until number : ℕ) (place : Place) (moment : ℕ) (runner : Runner)
-    (before behind : MomentKept) (notes : NotesKept) (own : LockstepCopy) (spare : ℕ) : Type 0 where
+    (before behind : MomentKept) (notes : NotesKept) (own : LockstepCopy) (spare ticked : ℕ) : Type 0 where
   pub count : ℕ
   pub within : count ≤ length place.left
   pub moment_is : before.moment ≡ moment + count
-  pub on : SlotGoesOn design plan fault slot begins from until number (further count place) runner before behind notes own spare
+  pub on : SlotGoesOn design plan fault slot begins from until number (further count place) runner before behind notes own spare ticked
 
 -- it is at the end of a phase, which has no race in the faulty machine
 pub record PhaseIsThrough (design : FlatDesign) (plan : TestPlan) (fault : StuckAt) (slot : FirstSlot) (begins : State) (from until number : ℕ) (place : Place) (runner : Runner)
-    (before behind : MomentKept) (notes : NotesKept) (own : LockstepCopy) (spare : ℕ) : Type 0 where
-  pub on : SlotGoesOn design plan fault slot begins from until number (further (length place.left) place) runner before behind notes own spare
+    (before behind : MomentKept) (notes : NotesKept) (own : LockstepCopy) (spare ticked : ℕ) : Type 0 where
+  pub on : SlotGoesOn design plan fault slot begins from until number (further (length place.left) place) runner before behind notes own spare ticked
   pub clean : phase_race (faulty_machine design fault) on.goes.at.phase_begins on.goes.at.events ≡ None
-
--- and a turn leads to a next phase
-pub record MayTurn (design : FlatDesign) (plan : TestPlan) (fault : StuckAt) (from until : ℕ) (runner : Runner) (before behind : MomentKept) (notes : NotesKept) (own : LockstepCopy)
-    (spare : ℕ) : Type 0 where
-  pub number : ℕ
-  pub slot : FirstSlot
-  pub begins : State
-  pub place : Place
-  pub next : Phase
-  pub later : List Phase
-  pub through : PhaseIsThrough design plan fault slot begins from until number place runner before behind notes own spare
-  pub later_is : place.later ≡ next ∷ later
-
--- it is in the present phase, behind which as many come as make up a number of them all
-abbrev pub PhasesAre : MomentKept → Place → ℕ → Type 0
-PhasesAre before place count = count ≡ before.phase + 1 + length place.later
-
--- where a phase of a slot begins, at a time, the fault may go on through all further phases of it
-pub record SlotMayGoThrough (design : FlatDesign) (plan : TestPlan) (fault : StuckAt) (from until time count : ℕ) (runner : Runner) (before behind : MomentKept) (notes : NotesKept)
-    (own : LockstepCopy) (spare : ℕ) : Type 0 where
-  pub may : SlotMayGoOn design plan fault from until runner before behind notes own spare
-  pub time_is : time ≡ may.slot.begins.time
-  pub count_is : PhasesAre before may.place count
 
 -- it came to where its slot ends, the last phase of which has no race in the faulty machine
 pub record SlotIsThrough (design : FlatDesign) (plan : TestPlan) (fault : StuckAt) (slot : FirstSlot) (begins : State) (from until number : ℕ) (runner : Runner) (before behind : MomentKept)
-    (notes : NotesKept) (own : LockstepCopy) (spare : ℕ) : Type 0 where
+    (notes : NotesKept) (own : LockstepCopy) (spare ticked : ℕ) : Type 0 where
   pub place : Place
-  pub on : SlotGoesOn design plan fault slot begins from until number place runner before behind notes own spare
+  pub on : SlotGoesOn design plan fault slot begins from until number place runner before behind notes own spare ticked
   pub through : place.left ≡ []
   pub last : place.later ≡ []
   pub clean : phase_race (faulty_machine design fault) on.goes.at.phase_begins on.goes.at.events ≡ None

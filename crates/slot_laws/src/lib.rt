@@ -9,6 +9,12 @@
 
 ghost use Rattle.slot_laws.specs.Laws.{NextBlocksAreOne, SlotsAreCounted};
 
+pub use lockstep_block::{
+    FaultInSlot, FilterRoom, GoodMoment, LockstepRoom, follow_block, is_free, run_own_block,
+    stand_at, steps_go_on,
+};
+pub use lockstep_places::{limits_tell, places_are_told};
+
 /// Of the events that a machine takes one part at most is its next block.
 pub fn next_blocks_are_one()
     ensures { NextBlocksAreOne }

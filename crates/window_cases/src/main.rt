@@ -1,10 +1,10 @@
 //! Takes the good first runs of whole texts window by window, and prints what stands in each window (slots, phases and events by IEEE 1364-2001, clause 5).
 //!
 //! `names` has a name a line. Of each name NAME the design is read from NAME.v, from its module `top`, and the plan from NAME.plan. Then the good machine's first
-//! run is taken window after window. Of each window a line tells which slots it has, how it ends, and how many events and phases; then comes a line for each object,
-//! with what it holds at the first moment, the middle one and the last, and how many events touch it; and one for each process, with where it stands before the
-//! window, how many runs it has there, and how many updates they wrote and appended. What has to be printed comes from an independent model
-//! (`bench/window_cases.py`).
+//! run is taken window after window. Of each window a line tells which slots it has, how it ends, and how many events and phases; two lines tell how many blocks it
+//! has and how many waits its events end, with the sums of their moments; then comes a line for each object, with what it holds at the first moment, the middle one and
+//! the last, and how many events touch it; and one for each process, with where it stands before the window, how many runs it has there, and how many updates they wrote
+//! and appended. What has to be printed comes from an independent model (`bench/window_cases.py`).
 #![tactic(auto)]
 
 mod case;

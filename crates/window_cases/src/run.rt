@@ -5,9 +5,10 @@ ghost use Rattle.v_design.specs.PlainDesigns.{design_of, plan_of};
 ghost use Rattle.v_design.specs.WellFormed.{IsPlanOf};
 
 use crate::window::append_window;
-use good_trace::{Setup, TraceWindow};
+use good_trace::Setup;
 use good_windows::{GoodRun, NextWindow};
 use net_graph::Graph;
+use run_trace::RunWindow;
 use std::alloc::Global;
 use std::fmt::Write;
 use std::marker::Brand;
@@ -34,7 +35,7 @@ fn append_next<N: World>(
 }
 
 /// The window that came, if one did.
-fn window_of<N: World>(next: NextWindow<N>) -> Option<TraceWindow<N>> {
+fn window_of<N: World>(next: NextWindow<N>) -> Option<RunWindow<N>> {
     match next {
         NextWindow::Window(window) => Some(window),
         _ => None,
@@ -45,10 +46,10 @@ fn window_of<N: World>(next: NextWindow<N>) -> Option<TraceWindow<N>> {
 fn next_lines<N: World, L: Ledger>(
     design: &Design,
     run: &mut GoodRun<'_, '_, N>,
-    used: Option<TraceWindow<N>>,
+    used: Option<RunWindow<N>>,
     steps: &mut Steps<L>,
     out: &mut String,
-) -> Result<Option<TraceWindow<N>>, NoMemory>
+) -> Result<Option<RunWindow<N>>, NoMemory>
     requires design { N.design ≡ design_of design.now }
     requires usable { run.old.usable ≡ true }
     ensures { OnOk result (run.new.usable ≡ true) }

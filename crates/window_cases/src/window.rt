@@ -8,9 +8,11 @@ ghost use Rattle.between_slots.specs.Between.{window_phases};
 use crate::words::{append_name, append_pair, append_stage, append_value};
 use good_trace::{GoodEnd, TraceWindow};
 use process_code::RunEnd;
+use run_trace::RunWindow;
 use std::fmt::Write;
 use v_design::{Design, Object, World};
 use vf_base::{NoMemory, ObjectId, ProcId};
+use window_wakes::Wake;
 
 /// How many runs of a process were counted, and how many updates they wrote and appended.
 #[derive(Clone, Copy, Debug, Default)]
@@ -158,14 +160,52 @@ fn append_ending(design: &Design, ending: GoodEnd, out: &mut String) -> Result<(
     Ok(())
 }
 
+/// The sum of some moments.
+fn sum_of(moments: &[u32]) -> u64 {
+    let mut sum = 0u64;
+    'moments: for moment in moments {
+        sum = sum.saturating_add(u64::from(*moment));
+    }
+    sum
+}
+
+/// The sums of the moments and of the processes of some wakes.
+fn sums_of(wakes: &[Wake]) -> (u64, u64) {
+    let mut moments = 0u64;
+    let mut processes = 0u64;
+    'wakes: for wake in wakes {
+        moments = moments.saturating_add(u64::from(wake.moment));
+        processes = processes.saturating_add(u64::from(wake.process.0));
+    }
+    (moments, processes)
+}
+
+/// Adds the lines of a window's blocks and of its wakes: how many there are, and the sums of their moments.
+fn append_beside<N: World>(run: &RunWindow<N>, out: &mut String) -> Result<(), NoMemory> {
+    let blocks = run.blocks();
+    let begins = sum_of(blocks.moments());
+    let ends = sum_of(blocks.phase_ends());
+    let count = blocks.moments().len();
+    writeln!(out, "blocks {count}, moments {begins}, phase ends {ends}")?;
+    let wakes = run.wakes().wakes();
+    let (moments, processes) = sums_of(wakes);
+    let count = wakes.len();
+    writeln!(
+        out,
+        "wakes {count}, moments {moments}, processes {processes}"
+    )?;
+    Ok(())
+}
+
 /// Adds the lines of a window.
 pub(crate) fn append_window<N: World>(
     design: &Design,
-    window: &TraceWindow<N>,
+    run: &RunWindow<N>,
     out: &mut String,
 ) -> Result<(), NoMemory>
     requires { N.design ≡ design_of design.now }
 {
+    let window = run.window();
     let begins = window.begins();
     let ends = window.ends();
     let moments = window.moments();
@@ -173,6 +213,7 @@ pub(crate) fn append_window<N: World>(
     write!(out, "window {begins} {ends}")?;
     append_ending(design, window.ending(), out)?;
     writeln!(out, ": {moments} moments, {phases} phases")?;
+    append_beside(run, out)?;
     append_objects(design.objects.as_slice(), window, out)?;
     append_processes(design.processes.as_slice().len(), window, out)
 }

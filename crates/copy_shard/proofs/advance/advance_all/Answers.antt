@@ -1,13 +1,15 @@
 -- All faults of a shard.
-use Rattle.std.proofs.Common.{◌≡◌, ◌<◌, ◌≤◌, true, false, length, sym, ap, subst, ◌∙◌, arith}
+use Rattle.std.proofs.Common.{◌≡◌, ◌<◌, false, sym, ap, subst, ◌∙◌, arith}
 use Rattle.std.specs.List.{AllZip, list_any}
 use Rattle.vf_base.specs.Lists.{AllHold}
 use Rattle.good_trace.specs.Slots.{end_of}
+use Rattle.good_trace.specs.Traces.{WindowKept}
+use Rattle.window_strobes.specs.Leading.{EndsSo}
 use Rattle.window_strobes.specs.Passed.{HasPassed}
-use Rattle.window_strobes.specs.Strobes.{passed_behind}
-use Rattle.copy_window.specs.ShardFaults.{IsShardFault}
-use Rattle.copy_window.specs.declared.fault.ShardFault.{ShardFault}
-use Rattle.copy_shard.specs.Kept.{ComesThrough, is_open}
+use Rattle.window_strobes.specs.Strobes.{AreStrobesOf, passed_behind}
+use Rattle.shard_slots.specs.copy_window.ShardFaults.{IsShardFault}
+use Rattle.shard_slots.specs.window_faults.Within.{ComesThrough}
+use Rattle.copy_shard.specs.Kept.{is_open}
 use Rattle.copy_shard.proofs.Starting.{keeps-rules}
 use Rattle.copy_shard.proofs.Through.{all-ended, time-behind}
 use Rattle.copy_shard.proofs.Ticks.{same-rises, taken-ended}
@@ -20,14 +22,23 @@ returns-then-not-some_open-clause-reached g c some =
 
 pub returns-then-not-some_open-clause-faults : goal.returns-then-not-some_open-clause-faults
 returns-then-not-some_open-clause-faults g c =
-    let some : c.args.window.now.before < c.args.window.now.through = c.begins-first.ensures.window.some in
+    let some : c.args.window.now.before < c.args.window.now.through = subst (λ (w : WindowKept). w.before < w.through) c.window-trace.ensures c.begins-first.ensures.window.some in
     all-ended c.faults_go_on.ensures g.N.World.design g.N.World.plan (keeps-rules g.N.World.design c.design-design.result.now c.design-design.ensures.world) c.args.window.now.before
     c.args.window.now.through c.args.reached.passed c.args.reached.passed (omega (arith, some)) c.args.faults.now.items
     (sym (c.some_open.ensures ∙ ap (list_any is_open) c.deref.ensures.value) ∙ c.if-not-some_open.true) c.requires.faults
 
 pub strobes_of-requires-after_bounds : goal.strobes_of-requires-after_bounds
 strobes_of-requires-after_bounds g c κs within =
+    subst (λ (w : WindowKept). HasPassed g.N.World.design g.N.World.plan w.before c.args.reached.passed) (sym c.window-trace.ensures)
     (c.requires.reached (sym (c.some_open.ensures ∙ ap (list_any is_open) c.deref.ensures.value) ∙ c.if-not-some_open.false)).passed
+
+pub advance_each-requires-clause-strobes : goal.advance_each-requires-clause-strobes
+advance_each-requires-clause-strobes g c κs within =
+    subst (λ (w : WindowKept). AreStrobesOf g.N.World.design g.N.World.plan w.before w.through c.in_ok-strobes.strobes) c.window-trace.ensures c.in_ok-strobes.ensures.strobes
+
+pub advance_each-requires-clause-behind : goal.advance_each-requires-clause-behind
+advance_each-requires-clause-behind g c κs within =
+    subst (λ (w : WindowKept). HasPassed g.N.World.design g.N.World.plan w.through (passed_behind c.in_ok-strobes.strobes)) c.window-trace.ensures c.in_ok-strobes.ensures.behind
 
 pub advance_each-requires-clause-now : goal.advance_each-requires-clause-now
 advance_each-requires-clause-now g c κs within =
@@ -42,10 +53,11 @@ reached_behind-requires-after_bounds g c κs within = c.in_ok-strobes.ensures.be
 
 pub returns-clause-reached : goal.returns-clause-reached
 returns-clause-reached g c some = record {
-  passed = subst (HasPassed g.N.World.design g.N.World.plan c.args.window.now.through) (sym c.reached_behind.ensures.passed) c.in_ok-strobes.ensures.behind;
+  passed = subst (HasPassed g.N.World.design g.N.World.plan c.args.window.now.through) (sym c.reached_behind.ensures.passed) (subst (λ (w : WindowKept). HasPassed g.N.World.design g.N.World.plan w.through (passed_behind c.in_ok-strobes.strobes)) c.window-trace.ensures c.in_ok-strobes.ensures.behind);
   time =
       time-behind g.N.World.design g.N.World.plan c.args.window.now.through (end_of c.in_ok-strobes.strobes.ending) c.in_ok-strobes.strobes.until c.reached_behind.result.time
-      c.in_ok-strobes.ensures.strobes.leads.ends c.reached_behind.ensures.time;
+      (subst (λ (w : WindowKept). EndsSo g.N.World.design g.N.World.plan w.through (end_of c.in_ok-strobes.strobes.ending) c.in_ok-strobes.strobes.until) c.window-trace.ensures
+      c.in_ok-strobes.ensures.strobes.leads.ends) c.reached_behind.ensures.time;
 }
 
 pub returns-clause-faults : goal.returns-clause-faults

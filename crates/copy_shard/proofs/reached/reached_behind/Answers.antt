@@ -1,6 +1,5 @@
 -- A plan has few strobes.
-use Rattle.std.proofs.Common.{◌≡◌, ◌≤◌, length, arith}
-use Rattle.vf_base.specs.declared.limits.TheConstants.{MAX_STROBES}
+use Rattle.std.proofs.Common.{arith}
 use Rattle.copy_shard.proofs.Through.{few-strobes}
 use Rattle.copy_shard.proofs.reached.reached_behind.Goals as goal
 

@@ -1,5 +1,5 @@
 -- The first fault of the number.
-use Rattle.std.proofs.Common.{◌≡◌, sym, ap, ◌∙◌}
+use Rattle.std.proofs.Common.{sym, ap, ◌∙◌}
 use Rattle.std.specs.Prelude.{Some}
 use Rattle.std.proofs.lemmas.List.Elements.{All-nil}
 use Rattle.vf_base.specs.Base.{fault_number}

@@ -1,13 +1,14 @@
 -- The faulty machine's block.
-use Rattle.std.proofs.Common.{◌≤◌, ◌^◌, sym, subst, ◌∙◌}
+use Rattle.std.proofs.Common.{◌≤◌, ◌^◌, ap, sym, subst, ◌∙◌}
 use Rattle.v_design.specs.Designs.{Machine}
 use Rattle.v_design.specs.Plain.{fault_of}
 use Rattle.v_design.specs.States.{State}
 use Rattle.v_design.specs.WellFormed.{KeepsRules}
 use Rattle.machine_laws.specs.SlotLoop.{NoNodeWorks}
 use Rattle.race_laws.specs.Writes.{WritesAreOf}
+use Rattle.machine_events.specs.Steps.{raised_by}
 use Rattle.block_events.specs.Runners.{machine_of, state_of}
-use Rattle.faulty_block.proofs.Ran.{ran-some}
+use Rattle.faulty_block.proofs.Ran.{process-counted, ran-some, ran-within}
 use Rattle.faulty_block.proofs.run.run_faulty.Goals as goal
 
 pub put_in-requires-clause-put : goal.put_in-requires-clause-put
@@ -28,10 +29,10 @@ run_block-requires-clause-writes g c =
     (subst (λ (s : State). WritesAreOf (machine_of c.args.runner.now).design s) (sym (c.in_ok-put_in.ensures.state c.requires.run.put)) c.requires.run.writes)
 
 pub returns-clause-whole : goal.returns-clause-whole
-returns-clause-whole g c = c.in_ok-end.ensures.whole
+returns-clause-whole g c = c.in_ok-end.ensures.goes.whole
 
 pub returns-clause-machine : goal.returns-clause-machine
-returns-clause-machine g c = c.in_ok-end.ensures.machine_is ∙ c.in_ok-put_in.ensures.machine
+returns-clause-machine g c = c.in_ok-end.ensures.goes.machine_is ∙ c.in_ok-put_in.ensures.machine
 
 pub returns-clause-few : goal.returns-clause-few
 returns-clause-few g c = c.steps_within.ensures.few
@@ -39,6 +40,29 @@ returns-clause-few g c = c.steps_within.ensures.few
 pub returns-clause-ran : goal.returns-clause-ran
 returns-clause-ran g c =
     let begins = c.put_in.new.runner in
-    let fault = fault_of c.args.fault in
-    ran-some c.args.runner.now begins c.run_block.new.runner c.args.own.now fault c.args.most c.in_ok-end.end c.run_block.new.told c.steps_within.result c.in_ok-put_in.ensures.machine
-    c.in_ok-put_in.ensures.state c.in_ok-end.ensures c.steps_within.ensures.end c.steps_within.ensures.steps
+    let goes = c.in_ok-end.ensures.goes in
+    let rests = subst NoNodeWorks (sym (c.in_ok-put_in.ensures.state c.requires.run.put)) c.requires.run.rests in
+    ran-some c.args.runner.now begins c.run_block.new.runner c.args.own.now (fault_of c.args.fault) c.args.most c.in_ok-end.end c.run_block.new.told c.steps_within.result c.process_steps.result
+    c.in_ok-put_in.ensures.machine c.in_ok-put_in.ensures.state goes
+    (process-counted (machine_of begins) (state_of begins) c.args.most c.in_ok-end.end c.run_block.new.runner c.run_block.new.told c.first_lane-lane.result c.process_steps.result rests
+    c.first_lane-lane.ensures c.in_ok-end.ensures.one c.process_steps.ensures goes) c.steps_within.ensures.end c.steps_within.ensures.steps
+
+pub returns-clause-ticks : goal.returns-clause-ticks
+returns-clause-ticks g c =
+    let begins = c.put_in.new.runner in
+    let goes = c.in_ok-end.ensures.goes in
+    let rests = subst NoNodeWorks (sym (c.in_ok-put_in.ensures.state c.requires.run.put)) c.requires.run.rests in
+    c.in_ok-end.ensures.ticks goes
+    ∙ ap (λ n. raised_by n c.args.steps.now)
+    (process-counted (machine_of begins) (state_of begins) c.args.most c.in_ok-end.end c.run_block.new.runner c.run_block.new.told c.first_lane-lane.result c.process_steps.result rests
+    c.first_lane-lane.ensures c.in_ok-end.ensures.one c.process_steps.ensures goes)
+
+pub returns-clause-most : goal.returns-clause-most
+returns-clause-most g c = λ of.
+    let begins = c.put_in.new.runner in
+    let goes = c.in_ok-end.ensures.goes in
+    let rests = subst NoNodeWorks (sym (c.in_ok-put_in.ensures.state c.requires.run.put)) c.requires.run.rests in
+    ran-within c.args.runner.now begins c.run_block.new.runner c.args.own.now (fault_of c.args.fault) c.args.most c.in_ok-end.end c.run_block.new.told c.process_steps.result
+    c.in_ok-put_in.ensures.machine c.in_ok-put_in.ensures.state goes
+    (process-counted (machine_of begins) (state_of begins) c.args.most c.in_ok-end.end c.run_block.new.runner c.run_block.new.told c.first_lane-lane.result c.process_steps.result rests
+    c.first_lane-lane.ensures c.in_ok-end.ensures.one c.process_steps.ensures goes) c.in_ok-end.ensures.few of

@@ -55,3 +55,15 @@ returns-clause-room g c =
       whole = c.in_ok-put_back_to.ensures.whole;
       machine_is = c.in_ok-put_back_to.ensures.machine ∙ sym c.requires.run.beside.runs.machine_is;
     }
+
+pub returns-then-not-branch-clause-ticks : goal.returns-then-not-branch-clause-ticks
+returns-then-not-branch-clause-ticks g c = c.in_ok-take_own_block.ensures.ticks
+
+pub returns-then-not-branch-clause-most : goal.returns-then-not-branch-clause-most
+returns-then-not-branch-clause-most g c = c.in_ok-take_own_block.ensures.most
+
+pub returns-clause-ticks : goal.returns-clause-ticks
+returns-clause-ticks g c = c.in_ok-take_own_block.ensures.ticks
+
+pub returns-clause-most : goal.returns-clause-most
+returns-clause-most g c = c.in_ok-take_own_block.ensures.most

@@ -13,6 +13,7 @@ returns g c =
       awaited = c.blocks_suffice.ensures.awaited;
       unwritten = c.objects.ensures.unwritten;
       met = c.objects.ensures.met;
+      settled = c.settled_are_free.ensures;
       pairs = c.pairs_tell.ensures.pairs;
       nets = c.nets_are_told.ensures.nets;
       variables = c.nets_are_told.ensures.variables;
@@ -33,4 +34,4 @@ returns g c =
     let changed : some_reaches g.N.World.design (map object_number c.changed.result.now) object ≡ true = ap (λ l. some_reaches g.N.World.design l object) c.changed.ensures ∙ reaches in
     c.reached_are_unread.ensures unread object
     (c.reach_all.ensures.all reached object (ap (λ (d : FlatDesign). some_reaches d (map object_number c.changed.result.now) object) c.room.invariant.1 ∙ changed)) piece)
-    (c.noted_are_free.ensures free)
+    (c.noted_are_free.ensures.free free)

@@ -18,5 +18,8 @@ objects-preserved g c =
     let taken = take_more noted place (record { 0 = 0 }) low in
     let is = ap (map object_number) taken ∙ map-append object_number (take place noted) (object ∷ []) in
     let yes : c.is_object_free.result ≡ true = search rules in
-    λ other e.
-    has-more (IsFreeHere phase) (map object_number (take place noted)) (object_number object) c.objects.invariant (c.is_object_free.ensures yes) other (sym (ap (λ l. has l other) is) ∙ e)
+    record {
+      design = c.is_object_free.ensures.design ∙ c.objects.invariant.design;
+      free = λ other e.
+          has-more (IsFreeHere phase) (map object_number (take place noted)) (object_number object) c.objects.invariant.free (c.is_object_free.ensures.free yes) other (sym (ap (λ l. has l other) is) ∙ e);
+    }

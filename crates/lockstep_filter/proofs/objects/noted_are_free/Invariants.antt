@@ -7,5 +7,7 @@ use Rattle.phase_reach.specs.Phases.{noted_phase}
 use Rattle.lockstep_filter.proofs.objects.noted_are_free.Given as goal
 
 abbrev pub invariant-objects : goal.invariant-objects
-invariant-objects g l =
-    (object : ℕ) → has (map object_number (take l.place l.noted)) object ≡ true → IsFreeHere (noted_phase g.N.World.design g.N.World.plan l.window l.notes l.end) object
+invariant-objects g l = record {
+  design : l.late.design ≡ l.initial.late.design;
+  free : (object : ℕ) → has (map object_number (take l.place l.noted)) object ≡ true → IsFreeHere (noted_phase g.N.World.design g.N.World.plan l.window l.notes l.end) object;
+}

@@ -38,8 +38,8 @@ carry_out-requires-clause-there g c =
     (ap (λ (d : FlatDesign). length d.objects) c.requires.one.design ∙ sym (values-count nets)) c.in_ok-stepped.ensures.reads)
     stepped.step.write (c.requires.there (machine_in nets) (state_both nets table) both)
 
-pub returns : goal.returns
-returns g c =
+pub returns-clause-happens : goal.returns-clause-happens
+returns-clause-happens g c =
     let nets = c.args.nets.now in
     let table = c.args.table.now in
     let carries = c.in_ok-carry_out.ensures in

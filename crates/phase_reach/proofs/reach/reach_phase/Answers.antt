@@ -1,32 +1,9 @@
--- The writes of the slot from the phase's first moment on are all of the phase's.
-use Rattle.std.proofs.Common.{◌≡◌, ◌+◌, ◌<◌, ◌≤◌, map, length, ap, subst, ◌∙◌, arith}
-use Rattle.v_design.specs.Designs.{FlatDesign}
-use Rattle.trace_window.specs.Moments.{window_events}
-use Rattle.trace_window.specs.Writes.{written_of}
-use Rattle.phase_reach.specs.Reached.{WritesAreReached}
-use Rattle.phase_reach.proofs.Written.{phase-reached}
+-- What is reached from the phase's first moment on is what the phase reaches.
+use Rattle.std.proofs.Common.{subst}
+use Rattle.phase_reach.specs.Reached.{MomentsAreReached}
 use Rattle.phase_reach.proofs.reach.reach_phase.Goals as goal
 
 pub returns-clause-all : goal.returns-clause-all
 returns-clause-all g c = λ yes.
-    let design = g.N.World.design in
-    let plan = g.N.World.plan in
-    let begins = c.args.window.now.before in
-    let number = begins + c.args.slot in
-    let ends = c.args.window.now.through in
-    let first = c.args.notes.now.first in
-    let writes = map written_of c.changes_in.result.now in
-    let slots = c.slots.ensures in
-    let within = c.if-slots-slot.false in
-    let high : number < ends = omega (arith, slots, within) in
-    let begins_at = c.first_moment.ensures.moment in
-    let first_is = c.first-first.ensures in
-    let not_before = c.if-first-first_moment.false in
-    let since : length (window_events design plan begins number) ≤ first = omega (arith, begins_at, first_is, not_before) in
-    let next : begins + (c.args.slot + 1) ≡ number + 1 = omega arith in
-    let ends_at : c.first_moment-2.result ≡ length (window_events design plan begins (number + 1)) = c.first_moment-2.ensures.moment ∙ ap (λ n. length (window_events design plan begins n)) next in
-    let not_behind = c.if-first_moment-end.false in
-    let before : c.args.end ≤ length (window_events design plan begins (number + 1)) = omega (arith, ends_at, not_behind) in
-    phase-reached design plan begins number ends c.args.end c.args.notes.now writes c.reach_written.new.reached (omega arith) high since before c.changes_in.ensures.changes
-    (subst (λ n. WritesAreReached design n c.args.end writes c.reach_written.new.reached) first_is
-    (subst (λ (d : FlatDesign). WritesAreReached d c.first-first.result c.args.end writes c.reach_written.new.reached) c.requires (c.reach_written.ensures.all yes)))
+    subst (λ n. MomentsAreReached g.N.World.design g.N.World.plan c.args.window.now.before c.args.window.now.through n c.args.end c.reach_between.new.reached) c.first.ensures
+    (c.reach_between.ensures.all yes)

@@ -1,7 +1,7 @@
 -- So many shards have gone through the window.
 use Rattle.std.proofs.Common.{◌≡◌}
 use Rattle.fault_shards.specs.Shards.{representatives_of}
-use Rattle.graded_steps.specs.Behind.{RisesWithin}
+use Rattle.graded_steps.specs.Behind.{RisesTwice}
 use Rattle.shard_claims.specs.Workers.{IsClaimed, claimed_steps, numbers_of}
 use Rattle.shard_claims.proofs.Passing.{ArePassed}
 use Rattle.shard_claims.proofs.shards.advance_all.Given as goal
@@ -13,5 +13,5 @@ invariant-shards g l = record {
       ArePassed (IsClaimed (representatives_of l.round.shards.now) l.round.window.now.before) (IsClaimed (representatives_of l.round.shards.now) l.round.window.now.through) l.place
       l.shards.items;
   ticks :
-      RisesWithin (claimed_steps g.N.World.design g.N.World.plan l.initial.shards.items) (claimed_steps g.N.World.design g.N.World.plan l.shards.items) l.fn.steps l.steps;
+      RisesTwice (claimed_steps g.N.World.design g.N.World.plan l.initial.shards.items) (claimed_steps g.N.World.design g.N.World.plan l.shards.items) l.fn.steps l.steps;
 }

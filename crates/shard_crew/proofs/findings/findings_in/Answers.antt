@@ -3,7 +3,7 @@ use Rattle.std.proofs.Common.{◌≡◌, ◌≤◌, ◌++◌, length, take, sym,
 use Rattle.std.proofs.lemmas.List.{take_all}
 use Rattle.std.proofs.lemmas.List.Elements.{All-nil, All-same, All-more}
 use Rattle.copy_laws.specs.Windows.{good_slots}
-use Rattle.copy_shard.specs.Shards.{places_of}
+use Rattle.shard_claims.specs.copy_shard.Shards.{places_of}
 use Rattle.std.specs.List.{All}
 use Rattle.fault_shards.specs.Found.{IsFinding, found_faults}
 use Rattle.shard_claims.specs.Workers.{claimed_steps}

@@ -2,7 +2,7 @@
 use Rattle.std.proofs.Common.{ap, sym, subst, ◌∙◌, ◌++◌}
 use Rattle.std.specs.List.{All}
 use Rattle.std.proofs.lemmas.List.Elements.{All-append}
-use Rattle.copy_shard.specs.Shards.{findings_of}
+use Rattle.shard_claims.specs.copy_shard.Shards.{findings_of}
 use Rattle.fault_shards.specs.Found.{IsFinding, found_faults}
 use Rattle.verdict_settle.specs.HarvestLaws.{found-both}
 use Rattle.shard_crew.proofs.findings.push_found.Goals as goal

@@ -1,14 +1,14 @@
 -- What both came back with.
 use Rattle.std.proofs.Common.{subst, rules}
 use Rattle.std.specs.Prelude.{OnOk}
-use Rattle.shard_crew.specs.Crews.{RoseWithin, crew_steps}
+use Rattle.shard_crew.specs.Crews.{RoseTwice, crew_steps}
 use Rattle.shard_rounds.specs.Rounds.{RunsOn}
 use contract.Lifetimes.{Lfts}
 use denote.Param.{param}
 use denote.Param.Send.{IsSend, IsSync, param_send, arg_send, recorded_send, struct_send, shr_send, mut_send, mut_slice_send}
 use Rattle.std.proofs.Crossing as std
 use Rattle.vf_base.proofs.steps.Steps.TheSendSync as steps_crosses
-use Rattle.shard_claims.proofs.worker.Worker.TheSendSync as worker_crosses
+use Rattle.shard_crew.proofs.shard_claims.worker.Worker.TheSendSync as worker_crosses
 use Rattle.shard_crew.proofs.Crossing.{round_sync}
 use Rattle.shard_rounds.proofs.step.go_round.Given.{Over}
 use Rattle.shard_rounds.proofs.step.go_round.Lts.{arg-0-1}
@@ -30,7 +30,7 @@ returns-clause-next g c =
 
 pub returns-clause-ticks : goal.returns-clause-ticks
 returns-clause-ticks g c =
-    let rose : OnOk c.join_mut-a.result.0 (RoseWithin (crew_steps g.N.World.design g.N.World.plan c.args.workers.now.items) (crew_steps g.N.World.design g.N.World.plan c.workers-1.given.0.items)
+    let rose : OnOk c.join_mut-a.result.0 (RoseTwice (crew_steps g.N.World.design g.N.World.plan c.args.workers.now.items) (crew_steps g.N.World.design g.N.World.plan c.workers-1.given.0.items)
     c.args.steps.now c.steps-1.given.0) = search rules in
-    subst (λ r. OnOk r (RoseWithin (crew_steps g.N.World.design g.N.World.plan c.args.workers.now.items) (crew_steps g.N.World.design g.N.World.plan c.workers-1.given.0.items)
+    subst (λ r. OnOk r (RoseTwice (crew_steps g.N.World.design g.N.World.plan c.args.workers.now.items) (crew_steps g.N.World.design g.N.World.plan c.workers-1.given.0.items)
     c.args.steps.now c.steps-1.given.0)) c.in_ok-a.was rose

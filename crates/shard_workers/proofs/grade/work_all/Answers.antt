@@ -1,11 +1,11 @@
 -- The design keeps the rules.
-use Rattle.std.proofs.Common.{◌≡◌, ◌+◌, ◌≤◌, sym, subst, arith}
+use Rattle.std.proofs.Common.{◌≡◌, ◌+◌, ◌*◌, ◌≤◌, sym, subst, arith}
 use Rattle.std.specs.Prelude.{sum}
 use Rattle.v_design.specs.PlainDesigns.{design_of}
 use Rattle.v_design.specs.RulesHold.{rules_hold}
 use Rattle.v_design.specs.WellFormed.{KeepsRules}
 use Rattle.v_design.specs.OwnSteps.{good_steps}
-use Rattle.shard_crew.specs.Crews.{claimed_most}
+use Rattle.shard_rounds.specs.shard_crew.Crews.{claimed_most}
 use Rattle.shard_rounds.specs.Outcomes.{OutcomeTicks}
 use Rattle.shard_rounds.specs.declared.outcome.Outcome.{Outcome}
 use Rattle.shard_workers.specs.Ordered.{work_steps}
@@ -17,7 +17,7 @@ close_work-requires-clause-rules g c κs within = subst KeepsRules (sym c.design
 pub returns-clause-ticks : goal.returns-clause-ticks
 returns-clause-ticks g c =
     let most : sum c.grade_rounds.new.own + sum c.grade_rounds.new.steps ≤
-    sum c.args.own.now + sum c.args.steps.now + (good_steps g.N.World.design g.N.World.plan + claimed_most g.N.World.design g.N.World.plan c.in-Graded.gathered.shards.items) =
+    sum c.args.own.now + sum c.args.steps.now + (good_steps g.N.World.design g.N.World.plan + 2 * claimed_most g.N.World.design g.N.World.plan c.in-Graded.gathered.shards.items) =
     subst (λ (o : Outcome _). OutcomeTicks g.N.World.design g.N.World.plan (sum c.args.own.now + sum c.args.steps.now) (sum c.grade_rounds.new.own + sum c.grade_rounds.new.steps) o) c.in-Graded.is
     c.in_ok-outcome.ensures.ticks in
     let same : claimed_most g.N.World.design g.N.World.plan c.in-Graded.gathered.shards.items ≡ work_steps g.N.World.design g.N.World.plan c.in_ok-work-in-Graded.work.shards.items =

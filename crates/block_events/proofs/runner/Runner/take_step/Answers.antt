@@ -13,8 +13,8 @@ step_alone-requires-clause-ready g c =
 pub step_alone-requires-clause-there : goal.step_alone-requires-clause-there
 step_alone-requires-clause-there g c = step-there c.writes_stay.ensures.next c.args.self.now (process_number c.args.process) c.requires.rules c.requires.writes
 
-pub returns : goal.returns
-returns g c =
+pub returns-clause-goes : goal.returns-clause-goes
+returns-clause-goes g c =
     step-goes c.phases_go_on.ensures.notes c.moves.ensures.events c.args.self.now _ c.args.process c.in_ok-stepped.stepped.line c.step_alone.new.told c.args.told.now c.count_step.new.self
-    c.add_step.new.self c.in_ok-begins.begins c.is_ready-ready.result c.requires.whole c.requires.nodes c.requires.lanes c.requires.ready c.in_ok-stepped.ensures c.is_ready-ready.ensures
+    c.add_step.new.self c.in_ok-begins.begins c.is_ready-ready.result c.requires.whole c.requires.nodes c.requires.lanes c.requires.ready c.in_ok-stepped.ensures.happens c.is_ready-ready.ensures
     c.in_ok-begins.ensures.begins c.in_ok-begins.ensures.running c.in_ok-count_step.ensures c.in_ok-add_step.ensures

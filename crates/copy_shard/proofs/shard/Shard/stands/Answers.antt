@@ -1,6 +1,6 @@
 -- The faults stand by what the shard keeps.
 use Rattle.std.proofs.Common.{subst}
-use Rattle.copy_shard.specs.Shards.{ShardKept, StandsBeside}
+use Rattle.copy_shard.specs.Shards.{StandsBeside}
 use Rattle.copy_shard.proofs.Standing.{all-found, all-graded, all-stand}
 use Rattle.copy_shard.proofs.Ticks.{all-within}
 use Rattle.copy_shard.proofs.shard.Shard.stands.Goals as goal

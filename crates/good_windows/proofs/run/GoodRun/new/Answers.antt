@@ -23,11 +23,12 @@ invariant_of-result g c =
       end_is = ap (λ (p : TestPlan). p.end) c.plan-plan.ensures.world;
       early = early plan c.plan-plan.result.now c.plan-plan.ensures.world;
       usable = λ _. record {
-        codes = subst (AreCodesOf design) (c.codes-codes.ensures.codes ∙ sym c.in_ok-trace.ensures.codes) c.codes-codes.ensures.world;
-        all_closed = c.in_ok-trace.ensures.none.0 ∙ sym c.in_ok-trace.ensures.none.1;
+        codes = subst (AreCodesOf design) (c.codes-codes.ensures.codes ∙ sym c.in_ok-run.ensures.codes) c.codes-codes.ensures.world;
+        all_closed = c.in_ok-run.ensures.none.0 ∙ sym c.in_ok-run.ensures.none.1;
         goes_on =
-            subst (λ n. StandsAfter design plan n c.in_ok-machine.machine) (sym c.in_ok-trace.ensures.none.1)
+            subst (λ n. StandsAfter design plan n c.in_ok-machine.machine) (sym c.in_ok-run.ensures.none.1)
             (stands-start c.first_run_goes_on.ensures design plan c.in_ok-machine.machine
             (subst KeepsRules (sym c.design-design.ensures.world) (rules_hold (design_of kept) kept.rules)) c.in_ok-machine.ensures);
       };
+      beside = λ _. c.in_ok-run.ensures.beside;
     }

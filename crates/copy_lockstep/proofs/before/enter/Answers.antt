@@ -1,0 +1,43 @@
+-- Over slots, or to the slot.
+use Rattle.std.proofs.Common.{◌≡◌, ◌+◌, ◌∙◌, sym, subst, arith}
+use Rattle.v_design.specs.Plain.{fault_of}
+use Rattle.window_strobes.proofs.Knowing.{design-rules}
+use Rattle.copy_window.specs.declared.fault.ShardFault.{ShardFault}
+use Rattle.copy_lockstep.specs.Entered.{HasEntered}
+use Rattle.copy_lockstep.specs.Faults.{IsOpenAtSlot}
+use Rattle.copy_lockstep.proofs.Slots.{opens}
+use Rattle.copy_lockstep.proofs.before.enter.Goals as goal
+
+pub pass_slots-passed-requires-clause-fault : goal.pass_slots-passed-requires-clause-fault
+pass_slots-passed-requires-clause-fault g c κs within =
+    opens c.good_run_goes_on.ensures g.N.World.design g.N.World.plan (fault_of c.args.fault) (c.args.view.now.window.now.before + c.args.at.slot) c.args.at.passed c.args.own.now
+    (design-rules g.N.World.design c.design-design.result.now c.design-design.ensures.world) (record { stands = c.requires.fault; has_passed = λ none. c.requires.strobes })
+    c.requires.listed c.requires.none c.requires.some (omega (arith, c.if-at-last.false, c.requires.more))
+
+pub returns-then-passed-at-clause-entered : goal.returns-then-passed-at-clause-entered
+returns-then-passed-at-clause-entered g c = record {
+  since = c.if-passed-at.true;
+  by = c.pass_slots-passed.ensures.by;
+  stands = c.pass_slots-passed.ensures.fault;
+}
+
+pub try_slot-requires-clause-next : goal.try_slot-requires-clause-next
+try_slot-requires-clause-next g c κs within = omega (arith, c.if-at-last.false, c.requires.more)
+
+pub try_slot-requires-clause-fault : goal.try_slot-requires-clause-fault
+try_slot-requires-clause-fault g c κs within =
+    let same : c.pass_slots-passed.result.slot ≡ c.args.at.slot = omega (arith, c.if-passed-at.false, c.pass_slots-passed.ensures.since) in
+    subst (λ (own : ShardFault). IsOpenAtSlot g.N.World.design g.N.World.plan (fault_of c.args.fault) (c.args.view.now.window.now.before + c.args.at.slot) c.args.at.passed own)
+    (sym (c.pass_slots-passed.ensures.stays same))
+    (opens c.good_run_goes_on.ensures g.N.World.design g.N.World.plan (fault_of c.args.fault) (c.args.view.now.window.now.before + c.args.at.slot) c.args.at.passed c.args.own.now
+    (design-rules g.N.World.design c.design-design.result.now c.design-design.ensures.world) (record { stands = c.requires.fault; has_passed = λ none. c.requires.strobes })
+    c.requires.listed c.requires.none c.requires.some (omega (arith, c.if-at-last.false, c.requires.more)))
+
+pub returns-clause-entered : goal.returns-clause-entered
+returns-clause-entered g c =
+    let same : c.pass_slots-passed.result.slot ≡ c.args.at.slot = omega (arith, c.if-passed-at.false, c.pass_slots-passed.ensures.since) in
+    subst (λ (own : ShardFault). HasEntered g.N.World.design g.N.World.plan (fault_of c.args.fault) c.args.view.now.window.now c.args.at c.args.last own c.try_slot.new.own c.in_ok-entered.entered)
+    (c.pass_slots-passed.ensures.stays same) (c.in_ok-entered.ensures.entered c.args.last c.if-at-last.false)
+
+pub returns-clause-place : goal.returns-clause-place
+returns-clause-place g c = c.in_ok-entered.ensures.place ∙ c.pass_slots-passed.ensures.place

@@ -1,0 +1,132 @@
+// A fault before a slot.
+
+ghost use Rattle.std.specs.Prelude.{◌≡◌, ℕ, ◌+◌, ◌<◌, ◌≤◌, IfOk, None, OnOk, Some, length, slice_get};
+ghost use Rattle.v_design.specs.Plain.{fault_of};
+ghost use Rattle.copy_laws.specs.Windows.{good_slots, time_at};
+ghost use Rattle.window_strobes.specs.Passed.{HasPassed};
+ghost use Rattle.copy_window.specs.ShardFaults.{IsShardFault};
+ghost use Rattle.slot_strobes.specs.Strobes.{ComeBefore, IsSeenTo};
+ghost use Rattle.copy_lockstep.specs.Faults.{IsOpenAtSlot, MayTry};
+ghost use Rattle.copy_lockstep.specs.Entered.{HasEntered};
+
+use crate::entered::{Entered, Entering};
+use crate::pass::pass_slots;
+use crate::reached::Reached;
+use copy_window::ShardFault;
+use good_trace::{Setup, TraceWindow};
+use lockstep_due::may_go;
+use lockstep_shards::shards_go_in_lockstep;
+use lockstep_slot::{LockstepWindow, enter_slot};
+use slot_strobes::{Seen, see_to};
+use std::alloc::Global;
+use v_design::{Fault, World};
+use vf_base::{End, NoMemory};
+
+/// Grades a fault at the strobes before a slot of a window, which begins at a time, in steps.
+fn see_before<N: World>(
+    setup: &Setup<'_, N>,
+    window: &TraceWindow<N>,
+    fault: Fault,
+    own: &ShardFault,
+    at: Reached,
+    begins: u64,
+) -> Seen
+    requires slot { window.now.before + at.slot < window.now.through }
+    requires next { window.now.before + at.slot + 1 < length (good_slots N.design N.plan) }
+    requires fault { MayTry N.design N.plan (fault_of fault) (window.now.before + at.slot) at.passed own.now }
+    requires begins { time_at N.design N.plan (window.now.before + at.slot + 1) ≡ Some begins }
+    ensures passed { ComeBefore N.plan.strobes result.passed begins }
+    ensures seen { IsSeenTo N.design N.plan (fault_of fault) at.passed result.passed result.possible result.hard }
+{
+    beside_laws::good_run_goes_on();
+    shards_go_in_lockstep();
+    let design = setup.design();
+    see_to(
+        setup,
+        window,
+        at.slot,
+        fault,
+        &own.copy,
+        at.passed,
+        begins - 1,
+        own.possible,
+    )
+}
+
+/// What becomes of a fault of which nothing was found at a slot of a window that touches something of its copy.
+fn try_slot<N: World>(
+    alloc: Global,
+    setup: &Setup<'_, N>,
+    view: &LockstepWindow<'_, N>,
+    fault: Fault,
+    own: &mut ShardFault,
+    at: Reached,
+) -> Result<Entered, NoMemory>
+    requires slot { view.now.window.now.before + at.slot < view.now.window.now.through }
+    requires next { view.now.window.now.before + at.slot + 1 < length (good_slots N.design N.plan) }
+    requires fault { IsOpenAtSlot N.design N.plan (fault_of fault) (view.now.window.now.before + at.slot) at.passed own.old }
+    ensures entered { IfOk result (λ entered. (last : ℕ) → at.slot < last → HasEntered N.design N.plan (fault_of fault) view.now.window.now at last own.old own.new entered) }
+    ensures place { OnOk result (own.new.copy.fault ≡ own.old.copy.fault) }
+{
+    beside_laws::good_run_goes_on();
+    shards_go_in_lockstep();
+    let design = setup.design();
+    let may = may_go(alloc, setup, view.window, at.slot, &own.copy)?;
+    if !may {
+        return Ok(Entered::Whole);
+    }
+    let begins = view.window.slot_time(at.slot);
+    let seen = see_before(setup, view.window, fault, own, at, begins);
+    if let Some(time) = seen.hard {
+        own.end = Some(End::Detected(time));
+        return Ok(Entered::Ended);
+    }
+    let found = enter_slot(alloc, view, fault, &own.copy, at.slot)?;
+    match found {
+        None => Ok(Entered::Whole),
+        Some(one) => Ok(Entered::On(Entering {
+            one,
+            passed: seen.passed,
+            possible: seen.possible,
+        })),
+    }
+}
+
+/// What becomes of a fault of which nothing was found at a slot of a window, up to which so many of the plan's strobes come. Of the window the slots before `last` may be gone
+/// through in lockstep.
+///
+/// # Errors
+///
+/// Want of memory.
+pub fn enter<N: World>(
+    alloc: Global,
+    setup: &Setup<'_, N>,
+    view: &LockstepWindow<'_, N>,
+    fault: Fault,
+    own: &mut ShardFault,
+    at: Reached,
+    last: u32,
+) -> Result<Entered, NoMemory>
+    requires slot { view.now.window.now.before + at.slot < view.now.window.now.through }
+    requires last { view.now.window.now.before + last ≤ view.now.window.now.through }
+    requires more { view.now.window.now.before + last < length (good_slots N.design N.plan) }
+    requires some { 0 < view.now.window.now.before + at.slot }
+    requires fault { IsShardFault N.design N.plan (view.now.window.now.before + at.slot) at.passed own.old }
+    requires listed { slice_get N.plan.faults own.old.copy.fault ≡ Some (fault_of fault) }
+    requires none { own.old.end ≡ None }
+    requires strobes { HasPassed N.design N.plan (view.now.window.now.before + at.slot) at.passed }
+    ensures entered { IfOk result (HasEntered N.design N.plan (fault_of fault) view.now.window.now at last own.old own.new) }
+    ensures place { OnOk result (own.new.copy.fault ≡ own.old.copy.fault) }
+{
+    beside_laws::good_run_goes_on();
+    let design = setup.design();
+    if at.slot >= last {
+        return Ok(Entered::Whole);
+    }
+    let passed = pass_slots(setup, view.window, fault, own, at, last);
+    if passed.slot > at.slot {
+        return Ok(Entered::Passed(passed));
+    }
+    let entered = try_slot(alloc, setup, view, fault, own, at)?;
+    Ok(entered)
+}

@@ -1,0 +1,4 @@
+pub mod Beside
+pub use Rattle.lockstep_phase.specs.phase_faults as phase_faults
+pub use Rattle.lockstep_phase.specs.slot_laws as slot_laws
+pub use Rattle.lockstep_phase.specs.lockstep_block as lockstep_block

@@ -1,0 +1,8 @@
+mod Writes
+pub use Rattle.phase_faults.proofs as phase_faults
+pub use Rattle.phase_faults.proofs.slot_laws as slot_laws
+pub use Rattle.phase_faults.proofs.lockstep_block as lockstep_block
+pub use Rattle.phase_faults.proofs.lockstep_filter as lockstep_filter
+pub use Rattle.phase_faults.proofs.lockstep_steps as lockstep_steps
+pub use Rattle.phase_faults.proofs.moment_laws as moment_laws
+pub use Rattle.phase_faults.proofs.lockstep_room as lockstep_room

@@ -1,0 +1,13 @@
+pub mod Lists
+pub mod Untouched
+pub mod Sooner
+pub mod Moving
+pub mod Waiting
+pub mod Again
+pub mod Through
+pub use Rattle.slot_laws.proofs as slot_laws
+pub use Rattle.slot_laws.proofs.lockstep_block as lockstep_block
+pub use Rattle.slot_laws.proofs.lockstep_filter as lockstep_filter
+pub use Rattle.slot_laws.proofs.lockstep_steps as lockstep_steps
+pub use Rattle.slot_laws.proofs.moment_laws as moment_laws
+pub use Rattle.slot_laws.proofs.lockstep_room as lockstep_room

@@ -1,0 +1,130 @@
+// Up to which moment events leave alone what is kept.
+
+ghost use Rattle.std.specs.Prelude.{◌≡◌, ◌<◌, ◌≤◌, true, length};
+ghost use Rattle.std.specs.List.{AllZip, fold};
+ghost use Rattle.vf_base.specs.Lists.{AllHold, has};
+ghost use Rattle.v_design.specs.Plain.{site_of};
+ghost use Rattle.trace_window.specs.Moments.{window_events};
+ghost use Rattle.copy_skip.specs.Limits.{AreThere, SiteIsThere};
+ghost use Rattle.block_skip.specs.Blocks.{AreProcesses, LeftAlone};
+ghost use Rattle.slot_laws.specs.Slots.{AreOfOneWindow};
+ghost use Rattle.phase_faults.specs.Beside.{HasSite, IsThereIf, LooksAhead, sooner_of};
+
+use crate::beside::FaultBeside;
+use crate::view::LockstepWindow;
+use block_skip::next_touched_block;
+use good_trace::Setup;
+use lockstep_copy::LockstepCopy;
+use v_design::{Fault, World};
+
+/// The moment up to which all events from a moment on, with which a block begins, leave alone what is kept of a fault; at most the end of the phase.
+fn untouched_until<N: World>(
+    setup: &Setup<'_, N>,
+    view: &LockstepWindow<'_, N>,
+    fault: Fault,
+    own: &LockstepCopy,
+    moment: u32,
+    end: u32,
+) -> u32
+    requires window { AreOfOneWindow view.now.window.now view.now.blocks.now view.now.wakes.now }
+    requires objects { AreThere N.design own.now.copy.values }
+    requires site { SiteIsThere N.design (site_of fault.site) }
+    requires processes { AreProcesses N.design own.now.copy.updates }
+    requires order { moment ≤ end }
+    requires end { moment < end → end ≤ length (window_events N.design N.plan view.now.window.now.before view.now.window.now.through) }
+    ensures low { moment ≤ result }
+    ensures high { result ≤ end }
+    ensures begins { moment < result → result < end → has view.now.blocks.now.moments result ≡ true }
+    ensures alone { LeftAlone N.design (site_of fault.site) own.now.copy (window_events N.design N.plan view.now.window.now.before view.now.window.now.through) moment result }
+{
+    if moment == end {
+        return moment;
+    }
+    let Some(from) = view.blocks.block_at(moment) else {
+        return moment;
+    };
+    let moments = view.blocks.moments();
+    if moments[from] != moment {
+        return moment;
+    }
+    let block = next_touched_block(setup, view.window, view.blocks, &own.copy, fault, from);
+    if block >= moments.len() {
+        return end;
+    }
+    let begins = moments[block];
+    if end <= begins {
+        return end;
+    }
+    begins
+}
+
+/// Looks ahead from a moment on, with which a block begins, for a fault that still goes.
+pub fn look_ahead<N: World>(
+    setup: &Setup<'_, N>,
+    view: &LockstepWindow<'_, N>,
+    each: &mut FaultBeside,
+    moment: u32,
+    end: u32,
+)
+    requires window { AreOfOneWindow view.now.window.now view.now.blocks.now view.now.wakes.now }
+    requires site { HasSite N.design each.old }
+    requires kept { IsThereIf N.design each.old }
+    requires order { moment ≤ end }
+    requires end { moment < end → end ≤ length (window_events N.design N.plan view.now.window.now.before view.now.window.now.through) }
+    ensures { LooksAhead N.design N.plan view.now.window.now.before view.now.window.now.through view.now.blocks.now.moments moment end each.old each.new }
+{
+    let goes = each.goes;
+    if !goes {
+        return;
+    }
+    let until = untouched_until(setup, view, each.fault, &each.one.own, moment, end);
+    each.until = until;
+}
+
+/// The same for all of some faults.
+pub fn look_ahead_all<N: World>(
+    setup: &Setup<'_, N>,
+    view: &LockstepWindow<'_, N>,
+    faults: &mut Vec<FaultBeside>,
+    moment: u32,
+    end: u32,
+)
+    requires window { AreOfOneWindow view.now.window.now view.now.blocks.now view.now.wakes.now }
+    requires sites { AllHold (HasSite N.design) faults.old.items }
+    requires kept { AllHold (IsThereIf N.design) faults.old.items }
+    requires order { moment ≤ end }
+    requires end { moment < end → end ≤ length (window_events N.design N.plan view.now.window.now.before view.now.window.now.through) }
+    ensures { AllZip (LooksAhead N.design N.plan view.now.window.now.before view.now.window.now.through view.now.blocks.now.moments moment end) faults.old.items faults.new.items }
+{
+    'faults: for place in 0..faults.len() {
+        let each = &mut faults[place];
+        look_ahead(setup, view, each, moment, end);
+    }
+}
+
+/// The sooner one of a moment and the one of a fault that still goes.
+fn sooner(least: u32, each: &FaultBeside) -> u32
+    ensures { result ≡ sooner_of least each.now }
+{
+    let goes = each.goes;
+    let until = each.until;
+    if !goes {
+        return least;
+    }
+    if until < least {
+        return until;
+    }
+    least
+}
+
+/// The least moment, at most the end of the phase, up to which events leave alone what is kept of each fault that still goes.
+pub fn least_until(faults: &[FaultBeside], end: u32) -> u32
+    ensures { result ≡ fold sooner_of end faults.now }
+{
+    let mut least = end;
+    'faults: for each in faults {
+        let next = sooner(least, each);
+        least = next;
+    }
+    least
+}

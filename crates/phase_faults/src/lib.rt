@@ -1,0 +1,18 @@
+//! Faults that go through a phase beside one another, over one room of the good machine (phases and blocks by IEEE 1364-2001, clause 5).
+//!
+//! All faults of a shard that still go in lockstep stand where the room of the good machine does. `specs/Beside` says what is known of them there, up to which moment of the phase events
+//! leave alone what is kept of one (its stop), and what a stretch of the room up to the least stop and a block of both machines make of each; the lemmas of `proofs` show that they do.
+//! Main contract: `look_ahead` finds the stop of a fault by the window's indexes, and `least_until` the least one of some faults.
+#![tactic(auto)]
+
+mod ahead;
+mod beside;
+mod view;
+
+pub use ahead::{least_until, look_ahead, look_ahead_all};
+pub use beside::FaultBeside;
+pub use slot_laws::{
+    FaultInSlot, FilterRoom, GoodMoment, LockstepRoom, follow_block, is_free, limits_tell,
+    places_are_told, run_own_block, slots_are_counted, stand_at, steps_go_on,
+};
+pub use view::LockstepWindow;

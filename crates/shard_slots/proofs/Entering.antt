@@ -1,0 +1,88 @@
+-- What becomes of a fault at a slot (strobes by the plan; slots by IEEE 1364-2001, clause 5).
+use Rattle.std.proofs.Common.{◌≡◌, ℕ, suc, ◌+◌, ◌<◌, ◌≤◌, true, false, length, refl, sym, ap, subst, ◌∙◌, arith}
+use Rattle.std.specs.Prelude.{Option, Some, None, is_some, slice_get}
+use Rattle.v_design.specs.Designs.{FlatDesign, StuckAt, TestPlan}
+use Rattle.v_design.specs.Plain.{fault_of}
+use Rattle.v_design.specs.WellFormed.{KeepsRules}
+use Rattle.copy_laws.specs.Windows.{good_slots}
+use Rattle.beside_laws.specs.Shards.{FaultsGoOn}
+use Rattle.window_strobes.specs.Passed.{HasPassed}
+use Rattle.copy_lockstep.specs.copy_window.ShardFaults.{IsShardFault}
+use Rattle.copy_lockstep.specs.copy_window.declared.fault.ShardFault.{ShardFault}
+use Rattle.good_trace.specs.Traces.{WindowKept}
+use Rattle.copy_lockstep.specs.lockstep_block.declared.room.FaultInSlot.{FaultInSlot}
+use Rattle.copy_lockstep.specs.phase_faults.declared.beside.FaultBeside.{FaultBeside}
+use Rattle.copy_lockstep.specs.lockstep_slot.Beside.{BeginsSlot}
+use Rattle.copy_lockstep.specs.Entered.{EntersSlot, EntersWith, HasEnded, IsPassed}
+use Rattle.copy_lockstep.specs.declared.entered.Entering.{Entering}
+use Rattle.copy_lockstep.specs.declared.reached.Reached.{Reached}
+use Rattle.window_faults.specs.Within.{IsWithin}
+use Rattle.window_faults.specs.declared.at.FaultAt.{FaultAt}
+use Rattle.window_faults.proofs.Within.{ended-later, within-there}
+use Rattle.shard_slots.specs.Slots.{Enters}
+
+module _ (design : FlatDesign) (plan : TestPlan) (before through slot : ℕ) where
+  -- it rests
+  pub rests-there : (own : ShardFault) (at : FaultAt) (beside : FaultBeside) → IsWithin design plan before through own at → (own.end ≡ None → slot ≤ at.slot) →
+      slice_get plan.faults own.copy.fault ≡ Some (fault_of beside.fault) → beside.goes ≡ false → beside.one.ticked ≡ 0 → Enters design plan before through slot own at beside
+  rests-there own at beside within come listed rests ticked = record {
+    within = within;
+    come = come;
+    listed = listed;
+    ticked = ticked;
+    goes = λ goes. absurd (let no : beside.goes ≡ false = rests in cc);
+    begins = λ goes. absurd (let no : beside.goes ≡ false = rests in cc);
+  }
+
+  -- it is passed over slots
+  pub passed-there : (fault : StuckAt) (last : ℕ) (reached : Reached) (own : ShardFault) (at : FaultAt) (beside : FaultBeside) → before + last ≤ through →
+      IsPassed design plan fault before slot last reached own → at.slot ≡ reached.slot → at.passed ≡ reached.passed →
+      slice_get plan.faults own.copy.fault ≡ Some (fault_of beside.fault) → beside.goes ≡ false → beside.one.ticked ≡ 0 → Enters design plan before through slot own at beside
+  passed-there fault last reached own at beside low passed slot_is passed_is listed rests ticked =
+      let since = passed.since in
+      let by = passed.by in
+      let stood = passed.stands in
+      rests-there own at beside
+      (within-there design plan before through reached.slot reached.passed own at slot_is passed_is (omega (arith, low, by))
+      (subst (λ n. IsShardFault design plan n reached.passed own) (sym stood.gone_is) stood.behind.stands)
+      (λ none. subst (λ n. HasPassed design plan n reached.passed) (sym stood.gone_is) stood.behind.has_passed))
+      (λ none. omega (arith, since, slot_is)) listed rests ticked
+
+  -- its grading ended
+  pub ended-there : FaultsGoOn → KeepsRules design → (own : ShardFault) (at : FaultAt) (beside : FaultBeside) → before + slot < through → HasEnded design plan (suc (before + slot)) own →
+      at.slot ≡ slot + 1 → slice_get plan.faults own.copy.fault ≡ Some (fault_of beside.fault) → beside.goes ≡ false → beside.one.ticked ≡ 0 → Enters design plan before through slot own at beside
+  ended-there law rules own at beside low ended slot_is listed rests ticked =
+      let next : suc (before + slot) ≡ before + (slot + 1) = omega arith in
+      let some : is_some own.end ≡ true = ended.ended in
+      rests-there own at beside
+      (within-there design plan before through (slot + 1) at.passed own at slot_is refl (omega (arith, low))
+      (subst (λ n. IsShardFault design plan n at.passed own) next (ended-later law design plan rules (suc (before + slot)) (suc (before + slot)) ended.passed at.passed own (omega arith) some ended.stands))
+      (λ none. absurd (let no : is_some own.end ≡ false = ap is_some none in cc)))
+      (λ none. omega (arith, slot_is)) listed rests ticked
+
+  -- it enters the slot
+  pub enters-there : (window : WindowKept) (last : ℕ) (entering : Entering) (old own : ShardFault) (at : FaultAt) (beside : FaultBeside) → window.before ≡ before → window.through ≡ through →
+      before + last < length (good_slots design plan) → EntersWith design plan (fault_of beside.fault) window last slot old own entering → beside.one ≡ entering.one → at.seen ≡ entering.passed →
+      at.possible ≡ entering.possible → at.slot ≡ slot → IsWithin design plan before through own at → slice_get plan.faults own.copy.fault ≡ Some (fault_of beside.fault) →
+      Enters design plan before through slot own at beside
+  enters-there window last entering old own at beside before_is through_is more enters one_is seen_is possible_is slot_is within listed = record {
+    within = within;
+    come = λ none. omega (arith, slot_is);
+    listed = listed;
+    ticked = ap (λ (one : FaultInSlot). one.ticked) one_is ∙ enters.begins.ticked;
+    goes = λ goes. record {
+      slot_is = slot_is;
+      more = (let early = enters.early in omega (arith, early, more));
+      enters =
+          subst (λ (n : ℕ). EntersSlot design plan (fault_of beside.fault) (n + slot) own at.seen at.possible) before_is
+          (subst (λ (p : Option ℕ). EntersSlot design plan (fault_of beside.fault) (window.before + slot) own at.seen p) (sym possible_is)
+          (subst (λ (n : ℕ). EntersSlot design plan (fault_of beside.fault) (window.before + slot) own n entering.possible) (sym seen_is)
+          (subst (λ (o : ShardFault). EntersSlot design plan (fault_of beside.fault) (window.before + slot) o entering.passed entering.possible) (sym enters.stays) enters.enters)));
+      place = ap (λ (one : FaultInSlot). one.own.copy.fault) one_is ∙ enters.place ∙ ap (λ (o : ShardFault). o.copy.fault) (sym enters.stays);
+      states = ap (λ (one : FaultInSlot). one.own.copy.states) one_is ∙ enters.states;
+    };
+    begins = λ goes.
+        subst (λ (n : ℕ). BeginsSlot design plan (fault_of beside.fault) before n slot beside.one) through_is
+        (subst (λ (n : ℕ). BeginsSlot design plan (fault_of beside.fault) n window.through slot beside.one) before_is
+        (subst (λ (one : FaultInSlot). BeginsSlot design plan (fault_of beside.fault) window.before window.through slot one) (sym one_is) enters.begins));
+  }

@@ -1,0 +1,24 @@
+-- So far faults have entered, or rest.
+use Rattle.std.proofs.Common.{◌≡◌, ℕ, ◌+◌, ◌≤◌, length}
+use Rattle.std.specs.Prelude.{None, Some, slice_get}
+use Rattle.std.specs.List.{AllZip}
+use Rattle.copy_lockstep.specs.copy_window.declared.fault.ShardFault.{ShardFault}
+use Rattle.copy_lockstep.specs.phase_faults.declared.beside.FaultBeside.{FaultBeside}
+use Rattle.window_faults.specs.Steps.{TakesNoFewer}
+use Rattle.window_faults.specs.Within.{IsWithin}
+use Rattle.window_faults.specs.declared.at.FaultAt.{FaultAt}
+use Rattle.shard_slots.specs.Slots.{Enters}
+use Rattle.shard_slots.proofs.enter.enter_each.Given as goal
+
+abbrev pub invariant-faults : goal.invariant-faults
+invariant-faults g l = record {
+  zip : AllZip (TakesNoFewer g.N.World.design g.N.World.plan (l.view.window.now.before + l.slot)) l.initial.faults.items l.faults.items;
+  count : length l.ats.items ≡ length l.faults.items;
+  got : length l.besides.items ≡ l.place;
+  most : l.place ≤ length l.initial.faults.items;
+  each : (place : ℕ) (own : ShardFault) (at : FaultAt) (beside : FaultBeside) → slice_get l.faults.items place ≡ Some own → slice_get l.ats.items place ≡ Some at →
+      slice_get l.besides.items place ≡ Some beside → Enters g.N.World.design g.N.World.plan l.view.window.now.before l.view.window.now.through l.slot own at beside;
+  within : (place : ℕ) (own : ShardFault) (at : FaultAt) → l.place ≤ place → slice_get l.faults.items place ≡ Some own → slice_get l.ats.items place ≡ Some at →
+      IsWithin g.N.World.design g.N.World.plan l.view.window.now.before l.view.window.now.through own at;
+  come : (place : ℕ) (own : ShardFault) (at : FaultAt) → l.place ≤ place → slice_get l.faults.items place ≡ Some own → slice_get l.ats.items place ≡ Some at → own.end ≡ None → l.slot ≤ at.slot;
+}

@@ -1,0 +1,70 @@
+-- What became of the fault.
+use Rattle.std.proofs.Common.{refl, sym, ap, subst, ◌∙◌, arith}
+use Rattle.std.specs.Prelude.{Some, slice_get}
+use Rattle.v_design.specs.Plain.{fault_of}
+use Rattle.v_design.specs.declared.plan.Fault.{Fault}
+use Rattle.window_strobes.proofs.Knowing.{design-rules}
+use Rattle.copy_lockstep.specs.copy_window.declared.fault.ShardFault.{ShardFault}
+use Rattle.copy_lockstep.specs.Entered.{HasEntered}
+use Rattle.copy_lockstep.specs.declared.entered.Entered.{Entered}
+use Rattle.window_faults.specs.Within.{IsWithin}
+use Rattle.shard_slots.specs.Slots.{Enters}
+use Rattle.shard_slots.proofs.Entering.{ended-there, enters-there, passed-there, rests-there}
+use Rattle.shard_slots.proofs.enter.enter_open.Goals as goal
+
+pub enter-requires-clause-some : goal.enter-requires-clause-some
+enter-requires-clause-some g c κs within = omega (arith, c.requires.some)
+
+pub enter-requires-clause-fault : goal.enter-requires-clause-fault
+enter-requires-clause-fault g c κs within = c.requires.within.stands
+
+pub enter-requires-clause-strobes : goal.enter-requires-clause-strobes
+enter-requires-clause-strobes g c κs within = c.requires.within.has_passed c.requires.none
+
+pub returns-in-Passed-clause-enters : goal.returns-in-Passed-clause-enters
+returns-in-Passed-clause-enters g c =
+    let window = c.args.view.now.window.now in
+    let told = subst (λ (e : Entered). HasEntered g.N.World.design g.N.World.plan (fault_of c.args.fault) window (record { slot = c.args.at.now.slot; passed = c.args.at.now.passed }) c.args.last c.args.own.now c.enter.new.own e) c.in-Passed.is
+    c.in_ok-entered.ensures.entered in
+    passed-there g.N.World.design g.N.World.plan window.before window.through c.args.at.now.slot (fault_of c.args.fault) c.args.last c.in-Passed.further c.enter.new.own _ c.rests.result
+    c.requires.last told refl refl
+    (ap (slice_get g.N.World.plan.faults) c.in_ok-entered.ensures.place ∙ c.requires.listed ∙ ap (λ (f : Fault). Some (fault_of f)) (sym c.rests.ensures.fault)) c.rests.ensures.rests c.rests.ensures.none
+
+pub returns-in-Ended-clause-enters : goal.returns-in-Ended-clause-enters
+returns-in-Ended-clause-enters g c =
+    let window = c.args.view.now.window.now in
+    let told = subst (λ (e : Entered). HasEntered g.N.World.design g.N.World.plan (fault_of c.args.fault) window (record { slot = c.args.at.now.slot; passed = c.args.at.now.passed }) c.args.last c.args.own.now c.enter.new.own e) c.in-Ended.is
+    c.in_ok-entered.ensures.entered in
+    ended-there g.N.World.design g.N.World.plan window.before window.through c.args.at.now.slot c.faults_go_on.ensures
+    (design-rules g.N.World.design c.design-design.result.now c.design-design.ensures.world) c.enter.new.own _ c.rests-in-Ended.result c.requires.slot told refl
+    (ap (slice_get g.N.World.plan.faults) c.in_ok-entered.ensures.place ∙ c.requires.listed ∙ ap (λ (f : Fault). Some (fault_of f)) (sym c.rests-in-Ended.ensures.fault)) c.rests-in-Ended.ensures.rests
+    c.rests-in-Ended.ensures.none
+
+pub returns-in-Whole-clause-enters : goal.returns-in-Whole-clause-enters
+returns-in-Whole-clause-enters g c =
+    let window = c.args.view.now.window.now in
+    let told = subst (λ (e : Entered). HasEntered g.N.World.design g.N.World.plan (fault_of c.args.fault) window (record { slot = c.args.at.now.slot; passed = c.args.at.now.passed }) c.args.last c.args.own.now c.enter.new.own e) c.in-Whole.is
+    c.in_ok-entered.ensures.entered in
+    subst (λ (own : ShardFault). Enters g.N.World.design g.N.World.plan window.before window.through c.args.at.now.slot own c.args.at.now c.rests-in-Whole.result) (sym told)
+    (rests-there g.N.World.design g.N.World.plan window.before window.through c.args.at.now.slot c.args.own.now c.args.at.now c.rests-in-Whole.result c.requires.within (λ none. omega arith)
+    (c.requires.listed ∙ ap (λ (f : Fault). Some (fault_of f)) (sym c.rests-in-Whole.ensures.fault)) c.rests-in-Whole.ensures.rests c.rests-in-Whole.ensures.none)
+
+pub returns-in-On-clause-enters : goal.returns-in-On-clause-enters
+returns-in-On-clause-enters g c =
+    let window = c.args.view.now.window.now in
+    let told = subst (λ (e : Entered). HasEntered g.N.World.design g.N.World.plan (fault_of c.args.fault) window (record { slot = c.args.at.now.slot; passed = c.args.at.now.passed }) c.args.last c.args.own.now c.enter.new.own e) c.in-On.is
+    c.in_ok-entered.ensures.entered in
+    enters-there g.N.World.design g.N.World.plan window.before window.through c.args.at.now.slot window c.args.last c.in-On.entering c.args.own.now c.enter.new.own _ _ refl refl
+    c.requires.more told refl refl refl refl
+    (subst (λ (own : ShardFault). IsWithin g.N.World.design g.N.World.plan window.before window.through own
+    (record { slot = c.args.at.now.slot; passed = c.args.at.now.passed; seen = c.in-On.entering.passed; possible = c.in-On.entering.possible })) (sym told.stays)
+    (record { within = c.requires.within.within; stands = c.requires.within.stands; has_passed = c.requires.within.has_passed }))
+    (ap (slice_get g.N.World.plan.faults) c.in_ok-entered.ensures.place ∙ c.requires.listed)
+
+pub returns-in-Passed-clause-further : goal.returns-in-Passed-clause-further
+returns-in-Passed-clause-further g c =
+    let window = c.args.view.now.window.now in
+    let told = subst (λ (e : Entered). HasEntered g.N.World.design g.N.World.plan (fault_of c.args.fault) window (record { slot = c.args.at.now.slot; passed = c.args.at.now.passed }) c.args.last c.args.own.now c.enter.new.own e) c.in-Passed.is
+    c.in_ok-entered.ensures.entered in
+    let since = told.since in
+    omega (arith, since)

@@ -1,0 +1,35 @@
+-- The faults behind a place have left the slot.
+use Rattle.std.proofs.Common.{◌≡◌, ℕ, ◌+◌, ◌≤◌, length}
+use Rattle.std.specs.Prelude.{None, Some, slice_get, sum_by}
+use Rattle.std.specs.List.{AllZip}
+use Rattle.copy_room.specs.Rooms.{IsRoom}
+use Rattle.copy_lockstep.specs.phase_faults.Beside.{ticked_of}
+use Rattle.copy_lockstep.specs.copy_window.declared.fault.ShardFault.{ShardFault}
+use Rattle.copy_lockstep.specs.phase_faults.declared.beside.FaultBeside.{FaultBeside}
+use Rattle.window_faults.specs.Steps.{StaysFault, steps_of_fault, steps_of_faults}
+use Rattle.window_faults.specs.Within.{IsWithin}
+use Rattle.window_faults.specs.declared.at.FaultAt.{FaultAt}
+use Rattle.window_faults.proofs.Lists.{mixed}
+use Rattle.shard_slots.specs.Slots.{WentThrough}
+use Rattle.shard_slots.proofs.Leaving.{RisesSoFar}
+use Rattle.shard_slots.proofs.leave.leave_each.Given as goal
+
+abbrev pub invariant-faults : goal.invariant-faults
+invariant-faults g l = record {
+  zip : AllZip StaysFault l.fn.faults.items l.faults.items;
+  count : length l.ats.items ≡ length l.faults.items;
+  left : length l.besides.items ≤ length l.faults.items;
+  each : (place : ℕ) (own : ShardFault) (at : FaultAt) (beside : FaultBeside) → slice_get l.faults.items place ≡ Some own → slice_get l.ats.items place ≡ Some at →
+      slice_get l.besides.items place ≡ Some beside → WentThrough g.N.World.design g.N.World.plan l.window.before l.window.through l.slot own at beside;
+  within : (place : ℕ) (own : ShardFault) (at : FaultAt) → length l.besides.items ≤ place → slice_get l.faults.items place ≡ Some own → slice_get l.ats.items place ≡ Some at →
+      IsWithin g.N.World.design g.N.World.plan l.window.before l.window.through own at;
+  come : (place : ℕ) (own : ShardFault) (at : FaultAt) → length l.besides.items ≤ place → slice_get l.faults.items place ≡ Some own → slice_get l.ats.items place ≡ Some at → own.end ≡ None →
+      l.slot + 1 ≤ at.slot;
+  room : IsRoom g.N.World.design l.machine;
+  ticks :
+      RisesSoFar (steps_of_faults g.N.World.design g.N.World.plan (l.window.before + l.slot) l.fn.faults.items) (sum_by ticked_of l.fn.besides.items) (sum_by ticked_of l.besides.items)
+      l.fn.steps (mixed (steps_of_fault g.N.World.design g.N.World.plan (l.window.before + (l.slot + 1))) (steps_of_fault g.N.World.design g.N.World.plan (l.window.before + l.slot)) (length l.besides.items) l.faults.items) l.steps;
+}
+
+abbrev pub decreases-faults : goal.decreases-faults
+decreases-faults g l = length l.besides.items

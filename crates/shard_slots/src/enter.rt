@@ -1,0 +1,142 @@
+// The faults of a shard before a slot.
+
+ghost use Rattle.std.specs.Prelude.{◌≡◌, ◌+◌, ◌<◌, ◌≤◌, length, None, Some, IfOk, OnOk, slice_get};
+ghost use Rattle.std.specs.List.{AllZip};
+ghost use Rattle.v_design.specs.Plain.{fault_of};
+ghost use Rattle.copy_laws.specs.Windows.{good_slots};
+ghost use Rattle.window_faults.specs.Steps.{TakesNoFewer};
+ghost use Rattle.window_faults.specs.Within.{AreWithin, IsWithin};
+ghost use Rattle.shard_slots.specs.Slots.{Enters, HaveEntered};
+
+use copy_lockstep::{
+    Entered, Entering, FaultBeside, LockstepWindow, Reached, ShardFault, enter, rests,
+};
+use good_trace::Setup;
+use std::alloc::Global;
+use v_design::{Fault, World};
+use vf_base::NoMemory;
+use window_faults::{FaultAt, listed_fault};
+
+/// A fault before a slot to which it has come: it is passed over the slot and further ones, its grading ends, or it enters the slot in lockstep, if it may.
+fn enter_open<N: World>(
+    alloc: Global,
+    setup: &Setup<'_, N>,
+    view: &LockstepWindow<'_, N>,
+    fault: Fault,
+    own: &mut ShardFault,
+    at: &mut FaultAt,
+    last: u32,
+) -> Result<FaultBeside, NoMemory>
+    requires some { 0 < view.now.window.now.before }
+    requires slot { view.now.window.now.before + at.old.slot < view.now.window.now.through }
+    requires last { view.now.window.now.before + last ≤ view.now.window.now.through }
+    requires more { view.now.window.now.before + last < length (good_slots N.design N.plan) }
+    requires listed { slice_get N.plan.faults own.old.copy.fault ≡ Some (fault_of fault) }
+    requires none { own.old.end ≡ None }
+    requires within { IsWithin N.design N.plan view.now.window.now.before view.now.window.now.through own.old at.old }
+    ensures enters { IfOk result (Enters N.design N.plan view.now.window.now.before view.now.window.now.through at.old.slot own.new at.new) }
+    ensures place { OnOk result (own.new.copy.fault ≡ own.old.copy.fault) }
+    ensures further { OnOk result (at.old.slot ≤ at.new.slot) }
+{
+    beside_laws::faults_go_on();
+    let design = setup.design();
+    // The window has more slots than that, and their number fits.
+    let _all = view.window.slots();
+    let number = own.copy.fault();
+    let reached = Reached {
+        slot: at.slot,
+        passed: at.passed,
+    };
+    let entered = enter(alloc, setup, view, fault, own, reached, last)?;
+    match entered {
+        Entered::Passed(further) => {
+            at.slot = further.slot;
+            at.passed = further.passed;
+            Ok(rests(alloc, fault, number))
+        }
+        Entered::Ended => {
+            at.slot += 1;
+            Ok(rests(alloc, fault, number))
+        }
+        Entered::Whole => Ok(rests(alloc, fault, number)),
+        Entered::On(entering) => {
+            let Entering {
+                one,
+                passed,
+                possible,
+            } = entering;
+            at.seen = passed;
+            at.possible = possible;
+            Ok(FaultBeside {
+                fault,
+                one,
+                until: 0,
+                goes: true,
+            })
+        }
+    }
+}
+
+/// A fault before a slot to which it has come, or which it passed.
+fn enter_one<N: World>(
+    alloc: Global,
+    setup: &Setup<'_, N>,
+    view: &LockstepWindow<'_, N>,
+    own: &mut ShardFault,
+    at: &mut FaultAt,
+    slot: u32,
+    last: u32,
+) -> Result<FaultBeside, NoMemory>
+    requires some { 0 < view.now.window.now.before }
+    requires slot { view.now.window.now.before + slot < view.now.window.now.through }
+    requires last { view.now.window.now.before + last ≤ view.now.window.now.through }
+    requires more { view.now.window.now.before + last < length (good_slots N.design N.plan) }
+    requires within { IsWithin N.design N.plan view.now.window.now.before view.now.window.now.through own.old at.old }
+    requires come { own.old.end ≡ None → slot ≤ at.old.slot }
+    ensures enters { IfOk result (Enters N.design N.plan view.now.window.now.before view.now.window.now.through slot own.new at.new) }
+    ensures steps { OnOk result (TakesNoFewer N.design N.plan (view.now.window.now.before + slot) own.old own.new) }
+{
+    graded_steps::gradings_take_steps();
+    let design = setup.design();
+    let fault = listed_fault(setup, &own.copy);
+    if own.end.is_some() {
+        return Ok(rests(alloc, fault, own.copy.fault()));
+    }
+    if slot < at.slot {
+        return Ok(rests(alloc, fault, own.copy.fault()));
+    }
+    let beside = enter_open(alloc, setup, view, fault, own, at, last)?;
+    Ok(beside)
+}
+
+/// The faults of a shard before a slot.
+///
+/// # Errors
+///
+/// Want of memory.
+pub(crate) fn enter_each<N: World>(
+    alloc: Global,
+    setup: &Setup<'_, N>,
+    view: &LockstepWindow<'_, N>,
+    faults: &mut Vec<ShardFault>,
+    ats: &mut Vec<FaultAt>,
+    slot: u32,
+    last: u32,
+) -> Result<Vec<FaultBeside>, NoMemory>
+    requires some { 0 < view.now.window.now.before }
+    requires slot { view.now.window.now.before + slot < view.now.window.now.through }
+    requires last { view.now.window.now.before + last ≤ view.now.window.now.through }
+    requires more { view.now.window.now.before + last < length (good_slots N.design N.plan) }
+    requires within { AreWithin N.design N.plan view.now.window.now.before view.now.window.now.through slot faults.old.items ats.old.items }
+    ensures entered { IfOk result (λ besides. HaveEntered N.design N.plan view.now.window.now.before view.now.window.now.through slot faults.new.items ats.new.items besides.items) }
+    ensures faults { OnOk result (AllZip (TakesNoFewer N.design N.plan (view.now.window.now.before + slot)) faults.old.items faults.new.items) }
+{
+    let mut besides = Vec::with_capacity(alloc, faults.len())?;
+    'faults: for place in 0..faults.len() {
+        let own = &mut faults[place];
+        let at = &mut ats[place];
+        let beside = enter_one(alloc, setup, view, own, at, slot, last)?;
+        besides.push(beside)?;
+    }
+    Ok(besides)
+}

@@ -1,0 +1,41 @@
+// Where the faults of a shard go through slots.
+
+use copy_lockstep::LockstepRoom;
+use good_trace::Setup;
+use machine::Machine;
+use std::alloc::Global;
+use std::marker::Model;
+use v_design::World;
+use vf_base::NoMemory;
+use window_faults::new_room;
+
+/// Room in which the faults of shards of the world `N` go through slots: a machine of the design for those that are run whole, and what takes the others through in lockstep.
+#[derive(Drop)]
+pub struct SlotRoom<'d, N: World> {
+    pub(crate) machine: Machine<'d>,
+    pub(crate) lockstep: LockstepRoom<'d, N>,
+}
+
+impl<'d, N: World> Model for SlotRoom<'d, N> {
+    ghost use Rattle.copy_room.specs.Rooms.{IsRoom};
+    ghost use Rattle.copy_lockstep.specs.lockstep_block.Rooms.{IsLockstepRoom};
+
+    ghost Value = { Unit {0} };
+
+    ghost view = { λ _. tt };
+
+    ghost invariant = { λ r. IsRoom N.design r.machine × IsLockstepRoom N.design r.lockstep.runner r.lockstep.before r.lockstep.behind r.lockstep.counts };
+}
+
+impl<'d, N: World> SlotRoom<'d, N> {
+    /// Room for the design of a setup.
+    ///
+    /// # Errors
+    ///
+    /// Want of memory.
+    pub fn new(alloc: Global, setup: &Setup<'d, N>) -> Result<SlotRoom<'d, N>, NoMemory> {
+        let machine = new_room(alloc, setup)?;
+        let lockstep = LockstepRoom::new(alloc, setup)?;
+        Ok(SlotRoom { machine, lockstep })
+    }
+}

@@ -1,0 +1,23 @@
+-- A fault whose grading ended stays where the window begins.
+use Rattle.std.proofs.Common.{◌≡◌, ◌+◌, sym, subst, ◌∙◌, arith}
+use Rattle.copy_window.specs.ShardFaults.{IsShardFault}
+use Rattle.window_strobes.specs.Passed.{HasPassed}
+use Rattle.window_faults.proofs.Steps.{takes-same}
+use Rattle.window_faults.proofs.Within.{none-end, within-there}
+use Rattle.window_faults.proofs.begin.begin_one.Goals as goal
+
+pub pass_first-requires-clause-none : goal.pass_first-requires-clause-none
+pass_first-requires-clause-none g c κs within = none-end c.args.own.now.end (sym c.is_some.ensures ∙ c.if-is_some.false)
+
+pub returns-then-is_some-clause-within : goal.returns-then-is_some-clause-within
+returns-then-is_some-clause-within g c =
+    let design = g.N.World.design in
+    let plan = g.N.World.plan in
+    let before = c.args.window.now.before in
+    let here : before ≡ before + 0 = omega arith in
+    within-there design plan before c.args.window.now.through 0 c.args.strobes.now.passed c.args.own.now c.comes_to.result c.comes_to.ensures.slot c.comes_to.ensures.passed
+    (omega (arith, c.begins-first.ensures.window.some)) (subst (λ n. IsShardFault design plan n c.args.strobes.now.passed c.args.own.now) here c.requires.fault)
+    (λ none. subst (λ n. HasPassed design plan n c.args.strobes.now.passed) here c.requires.strobes.has_passed)
+
+pub returns-then-is_some-clause-steps : goal.returns-then-is_some-clause-steps
+returns-then-is_some-clause-steps g c = takes-same g.N.World.design g.N.World.plan c.args.window.now.before c.args.own.now
